@@ -2,9 +2,9 @@
 -- `r_info` and `r_addend`, each of 4 bytes, little-endian), and the addends by which RV64's
 -- relocations write what RV32's do: its addresses are modulo 2^32 (RISC-V unprivileged ISA, "RV32I
 -- Base Integer Instruction Set").
-use Rattle.std.specs.Prelude.{◌≡◌, ◌<◌, ◌≤◌, ℕ, ℤ, ◌*◌, ◌/◌, ◌%◌, ◌^◌, if◌then◌else◌, List, length}
-use Rattle.std.specs.Prelude.{take, drop, Option, Some, None, Result, Ok, Err}
-use Rattle.std.specs.Int.{w32, w64, from_le_bytes, cast_signed, cast_unsigned}
+use Rattle.std.specs.Prelude.{◌≡◌, ◌<◌, ℕ, ℤ, pos, ◌*◌, ◌/◌, ◌%◌, ◌^◌, ◌≤ℤ◌, ◌<ℤ◌, ◌+ℤ◌}
+use Rattle.std.specs.Prelude.{if◌then◌else◌, List, length, take, drop, Option, Some, None, Result, Ok}
+use Rattle.std.specs.Int.{w32, w64, from_le_bytes, cast_signed, cast_unsigned, int_rem_euclid}
 use Rattle.linker_elf.specs.Architectures.{IsRow}
 use Rattle.linker_elf.specs.Reach.{reach_of}
 use Rattle.linker_elf.specs.Rows.{Bounds}
@@ -32,19 +32,19 @@ relocation32_of bytes =
 abbrev pub relocation32_in : List ℕ → ℕ → Rela
 relocation32_in bytes i = relocation32_of (take 12 (drop (i * 12) bytes))
 
--- all of them are the first relocations of others, of which the rest is unchanged
+-- all of them are the first relocations of others, of which every byte after them is unchanged
 pub record AreCopied (entries before after : List ℕ) : Type 0 where
   pub each : (n : ℕ) → n < length entries / 12
       → relocation_in after n ≡ relocation32_in entries n
-  pub others : (n : ℕ) → length entries / 12 ≤ n → n < length before / 24
-      → relocation_in after n ≡ relocation_in before n
+  pub rest : drop (length entries / 12 * 24) after ≡ drop (length entries / 12 * 24) before
   pub same_length : length after ≡ length before
 
--- the least number from `least` on that is the value modulo 2^32
-abbrev pub wrapped : ℤ → ℤ → ℤ
-wrapped least value =
-    let first : ℕ = cast_unsigned w64 least
-    in cast_signed w64 (sum_64 first (difference_64 (cast_unsigned w64 value) first % 2 ^ 32))
+-- The number is the value modulo 2^32, and no such number is less from `least` on: each other one
+-- is at least 2^32 away.
+pub record IsLeastFrom (least value number : ℤ) : Type 0 where
+  pub from : least ≤ℤ number
+  pub below : number <ℤ (least +ℤ pos (2 ^ 32))
+  pub same : int_rem_euclid number (pos (2 ^ 32)) ≡ int_rem_euclid value (pos (2 ^ 32))
 
 abbrev pub least_in : Bounds → Option ℤ
 least_in None = None
@@ -61,26 +61,26 @@ with_value r value wanted =
     let more : ℕ = difference_64 (cast_unsigned w64 wanted) (cast_unsigned w64 value)
     in record r { addend = cast_signed w64 (sum_64 (cast_unsigned w64 r.addend) more) }
 
-abbrev pub wrapped_to : Option ℤ → Rela → Result (Option ℤ) ValueError → Rela
-wrapped_to None r result = r
-wrapped_to (Some least) r (Err error) = r
-wrapped_to (Some least) r (Ok None) = r
-wrapped_to (Some least) r (Ok (Some value)) = with_value r value (wrapped least value)
+abbrev pub IsWrappedTo : Option ℤ → Rela → Result (Option ℤ) ValueError → Rela → Type 0
+IsWrappedTo (Some least) r (Ok (Some value)) after =
+    (number : ℤ) × IsLeastFrom least value number × (after ≡ with_value r value number)
+IsWrappedTo held r result after = after ≡ r
 
-abbrev pub wrapped_by : Addresses → List Symbol → Rela → Option RelocationKindInfo → Rela
-wrapped_by addresses symbols r None = r
-wrapped_by addresses symbols r (Some row) =
-    wrapped_to (held_from row) r (own_value RiscV addresses symbols row r)
+abbrev pub IsWrappedBy : Addresses → List Symbol → Rela → Option RelocationKindInfo → Rela → Type 0
+IsWrappedBy addresses symbols r None after = after ≡ r
+IsWrappedBy addresses symbols r (Some row) after =
+    IsWrappedTo (held_from row) r (own_value RiscV addresses symbols row r) after
 
 -- a relocation before and after its addend is wrapped
 abbrev pub IsWrapped : Addresses → List Symbol → Rela → Rela → Type 0
 IsWrapped addresses symbols r after =
     (row : Option RelocationKindInfo) × IsRow RiscV r.r_type row
-    × (after ≡ wrapped_by addresses symbols r row)
+    × IsWrappedBy addresses symbols r row after
 
--- all of a section's
+-- all of a section's; what is after the last whole one is unchanged
 pub record AreWrapped (addresses : Addresses) (symbols : List Symbol) (before after : List ℕ)
     : Type 0 where
   pub each : (n : ℕ) → n < length before / 24
       → IsWrapped addresses symbols (relocation_in before n) (relocation_in after n)
+  pub rest : drop (length before / 24 * 24) after ≡ drop (length before / 24 * 24) before
   pub same_length : length after ≡ length before

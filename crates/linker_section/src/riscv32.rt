@@ -7,14 +7,14 @@
 //! that the relocation can hold. With these two calls and 32-bit addresses, `Architecture::RiscV`
 //! is RV32.
 
-ghost use Rattle.std.specs.Prelude.{◌≡◌, ◌*◌, ◌<◌, ◌≤◌, ◌/◌, length};
+ghost use Rattle.std.specs.Prelude.{◌≡◌, ◌*◌, ◌<◌, ◌≤◌, ◌/◌, ◌≤ℤ◌, pos, length};
 ghost use Rattle.std.specs.Int.{w32, cast_signed};
 ghost use Rattle.linker_section.specs.RiscV32.{relocation32_of, relocation32_in, AreCopied};
-ghost use Rattle.linker_section.specs.RiscV32.{wrapped, held_from, with_value, IsWrapped};
+ghost use Rattle.linker_section.specs.RiscV32.{held_from, with_value, IsLeastFrom, IsWrapped};
 ghost use Rattle.linker_section.specs.RiscV32.{AreWrapped};
 
 use crate::facts::{Addresses, Symbol};
-use crate::relocations::{Rela, relocation_in, relocations_len, set_relocation, u32_at};
+use crate::relocations::{RELA_LEN, Rela, relocation_in, relocations_len, set_relocation, u32_at};
 use crate::values::{names_label, own_value};
 use linker_base::utils::u32_from_slice;
 use linker_elf::elf::{Architecture, Row};
@@ -82,18 +82,20 @@ pub fn read_rela32(entries: &[u8], relocations: &mut [u8])
     requires { length entries.now / 12 * 24 ≤ length relocations.old }
     ensures { AreCopied entries.now relocations.old relocations.new }
 {
-    for index in 0..relocations32_len(entries) {
-        set_relocation(relocations, index, &relocation32_in(entries, index));
+    let len = relocations32_len(entries);
+    let copied = &mut relocations[..len * RELA_LEN];
+    for index in 0..len {
+        set_relocation(copied, index, &relocation32_in(entries, index));
     }
 }
 
 /// The least number from `least` on that is the value modulo 2^32.
 fn wrapped(least: i64, value: i64) -> i64
-    ensures { result ≡ wrapped least value }
+    requires { least ≤ℤ pos 0 }
+    ensures { IsLeastFrom least value result }
 {
-    let least = least.cast_unsigned();
-    let above = value.cast_unsigned().wrapping_sub(least) % (1 << 32);
-    least.wrapping_add(above).cast_signed()
+    let above = value.cast_unsigned().wrapping_sub(least.cast_unsigned()) % (1 << 32);
+    least + above.cast_signed()
 }
 
 /// The least value that a row can hold, if it can't hold all, and its value is the relocation's
@@ -167,8 +169,10 @@ fn wrap_addend(addresses: &Addresses, symbols: &[Symbol], relocation: &Rela) -> 
 pub fn wrap_addends(addresses: &Addresses, symbols: &[Symbol], relocations: &mut [u8])
     ensures { AreWrapped addresses.now symbols.now relocations.old relocations.new }
 {
-    for index in 0..relocations_len(relocations) {
-        let relocation = wrap_addend(addresses, symbols, &relocation_in(relocations, index));
-        set_relocation(relocations, index, &relocation);
+    let len = relocations_len(relocations);
+    let whole = &mut relocations[..len * RELA_LEN];
+    for index in 0..len {
+        let relocation = wrap_addend(addresses, symbols, &relocation_in(whole, index));
+        set_relocation(whole, index, &relocation);
     }
 }

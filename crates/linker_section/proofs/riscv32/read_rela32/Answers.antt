@@ -1,33 +1,30 @@
-use Rattle.std.proofs.Common.{◌≡◌, ◌∙◌, below_more, arith}
+use Rattle.std.proofs.Common.{◌≡◌, ◌∙◌, ◌*◌, ◌++◌, ap, below_more, drop, length, subst, arith}
+use Rattle.linker_section.proofs.Imports.{drop_at, length-append, length-drop, length-take-le}
 use Rattle.linker_section.specs.Relocations.{relocation_in}
 use Rattle.linker_section.specs.RiscV32.{relocation32_in}
+use Rattle.linker_section.proofs.Crels.{in_front}
 use Rattle.linker_section.proofs.riscv32.read_rela32.Goals as goal
 
 pub loop-index-preserved : goal.loop-index-preserved
 loop-index-preserved c =
-    let i = c.loop-index.index in
-    let old = c.loop-index.relocations in
-    let inv = c.loop-index.invariant in
-    let len = c.loop-index.auto.relocations in
+    let count = c.relocations32_len-len.result in
     let set = c.set_relocation.ensures in
     let new = c.set_relocation.new.relocations in
-    let entries = c.args.entries.now in
-    let low = c.relocations32_len-index-end.ensures in
-    let room = c.requires in
-    record {
-      copied = below_more (λ n. relocation_in new n ≡ relocation32_in entries n) i
-          (λ n below. set.others n (omega arith) (omega arith) ∙ inv.copied n below)
-          (set.set ∙ c.relocation32_in.ensures);
-      others = λ n from within. set.others n (omega arith) (omega arith) ∙ inv.others n (omega arith) within;
-    }
+    let len = c.loop-index.auto.copied in
+    let front = length-take-le (count * 24) c.args.relocations.now (omega (arith, c.requires, c.relocations32_len-len.ensures)) in
+    below_more (λ n. relocation_in new n ≡ relocation32_in c.args.entries.now n) c.loop-index.index
+    (λ n below. set.others n (omega (arith, len, front)) (omega arith) ∙ c.loop-index.invariant n below)
+    (set.set ∙ c.relocation32_in.ensures)
 
 pub returns : goal.returns
 returns c =
-    let inv = c.loop-index.invariant in
-    let end = c.relocations32_len-index-end.ensures in
-    let past = c.loop-index-test.false in
+    let xs = c.args.relocations.now in
+    let ys = c.loop-index.copied in
+    let count = c.relocations32_len-len.result in
+    let rest = drop (count * 24) xs in
+    let len : length ys ≡ count * 24 = c.loop-index.auto.copied ∙ length-take-le (count * 24) xs (omega (arith, c.requires, c.relocations32_len-len.ensures)) in
     record {
-      each = λ n below. inv.copied n (omega arith);
-      others = λ n from within. inv.others n (omega arith) within;
-      same_length = c.loop-index.auto.relocations;
+      each = λ n below. in_front ys rest count n len (omega (arith, c.relocations32_len-len.ensures)) ∙ c.loop-index.invariant n (omega (arith, c.relocations32_len-len.ensures));
+      rest = subst (λ n. drop n (ys ++ rest) ≡ drop n xs) (ap (λ k. k * 24) c.relocations32_len-len.ensures) (drop_at ys rest (count * 24) len);
+      same_length = omega (arith, length-append ys rest, length-drop (count * 24) xs, len, c.requires, c.relocations32_len-len.ensures);
     }
