@@ -3,9 +3,10 @@
 
 use linker_utils::elf::Architecture::RiscV;
 use linker_utils::elf::RelocateError::OutOfReach;
+use linker_utils::output::{StubKind, Target};
 use linker_utils::section::{
     Addresses, Link, Object, RelocationError, Section, Symbol, memory_len, read_rela32,
-    relocate_section, relocation_at, relocations_len, value, wrap_addends,
+    ValueError, relocate_section, relocation_at, relocations_len, value, wrap_addends,
 };
 
 /// The bytes of words.
@@ -116,6 +117,52 @@ fn branches_wrap() {
     let addresses = Addresses { section: 0x1000, ..Addresses::default() };
     let value = value(RiscV, &addresses, &relocations, &values, &jal);
     assert_eq!(value, Ok(Some(-0x1054)));
+}
+
+/// `.dword` of a symbol, of a distance and of a label, as GNU as leaves them and GNU ld links them:
+/// numbers of 64 bits. ld.lld extends bit 31 of an address.
+#[test]
+fn numbers_of_64_bits_match_gnu_ld() {
+    let entries = [0, 0x102, 0, 8, 0x224, 0, 8, 0x328, 0, 16, 0x302, 0];
+    let mut relocations = vec![0; 2 * 4 * entries.len()];
+    read_rela32(&bytes_of(&entries), &mut relocations);
+    let values = [0, 0x8000_000c, 0x8000_000a, 0x8000_0002]
+        .map(|address| Symbol { address, ..Symbol::default() });
+    let addresses = Addresses { section: 0x9000_0000, ..Addresses::default() };
+    wrap_addends(&addresses, &values, &mut relocations);
+    let mut memory = vec![0; memory_len(&relocations)];
+    let mut section = Section { address: addresses.section, ..Section::new(vec![0; 24], relocations) };
+    let object = Object { values: &values, ..Object::default() };
+    relocate_section(&Link::new(RiscV), &object, &mut section, &mut memory).unwrap();
+    assert_eq!(section.bytes, bytes_of(&[0x8000_000c, 0, 8, 0, 0x8000_0002, 0]));
+}
+
+/// Types of dynamic relocations, of words of 4 and of 8 bytes: GNU ld and ld.lld accept none of
+/// 6, 7, 10 and 11 in objects either.
+#[test]
+fn objects_have_no_dynamic_relocations() {
+    for r_type in 6..12 {
+        let mut relocations = [0; 24];
+        read_rela32(&bytes_of(&[0, 0x100 + r_type, 0]), &mut relocations);
+        let relocation = relocation_at(&relocations, 0).unwrap();
+        let values = [Symbol::default(); 2];
+        let value = value(RiscV, &Addresses::default(), &relocations, &values, &relocation);
+        assert_eq!(value, Err(ValueError::UnknownType), "{r_type}");
+    }
+}
+
+/// A stub as GNU as makes it of `auipc t3`, `lw t3, (t3)` and `jr t3`, and paths as gcc has them.
+#[test]
+fn outputs_have_words_of_4_bytes() {
+    let target = Target::riscv32();
+    let mut stub = [0; 12];
+    target.write_stub(StubKind::Load, 0x1000, 0x2004, &mut stub).unwrap();
+    assert_eq!(stub.to_vec(), bytes_of(&[0x0000_1e17, 0x004e_2e03, 0x000e_0067]));
+    for (flags, abi) in [(1, "ilp32"), (3, "ilp32f"), (4, "ilp32d")] {
+        let path = format!("/lib/ld-linux-riscv32-{abi}.so.1");
+        assert_eq!(target.interpreter(flags), Some(path.as_str()));
+    }
+    assert_eq!((target.page, target.unit(1)), (0x1000, 2));
 }
 
 /// The thread pointer's offsets, entries of the GOT, and what has no value or isn't tested.

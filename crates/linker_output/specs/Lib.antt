@@ -21,6 +21,7 @@ pub mod Ppc64Stubs
 pub mod Ppc64Vectors
 pub mod Properties
 pub mod Relr
+pub mod RiscV32Output
 pub mod RiscVLazyPlt
 pub mod RiscVOutput
 pub mod RiscVStubs

@@ -21,6 +21,7 @@ mod ppc64;
 pub mod properties;
 mod r_types;
 pub mod relr;
+mod riscv32;
 mod riscv64;
 pub mod routes;
 pub mod stubs;
