@@ -11,8 +11,8 @@ use crate::riscv64::TARGET;
 use crate::stubs::Stub;
 
 impl Target {
-    /// The description of RV32: that of RV64 with types of words of 4 bytes, other paths, and a stub
-    /// that loads such a word. Its stub reaches words within 2 GiB, as RV64's.
+    /// The description of RV32: that of RV64 with types of words of 4 bytes, other paths, and a
+    /// stub that loads such a word. It reaches words within 2 GiB, as RV64's.
     ///
     /// ```
     /// use linker_output::description::Target;

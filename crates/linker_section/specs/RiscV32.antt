@@ -3,7 +3,8 @@
 -- relocations write what RV32's do: its addresses are modulo 2^32 (RISC-V unprivileged ISA, "RV32I
 -- Base Integer Instruction Set").
 use Rattle.std.specs.Prelude.{◌≡◌, ◌<◌, ℕ, ℤ, pos, ◌*◌, ◌/◌, ◌%◌, ◌^◌, ◌≤ℤ◌, ◌<ℤ◌, ◌+ℤ◌}
-use Rattle.std.specs.Prelude.{if◌then◌else◌, List, length, take, drop, Option, Some, None, Result, Ok}
+use Rattle.std.specs.Prelude.{if◌then◌else◌, List, length, take, drop, Option, Some, None, Result}
+use Rattle.std.specs.Prelude.{Ok}
 use Rattle.std.specs.Int.{w32, w64, from_le_bytes, cast_signed, cast_unsigned, int_rem_euclid}
 use Rattle.linker_elf.specs.Architectures.{IsRow}
 use Rattle.linker_elf.specs.Reach.{reach_of}
