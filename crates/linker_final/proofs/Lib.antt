@@ -39,6 +39,8 @@ pub mod Ppc64Written
 pub mod PutBack
 pub mod Relaxed
 pub mod RelocatedFields
+pub mod RiscV32
+pub mod RiscV32Sums
 pub mod RiscVAddresses
 pub mod RiscVChosen
 pub mod RiscVDescriptors

@@ -20,6 +20,7 @@ pub mod Ppc64Steps
 pub mod Ppc64Table
 pub mod Ppc64VectorsExecuted
 pub mod Relaxed
+pub mod RiscV32
 pub mod RiscVExecuted
 pub mod RiscVFinal
 pub mod RiscVNear

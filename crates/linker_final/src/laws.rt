@@ -7,6 +7,7 @@ ghost use Rattle.linker_final.specs.AArch64Section as aarch64_section;
 ghost use Rattle.linker_final.specs.Final as final_bytes;
 ghost use Rattle.linker_final.specs.LoongArchSection as loongarch64_section;
 ghost use Rattle.linker_final.specs.Ppc64Section as ppc64_section;
+ghost use Rattle.linker_final.specs.RiscV32 as riscv32;
 ghost use Rattle.linker_final.specs.RiscVFinal as riscv64_final;
 ghost use Rattle.linker_final.specs.RiscVNear as riscv64_near;
 ghost use Rattle.linker_final.specs.RiscVSection as riscv64_section;
@@ -100,6 +101,31 @@ pub fn riscv64_global_pointer()
     ensures values { riscv64_near.ValuesAreDistances }
     ensures lui { riscv64_near.LuiGoes }
     ensures auipc { riscv64_near.AuipcGoes }
+{
+    linker_laws::relocations::riscv64();
+}
+
+/// RV32: what `wrap_addends` makes of a section's relocations. Only addends change, by multiples of
+/// 2^32. Each value is that of before modulo 2^32, which is the psABI's formula with the addend of
+/// the file. It is within its row's reach if any number that is the same modulo 2^32 is. So no
+/// distance is too far for a pair of instructions. An error stays, and so does what has no value.
+pub fn riscv32_values()
+    ensures addends { riscv32.Addends }
+    ensures values { riscv32.Values }
+    ensures pairs { riscv32.PairsReachAll }
+{}
+
+/// RV32: what instructions and words compute whose relocations are applied with an addend that is
+/// the file's modulo 2^32, as each of `wrap_addends` is (`riscv32_values`). It is the target with
+/// the file's addend, modulo 2^32, as RV32's registers and addresses are. These are `lui` or
+/// `auipc` with a low part, also through the GOT and for each model of TLS, calls, jumps, branches,
+/// and words of 4 bytes. By `worked::riscv32` the premises of a pair can hold.
+pub fn riscv32_instructions()
+    ensures absolute { riscv32.AbsoluteAddresses }
+    ensures relative { riscv32.RelativeAddresses }
+    ensures thread { riscv32.ThreadAddresses }
+    ensures branches { riscv32.Branches }
+    ensures words { riscv32.Words }
 {
     linker_laws::relocations::riscv64();
 }

@@ -1,0 +1,558 @@
+-- RV32: values once addends are wrapped.
+use Rattle.std.proofs.Common.{◌≡◌, ℕ, suc, ℤ, pos, negsuc, ◌+◌, ◌-◌, ◌/◌, ◌%◌, ◌^◌, ◌<◌, ◌≤◌, refl, sym, ap, subst, ◌∙◌, inl, inr, arith, Bool, true, false, ltb, List, length, Option, Some, None, Result, Ok, Err, ◌+ℤ◌, neg_ℤ, ◌≤ℤ◌, ◌<ℤ◌, FitsSigned}
+use Rattle.std.proofs.Math.Facts.{sfits_to_z}
+use Rattle.std.proofs.lemmas.Bool.{lt-ltb}
+use Rattle.std.proofs.lemmas.Int.{to_z-of_z, to_z_pos}
+use Rattle.std.specs.Int.Signed.{le_z}
+use Rattle.std.specs.Prelude.{◌==◌}
+use Rattle.linker_elf.proofs.Agreement.{le_yes}
+use Rattle.linker_elf.specs.Reach.{reach_of, riscv_pair_bounds}
+use Rattle.linker_elf.specs.Rows.{Bounds}
+use Rattle.linker_elf.specs.Value.{formula, read_signed, is_offset}
+use Rattle.linker_elf.specs.declared.elf.RelocationKind.TheVariants as kinds
+use Rattle.linker_elf.specs.declared.elf.RelocationSize.{RelocationSize}
+use Rattle.linker_elf.specs.declared.elf.RelocationSize.TheVariants.{ByteSize}
+use Rattle.linker_elf.specs.declared.riscv64.relocations.RiscVRelocation.TheVariants as riscv64
+use Rattle.linker_final.proofs.Imports.{and_parts, cases_lt, cond-true, ltb-true, ints, of_z-to_z, w64, cast_signed, cast_unsigned, if◌then◌else◌, slice_get, ◌&&◌, IsRow, IsWithin, riscv_relocation, sum_64, difference_64, value_of, loads_plt_word, RelocationKind, RelocationKindInfo, BitMasking, RiscV, Operands, RiscVRelocation, one_row, entry_of, relocation_in, IsValueBy, IsValueIn, entry_address, has_value, lacks_origin, names_label, operands_by, operands_in, operands_of, operands_with, value_by, Addresses, Symbol, Rela, ValueError}
+use Rattle.linker_laws.proofs.Sums.{sum_below}
+use Rattle.linker_section.proofs.QuickValues.{when_true}
+use Rattle.linker_section.specs.Inner.Facts.{When}
+use Rattle.linker_section.specs.Relocations.{relocation_at}
+use Rattle.linker_section.specs.RiscV32.{AreWrapped, IsWrapped, least_in, with_value, wrapped, wrapped_by, wrapped_to}
+use Rattle.linker_section.specs.Values.{IsHighPartAt, IsLowValue, IsNoHighPart, IsValue, is_high_part, low_by, low_operands, low_value, own_value}
+use Rattle.linker_section.specs.declared.values.ValueError.TheVariants.{NoSymbol}
+use Rattle.linker_final.specs.RiscV32.{Addends, HasWrappedAddend, IsSame32, IsWrappedValue, IsWrappedWithin, PairsReachAll, Values}
+
+-- ---- numbers
+
+unsigned_small : (z : ℤ) → FitsSigned w64 z → cast_unsigned w64 z < 2 ^ 64
+unsigned_small z fits = omega (arith, ints)
+
+-- the least numbers that rows hold
+abbrev IsLeast : ℤ → Type 0
+IsLeast least = (neg_ℤ (pos (2 ^ 40)) ≤ℤ least) × (least ≤ℤ pos 0)
+
+least_small : (least : ℤ) → IsLeast least → cast_unsigned w64 least ≤ 2 ^ 64
+least_small (pos n) is = omega (arith, ints)
+least_small (negsuc n) is = omega arith
+
+-- a number from one of them on, by less than 2^32
+from_least : (least : ℤ) (above : ℕ) → IsLeast least → above < 2 ^ 32
+    → cast_signed w64 (sum_64 (cast_unsigned w64 least) above) ≡ least +ℤ pos above
+from_least (pos n) above is small = omega (arith, ints)
+from_least (negsuc n) above is small =
+    let low : n < 2 ^ 40 = omega (arith, ints) in
+    elim (cases_lt above (suc n)) [
+      | inl less ↦
+          let m : sum_64 (2 ^ 64 - suc n) above ≡ 2 ^ 64 - suc (n - above) = omega arith in
+          ap (cast_signed w64) m
+          ∙ (to_z-of_z w64 (negsuc (n - above)) (record { sfits = omega arith }) ∙ omega (arith, ints))
+      | inr most ↦
+          let m : sum_64 (2 ^ 64 - suc n) above ≡ above - suc n = omega arith in
+          ap (cast_signed w64) m ∙ (to_z_pos w64 (above - suc n) (omega arith) ∙ omega (arith, ints))
+    ]
+
+record IsLeastSame (least value w : ℤ) : Type 0 where
+  same : IsSame32 w value
+  least_is : least ≤ℤ w
+  below : w <ℤ (least +ℤ pos (2 ^ 32))
+  fits : FitsSigned w64 w
+
+wrapped_is : (least value : ℤ) → IsLeast least → IsLeastSame least value (wrapped least value)
+wrapped_is least value is =
+    let first = cast_unsigned w64 least in
+    let more = difference_64 (cast_unsigned w64 value) first in
+    let above = more % 2 ^ 32 in
+    let w : wrapped least value ≡ least +ℤ pos above = from_least least above is (low more) in
+    record {
+      same = ap (λ n. n % 2 ^ 32) (of_z-to_z w64 (sum_64 first above) (sum_below first above))
+          ∙ same_low first (cast_unsigned w64 value) (least_small least is);
+      least_is = subst (λ z. least ≤ℤ z) (sym w) (onto least above);
+      below = subst (λ z. z <ℤ (least +ℤ pos (2 ^ 32))) (sym w) (under least above (low more));
+      fits = sfits_to_z (record { fits = sum_below first above });
+    }
+  where
+    low : (n : ℕ) → n % 2 ^ 32 < 2 ^ 32
+    low n = omega arith
+
+    same_low : (first v : ℕ) → first ≤ 2 ^ 64 → sum_64 first (difference_64 v first % 2 ^ 32) % 2 ^ 32 ≡ v % 2 ^ 32
+    same_low first v small = omega arith
+
+    onto : (z : ℤ) (n : ℕ) → z ≤ℤ (z +ℤ pos n)
+    onto z n = omega (arith, ints)
+
+    under : (z : ℤ) (n : ℕ) → n < 2 ^ 32 → (z +ℤ pos n) <ℤ (z +ℤ pos (2 ^ 32))
+    under z n small = omega (arith, ints)
+
+-- no other such number is below it
+least_one : (least w v : ℤ) → IsLeast least → IsSame32 w v → least ≤ℤ w
+    → w <ℤ (least +ℤ pos (2 ^ 32)) → least ≤ℤ v → v <ℤ pos (2 ^ 40) → w ≤ℤ v
+least_one least w v is same low below there high = omega (arith, ints)
+
+abbrev AreNear : Bounds → Type 0
+AreNear None = Unit
+AreNear (Some bounds) = IsLeast bounds.0 × (bounds.1 ≤ℤ pos (2 ^ 40))
+
+wrapped_within : (bounds : ℤ × ℤ) (value : ℤ) → AreNear (Some bounds)
+    → IsWrappedWithin (Some bounds) value (wrapped bounds.0 value)
+wrapped_within bounds value near =
+    let is = wrapped_is bounds.0 value near.0 in
+    record {
+      same = is.same;
+      within = λ v same inside. (
+        is.least_is,
+        up_to (wrapped bounds.0 value) v bounds.1
+            (least_one bounds.0 (wrapped bounds.0 value) v near.0 (is.same ∙ sym same) is.least_is is.below inside.0
+            (below v bounds.1 (pos (2 ^ 40)) inside.1 near.1)) inside.1,
+      );
+    }
+  where
+    up_to : (w v z : ℤ) → w ≤ℤ v → v <ℤ z → w <ℤ z
+    up_to w v z a b = omega (arith, ints)
+
+    below : (v y z : ℤ) → v <ℤ y → y ≤ℤ z → v <ℤ z
+    below v y z a b = omega (arith, ints)
+
+pub pairs_reach_all : PairsReachAll
+pairs_reach_all value after is =
+    let lowest = 2 ^ 31 + 0x800 in
+    let n = (cast_unsigned w64 value + lowest) % 2 ^ 32 in
+    is.within (pos n +ℤ neg_ℤ (pos lowest)) (there (cast_unsigned w64 value)) (inside n (low (cast_unsigned w64 value + lowest)))
+  where
+    low : (n : ℕ) → n % 2 ^ 32 < 2 ^ 32
+    low n = omega arith
+
+    there : (v : ℕ) → cast_unsigned w64 (pos ((v + (2 ^ 31 + 0x800)) % 2 ^ 32) +ℤ neg_ℤ (pos (2 ^ 31 + 0x800))) % 2 ^ 32 ≡ v % 2 ^ 32
+    there v = omega (arith, ints)
+
+    inside : (n : ℕ) → n < 2 ^ 32 → IsWithin (Some riscv_pair_bounds) (pos n +ℤ neg_ℤ (pos (2 ^ 31 + 0x800)))
+    inside n small = (omega (arith, ints), omega (arith, ints))
+
+-- ---- how a value depends on the addend
+
+-- what the addend is added to
+abbrev base_of : RelocationKind → Operands → ℕ
+base_of kinds.PltRelative o = o.plt_entry
+base_of kinds.GotRelative o = o.got_entry
+base_of kinds.GotTpOff o = o.got_entry
+base_of kinds.TlsGd o = o.got_entry
+base_of kinds.TlsDesc o = o.got_entry
+base_of kind o = o.symbol
+
+-- what is subtracted
+abbrev less_of_size : RelocationSize → Operands → Option ℕ
+less_of_size (ByteSize n) o = if n == 0 then None else Some o.place
+less_of_size (BitMasking bits insn) o = Some o.place
+
+abbrev less_of : RelocationKind → RelocationSize → Operands → Option ℕ
+less_of kinds.Relative size o = less_of_size size o
+less_of kinds.RelativeRiscVLow12 size o = Some o.place
+less_of kinds.PltRelative size o = Some o.place
+less_of kinds.GotRelative size o = Some o.place
+less_of kinds.GotTpOff size o = Some o.place
+less_of kinds.TlsGd size o = Some o.place
+less_of kinds.TlsDesc size o = Some o.place
+less_of kinds.TpOff size o = Some o.tls_base
+less_of kind size o = None
+
+abbrev made : ℕ → Option ℕ → ℕ → ℕ
+made base None a = sum_64 (sum_64 base a) 0
+made base (Some less) a = difference_64 (sum_64 (sum_64 base a) 0) less
+
+made_small : (base : ℕ) (less : Option ℕ) (a : ℕ) → made base less a < 2 ^ 64
+made_small base None a = omega arith
+made_small base (Some n) a = omega arith
+
+-- the addend that makes a number another one
+moved : (base : ℕ) (less : Option ℕ) (a wanted : ℕ) → wanted < 2 ^ 64
+    → made base less (sum_64 a (difference_64 wanted (made base less a))) ≡ wanted
+moved base None a wanted small = omega arith
+moved base (Some n) a wanted small = omega arith
+
+moved_low : (a wanted n : ℕ) → n < 2 ^ 64 → wanted % 2 ^ 32 ≡ n % 2 ^ 32
+    → sum_64 a (difference_64 wanted n) % 2 ^ 32 ≡ a % 2 ^ 32
+moved_low a wanted n small same = omega arith
+
+-- ---- rows
+
+abbrev number_if : Bool → ℕ → Option ℕ
+number_if true n = Some n
+number_if false n = None
+
+abbrev are_near : Bounds → Bool
+are_near None = true
+are_near (Some bounds) =
+    (le_z (neg_ℤ (pos (2 ^ 40))) bounds.0 && le_z bounds.0 (pos 0)) && le_z bounds.1 (pos (2 ^ 40))
+
+near : (bounds : Bounds) → are_near bounds ≡ true → AreNear bounds
+near None is = tt
+near (Some bounds) is =
+    let a = and_parts (le_z (neg_ℤ (pos (2 ^ 40))) bounds.0 && le_z bounds.0 (pos 0)) (le_z bounds.1 (pos (2 ^ 40))) is in
+    let b = and_parts (le_z (neg_ℤ (pos (2 ^ 40))) bounds.0) (le_z bounds.0 (pos 0)) a.0 in
+    ((le_yes (neg_ℤ (pos (2 ^ 40))) bounds.0 b.0, le_yes bounds.0 (pos 0) b.1), le_yes bounds.1 (pos (2 ^ 40)) a.1)
+
+-- the kinds of low parts
+abbrev low_kind : Bool → RelocationKind
+low_kind true = kinds.TlsDesc
+low_kind false = kinds.RelativeRiscVLow12
+
+abbrev is_of_descriptor : RelocationKind → Bool
+is_of_descriptor kinds.TlsDesc = true
+is_of_descriptor kind = false
+
+abbrev end_of : Bool → Operands → ℕ
+end_of true o = o.got_entry
+end_of false o = o.symbol
+
+-- the value of a low part
+abbrev low_result : Bool → Operands → Option ℤ
+low_result of_descriptor o =
+    Some (cast_signed w64
+    (difference_64 (sum_64 (sum_64 (end_of of_descriptor o) (cast_unsigned w64 o.addend)) 0) o.place))
+
+-- a high part has the value of its low parts
+record IsHigh (of_descriptor : Bool) (row : RelocationKindInfo) : Type 0 where
+  value : (o : Operands)
+      → When (is_high_part (low_kind of_descriptor) (Some row)) (low_result of_descriptor (low_operands row o)) (value_of row o)
+  valued : When (is_high_part (low_kind of_descriptor) (Some row)) (has_value row.kind) true
+  no_offset : When (is_high_part (low_kind of_descriptor) (Some row)) (is_offset row.kind) false
+  unlabelled : When (is_high_part (low_kind of_descriptor) (Some row)) (names_label row.size row.kind) false
+  bounds : When (is_high_part (low_kind of_descriptor) (Some row)) (reach_of row) (Some riscv_pair_bounds)
+
+record IsLow (row : RelocationKindInfo) : Type 0 where
+  kind : When (names_label row.size row.kind) row.kind (low_kind (is_of_descriptor row.kind))
+  value : (o : Operands) → When (names_label row.size row.kind) (value_of row o) (low_result (is_of_descriptor row.kind) o)
+  bounds : When (names_label row.size row.kind) (reach_of row) (Some riscv_pair_bounds)
+
+record IsSum (row : RelocationKindInfo) : Type 0 where
+  formula_is : (o : Operands) (a : ℤ)
+      → formula row.kind row (record o { addend = a })
+      ≡ number_if (has_value row.kind) (made (base_of row.kind o) (less_of row.kind row.size o) (cast_unsigned w64 a))
+  same_entry : (a b : ℤ) (is_thread_local : Bool) → entry_of row a is_thread_local ≡ entry_of row b is_thread_local
+  loads_none : loads_plt_word row.size row.kind ≡ false
+  near : are_near (reach_of row) ≡ true
+  low : IsLow row
+  high_of_descriptor : IsHigh true row
+  high : IsHigh false row
+
+abbrev AreSums : Option RelocationKindInfo → Type 0
+AreSums None = Unit
+AreSums (Some row) = IsSum row
+
+are_sums : (name : RiscVRelocation) → AreSums ((riscv_relocation name).row)
+are_sums (riscv64.Other r_type) = tt
+are_sums name = record {
+  formula_is = λ o a. refl;
+  same_entry = λ a b is_thread_local. refl;
+  loads_none = refl;
+  near = refl;
+  low = record { kind = refl; value = λ o. refl; bounds = refl };
+  high_of_descriptor = record { value = λ o. refl; valued = refl; no_offset = refl; unlabelled = refl; bounds = refl };
+  high = record { value = λ o. refl; valued = refl; no_offset = refl; unlabelled = refl; bounds = refl };
+}
+
+is_sum : (r_type : ℕ) (row : RelocationKindInfo) → IsRow RiscV r_type (Some row) → IsSum row
+is_sum r_type row of = subst AreSums (sym of.value_is) (are_sums of.name)
+
+high_is : (of_descriptor : Bool) (row : RelocationKindInfo) → IsSum row → IsHigh of_descriptor row
+high_is true row sum = sum.high_of_descriptor
+high_is false row sum = sum.high
+
+-- ---- a value with another addend
+
+abbrev Value : Type 0
+Value = Result (Option ℤ) ValueError
+
+-- a relocation with another addend, and the value that it then has
+record HasMoved (r after : Rela) (wanted : ℤ) (result : Value) : Type 0 where
+  addend : IsSame32 after.addend r.addend
+  is : result ≡ Ok (Some wanted)
+
+module _ (row : RelocationKindInfo) (sum : IsSum row) (addresses : Addresses) (r : Rela) (value wanted : ℤ)
+    (fits : FitsSigned w64 wanted) (same : IsSame32 wanted value) where
+  abbrev HasMovedTo : Value → Type 0
+  HasMovedTo result = HasMoved r (with_value r value wanted) wanted result
+
+  with_addend : has_value row.kind ≡ true → (o : Operands) (a : ℤ)
+      → value_of row (record o { addend = a })
+      ≡ Some (cast_signed w64 (made (base_of row.kind o) (less_of row.kind row.size o) (cast_unsigned w64 a)))
+  with_addend valued o a =
+      ap read_signed (sum.formula_is o a)
+      ∙ ap (λ b. read_signed (number_if b (made (base_of row.kind o) (less_of row.kind row.size o) (cast_unsigned w64 a)))) valued
+
+  operands_are : (symbol : Symbol) (entry : ℕ) (a : ℤ)
+      → operands_with RiscV addresses row symbol (record r { addend = a }) entry
+      ≡ record (operands_with RiscV addresses row symbol r entry) { addend = a }
+  operands_are symbol entry a =
+      ap (λ loads. record (operands_with RiscV addresses row symbol r entry) { addend = if loads then pos 0 else a })
+      sum.loads_none
+
+  value_moved : has_value row.kind ≡ true → (symbol : Symbol) (entry : ℕ)
+      → value_of row (operands_with RiscV addresses row symbol r entry) ≡ Some value
+      → HasMovedTo (Ok (value_of row (operands_with RiscV addresses row symbol (with_value r value wanted) entry)))
+  value_moved valued symbol entry is =
+      let o = operands_with RiscV addresses row symbol r entry in
+      let base = base_of row.kind o in
+      let less = less_of row.kind row.size o in
+      let a = cast_unsigned w64 r.addend in
+      let n = made base less a in
+      let small : n < 2 ^ 64 = made_small base less a in
+      let w = cast_unsigned w64 wanted in
+      let of : Some (cast_signed w64 n) ≡ Some value =
+      sym (with_addend valued o r.addend) ∙ (ap (value_of row) (sym (operands_are symbol entry r.addend)) ∙ is) in
+      let number : cast_unsigned w64 value ≡ n =
+      sym (let e : cast_signed w64 n ≡ value = cc in ap (cast_unsigned w64) e) ∙ of_z-to_z w64 n small in
+      let b = sum_64 a (difference_64 w n) in
+      let addend : (with_value r value wanted).addend ≡ cast_signed w64 b =
+      ap (λ v. cast_signed w64 (sum_64 a (difference_64 w v))) number in
+      let there : cast_unsigned w64 (cast_signed w64 b) ≡ b = of_z-to_z w64 b (sum_below a (difference_64 w n)) in
+      record {
+        addend = ap (λ z. cast_unsigned w64 z % 2 ^ 32) addend
+            ∙ (ap (λ y. y % 2 ^ 32) there ∙ moved_low a w n small (same ∙ ap (λ v. v % 2 ^ 32) number));
+        is = ap Ok (ap (value_of row) (operands_are symbol entry (with_value r value wanted).addend)
+            ∙ (with_addend valued o (with_value r value wanted).addend
+            ∙ ap Some (ap (λ z. cast_signed w64 (made base less (cast_unsigned w64 z))) addend
+            ∙ (ap (λ y. cast_signed w64 (made base less y)) there
+            ∙ (ap (cast_signed w64) (moved base less a w (unsigned_small wanted fits)) ∙ to_z-of_z w64 wanted fits)))));
+      }
+
+  by_entry : has_value row.kind ≡ true → (lacks : Bool) (symbol : Symbol) (entry : Option ℕ)
+      → value_by lacks row (operands_by RiscV addresses row r symbol entry) ≡ Ok (Some value)
+      → HasMovedTo (value_by lacks row (operands_by RiscV addresses row (with_value r value wanted) symbol entry))
+  by_entry valued lacks symbol None is = absurd (cc)
+  by_entry valued true symbol (Some entry) is = absurd (cc)
+  by_entry valued false symbol (Some entry) is =
+      value_moved valued symbol entry (let e : value_of row (operands_with RiscV addresses row symbol r entry) ≡ Some value = cc in e)
+
+  by_symbol : has_value row.kind ≡ true → (lacks : Bool) (symbol : Option Symbol)
+      → value_by lacks row (operands_in RiscV addresses row r symbol) ≡ Ok (Some value)
+      → HasMovedTo (value_by lacks row (operands_in RiscV addresses row (with_value r value wanted) symbol))
+  by_symbol valued lacks None is = absurd (cc)
+  by_symbol valued lacks (Some symbol) is =
+      let tls = symbol.is_thread_local in
+      subst (λ entry. HasMovedTo
+      (value_by lacks row (operands_by RiscV addresses row (with_value r value wanted) symbol (entry_address addresses symbol entry))))
+      (sum.same_entry r.addend (with_value r value wanted).addend tls)
+      (by_entry valued lacks symbol (entry_address addresses symbol (entry_of row r.addend tls)) is)
+
+  own_moved : (symbols : List Symbol) (valued : Bool) → has_value row.kind ≡ valued
+      → (if valued then value_by (lacks_origin addresses symbols row r) row (operands_of RiscV addresses symbols row r) else Ok None)
+      ≡ Ok (Some value)
+      → HasMovedTo (if valued then
+      value_by (lacks_origin addresses symbols row r) row (operands_of RiscV addresses symbols row (with_value r value wanted))
+      else Ok None)
+  own_moved symbols true valued is = by_symbol valued (lacks_origin addresses symbols row r) (slice_get symbols r.symbol) is
+  own_moved symbols false valued is = absurd (cc)
+
+-- ---- a relocation that stands alone
+
+unchanged : (r : Rela) → HasWrappedAddend r r
+unchanged r = record { others = refl; addend = refl }
+
+unbounded : (result : Value) → IsWrappedValue None result result
+unbounded (Err error) = refl
+unbounded (Ok None) = refl
+unbounded (Ok (Some value)) = (value, refl, record { same = refl; within = λ v same inside. inside })
+
+module _ (addresses : Addresses) (symbols : List Symbol) (row : RelocationKindInfo) (sum : IsSum row) (r : Rela) where
+  -- what becomes of it, by its value
+  abbrev Becomes : Bounds → Value → Rela → Type 0
+  Becomes bounds result after =
+      HasWrappedAddend r after × IsWrappedValue bounds result (own_value RiscV addresses symbols row after)
+
+  becomes : (bounds : Bounds) → AreNear bounds → (result : Value) → own_value RiscV addresses symbols row r ≡ result
+      → Becomes bounds result (wrapped_to (least_in bounds) r result)
+  becomes None are result is = (unchanged r, subst (λ x. IsWrappedValue None result x) (sym is) (unbounded result))
+  becomes (Some bounds) are (Err error) is = (unchanged r, is)
+  becomes (Some bounds) are (Ok None) is = (unchanged r, is)
+  becomes (Some bounds) are (Ok (Some value)) is =
+      let w = wrapped bounds.0 value in
+      let within = wrapped_within bounds value are in
+      let done = own_moved row sum addresses r value w (wrapped_is bounds.0 value are.0).fits within.same symbols (has_value row.kind) refl is in
+      (record { others = refl; addend = done.addend }, (w, done.is, within))
+
+  -- a low part stays
+  by_label : (labelled : Bool) → names_label row.size row.kind ≡ labelled
+      → HasWrappedAddend r (wrapped_to (if labelled then None else least_in (reach_of row)) r (own_value RiscV addresses symbols row r))
+  by_label true is = unchanged r
+  by_label false is = (becomes (reach_of row) (near (reach_of row) sum.near) (own_value RiscV addresses symbols row r) refl).0
+
+  alone : names_label row.size row.kind ≡ false
+      → Becomes (reach_of row) (own_value RiscV addresses symbols row r) (wrapped_by addresses symbols r (Some row))
+  alone isnt =
+      subst (λ labelled. Becomes (reach_of row) (own_value RiscV addresses symbols row r)
+      (wrapped_to (if labelled then None else least_in (reach_of row)) r (own_value RiscV addresses symbols row r))) (sym isnt)
+      (becomes (reach_of row) (near (reach_of row) sum.near) (own_value RiscV addresses symbols row r) refl)
+
+addend_by : (addresses : Addresses) (symbols : List Symbol) (r : Rela) (row : Option RelocationKindInfo)
+    → IsRow RiscV r.r_type row → HasWrappedAddend r (wrapped_by addresses symbols r row)
+addend_by addresses symbols r None of = unchanged r
+addend_by addresses symbols r (Some row) of =
+    by_label addresses symbols row (is_sum r.r_type row of) r (names_label row.size row.kind) refl
+
+pub addends : Addends
+addends addresses symbols before after are n below =
+    let each = are.each n below in
+    subst (HasWrappedAddend (relocation_in before n)) (sym each.2) (addend_by addresses symbols (relocation_in before n) each.0 each.1)
+
+-- the value of a relocation that is no low part
+own_wrapped : (addresses : Addresses) (symbols : List Symbol) (row : RelocationKindInfo) (r after : Rela)
+    → IsRow RiscV r.r_type (Some row) → IsWrapped addresses symbols r after → names_label row.size row.kind ≡ false
+    → IsWrappedValue (reach_of row) (own_value RiscV addresses symbols row r) (own_value RiscV addresses symbols row after)
+own_wrapped addresses symbols row r after of each isnt =
+    let is = each.2 ∙ ap (wrapped_by addresses symbols r) (one_row RiscV r.r_type each.0 (Some row) each.1 of) in
+    subst (λ x. IsWrappedValue (reach_of row) (own_value RiscV addresses symbols row r) (own_value RiscV addresses symbols row x)) (sym is)
+    (alone addresses symbols row (is_sum r.r_type row of) r isnt).1
+
+-- ---- a low part
+
+module _ (addresses : Addresses) (symbols : List Symbol) (row high : RelocationKindInfo) (low : IsLow row)
+    (labelled : names_label row.size row.kind ≡ true) (upper : IsHigh (is_of_descriptor row.kind) high)
+    (is_high : is_high_part row.kind (Some high) ≡ true) where
+  high_part : is_high_part (low_kind (is_of_descriptor row.kind)) (Some high) ≡ true
+  high_part =
+      ap (λ kind. is_high_part kind (Some high))
+      (sym (when_true (names_label row.size row.kind) row.kind (low_kind (is_of_descriptor row.kind)) low.kind labelled))
+      ∙ is_high
+
+  result_is : (o : Operands) → value_of row (low_operands high o) ≡ value_of high o
+  result_is o =
+      when_true (names_label row.size row.kind) (value_of row (low_operands high o)) _ (low.value (low_operands high o)) labelled
+      ∙ when_true (is_high_part (low_kind (is_of_descriptor row.kind)) (Some high)) _ (value_of high o) (upper.value o) high_part
+
+  by_operands : (operands : Result Operands ValueError) → low_by row high operands ≡ value_by false high operands
+  by_operands (Err error) = refl
+  by_operands (Ok o) = ap Ok (result_is o)
+
+  -- its value is that of the high part alone
+  as_alone : (r : Rela) → low_value RiscV addresses symbols row (Some (r, high)) ≡ own_value RiscV addresses symbols high r
+  as_alone r =
+      let part = is_high_part (low_kind (is_of_descriptor row.kind)) (Some high) in
+      let valued = when_true part (has_value high.kind) true upper.valued high_part in
+      let offset = when_true part (is_offset high.kind) false upper.no_offset high_part in
+      rw (valued, offset) (by_operands (operands_of RiscV addresses symbols high r))
+
+  unlabelled : names_label high.size high.kind ≡ false
+  unlabelled = when_true (is_high_part (low_kind (is_of_descriptor row.kind)) (Some high)) _ false upper.unlabelled high_part
+
+  same_reach : reach_of high ≡ reach_of row
+  same_reach =
+      when_true (is_high_part (low_kind (is_of_descriptor row.kind)) (Some high)) _ (Some riscv_pair_bounds) upper.bounds high_part
+      ∙ sym (when_true (names_label row.size row.kind) (reach_of row) (Some riscv_pair_bounds) low.bounds labelled)
+
+  low_wrapped : (r after : Rela) → IsRow RiscV r.r_type (Some high) → IsWrapped addresses symbols r after
+      → IsWrappedValue (reach_of row) (low_value RiscV addresses symbols row (Some (r, high))) (low_value RiscV addresses symbols row (Some (after, high)))
+  low_wrapped r after of each =
+      rw (as_alone r, as_alone after, ← same_reach) (own_wrapped addresses symbols high r after of each unlabelled)
+
+record IsIn (bytes : List ℕ) (i : ℕ) (r : Rela) : Type 0 where
+  below : i < length bytes / 24
+  is : relocation_in bytes i ≡ r
+
+abbrev first_of : {A : Type 0} → A → Option A → A
+first_of x None = x
+first_of x (Some y) = y
+
+in_by : (bytes : List ℕ) (i : ℕ) (r : Rela) (within : Bool) → ltb i (length bytes / 24) ≡ within
+    → (if within then Some (relocation_in bytes i) else None) ≡ Some r → IsIn bytes i r
+in_by bytes i r true within is = record { below = ltb-true i (length bytes / 24) within; is = ap (first_of r) is }
+in_by bytes i r false within is = absurd (cc)
+
+is_in : (bytes : List ℕ) (i : ℕ) (r : Rela) → relocation_at bytes i ≡ Some r → IsIn bytes i r
+is_in bytes i r is = in_by bytes i r (ltb i (length bytes / 24)) refl is
+
+at_below : (bytes : List ℕ) (i : ℕ) → i < length bytes / 24 → relocation_at bytes i ≡ Some (relocation_in bytes i)
+at_below bytes i below = cond-true (ltb i (length bytes / 24)) (Some (relocation_in bytes i)) None (lt-ltb i (length bytes / 24) below)
+
+module _ (addresses : Addresses) (symbols : List Symbol) (before after : List ℕ)
+    (are : AreWrapped addresses symbols before after) where
+  same_count : length after / 24 ≡ length before / 24
+  same_count = ap (λ n. n / 24) are.same_length
+
+  none_was : (kind : RelocationKind) (at : ℕ) → IsHighPartAt RiscV after kind at None → IsHighPartAt RiscV before kind at None
+  none_was kind at none i r is =
+      let there = is_in before i r is in
+      let new = relocation_in after i in
+      let becomes = addends addresses symbols before after are i there.below in
+      let now : relocation_at after i ≡ Some new = at_below after i (subst (λ n. i < n) (sym same_count) there.below) in
+      let old : new ≡ record r { addend = new.addend } = becomes.others ∙ ap (λ (x : Rela). record x { addend = new.addend }) there.is in
+      subst (IsNoHighPart RiscV kind at) old (none i new now)
+
+  low_was : (row : RelocationKindInfo) → IsSum row → names_label row.size row.kind ≡ true → (at : ℕ)
+      (found : Option (Rela × RelocationKindInfo)) → IsHighPartAt RiscV after row.kind at found
+      → (first : Option (Rela × RelocationKindInfo)) × IsHighPartAt RiscV before row.kind at first
+      × IsWrappedValue (reach_of row) (low_value RiscV addresses symbols row first) (low_value RiscV addresses symbols row found)
+  low_was row sum labelled at None none = (None, none_was row.kind at none, refl)
+  low_was row sum labelled at (Some (new, high)) part =
+      let i = part.index in
+      let there = is_in after i new part.is_there in
+      let below : i < length before / 24 = subst (λ n. i < n) same_count there.below in
+      let r = relocation_in before i in
+      let becomes = addends addresses symbols before after are i below in
+      let is : new ≡ record r { addend = new.addend } =
+      sym there.is ∙ (becomes.others ∙ ap (λ (x : Rela). record r { addend = x.addend }) there.is) in
+      let of : IsRow RiscV r.r_type (Some high) = subst (λ (x : Rela). IsRow RiscV x.r_type (Some high)) is part.row_is in
+      let offset : r.offset ≡ at = sym (ap (λ (x : Rela). x.offset) is) ∙ part.offset_is in
+      let each : IsWrapped addresses symbols r new = subst (IsWrapped addresses symbols r) there.is (are.each i below) in (
+        Some (r, high),
+        record { index = i; is_there = at_below before i below; offset_is = offset; row_is = of; is_high = part.is_high },
+        low_wrapped addresses symbols row high sum.low labelled (high_is (is_of_descriptor row.kind) high (is_sum r.r_type high of))
+            part.is_high r new of each,
+      )
+
+  abbrev Was : RelocationKindInfo → Rela → Value → Type 0
+  Was row r result =
+      (first : Value) × IsValue RiscV addresses before symbols r first × IsWrappedValue (reach_of row) first result
+
+  was_low : (row : RelocationKindInfo) (r : Rela) → IsRow RiscV r.r_type (Some row) → names_label row.size row.kind ≡ true
+      → (label : Option Symbol) → slice_get symbols r.symbol ≡ label → (first : Value)
+      → IsLowValue RiscV addresses before symbols row label first → IsValue RiscV addresses before symbols r first
+  was_low row r of labelled label is first low = (
+    Some row,
+    of,
+    subst (λ b. IsValueBy b RiscV addresses before symbols row r first) (sym labelled)
+        (subst (λ s. IsLowValue RiscV addresses before symbols row s first) (sym is) low),
+  )
+
+  label_was : (row : RelocationKindInfo) → IsSum row → (r : Rela) → IsRow RiscV r.r_type (Some row)
+      → names_label row.size row.kind ≡ true → (label : Option Symbol) → slice_get symbols r.symbol ≡ label
+      → (result : Value) → IsLowValue RiscV addresses after symbols row label result → Was row r result
+  label_was row sum r of labelled None is result value =
+      (Err NoSymbol, was_low row r of labelled None is (Err NoSymbol) refl, value)
+  label_was row sum r of labelled (Some label) is result value =
+      let low = low_was row sum labelled (difference_64 label.address addresses.section) value.0 value.1 in
+      let first = low_value RiscV addresses symbols row low.0 in (
+        first,
+        was_low row r of labelled (Some label) is first (low.0, low.1, refl),
+        subst (λ x. IsWrappedValue (reach_of row) first x) (sym value.2) low.2,
+      )
+
+  by_kind : (n : ℕ) → n < length before / 24 → (row : RelocationKindInfo)
+      → IsRow RiscV (relocation_in before n).r_type (Some row)
+      → (labelled : Bool) → names_label row.size row.kind ≡ labelled → (result : Value)
+      → IsValueBy labelled RiscV addresses after symbols row (relocation_in after n) result
+      → Was row (relocation_in before n) result
+  by_kind n below row of true labelled result value =
+      let r = relocation_in before n in
+      let new = relocation_in after n in
+      label_was row (is_sum r.r_type row of) r of labelled (slice_get symbols new.symbol)
+      (sym (ap (λ (x : Rela). slice_get symbols x.symbol) (addends addresses symbols before after are n below).others)) result value
+  by_kind n below row of false isnt result value =
+      let r = relocation_in before n in
+      let first = own_value RiscV addresses symbols row r in
+      let same : first ≡ first = refl in (
+        first,
+        (Some row, of, subst (λ b. IsValueBy b RiscV addresses before symbols row r first) (sym isnt) same),
+        subst (λ x. IsWrappedValue (reach_of row) first x) (sym value)
+            (own_wrapped addresses symbols row r (relocation_in after n) of (are.each n below) isnt),
+      )
+
+pub values : Values
+values addresses symbols before after are n below row of result value =
+    let r = relocation_in before n in
+    let new = relocation_in after n in
+    let now : IsRow RiscV r.r_type value.0 =
+    subst (λ (x : Rela). IsRow RiscV x.r_type value.0) (addends addresses symbols before after are n below).others value.1 in
+    let same : value.0 ≡ Some row = one_row RiscV r.r_type value.0 (Some row) now of in
+    by_kind addresses symbols before after are n below row of (names_label row.size row.kind) refl result
+    (subst (λ x. IsValueIn RiscV addresses after symbols new x result) same value.2)

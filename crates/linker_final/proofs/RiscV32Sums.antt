@@ -1,0 +1,119 @@
+-- RV32's instructions by RV64's laws: a sum modulo 2^64 is one modulo 2^32.
+use Rattle.std.proofs.Common.{◌≡◌, ℕ, ℤ, pos, ◌%◌, ◌^◌, ◌+◌, ◌+ℤ◌, ◌*ℤ◌, refl, sym, ap, ◌∙◌, arith, List, [], ◌∷◌, Option, Some, None}
+use Rattle.std.specs.Prelude.{IsSomeAnd}
+use Rattle.linker_elf.proofs.Agreement.{rem_rem}
+use Rattle.linker_elf.specs.declared.riscv64.forms.RiscVInstruction.{RiscVInstruction}
+use Rattle.linker_elf.specs.declared.riscv64.forms.RiscVInstruction.TheVariants.{BType, CbType, CjType, JType, SType, UiType}
+use Rattle.linker_elf.specs.declared.riscv64.relocations.RiscVRelocation.TheVariants as names
+use Rattle.linker_final.proofs.Imports.{number_of_bytes, riscv_form, riscv_row, Operands, IType, UType, RiscVRelocation, AreAddresses, plt_address, symbol_address}
+use Rattle.linker_laws.specs.RiscVRelocationLaws as laws
+use Rattle.linker_laws.specs.RiscVRelocationLaws.{even, low_load, low_store, of_entry, upper_and_low, without_bit_0}
+use Rattle.linker_laws.specs.Schemes.{Step, Computed, Reaches, Law, HoldsDistance, entry_and_addend, here, number_at, place, tls_base, zero}
+use Rattle.linker_final.specs.RiscV32.{AbsoluteAddresses, Branches, Call, Entries, IsSame32, Jump, Law32, Pairs, Reaches32, RelativeAddresses, ThreadAddresses, Word, Words}
+
+some_and : {T : Type 0} {P Q : T → Type 0} (x : Option T) → ((y : T) → P y → Q y) → IsSomeAnd x P → IsSomeAnd x Q
+some_and None f there = there
+some_and (Some y) f there = f y there
+
+weaker : (steps : List Step) (o : Operands) (c : Computed steps) (t t' : ℕ) → t' % 2 ^ 32 ≡ t % 2 ^ 32
+    → Reaches steps o c t' → Reaches32 steps o c t
+weaker [] o c t t' same is = sym (rem_rem c t' 64 32 (omega arith) (sym is)) ∙ ap pos same
+weaker (step ∷ steps) o c t t' same is =
+    some_and step.row (λ row law at before after applied holds.
+    weaker steps o (c (number_at row.size after)) t t' same (law at before after applied holds)) is
+
+with_addend : (o : Operands) (a : ℤ) → AreAddresses o → AreAddresses (record o { addend = a })
+with_addend o a small = record {
+  symbol = small.symbol;
+  place = small.place;
+  got_entry = small.got_entry;
+  got_base = small.got_base;
+  plt_entry = small.plt_entry;
+  tls_base = small.tls_base;
+}
+
+-- a target that changes with its addend by multiples of 2^32
+abbrev IsTarget32 : (Operands → ℕ) → Type 0
+IsTarget32 target =
+    (o : Operands) (a : ℤ) → IsSame32 a o.addend → target (record o { addend = a }) % 2 ^ 32 ≡ target o % 2 ^ 32
+
+symbol_32 : IsTarget32 symbol_address
+symbol_32 o a same = omega (arith, same)
+
+plt_32 : IsTarget32 plt_address
+plt_32 o a same = omega (arith, same)
+
+entry_32 : IsTarget32 entry_and_addend
+entry_32 o a same = omega (arith, same)
+
+even_plt_32 : IsTarget32 (even plt_address)
+even_plt_32 o a same = omega (arith, same)
+
+law_32 : (steps : List Step) (computed : Operands → Computed steps) (target : Operands → ℕ)
+    → IsTarget32 target → Law steps computed target → Law32 steps computed target
+law_32 steps computed target moves law = λ o a small same.
+    let p : Operands = record o { addend = a } in
+    weaker steps p (computed p) (target o) (target p) (moves o a same) (law p (with_addend o a small))
+
+pairs : (begin : Operands → ℕ) (name : RiscVRelocation) (load store : Step) (target : Operands → ℕ) → IsTarget32 target
+    → laws.Pairs begin UType (riscv_row name) load store target → Pairs begin name load store target
+pairs begin name load store target moves law = (
+  law_32 (here (riscv_row name) ∷ load ∷ []) (upper_and_low begin UType IType) target moves law.0,
+  law_32 (here (riscv_row name) ∷ store ∷ []) (upper_and_low begin UType SType) target moves law.1,
+)
+
+entries : (name : RiscVRelocation) → laws.Entries name → Entries name
+entries name = pairs place name (of_entry low_load) (of_entry low_store) entry_and_addend entry_32
+
+pub absolute : laws.AbsoluteAddresses → AbsoluteAddresses
+absolute law =
+    pairs zero names.R_RISCV_HI20 (here (riscv_row names.R_RISCV_LO12_I)) (here (riscv_row names.R_RISCV_LO12_S))
+    symbol_address symbol_32 law.0
+
+pub relative : laws.RelativeAddresses → laws.EntryAddresses → RelativeAddresses
+relative law of_entries = (
+  pairs place names.R_RISCV_PCREL_HI20 low_load low_store symbol_address symbol_32 law,
+  entries names.R_RISCV_GOT_HI20 of_entries.0,
+  entries names.R_RISCV_TLS_GOT_HI20 of_entries.1,
+  entries names.R_RISCV_TLS_GD_HI20 of_entries.2,
+)
+
+pub thread : laws.ThreadAddresses → ThreadAddresses
+thread law =
+    pairs tls_base names.R_RISCV_TPREL_HI20 (here (riscv_row names.R_RISCV_TPREL_LO12_I))
+    (here (riscv_row names.R_RISCV_TPREL_LO12_S)) symbol_address symbol_32 law
+
+call : (name : RiscVRelocation) → laws.Call name → Call name
+call name =
+    law_32 (here (riscv_row name) ∷ []) (λ o x. without_bit_0 (pos o.place +ℤ (riscv_form UiType).machine x))
+    (even plt_address) even_plt_32
+
+jump : (name : RiscVRelocation) (f : RiscVInstruction) → laws.Jump name f → Jump name f
+jump name f =
+    law_32 (here (riscv_row name) ∷ []) (λ o x. pos o.place +ℤ ((riscv_form f).machine x *ℤ pos 1)) symbol_address symbol_32
+
+pub branches : laws.Calls → laws.Jumps → Branches
+branches calls jumps = (
+  call names.R_RISCV_CALL calls.0,
+  call names.R_RISCV_CALL_PLT calls.1,
+  jump names.R_RISCV_JAL JType jumps.0,
+  jump names.R_RISCV_BRANCH BType jumps.1,
+  jump names.R_RISCV_RVC_JUMP CjType jumps.2,
+  jump names.R_RISCV_RVC_BRANCH CbType jumps.3,
+)
+
+word : (name : RiscVRelocation) (begin target : Operands → ℕ)
+    → ((o : Operands) (a : ℤ) → begin (record o { addend = a }) ≡ begin o) → IsTarget32 target
+    → HoldsDistance 4 (riscv_row name) begin target → Word name begin target
+word name begin target keeps moves =
+    some_and (riscv_row name) (λ row is o a small same before after applied.
+    ap (λ b. (b + number_of_bytes 4 after) % 2 ^ 32) (sym (keeps o a))
+    ∙ (is (record o { addend = a }) (with_addend o a small) before after applied ∙ moves o a same))
+
+pub words : laws.Fields → Words
+words law = (
+  word names.R_RISCV_32 zero symbol_address (λ o a. refl) symbol_32 law.0,
+  word names.R_RISCV_32_PCREL place symbol_address (λ o a. refl) symbol_32 law.2,
+  word names.R_RISCV_PLT32 place plt_address (λ o a. refl) plt_32 law.3,
+  word names.R_RISCV_GOT32_PCREL place entry_and_addend (λ o a. refl) entry_32 law.4,
+)

@@ -1,0 +1,13 @@
+use Rattle.linker_final.proofs.RiscV32Sums.{absolute, branches, relative, thread, words}
+use Rattle.linker_final.proofs.laws.riscv32_instructions.Goals as goal
+
+pub returns : goal.returns
+returns c =
+    let laws = c.riscv64.ensures in
+    record {
+      absolute = absolute laws.absolute;
+      relative = relative laws.relative laws.entries;
+      thread = thread laws.thread;
+      branches = branches laws.calls laws.jumps;
+      words = words laws.fields;
+    }

@@ -1,0 +1,166 @@
+-- RV32: relocations with wrapped addends, and what instructions with them compute, modulo 2^32
+-- (RISC-V unprivileged ISA, "RV32I Base Integer Instruction Set": registers have 32 bits).
+use Rattle.std.specs.Prelude.{◌≡◌, ◌≢◌, ℕ, ◌<◌, ◌+◌, ◌%◌, ◌^◌, ◌/◌, ℤ, pos, ◌+ℤ◌, ◌*ℤ◌, ⊤, List, []}
+use Rattle.std.specs.Prelude.{◌∷◌, length, Option, Some, Result, Ok, IsSomeAnd}
+use Rattle.std.specs.Int.{w64, cast_unsigned, int_rem_euclid}
+use Rattle.linker_elf.specs.Applied.{IsApplied}
+use Rattle.linker_elf.specs.Elf.{IsWithin}
+use Rattle.linker_elf.specs.Reach.{reach_of, riscv_pair_bounds}
+use Rattle.linker_elf.specs.Relocate.{number_of_bytes}
+use Rattle.linker_elf.specs.Rows.{Bounds}
+use Rattle.linker_elf.specs.declared.riscv64.forms.RiscVInstruction.{RiscVInstruction}
+use Rattle.linker_elf.specs.declared.riscv64.forms.RiscVInstruction.TheVariants.{IType, SType}
+use Rattle.linker_elf.specs.declared.riscv64.forms.RiscVInstruction.TheVariants.{UType}
+use Rattle.linker_elf.specs.declared.riscv64.relocations.RiscVRelocation.TheVariants as names
+use Rattle.linker_final.specs.Imports.{IsRow, riscv_row, riscv_form, RelocationKindInfo, RiscV}
+use Rattle.linker_final.specs.Imports.{Operands, BType, CbType, CjType, JType, UiType}
+use Rattle.linker_final.specs.Imports.{RiscVRelocation, AreAddresses, entry_and_addend, plt_address}
+use Rattle.linker_final.specs.Imports.{symbol_address, relocation_in, Addresses, Symbol, Rela}
+use Rattle.linker_laws.specs.RiscVRelocationLaws.{upper_and_low, low_load, low_store, of_entry}
+use Rattle.linker_laws.specs.RiscVRelocationLaws.{without_bit_0, even}
+use Rattle.linker_laws.specs.Schemes.{Step, Computed, PremiseHolds, here, number_at, zero, place}
+use Rattle.linker_laws.specs.Schemes.{tls_base}
+use Rattle.linker_section.specs.RiscV32.{AreWrapped}
+use Rattle.linker_section.specs.Values.{IsValue}
+use Rattle.linker_section.specs.declared.values.ValueError.{ValueError}
+
+-- two numbers of 64 bits are the same modulo 2^32
+abbrev pub IsSame32 : ℤ → ℤ → Type 0
+IsSame32 a b = cast_unsigned w64 a % 2 ^ 32 ≡ cast_unsigned w64 b % 2 ^ 32
+
+-- ---- relocations and their values
+
+-- what a relocation becomes: the same but for a multiple of 2^32 that is added to its addend
+pub record HasWrappedAddend (before after : Rela) : Type 0 where
+  pub others : after ≡ record before { addend = after.addend }
+  pub addend : IsSame32 after.addend before.addend
+
+abbrev pub Addends : Type 0
+Addends =
+    (addresses : Addresses) (symbols : List Symbol) (before after : List ℕ)
+    → AreWrapped addresses symbols before after → (n : ℕ) → n < length before / 24
+    → HasWrappedAddend (relocation_in before n) (relocation_in after n)
+
+-- What a value becomes: the same number modulo 2^32. It is within bounds if any such number is.
+pub record IsWrappedWithin (bounds : Bounds) (value after : ℤ) : Type 0 where
+  pub same : IsSame32 after value
+  pub within : (v : ℤ) → IsSame32 v value → IsWithin bounds v → IsWithin bounds after
+
+-- Where there was a value there is one. An error, or none, stays.
+abbrev pub IsWrappedValue : Bounds → Result (Option ℤ) ValueError → Result (Option ℤ) ValueError
+    → Type 0
+IsWrappedValue bounds (Ok (Some value)) after =
+    (number : ℤ) × (after ≡ Ok (Some number)) × IsWrappedWithin bounds value number
+IsWrappedValue bounds before after = after ≡ before
+
+-- each relocation of a section that has a row, also a low part, whose value is its high part's
+abbrev pub Values : Type 0
+Values =
+    (addresses : Addresses) (symbols : List Symbol) (before after : List ℕ)
+    → AreWrapped addresses symbols before after → (n : ℕ) → n < length before / 24
+    → (row : RelocationKindInfo) → IsRow RiscV (relocation_in before n).r_type (Some row)
+    → (result : Result (Option ℤ) ValueError)
+    → IsValue RiscV addresses after symbols (relocation_in after n) result
+    → (first : Result (Option ℤ) ValueError)
+    × IsValue RiscV addresses before symbols (relocation_in before n) first
+    × IsWrappedValue (reach_of row) first result
+
+-- a pair of instructions, and a call by two, reaches every address
+abbrev pub PairsReachAll : Type 0
+PairsReachAll =
+    (value after : ℤ) → IsWrappedWithin (Some riscv_pair_bounds) value after
+    → IsWithin (Some riscv_pair_bounds) after
+
+-- ---- instructions
+
+-- `Reaches` of RV64, modulo 2^32
+abbrev pub Reaches32 : (steps : List Step) → Operands → Computed steps → ℕ → Type 0
+Reaches32 [] o sum target = int_rem_euclid sum (pos (2 ^ 32)) ≡ pos (target % 2 ^ 32)
+Reaches32 (step ∷ steps) o computed target =
+    IsSomeAnd step.row (λ row.
+    (at : ℕ) (before after : List ℕ) (applied : IsApplied row (step.operands o at) before after)
+    → PremiseHolds step.premise (number_at row.size before) applied.value
+    → Reaches32 steps o (computed (number_at row.size after)) target)
+
+-- Relocations that are applied with a wrapped addend compute the target, which has the file's.
+abbrev pub Law32 : (steps : List Step) → (Operands → Computed steps) → (Operands → ℕ) → Type 0
+Law32 steps computed target =
+    (o : Operands) (addend : ℤ) → AreAddresses o → IsSame32 addend o.addend
+    → let wrapped = record o { addend = addend }
+    in Reaches32 steps wrapped (computed wrapped) (target o)
+
+-- an upper part, and the low part of a load or an `addi` and that of a store
+abbrev pub Pairs : (Operands → ℕ) → RiscVRelocation → Step → Step → (Operands → ℕ) → Type 0
+Pairs begin name load store target =
+    Law32 (here (riscv_row name) ∷ load ∷ []) (upper_and_low begin UType IType) target
+    × Law32 (here (riscv_row name) ∷ store ∷ []) (upper_and_low begin UType SType) target
+
+abbrev pub AbsoluteAddresses : Type 0
+AbsoluteAddresses =
+    Pairs zero names.R_RISCV_HI20 (here (riscv_row names.R_RISCV_LO12_I))
+    (here (riscv_row names.R_RISCV_LO12_S)) symbol_address
+
+abbrev pub Entries : RiscVRelocation → Type 0
+Entries name = Pairs place name (of_entry low_load) (of_entry low_store) entry_and_addend
+
+abbrev pub RelativeAddresses : Type 0
+RelativeAddresses =
+    Pairs place names.R_RISCV_PCREL_HI20 low_load low_store symbol_address
+    × Entries names.R_RISCV_GOT_HI20 × Entries names.R_RISCV_TLS_GOT_HI20
+    × Entries names.R_RISCV_TLS_GD_HI20
+
+abbrev pub ThreadAddresses : Type 0
+ThreadAddresses =
+    Pairs tls_base names.R_RISCV_TPREL_HI20 (here (riscv_row names.R_RISCV_TPREL_LO12_I))
+    (here (riscv_row names.R_RISCV_TPREL_LO12_S)) symbol_address
+
+abbrev pub Call : RiscVRelocation → Type 0
+Call name =
+    Law32 (here (riscv_row name) ∷ [])
+    (λ o x. without_bit_0 (pos o.place +ℤ (riscv_form UiType).machine x)) (even plt_address)
+
+abbrev pub Jump : RiscVRelocation → RiscVInstruction → Type 0
+Jump name f =
+    Law32 (here (riscv_row name) ∷ []) (λ o x. pos o.place +ℤ ((riscv_form f).machine x *ℤ pos 1))
+    symbol_address
+
+abbrev pub Branches : Type 0
+Branches =
+    Call names.R_RISCV_CALL × Call names.R_RISCV_CALL_PLT × Jump names.R_RISCV_JAL JType
+    × Jump names.R_RISCV_BRANCH BType × Jump names.R_RISCV_RVC_JUMP CjType
+    × Jump names.R_RISCV_RVC_BRANCH CbType
+
+-- 4 bytes hold the distance from where the formula begins
+abbrev pub Word : RiscVRelocation → (Operands → ℕ) → (Operands → ℕ) → Type 0
+Word name begin target =
+    IsSomeAnd (riscv_row name) (λ row.
+    (o : Operands) (addend : ℤ) → AreAddresses o → IsSame32 addend o.addend
+    → (before after : List ℕ) → IsApplied row (record o { addend = addend }) before after
+    → (begin o + number_of_bytes 4 after) % 2 ^ 32 ≡ target o % 2 ^ 32)
+
+abbrev pub Words : Type 0
+Words =
+    Word names.R_RISCV_32 zero symbol_address × Word names.R_RISCV_32_PCREL place symbol_address
+    × Word names.R_RISCV_PLT32 place plt_address
+    × Word names.R_RISCV_GOT32_PCREL place entry_and_addend
+
+-- ---- the premises of a pair's law
+
+-- the steps are applied to some bytes
+abbrev pub AreApplied : List Step → Operands → Type 0
+AreApplied [] o = ⊤
+AreApplied (step ∷ steps) o =
+    IsSomeAnd step.row (λ row.
+    (at : ℕ) × (before : List ℕ) × (after : List ℕ) × IsApplied row (step.operands o at) before after)
+    × AreApplied steps o
+
+-- `lui` and `addi` are applied with an addend that isn't the file's
+pub record PairIsApplied : Type 0 where
+  pub o : Operands
+  pub addend : ℤ
+  pub addresses : AreAddresses o
+  pub same : IsSame32 addend o.addend
+  pub other : addend ≢ o.addend
+  pub applied : AreApplied
+      (here (riscv_row names.R_RISCV_HI20) ∷ here (riscv_row names.R_RISCV_LO12_I) ∷ [])
+      (record o { addend = addend })
