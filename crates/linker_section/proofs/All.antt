@@ -12,7 +12,7 @@ use Rattle.linker_section.specs.declared.facts.Addresses.{Addresses}
 
 -- ---- bytes outside of a field
 
-local_byte : (o w p : ℕ) (now after : List ℕ) → IsLocal o w now after
+pub local_byte : (o w p : ℕ) (now after : List ℕ) → IsLocal o w now after
     → (p < o) ⊎ (o + w ≤ p) → slice_index after p ≡ slice_index now p
 local_byte o w p now after local outside =
     elim outside [
@@ -175,7 +175,7 @@ pub untouched : (architecture : Architecture) (addresses : Addresses) (bytes bef
     → AreRelocated architecture addresses bytes values before n now
     → AreUntouched architecture bytes before n now
 untouched architecture addresses bytes before values apart none = (refl, λ p outside. refl)
-untouched architecture addresses bytes before values apart (mark {n} {middle} relocated value) =
+untouched architecture addresses bytes before values apart (mark {n} {middle} relocated value inside) =
     let so_far = untouched architecture addresses bytes before values (λ i j row other below under. apart i j row other below (omega (arith, under))) relocated in (
       (so_far.0),
       (λ p outside. so_far.1 p (fewer architecture bytes before n (n + 1) p (omega arith) outside)),

@@ -6,15 +6,15 @@ use Rattle.linker_section.proofs.Composing.{begun_ends_none}
 use Rattle.linker_section.proofs.Fronts.{some_window}
 use Rattle.linker_section.proofs.Rows.{one_row, one_info}
 use Rattle.linker_section.proofs.Sized.{is_composing, first_composes, instruction_alone, auipc_valued}
-use Rattle.linker_section.proofs.Stepping.{len_alone, no_field}
+use Rattle.linker_section.proofs.Stepping.{len_alone}
 use Rattle.linker_section.specs.Conditions.{IsInReach}
 use Rattle.linker_section.specs.Fields.{IsField, begins_pair, ends_pair, is_of_pair, Composes, of_number, of_pair, AreApart}
 use Rattle.linker_section.specs.Relocations.{relocation_in, relocation_at}
 use Rattle.linker_section.proofs.Lengths.{pair_shows}
-use Rattle.linker_section.proofs.Valued.{mark_none, mark_no_value}
-use Rattle.linker_section.specs.Sections.{by_index, HasValue, IsRowValue, IsValueless, no_value, not_filled, no_stub, beyond, IsOtherLength, IsNotAccepted, IsPairRejected, IsNumberOfPair, IsCauseAt, IsOfValue, BeginsPair}
+use Rattle.linker_section.proofs.Valued.{mark_none}
+use Rattle.linker_section.specs.Sections.{Values, by_index, HasValue, IsRowValue, IsValueless, no_value, not_filled, no_stub, beyond, IsOtherLength, IsNotAccepted, IsPairRejected, IsNumberOfPair, IsCauseAt, IsOfValue, BeginsPair}
 use Rattle.linker_section.specs.Values.{offset_at, is_auipc, is_high_kind, is_high_part, names_label, IsHighPart, IsHighPartAt, low_value, IsLowValue, IsValueBy, IsValueIn, IsValue}
-use Rattle.linker_section.specs.WrittenFields.{CanBeWritten, IsFirstFault, PairFits}
+use Rattle.linker_section.specs.WrittenFields.{CanBeWrittenBy, IsFirstFaultBy, PairFits}
 use Rattle.linker_section.specs.declared.facts.Addresses.{Addresses}
 use Rattle.linker_section.specs.declared.facts.Symbol.{Symbol}
 use Rattle.linker_section.specs.declared.relocations.Rela.{Rela}
@@ -38,7 +38,7 @@ record IsThere (bytes : List ℕ) (i : ℕ) (r : Rela) : Type 0 where
   pub within : i < length bytes / 24
   pub is : relocation_in bytes i ≡ r
 
-abbrev first_of : {A : Type 0} → A → Option A → A
+abbrev pub first_of : {A : Type 0} → A → Option A → A
 first_of x None = x
 first_of x (Some y) = y
 
@@ -90,15 +90,15 @@ high_composes_none {bytes} {i} {j} {row} {other} alone no_pair composes =
           absurd (true≢false (sym (or_left (begins_pair row.size row.kind) (ends_pair row.size row.kind) begins) ∙ no_pair))
     ]
 
-abbrev of_ok : Option ℤ → Result (Option ℤ) ValueError → Option ℤ
+abbrev pub of_ok : Option ℤ → Result (Option ℤ) ValueError → Option ℤ
 of_ok x (Ok y) = y
 of_ok x (Err error) = x
 
-abbrev is_ok : Result (Option ℤ) ValueError → Bool
+abbrev pub is_ok : Result (Option ℤ) ValueError → Bool
 is_ok (Ok x) = true
 is_ok (Err error) = false
 
-module _ (architecture : Architecture) (addresses : Addresses) (bytes : List ℕ) (symbols : List Symbol) (section : List ℕ) (apart : AreApart architecture bytes section (length bytes / 24)) where
+module _ (architecture : Architecture) (bytes section : List ℕ) (apart : AreApart architecture bytes section (length bytes / 24)) where
   high_apart : (low : RelocationKind) (at : ℕ) (r s : Rela) (row other : RelocationKindInfo)
       (x : IsHighPart architecture bytes low at r row) (y : IsHighPart architecture bytes low at s other)
       → x.index < y.index → ⊥
@@ -113,27 +113,28 @@ module _ (architecture : Architecture) (addresses : Addresses) (bytes : List ℕ
       high_composes_none f.alone f.no_pair
       (apart x.index y.index row other less b.within f.is_field g.is_field ((omega (arith, same, gs)), (omega (arith, same, fs))))
 
-  record IsOneHigh (r s : Rela) (row other : RelocationKindInfo) : Type 0 where
+  pub record IsOneHigh (r s : Rela) (row other : RelocationKindInfo) (i j : ℕ) : Type 0 where
     pub relocation_is : r ≡ s
     pub row_is : row ≡ other
+    pub index_is : i ≡ j
 
-  one_high : (low : RelocationKind) (at : ℕ) (r s : Rela) (row other : RelocationKindInfo)
-      → IsHighPart architecture bytes low at r row → IsHighPart architecture bytes low at s other
-      → IsOneHigh r s row other
+  pub one_high : (low : RelocationKind) (at : ℕ) (r s : Rela) (row other : RelocationKindInfo)
+      (x : IsHighPart architecture bytes low at r row) (y : IsHighPart architecture bytes low at s other)
+      → IsOneHigh r s row other x.index y.index
   one_high low at r s row other x y =
       elim (cases_eq x.index y.index) [
         | inl is ↦
             let a = there_is bytes x.index r x.is_there in
             let b = there_is bytes y.index s y.is_there in
             let same : r ≡ s = sym a.is ∙ (ap (relocation_in bytes) is ∙ b.is) in
-            record { relocation_is = same; row_is = one_info architecture _ row other x.row_is (subst (λ z. IsRow architecture z.r_type (Some other)) (sym same) y.row_is) }
+            record { relocation_is = same; row_is = one_info architecture _ row other x.row_is (subst (λ z. IsRow architecture z.r_type (Some other)) (sym same) y.row_is); index_is = is }
         | inr isnt ↦ elim (cases_lt x.index y.index) [
           | inl less ↦ absurd (high_apart low at r s row other x y less)
           | inr most ↦ absurd (high_apart low at s r other row y x (omega (arith, isnt, most)))
         ]
       ]
 
-  no_high : (low : RelocationKind) (at : ℕ) (r : Rela) (row : RelocationKindInfo)
+  pub no_high : (low : RelocationKind) (at : ℕ) (r : Rela) (row : RelocationKindInfo)
       → IsHighPart architecture bytes low at r row → IsHighPartAt architecture bytes low at None → ⊥
   no_high low at r row x none =
       elim (none x.index r x.is_there) [
@@ -151,14 +152,25 @@ module _ (architecture : Architecture) (addresses : Addresses) (bytes : List ℕ
   same_high low at None (Some g) x y = absurd (no_high low at (g.0) (g.1) y x)
   same_high low at None None x y = refl
 
-  -- ---- one value
+-- ---- one value
 
+-- what is found of the relocation at an index is found once, and isn't an error
+pub record AreUnique (architecture : Architecture) (addresses : Addresses) (bytes : List ℕ)
+    (values : Values) : Type 0 where
+  pub same : (i : ℕ) (x y : Option (RelocationKindInfo × ℤ)) → values architecture addresses bytes i (Ok x)
+      → values architecture addresses bytes i (Ok y) → x ≡ y
+  pub no_error : (i : ℕ) (x : Option (RelocationKindInfo × ℤ)) (why : ValueError)
+      → values architecture addresses bytes i (Ok x) → values architecture addresses bytes i (Err why) → ⊥
+  pub is_row : (i : ℕ) (row : RelocationKindInfo) (v : ℤ) → values architecture addresses bytes i (Ok (Some (row, v)))
+      → IsRow architecture (relocation_in bytes i).r_type (Some row)
+
+module _ (architecture : Architecture) (addresses : Addresses) (bytes : List ℕ) (symbols : List Symbol) (section : List ℕ) (apart : AreApart architecture bytes section (length bytes / 24)) where
   one_low : (row : RelocationKindInfo) (label : Option Symbol) (x y : Result (Option ℤ) ValueError)
       → IsLowValue architecture addresses bytes symbols row label x
       → IsLowValue architecture addresses bytes symbols row label y → x ≡ y
   one_low row None x y a b = a ∙ sym b
   one_low row (Some label) x y a b =
-      a.2 ∙ (ap (low_value architecture addresses symbols row) (same_high row.kind _ (a.0) (b.0) (a.1) (b.1)) ∙ sym (b.2))
+      a.2 ∙ (ap (low_value architecture addresses symbols row) (same_high architecture bytes section apart row.kind _ (a.0) (b.0) (a.1) (b.1)) ∙ sym (b.2))
 
   one_by : (labelled : Bool) (row : RelocationKindInfo) (r : Rela) (x y : Result (Option ℤ) ValueError)
       → IsValueBy labelled architecture addresses bytes symbols row r x
@@ -207,11 +219,6 @@ module _ (architecture : Architecture) (addresses : Addresses) (bytes : List ℕ
       ap (λ x. Some (x, f.1)) (one_info architecture r.r_type (f.0) row is.is_row has.is_row)
       ∙ ap (λ x. Some (row, x)) (ap (first_of v) (ap (of_ok None) (one_value r (Ok (Some (f.1))) (Ok (Some v)) (value_of_has r (f.0) (f.1) is) (value_of_has r row v has))))
 
-  has_found : (r : Rela) (found : Option (RelocationKindInfo × ℤ)) (row : RelocationKindInfo) (v : ℤ)
-      → IsRowValue architecture addresses bytes symbols r (Ok found) → found ≡ Some (row, v)
-      → HasValue architecture addresses bytes symbols r row v
-  has_found r found row v is same = subst (λ x. IsRowValue architecture addresses bytes symbols r (Ok x)) same is
-
   some_none : (r : Rela) (v : ℤ) → IsValue architecture addresses bytes symbols r (Ok (Some v))
       → IsValue architecture addresses bytes symbols r (Ok None) → ⊥
   some_none r v some none =
@@ -236,6 +243,23 @@ module _ (architecture : Architecture) (addresses : Addresses) (bytes : List ℕ
   no_valueless r (Some f) _ is (beyond {v} some isnt) =
       let same = ap (first_of v) (ap (of_ok None) (one_value r (Ok (Some (f.1))) (Ok (Some v)) (value_of_has r (f.0) (f.1) is) some)) in
       isnt (subst (IsInReach architecture bytes r) same is.in_reach)
+
+  same_found : (r : Rela) (x y : Option (RelocationKindInfo × ℤ)) → IsRowValue architecture addresses bytes symbols r (Ok x)
+      → IsRowValue architecture addresses bytes symbols r (Ok y) → x ≡ y
+  same_found r (Some f) y a b = sym (found_is r y (f.0) (f.1) b a)
+  same_found r None (Some g) a b = absurd (none_has r (g.0) (g.1) (mark_none architecture addresses bytes symbols r a) b)
+  same_found r None None a b = refl
+
+  row_of_value : (r : Rela) (row : RelocationKindInfo) (v : ℤ) → HasValue architecture addresses bytes symbols r row v
+      → IsRow architecture r.r_type (Some row)
+  row_of_value r row v has = has.is_row
+
+  pub unique_by_index : AreUnique architecture addresses bytes (by_index symbols)
+  unique_by_index = record {
+    same = λ i. same_found (relocation_in bytes i);
+    no_error = λ i. no_valueless (relocation_in bytes i);
+    is_row = λ i. row_of_value (relocation_in bytes i);
+  }
 
 -- ---- what is accepted isn't rejected
 
@@ -299,21 +323,19 @@ begins_no_end row other same begins ends =
 
 -- ---- no fault
 
-module _ (architecture : Architecture) (addresses : Addresses) (bytes : List ℕ) (symbols : List Symbol) (section : List ℕ) (can : CanBeWritten architecture addresses bytes symbols section) (error : SectionError) (fault : IsFirstFault architecture addresses bytes symbols section error) where
+module _ (architecture : Architecture) (addresses : Addresses) (bytes : List ℕ) (values : Values) (section : List ℕ) (unique : AreUnique architecture addresses bytes values) (can : CanBeWrittenBy architecture addresses bytes values section) (error : SectionError) (fault : IsFirstFaultBy architecture addresses bytes values section error) where
   found_at : (i : ℕ) (row : RelocationKindInfo) (v : ℤ) → i < length bytes / 24
-      → HasValue architecture addresses bytes symbols (relocation_in bytes i) row v → can.found i ≡ Some (row, v)
-  found_at i row v within has =
-      found_is architecture addresses bytes symbols section can.apart (relocation_in bytes i) (can.found i) row v (can.are_found i within) has
+      → values architecture addresses bytes i (Ok (Some (row, v))) → can.found i ≡ Some (row, v)
+  found_at i row v within has = unique.same i (can.found i) (Some (row, v)) (can.are_found i within) has
 
   has_at : (i : ℕ) (row : RelocationKindInfo) (v : ℤ) → i < length bytes / 24 → can.found i ≡ Some (row, v)
-      → HasValue architecture addresses bytes symbols (relocation_in bytes i) row v
+      → values architecture addresses bytes i (Ok (Some (row, v)))
   has_at i row v within is =
-      has_found architecture addresses bytes symbols section can.apart (relocation_in bytes i) (can.found i) row v (can.are_found i within) is
+      subst (λ x. values architecture addresses bytes i (Ok x)) is (can.are_found i within)
 
-  no_value_error : (i : ℕ) (why : ValueError) → i < length bytes / 24
-      → IsValueless architecture addresses bytes symbols (relocation_in bytes i) why → ⊥
-  no_value_error i why within valueless =
-      no_valueless architecture addresses bytes symbols section can.apart (relocation_in bytes i) (can.found i) why (can.are_found i within) valueless
+  row_at : (i : ℕ) (row : RelocationKindInfo) (v : ℤ) → i < length bytes / 24 → can.found i ≡ Some (row, v)
+      → IsRow architecture (relocation_in bytes i).r_type (Some row)
+  row_at i row v within is = unique.is_row i row v (has_at i row v within is)
 
   -- the second of a pair isn't the first that is rejected
   no_second : (first : ℕ) (fits : PairFits can.found bytes section first) → first + 1 < length bytes / 24
@@ -322,7 +344,7 @@ module _ (architecture : Architecture) (addresses : Addresses) (bytes : List ℕ
       let pair = fits.pair in
       let has = has_at first pair.row pair.value (omega (arith, within)) pair.is_first in
       let is : fault.found first ≡ Some (pair.row, pair.value) =
-      found_is architecture addresses bytes symbols section can.apart (relocation_in bytes first) (fault.found first) pair.row pair.value (fault.are_found first (omega (arith, next))) has in
+      unique.same first (fault.found first) (Some (pair.row, pair.value)) (fault.are_found first (omega (arith, next))) has in
       let paired = or_left (begins_pair pair.row.size pair.row.kind) (ends_pair pair.row.size pair.row.kind) pair.begins in
       let of = (fault.accepted first pair.row pair.value (omega (arith, next)) is).1 paired in
       let below = of.1 in
@@ -335,7 +357,7 @@ module _ (architecture : Architecture) (addresses : Addresses) (bytes : List ℕ
       ]
 
   no_write : (i : ℕ) (why : RelocateError) → i < length bytes / 24 → i ≡ fault.written
-      → IsNotAccepted architecture addresses bytes (by_index symbols) i section why → ⊥
+      → IsNotAccepted architecture addresses bytes values i section why → ⊥
   no_write i why within next not =
       let row = not.row in
       let is = found_at i row not.value within not.has_value.is_value in
@@ -356,10 +378,10 @@ module _ (architecture : Architecture) (addresses : Addresses) (bytes : List ℕ
                 within = below;
                 same_offset = pair.same_offset;
                 row = pair.row;
-                is_row = (has_at (of.0) pair.row pair.value (omega (arith, below)) pair.is_first).is_row;
+                is_row = row_at (of.0) pair.row pair.value (omega (arith, below)) pair.is_first;
                 begins = pair.begins;
                 other = pair.other;
-                is_other = (has_at (of.0 + 1) pair.other pair.subtracted below pair.is_second).is_row;
+                is_other = row_at (of.0 + 1) pair.other pair.subtracted below pair.is_second;
                 ends = pair.ends;
               }))
               | inr at ↦ no_second (of.0) (of.3) below (sym at ∙ next)
@@ -367,7 +389,7 @@ module _ (architecture : Architecture) (addresses : Addresses) (bytes : List ℕ
       ]
 
   no_other_length : (i : ℕ) → i < length bytes / 24
-      → IsOtherLength architecture addresses bytes (by_index symbols) i section → ⊥
+      → IsOtherLength architecture addresses bytes values i section → ⊥
   no_other_length i within not =
       let row = not.row in
       let is = found_at i row not.value within not.has_value.is_value in
@@ -378,7 +400,7 @@ module _ (architecture : Architecture) (addresses : Addresses) (bytes : List ℕ
       ]
 
   no_number : (i : ℕ) (why : Uleb128Error) → i < length bytes / 24
-      → IsPairRejected architecture addresses bytes (by_index symbols) i section why → ⊥
+      → IsPairRejected architecture addresses bytes values i section why → ⊥
   no_number i why within rejected =
       let pair = rejected.pair in
       let row = pair.row in
@@ -410,15 +432,18 @@ module _ (architecture : Architecture) (addresses : Addresses) (bytes : List ℕ
 
   no_cause : (i : ℕ) (why : RelocationError) → i < length bytes / 24
       → (i ≡ fault.written) ⊎ ((i ≡ fault.written + 1) × BeginsPair architecture bytes fault.written × IsOfValue why)
-      → IsCauseAt architecture addresses bytes (by_index symbols) section i section why → ⊥
-  no_cause i (Value why) within next cause = no_value_error i why within cause
+      → IsCauseAt architecture addresses bytes values section i section why → ⊥
+  no_cause i (Value why) within next cause = unique.no_error i (can.found i) why (can.are_found i within) cause
   no_cause i Overlaps within next cause =
       cause.apart (can.apart cause.earlier i cause.row cause.other cause.order within cause.is_field cause.is_other cause.overlap)
   no_cause i OtherLength within next cause = no_other_length i within (cause.1)
   no_cause i (Write why) within (inl is) cause =
       elim (cause.1) [
         | inl not ↦ no_write i why within is not
-        | inr left ↦ no_field architecture bytes section i left.row (mark_no_value architecture addresses bytes symbols (relocation_in bytes i) left.no_value) left.is_field
+        | inr left ↦
+            let isnt = unique.same i (can.found i) None (can.are_found i within) left.no_value in
+            let inside = can.inside i within isnt left.row left.is_field in
+            let past = left.past in omega (arith, inside, past)
       ]
   no_cause i (Write why) within (inr is) cause = is.2
   no_cause i (Uleb128 why) within (inl is) cause = no_number i why within (cause.1)

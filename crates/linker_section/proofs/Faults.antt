@@ -3,20 +3,17 @@ use Rattle.std.proofs.Common.{◌≡◌, ℕ, zero, suc, ℤ, ◌+◌, ◌^◌, 
 use Rattle.linker_section.proofs.Imports.{cases_eq, or_left, cond_both, cond-false, le-ltb, length-drop, take_all, take-append-drop, get_or-take, drop_all, slice_index, AllContinue, IsUlebCause, Uleb128Error, Ended, TooLarge, DoesNotFit, IsCause, RelocationKindInfo, RelocateError, Unsupported, TooShort, Misaligned, OutOfReach, Architecture}
 use Rattle.linker_section.proofs.All.{untouched, pair_first, same_uleb}
 use Rattle.linker_section.proofs.Composing.{begun_has_value}
-use Rattle.linker_section.proofs.Fielded.{found_of, uses, found_are, are_accepted, front_at, same_at}
+use Rattle.linker_section.proofs.Fielded.{found_of, uses, found_are, are_inside, are_accepted, front_at, same_at}
 use Rattle.linker_section.proofs.Fronts.{HaveSameWindow, multiple_same, reached_same, window_back}
 use Rattle.linker_section.proofs.Held.{field_untouched}
 use Rattle.linker_section.proofs.Lengths.{offset_same, length_same, shows_same}
-use Rattle.linker_section.proofs.Stepping.{len_paired, no_field}
-use Rattle.linker_section.proofs.Valued.{mark_no_value}
+use Rattle.linker_section.proofs.Stepping.{len_paired}
 use Rattle.linker_section.proofs.Ulebs.{some_uleb, uleb_len_is, uleb_same, pair_number_from}
 use Rattle.linker_section.specs.Fields.{IsField, field_len, begins_pair, ends_pair, uleb_len, AreApart}
-use Rattle.linker_section.specs.Relocations.{relocation_in}
-use Rattle.linker_section.specs.Sections.{by_index, AreRelocated, IsUnwritable, IsPairRejected, IsNotAccepted, IsOtherLength, IsCauseAt, BeginsPair, IsOfValue, IsFirstRejected}
+use Rattle.linker_section.specs.Sections.{AreRelocated, IsUnwritable, IsPairRejected, IsNotAccepted, IsOtherLength, IsCauseAt, BeginsPair, IsOfValue, IsFirstRejectedBy, Values}
 use Rattle.linker_section.specs.Values.{offset_at}
-use Rattle.linker_section.specs.WrittenFields.{IsFirstFault}
+use Rattle.linker_section.specs.WrittenFields.{IsFirstFaultBy}
 use Rattle.linker_section.specs.declared.facts.Addresses.{Addresses}
-use Rattle.linker_section.specs.declared.facts.Symbol.{Symbol}
 use Rattle.linker_section.specs.declared.sections.RelocationError.{RelocationError}
 use Rattle.linker_section.specs.declared.sections.RelocationError.TheVariants.{Value, Overlaps, OtherLength, Write, Uleb128}
 use Rattle.linker_section.specs.declared.sections.SectionError.{SectionError}
@@ -120,34 +117,34 @@ cause_of_number xs ys number DoesNotFit same len cause =
 
 -- ---- by the section before
 
-module _ (architecture : Architecture) (addresses : Addresses) (bytes : List ℕ) (symbols : List Symbol) (before now : List ℕ) where
+module _ (architecture : Architecture) (addresses : Addresses) (bytes : List ℕ) (values : Values) (before now : List ℕ) where
   write_cause : (n : ℕ) (error : RelocateError)
-      → AreRelocated architecture addresses bytes (by_index symbols) before n now
+      → AreRelocated architecture addresses bytes values before n now
       → AreApart architecture bytes before (n + 1)
-      → IsNotAccepted architecture addresses bytes (by_index symbols) n now error
-      → IsNotAccepted architecture addresses bytes (by_index symbols) n before error
+      → IsNotAccepted architecture addresses bytes values n now error
+      → IsNotAccepted architecture addresses bytes values n before error
   write_cause n error relocated apart not =
-      let so_far = untouched architecture addresses bytes before (by_index symbols) (λ i j x y less under. apart i j x y less (omega (arith, under))) relocated in
+      let so_far = untouched architecture addresses bytes before values (λ i j x y less under. apart i j x y less (omega (arith, under))) relocated in
       let row = not.row in
       record {
         row = row;
         value = not.value;
         has_value = not.has_value;
         length_shown = length_same row (offset_at bytes n) now before
-            (front_at architecture addresses bytes symbols before (n + 1) apart (found_of relocated) row not.value row.size refl (omega arith) relocated not.has_value)
+            (front_at architecture addresses bytes values before (n + 1) apart (found_of relocated) row not.value row.size refl (omega arith) relocated not.has_value)
             (so_far.0) not.length_shown;
         rejected = rejected_same row not.value (offset_at bytes n) now before error
-            (same_at architecture addresses bytes symbols before (n + 1) apart (found_of relocated) row not.value row.size refl (omega arith) relocated not.has_value)
+            (same_at architecture addresses bytes values before (n + 1) apart (found_of relocated) row not.value row.size refl (omega arith) relocated not.has_value)
             (so_far.0) not.rejected;
         alone = not.alone;
       }
 
-  length_cause : (n : ℕ) → AreRelocated architecture addresses bytes (by_index symbols) before n now
+  length_cause : (n : ℕ) → AreRelocated architecture addresses bytes values before n now
       → AreApart architecture bytes before (n + 1)
-      → IsOtherLength architecture addresses bytes (by_index symbols) n now
-      → IsOtherLength architecture addresses bytes (by_index symbols) n before
+      → IsOtherLength architecture addresses bytes values n now
+      → IsOtherLength architecture addresses bytes values n before
   length_cause n relocated apart other =
-      let so_far = untouched architecture addresses bytes before (by_index symbols) (λ i j x y less under. apart i j x y less (omega (arith, under))) relocated in
+      let so_far = untouched architecture addresses bytes before values (λ i j x y less under. apart i j x y less (omega (arith, under))) relocated in
       let row = other.row in
       let o = offset_at bytes n in
       let d = length-drop o before in let dn = length-drop o now in let len = so_far.0 in
@@ -159,17 +156,17 @@ module _ (architecture : Architecture) (addresses : Addresses) (bytes : List ℕ
         inside = omega (arith, inside, len);
         long = omega (arith, long, d, dn, len);
         other = sym (shows_same row.size (drop o now) (drop o before)
-            (front_at architecture addresses bytes symbols before (n + 1) apart (found_of relocated) row other.value row.size refl (omega arith) relocated other.has_value))
+            (front_at architecture addresses bytes values before (n + 1) apart (found_of relocated) row other.value row.size refl (omega arith) relocated other.has_value))
             ∙ other.other;
       }
 
   number_cause : (n : ℕ) (error : Uleb128Error)
-      → AreRelocated architecture addresses bytes (by_index symbols) before n now
+      → AreRelocated architecture addresses bytes values before n now
       → AreApart architecture bytes before (n + 1)
-      → IsPairRejected architecture addresses bytes (by_index symbols) n now error
-      → IsPairRejected architecture addresses bytes (by_index symbols) n before error
+      → IsPairRejected architecture addresses bytes values n now error
+      → IsPairRejected architecture addresses bytes values n before error
   number_cause n error relocated apart rejected =
-      let so_far = untouched architecture addresses bytes before (by_index symbols) (λ i j x y less under. apart i j x y less (omega (arith, under))) relocated in
+      let so_far = untouched architecture addresses bytes before values (λ i j x y less under. apart i j x y less (omega (arith, under))) relocated in
       let o = offset_at bytes n in
       let pair = rejected.pair in
       let row = pair.row in
@@ -219,27 +216,27 @@ module _ (architecture : Architecture) (addresses : Addresses) (bytes : List ℕ
 
   by_before : (written i : ℕ) (error : RelocationError)
       → (i ≡ written) ⊎ ((i ≡ written + 1) × BeginsPair architecture bytes written × IsOfValue error)
-      → AreRelocated architecture addresses bytes (by_index symbols) before written now
-      → IsCauseAt architecture addresses bytes (by_index symbols) before i now error
-      → IsCauseAt architecture addresses bytes (by_index symbols) before i before error
+      → AreRelocated architecture addresses bytes values before written now
+      → IsCauseAt architecture addresses bytes values before i now error
+      → IsCauseAt architecture addresses bytes values before i before error
   by_before written i (Value error) next relocated cause = cause
   by_before written i Overlaps next relocated cause = cause
   by_before written i OtherLength (inl is) relocated cause = (
     cause.0,
-    length_cause i (subst (λ n. AreRelocated architecture addresses bytes (by_index symbols) before n now) (sym is) relocated) (cause.0) (cause.1),
+    length_cause i (subst (λ n. AreRelocated architecture addresses bytes values before n now) (sym is) relocated) (cause.0) (cause.1),
   )
   by_before written i OtherLength (inr is) relocated cause = absurd (is.2)
   by_before written i (Write error) (inl is) relocated cause = (
     cause.0,
     elim (cause.1) [
-      | inl not ↦ inl (write_cause i error (subst (λ n. AreRelocated architecture addresses bytes (by_index symbols) before n now) (sym is) relocated) (cause.0) not)
-      | inr left ↦ absurd (no_field architecture bytes now i left.row (mark_no_value architecture addresses bytes symbols (relocation_in bytes i) left.no_value) left.is_field)
+      | inl not ↦ inl (write_cause i error (subst (λ n. AreRelocated architecture addresses bytes values before n now) (sym is) relocated) (cause.0) not)
+      | inr left ↦ inr left
     ],
   )
   by_before written i (Write error) (inr is) relocated cause = absurd (is.2)
   by_before written i (Uleb128 error) (inl is) relocated cause = (
     cause.0,
-    number_cause i error (subst (λ n. AreRelocated architecture addresses bytes (by_index symbols) before n now) (sym is) relocated) (cause.0) (cause.1),
+    number_cause i error (subst (λ n. AreRelocated architecture addresses bytes values before n now) (sym is) relocated) (cause.0) (cause.1),
   )
   by_before written i (Uleb128 error) (inr is) relocated cause = absurd (is.2)
 
@@ -248,20 +245,21 @@ next_most i written (inl is) = omega (arith, is)
 next_most i written (inr is) = let e = is.0 in omega (arith, e)
 
 pub first_fault : (architecture : Architecture) (addresses : Addresses) (bytes : List ℕ)
-    (symbols : List Symbol) (before : List ℕ) (error : SectionError)
-    → IsFirstRejected architecture addresses bytes symbols before error
-    → IsFirstFault architecture addresses bytes symbols before error
-first_fault architecture addresses bytes symbols before error rejected =
+    (values : Values) (before : List ℕ) (error : SectionError)
+    → IsFirstRejectedBy architecture addresses bytes values before error
+    → IsFirstFaultBy architecture addresses bytes values before error
+first_fault architecture addresses bytes values before error rejected =
     let found = found_of rejected.relocated in
     let most = next_most error.index rejected.written rejected.is_next in
-    let used = uses architecture addresses bytes symbols before error.index rejected.apart found rejected.relocated (λ i below. refl) in
+    let used = uses architecture addresses bytes values before error.index rejected.apart found rejected.relocated (λ i below. refl) in
     record {
       within = rejected.within;
       written = rejected.written;
       is_next = rejected.is_next;
       found = found;
-      are_found = found_are architecture addresses bytes symbols before error.index rejected.apart found rejected.relocated used;
+      are_found = found_are architecture addresses bytes values before error.index rejected.apart found rejected.relocated used;
       apart = rejected.apart;
-      accepted = are_accepted architecture addresses bytes symbols before error.index rejected.apart found rejected.relocated most used;
-      cause = by_before architecture addresses bytes symbols before rejected.now rejected.written error.index error.error rejected.is_next rejected.relocated rejected.cause;
+      accepted = are_accepted architecture addresses bytes values before error.index rejected.apart found rejected.relocated most used;
+      inside = are_inside architecture addresses bytes values before error.index rejected.apart found rejected.relocated used;
+      cause = by_before architecture addresses bytes values before rejected.now rejected.written error.index error.error rejected.is_next rejected.relocated rejected.cause;
     }

@@ -1,25 +1,22 @@
 -- All fields of a section, after all writes.
 use Rattle.std.proofs.Common.{◌≡◌, ℕ, zero, suc, ℤ, pos, ◌+◌, ◌*◌, ◌^◌, ◌/◌, ◌<◌, ◌≤◌, ◌⊎◌, List, [], length, take, drop, true, false, true≢false, eqb, ltb, cond, refl, sym, ap, subst, ◌∙◌, inl, inr, arith, Option, Some, None, Ok}
 use Rattle.linker_section.proofs.Imports.{cases_eq, cases_lt, cases_Bool, or_left, or_right, cond-true, cond-false, eq-eqb, ne_eqb, eqb-true, lt-ltb, le-ltb, drop_at, length-drop, length-take, length-take-le, get_or-take, get_or-drop, get_or_past, slice_index, ◌||◌, Uleb, IsUlebWritten, WritesRow, SizeNumber, number_of_bytes, size_len, window_len, takes_size, RelocationKindInfo, RelocationSize, ByteSize, BitMasking, Architecture, supported_size}
-use Rattle.linker_section.proofs.All.{AreUntouched, IsFirstAt, pair_place, pair_first, untouched}
+use Rattle.linker_section.proofs.All.{AreUntouched, IsFirstAt, local_byte, pair_place, pair_first, untouched}
 use Rattle.linker_section.proofs.Composing.{begun_has_value, begun_ends_none, first_is_none, second_is_none}
 use Rattle.linker_section.proofs.Fronts.{HaveSameWindow, same_window, accepted_same, some_window, window_back}
 use Rattle.linker_section.proofs.Held.{IsMet, is_ahead, is_after, is_same, is_later, is_earlier, meet, field_untouched, IsJoined, is_kept, is_own, is_joined, step, pair_kept}
 use Rattle.linker_section.proofs.Lengths.{offset_same, IsSameFront, length_same}
-use Rattle.linker_section.proofs.Local.{small_bytes}
+use Rattle.linker_section.proofs.Local.{one_local, small_bytes}
 use Rattle.linker_section.proofs.Numbers.{is_word6, holds_first, holds_next, number_small}
 use Rattle.linker_section.proofs.Rows.{one_info}
 use Rattle.linker_section.proofs.Sized.{is_composing, second_composes, whole_bytes, instruction_alone}
 use Rattle.linker_section.proofs.Stepping.{len_alone, written_alone, same_place}
 use Rattle.linker_section.proofs.Ulebs.{uleb_len_is, uleb_same, uleb_front, same_last, written_front, uleb_below, pair_number_same}
-use Rattle.linker_section.proofs.Valued.{some_value}
 use Rattle.linker_section.specs.Fields.{IsField, field_end, field_len, begins_pair, ends_pair, is_of_pair, Composes, of_number, of_pair, AreApart}
-use Rattle.linker_section.specs.Relocations.{relocation_in}
-use Rattle.linker_section.specs.Sections.{by_index, AreRelocated, none, mark, one, pair, HasValue, IsRowValue, IsValued, IsPairWritten, AreAllRelocated, Values}
+use Rattle.linker_section.specs.Sections.{AreRelocated, none, mark, one, pair, IsInside, IsValued, IsPairWritten, AreAllRelocatedBy, Values}
 use Rattle.linker_section.specs.Values.{has_value, offset_at}
-use Rattle.linker_section.specs.WrittenFields.{Found, AreFound, composed, composed_by, composed_with, field_bytes, HoldsNumber, HoldsValue, IsHeld, AreWritten, MakePair, OfPair, HoldsPair, PairFits, IsAcceptedAt, AreAccepted}
+use Rattle.linker_section.specs.WrittenFields.{Found, AreFound, composed, composed_by, composed_with, field_bytes, HoldsNumber, HoldsValue, IsHeld, AreWrittenBy, MakePair, OfPair, HoldsPair, PairFits, IsAcceptedAt, AreAccepted, AreInside, IsUnwritten}
 use Rattle.linker_section.specs.declared.facts.Addresses.{Addresses}
-use Rattle.linker_section.specs.declared.facts.Symbol.{Symbol}
 use Rattle.linker_section.proofs.Exact.{one_found}
 
 -- ---- what is composed
@@ -90,7 +87,7 @@ composed_here found bytes section at number n row v is same some =
 abbrev pub found_of : {architecture : Architecture} {addresses : Addresses} {bytes : List ℕ} {values : Values} {before : List ℕ} {n : ℕ} {now : List ℕ}
     → AreRelocated architecture addresses bytes values before n now → Found
 found_of none i = None
-found_of (mark {n} relocated value) i = cond (eqb i n) None (found_of relocated i)
+found_of (mark {n} relocated value inside) i = cond (eqb i n) None (found_of relocated i)
 found_of (one {n} {middle} {after} {row} {v} relocated has written) i =
     cond (eqb i n) (Some (row, v)) (found_of relocated i)
 found_of (pair {n} {middle} {after} relocated written) i =
@@ -168,10 +165,10 @@ small_field bytes before i row small j =
 of_pair_more : {Said : ℕ → Type 0} {i : ℕ} (n m : ℕ) → n ≤ m → OfPair Said n i → OfPair Said m i
 of_pair_more n m most of = let within = of.1 in (of.0, omega (arith, within, most), of.2, of.3)
 
-module _ (architecture : Architecture) (addresses : Addresses) (bytes : List ℕ) (symbols : List Symbol) (before : List ℕ) (total : ℕ) (apart : AreApart architecture bytes before total) (found : Found) where
-  abbrev pub Uses : {n : ℕ} {now : List ℕ} → AreRelocated architecture addresses bytes (by_index symbols) before n now → Type 0
+module _ (architecture : Architecture) (addresses : Addresses) (bytes : List ℕ) (values : Values) (before : List ℕ) (total : ℕ) (apart : AreApart architecture bytes before total) (found : Found) where
+  abbrev pub Uses : {n : ℕ} {now : List ℕ} → AreRelocated architecture addresses bytes values before n now → Type 0
   Uses none = Unit
-  Uses (mark {n} relocated value) = (found n ≡ None) × Uses relocated
+  Uses (mark {n} relocated value inside) = (found n ≡ None) × Uses relocated
   Uses (one {n} {middle} {after} {row} {v} relocated has written) = (found n ≡ Some (row, v)) × Uses relocated
   Uses (pair {n} {middle} {after} relocated written) =
       (found n ≡ Some (written.pair.row, written.pair.value))
@@ -180,10 +177,10 @@ module _ (architecture : Architecture) (addresses : Addresses) (bytes : List ℕ
   not_last : (i n : ℕ) → i < n → eqb i n ≡ false
   not_last i n below = ne_eqb i n (λ same. omega (arith, below, same))
 
-  pub uses : {n : ℕ} {now : List ℕ} (relocated : AreRelocated architecture addresses bytes (by_index symbols) before n now)
+  pub uses : {n : ℕ} {now : List ℕ} (relocated : AreRelocated architecture addresses bytes values before n now)
       → ((i : ℕ) → i < n → found i ≡ found_of relocated i) → Uses relocated
   uses none agree = tt
-  uses (mark {n} relocated value) agree = (
+  uses (mark {n} relocated value inside) agree = (
     agree n (omega arith) ∙ cond-true (eqb n n) None (found_of relocated n) (eq-eqb n n refl),
     uses relocated (λ i below. agree i (omega (arith, below)) ∙ cond-false (eqb i n) None (found_of relocated i) (not_last i n below)),
   )
@@ -203,33 +200,90 @@ module _ (architecture : Architecture) (addresses : Addresses) (bytes : List ℕ
 
   -- ---- they are the rows and values of the relocations
 
-  pub found_are : {n : ℕ} {now : List ℕ} (relocated : AreRelocated architecture addresses bytes (by_index symbols) before n now)
-      → Uses relocated → AreFound architecture addresses bytes symbols n found
+  pub found_are : {n : ℕ} {now : List ℕ} (relocated : AreRelocated architecture addresses bytes values before n now)
+      → Uses relocated → AreFound architecture addresses bytes values n found
   found_are none used i below = absurd (omega (arith, below))
-  found_are (mark {n} relocated value) used i below =
+  found_are (mark {n} relocated value inside) used i below =
       elim (cases_eq i n) [
         | inl is ↦
-            subst (λ j. IsRowValue architecture addresses bytes symbols (relocation_in bytes j) (Ok (found j))) (sym is)
-            (subst (λ x. IsRowValue architecture addresses bytes symbols (relocation_in bytes n) (Ok x)) (sym (used.0)) value)
+            subst (λ j. values architecture addresses bytes j (Ok (found j))) (sym is)
+            (subst (λ x. values architecture addresses bytes n (Ok x)) (sym (used.0)) value)
         | inr isnt ↦ found_are relocated (used.1) i (omega (arith, below, isnt))
       ]
   found_are (one {n} {middle} {after} {row} {v} relocated has written) used i below =
       elim (cases_eq i n) [
         | inl is ↦
-            subst (λ j. IsRowValue architecture addresses bytes symbols (relocation_in bytes j) (Ok (found j))) (sym is)
-            (subst (λ x. IsRowValue architecture addresses bytes symbols (relocation_in bytes n) (Ok x)) (sym (used.0)) has.is_value)
+            subst (λ j. values architecture addresses bytes j (Ok (found j))) (sym is)
+            (subst (λ x. values architecture addresses bytes n (Ok x)) (sym (used.0)) has.is_value)
         | inr isnt ↦ found_are relocated (used.1) i (omega (arith, below, isnt))
       ]
   found_are (pair {n} {middle} {after} relocated written) used i below =
       elim (cases_eq i n) [
         | inl is ↦
-            subst (λ j. IsRowValue architecture addresses bytes symbols (relocation_in bytes j) (Ok (found j))) (sym is)
-            (subst (λ x. IsRowValue architecture addresses bytes symbols (relocation_in bytes n) (Ok x)) (sym (used.0)) written.pair.has_value.is_value)
+            subst (λ j. values architecture addresses bytes j (Ok (found j))) (sym is)
+            (subst (λ x. values architecture addresses bytes n (Ok x)) (sym (used.0)) written.pair.has_value.is_value)
         | inr isnt ↦ elim (cases_eq i (n + 1)) [
           | inl is ↦
-              subst (λ j. IsRowValue architecture addresses bytes symbols (relocation_in bytes j) (Ok (found j))) (sym is)
-              (subst (λ x. IsRowValue architecture addresses bytes symbols (relocation_in bytes (n + 1)) (Ok x)) (sym (used.1)) written.pair.has_subtracted.is_value)
+              subst (λ j. values architecture addresses bytes j (Ok (found j))) (sym is)
+              (subst (λ x. values architecture addresses bytes (n + 1) (Ok x)) (sym (used.1)) written.pair.has_subtracted.is_value)
           | inr far ↦ found_are relocated (used.2) i (omega (arith, below, isnt, far))
+        ]
+      ]
+
+  valued_as : (i n : ℕ) (row other : RelocationKindInfo) (v w : ℤ) → i ≡ n → found i ≡ Some (row, v)
+      → found n ≡ Some (other, w) → IsValued architecture addresses bytes values n other w
+      → IsValued architecture addresses bytes values i row v
+  valued_as i n row other v w at is used has =
+      let same = one_found (found n) row other v w (ap found (sym at) ∙ is) used in
+      subst (λ j. IsValued architecture addresses bytes values j row v) (sym at)
+      (subst (λ x. IsValued architecture addresses bytes values n row x) (sym same.value_is)
+      (subst (λ x. IsValued architecture addresses bytes values n x w) (sym same.row_is) has))
+
+  valued_at : {n : ℕ} {now : List ℕ} (relocated : AreRelocated architecture addresses bytes values before n now)
+      → Uses relocated → (i : ℕ) (row : RelocationKindInfo) (v : ℤ) → i < n → found i ≡ Some (row, v)
+      → IsValued architecture addresses bytes values i row v
+  valued_at none used i row v below is = absurd (omega (arith, below))
+  valued_at (mark {n} relocated value inside) used i row v below is =
+      elim (cases_eq i n) [
+        | inl at ↦ none_some (used.0) (ap found (sym at) ∙ is)
+        | inr isnt ↦ valued_at relocated (used.1) i row v (omega (arith, below, isnt)) is
+      ]
+  valued_at (one {n} {middle} {after} {row = other} {v = w} relocated has written) used i row v below is =
+      elim (cases_eq i n) [
+        | inl at ↦ valued_as i n row other v w at is (used.0) has
+        | inr isnt ↦ valued_at relocated (used.1) i row v (omega (arith, below, isnt)) is
+      ]
+  valued_at (pair {n} {middle} {after} relocated written) used i row v below is =
+      let both = written.pair in
+      elim (cases_eq i n) [
+        | inl at ↦ valued_as i n row both.row v both.value at is (used.0) both.has_value
+        | inr isnt ↦ elim (cases_eq i (n + 1)) [
+          | inl at ↦ valued_as i (n + 1) row both.other v both.subtracted at is (used.1) both.has_subtracted
+          | inr far ↦ valued_at relocated (used.2) i row v (omega (arith, below, isnt, far)) is
+        ]
+      ]
+
+  -- ---- those that nothing is written of
+
+  pub are_inside : {n : ℕ} {now : List ℕ} (relocated : AreRelocated architecture addresses bytes values before n now)
+      → Uses relocated → AreInside architecture bytes found before n
+  are_inside none used i below is_none = absurd (omega (arith, below))
+  are_inside (mark {n} relocated value inside) used i below is_none =
+      elim (cases_eq i n) [
+        | inl at ↦ subst (IsInside architecture bytes before) (sym at) inside
+        | inr isnt ↦ are_inside relocated (used.1) i (omega (arith, below, isnt)) is_none
+      ]
+  are_inside (one {n} {middle} {after} {row} {v} relocated has written) used i below is_none =
+      elim (cases_eq i n) [
+        | inl at ↦ none_some is_none (ap found at ∙ used.0)
+        | inr isnt ↦ are_inside relocated (used.1) i (omega (arith, below, isnt)) is_none
+      ]
+  are_inside (pair {n} {middle} {after} relocated written) used i below is_none =
+      elim (cases_eq i n) [
+        | inl at ↦ none_some is_none (ap found at ∙ used.0)
+        | inr isnt ↦ elim (cases_eq i (n + 1)) [
+          | inl at ↦ none_some is_none (ap found at ∙ used.1)
+          | inr far ↦ are_inside relocated (used.2) i (omega (arith, below, isnt, far)) is_none
         ]
       ]
 
@@ -262,7 +316,7 @@ module _ (architecture : Architecture) (addresses : Addresses) (bytes : List ℕ
       (sym (composed_here found bytes before o number n other v is offset (subst (λ p. 0 < field_len other (drop p before)) offset some)))
       (holds_next row.kind other.kind k v (composed found bytes before o number n) old (field_bytes bytes before i row now) (field_bytes bytes before i row after) same_bits small so_far written)
 
-  held_number : {n : ℕ} {now : List ℕ} (relocated : AreRelocated architecture addresses bytes (by_index symbols) before n now)
+  held_number : {n : ℕ} {now : List ℕ} (relocated : AreRelocated architecture addresses bytes values before n now)
       → n ≤ total → Uses relocated → (i : ℕ) (row : RelocationKindInfo) (k : ℕ) → i < total
       → IsField architecture bytes before i row → is_of_pair row ≡ false → has_value row.kind ≡ true
       → row.size ≡ ByteSize (suc k)
@@ -271,7 +325,7 @@ module _ (architecture : Architecture) (addresses : Addresses) (bytes : List ℕ
       (field_bytes bytes before i row before) (field_bytes bytes before i row now)
   held_number none most used i row k below is_field alone valued size small =
       holds_first row.kind (suc k) (field_bytes bytes before i row before) small
-  held_number (mark {n} {middle} relocated value) most used i row k below is_field alone valued size small =
+  held_number (mark {n} {middle} relocated value inside) most used i row k below is_field alone valued size small =
       let o = offset_at bytes i in
       let old = field_bytes bytes before i row before in
       subst (λ c. HoldsNumber row.kind (suc k) c old (field_bytes bytes before i row middle))
@@ -285,7 +339,7 @@ module _ (architecture : Architecture) (addresses : Addresses) (bytes : List ℕ
       let other_valued = has.valued in
       let len = len_alone row (drop o before) valued alone in
       let other_len = len_alone other (drop (offset_at bytes n) before) other_valued other_alone in
-      elim (step architecture addresses bytes (by_index symbols) before total i row n other v middle after apart below (omega (arith, most)) is_field has written) [
+      elim (step architecture addresses bytes values before total i row n other v middle after apart below (omega (arith, most)) is_field has written) [
         | is_kept same far ↦
             subst (λ c. HoldsNumber row.kind (suc k) c old (field_bytes bytes before i row after))
             (sym (composed_far found bytes before o (pos (number_of_bytes (suc k) old)) n other v (used.0) far))
@@ -309,8 +363,8 @@ module _ (architecture : Architecture) (addresses : Addresses) (bytes : List ℕ
       let so_far = held_number relocated (omega (arith, most)) (used.2) i row k below is_field alone valued size small in
       let first = written.pair.row in
       let apart_here : AreApart architecture bytes before (n + 2) = λ a b x y less under. apart a b x y less (omega (arith, under, most)) in
-      let place = pair_place architecture addresses bytes before middle after (by_index symbols) n apart_here
-      (untouched architecture addresses bytes before (by_index symbols) (λ a b x y less under. apart a b x y less (omega (arith, under, most))) relocated) written in
+      let place = pair_place architecture addresses bytes before middle after values n apart_here
+      (untouched architecture addresses bytes before values (λ a b x y less under. apart a b x y less (omega (arith, under, most))) relocated) written in
       let width = is_field.some in let first_width = place.is_field.some in
       let far = pair_far i row n first (meet architecture bytes before total i row n first apart below (omega (arith, most)) is_field place.is_field) alone written.pair.begins
       (λ is. one_info architecture _ row first (subst (λ j. IsField architecture bytes before j row) is is_field).is_row place.is_field.is_row) in
@@ -329,22 +383,22 @@ module _ (architecture : Architecture) (addresses : Addresses) (bytes : List ℕ
   fewer_apart : (n m : ℕ) → m ≤ total → AreApart architecture bytes before m
   fewer_apart n m most a b x y less under = apart a b x y less (omega (arith, under, most))
 
-  untouched_at : {n : ℕ} {now : List ℕ} → n ≤ total → AreRelocated architecture addresses bytes (by_index symbols) before n now
+  untouched_at : {n : ℕ} {now : List ℕ} → n ≤ total → AreRelocated architecture addresses bytes values before n now
       → AreUntouched architecture bytes before n now
-  untouched_at {n} most relocated = untouched architecture addresses bytes before (by_index symbols) (fewer_apart n n most) relocated
+  untouched_at {n} most relocated = untouched architecture addresses bytes before values (fewer_apart n n most) relocated
 
-  held_alone : {n : ℕ} {now : List ℕ} (relocated : AreRelocated architecture addresses bytes (by_index symbols) before n now)
+  held_alone : {n : ℕ} {now : List ℕ} (relocated : AreRelocated architecture addresses bytes values before n now)
       → n ≤ total → Uses relocated → (i : ℕ) (row : RelocationKindInfo) (v : ℤ) → i < n
       → found i ≡ Some (row, v) → IsField architecture bytes before i row → StandsAlone row
       → WritesRow row v (field_bytes bytes before i row before) (field_bytes bytes before i row now)
   held_alone none most used i row v below is is_field alone = absurd (omega (arith, below))
-  held_alone (mark {n} relocated value) most used i row v below is is_field alone =
+  held_alone (mark {n} relocated value inside) most used i row v below is is_field alone =
       elim (cases_eq i n) [
         | inl at ↦ none_some (used.0) (ap found (sym at) ∙ is)
         | inr isnt ↦ held_alone relocated (omega (arith, most)) (used.1) i row v (omega (arith, below, isnt)) is is_field alone
       ]
   held_alone (one {n} {middle} {after} {row = other} {v = w} relocated has written) most used i row v below is is_field alone =
-      elim (step architecture addresses bytes (by_index symbols) before total i row n other w middle after apart (omega (arith, below, most)) (omega (arith, most)) is_field has written) [
+      elim (step architecture addresses bytes values before total i row n other w middle after apart (omega (arith, below, most)) (omega (arith, most)) is_field has written) [
         | is_kept same far ↦
             elim (cases_eq i n) [
               | inl at ↦
@@ -380,7 +434,7 @@ module _ (architecture : Architecture) (addresses : Addresses) (bytes : List ℕ
               ∙ (ap is_of_pair (sym same_row.row_is) ∙ alone.1)))
           | inr far ↦
               let first = written.pair.row in
-              let place = pair_place architecture addresses bytes before middle after (by_index symbols) n (fewer_apart n (n + 2) most) (untouched_at (omega (arith, most)) relocated) written in
+              let place = pair_place architecture addresses bytes before middle after values n (fewer_apart n (n + 2) most) (untouched_at (omega (arith, most)) relocated) written in
               let far_of = pair_far i row n first (meet architecture bytes before total i row n first apart (omega (arith, below, most)) (omega (arith, most)) is_field place.is_field) (alone.1) written.pair.begins (λ at. absurd (isnt at)) in
               subst (WritesRow row v (field_bytes bytes before i row before)) (sym (pair_kept bytes before i row n first middle after place.local far_of))
               (held_alone relocated (omega (arith, most)) (used.2) i row v (omega (arith, below, isnt, far)) is is_field alone)
@@ -395,9 +449,9 @@ module _ (architecture : Architecture) (addresses : Addresses) (bytes : List ℕ
     pub written : IsUlebWritten (field_bytes bytes before n first before) number (field_bytes bytes before n first after)
     pub fits : PairFits found bytes before n
 
-  pair_here : {n : ℕ} {middle : List ℕ} (after : List ℕ) (relocated : AreRelocated architecture addresses bytes (by_index symbols) before n middle)
+  pair_here : {n : ℕ} {middle : List ℕ} (after : List ℕ) (relocated : AreRelocated architecture addresses bytes values before n middle)
       → n + 2 ≤ total
-      → (written : IsPairWritten architecture addresses bytes (by_index symbols) n middle after)
+      → (written : IsPairWritten architecture addresses bytes values n middle after)
       → found n ≡ Some (written.pair.row, written.pair.value)
       → found (n + 1) ≡ Some (written.pair.other, written.pair.subtracted)
       → IsPairHere n written.number written.pair.row after
@@ -407,7 +461,7 @@ module _ (architecture : Architecture) (addresses : Addresses) (bytes : List ℕ
       let first = pair.row in
       let so_far = untouched_at (omega (arith, most)) relocated in
       let apart_here = fewer_apart n (n + 2) most in
-      let place = pair_place architecture addresses bytes before middle after (by_index symbols) n apart_here so_far written in
+      let place = pair_place architecture addresses bytes before middle after values n apart_here so_far written in
       let w = field_len first (drop p before) in
       let was = written.written.was in
       let whole : w ≡ was.last + 1 = place.len_is ∙ uleb_len_is (drop p middle) written.written.old written.written.rest was in
@@ -450,9 +504,9 @@ module _ (architecture : Architecture) (addresses : Addresses) (bytes : List ℕ
         };
       }
 
-  second_bytes : {n : ℕ} {middle : List ℕ} (after : List ℕ) (relocated : AreRelocated architecture addresses bytes (by_index symbols) before n middle)
+  second_bytes : {n : ℕ} {middle : List ℕ} (after : List ℕ) (relocated : AreRelocated architecture addresses bytes values before n middle)
       → n + 2 ≤ total
-      → (written : IsPairWritten architecture addresses bytes (by_index symbols) n middle after)
+      → (written : IsPairWritten architecture addresses bytes values n middle after)
       → (section : List ℕ)
       → field_bytes bytes before n written.pair.row section ≡ field_bytes bytes before (n + 1) written.pair.other section
   second_bytes {n} {middle} after relocated most written section =
@@ -462,12 +516,12 @@ module _ (architecture : Architecture) (addresses : Addresses) (bytes : List ℕ
       ap (λ w. take w (drop (offset_at bytes n) section)) (sym place.len_is)
       ∙ ap (λ p. take (field_len pair.other (drop (offset_at bytes (n + 1)) before)) (drop p section)) (sym pair.same_offset)
 
-  held_pair : {n : ℕ} {now : List ℕ} (relocated : AreRelocated architecture addresses bytes (by_index symbols) before n now)
+  held_pair : {n : ℕ} {now : List ℕ} (relocated : AreRelocated architecture addresses bytes values before n now)
       → n ≤ total → Uses relocated → (i : ℕ) (row : RelocationKindInfo) (v : ℤ) → i < n
       → found i ≡ Some (row, v) → IsField architecture bytes before i row → is_of_pair row ≡ true
       → OfPair (HoldsPair found bytes (field_bytes bytes before i row before) (field_bytes bytes before i row now)) n i
   held_pair none most used i row v below is is_field paired = absurd (omega (arith, below))
-  held_pair (mark {n} relocated value) most used i row v below is is_field paired =
+  held_pair (mark {n} relocated value inside) most used i row v below is is_field paired =
       elim (cases_eq i n) [
         | inl at ↦ none_some (used.0) (ap found (sym at) ∙ is)
         | inr isnt ↦ of_pair_more n (n + 1) (omega arith) (held_pair relocated (omega (arith, most)) (used.1) i row v (omega (arith, below, isnt)) is is_field paired)
@@ -478,7 +532,7 @@ module _ (architecture : Architecture) (addresses : Addresses) (bytes : List ℕ
         | inl at ↦
             let same_row = one_found (found n) row other v w (ap found (sym at) ∙ is) (used.0) in
             absurd (true≢false (sym paired ∙ (ap is_of_pair same_row.row_is ∙ alone)))
-        | inr isnt ↦ elim (step architecture addresses bytes (by_index symbols) before total i row n other w middle after apart (omega (arith, below, most)) (omega (arith, most)) is_field has written) [
+        | inr isnt ↦ elim (step architecture addresses bytes values before total i row n other w middle after apart (omega (arith, below, most)) (omega (arith, most)) is_field has written) [
           | is_kept same far ↦
               subst (λ x. OfPair (HoldsPair found bytes (field_bytes bytes before i row before) x) (n + 1) i) (sym same)
               (of_pair_more n (n + 1) (omega arith) (held_pair relocated (omega (arith, most)) (used.1) i row v (omega (arith, below, isnt)) is is_field paired))
@@ -513,7 +567,7 @@ module _ (architecture : Architecture) (addresses : Addresses) (bytes : List ℕ
                     (record { number = written.number; pair = here.held; written = here.written })))),
               )
           | inr far ↦
-              let place = pair_place architecture addresses bytes before middle after (by_index symbols) n (fewer_apart n (n + 2) most) (untouched_at (omega (arith, most)) relocated) written in
+              let place = pair_place architecture addresses bytes before middle after values n (fewer_apart n (n + 2) most) (untouched_at (omega (arith, most)) relocated) written in
               let so_far = held_pair relocated (omega (arith, most)) (used.2) i row v (omega (arith, below, isnt, far)) is is_field paired in
               let kept : field_bytes bytes before i row after ≡ field_bytes bytes before i row middle =
               pair_kept bytes before i row n first middle after place.local
@@ -535,8 +589,8 @@ module _ (architecture : Architecture) (addresses : Addresses) (bytes : List ℕ
 
   pub front_at : {n : ℕ} {middle : List ℕ} (other : RelocationKindInfo) (v : ℤ) (size : RelocationSize)
       → other.size ≡ size → n + 1 ≤ total
-      → AreRelocated architecture addresses bytes (by_index symbols) before n middle
-      → IsValued architecture addresses bytes (by_index symbols) n other v
+      → AreRelocated architecture addresses bytes values before n middle
+      → IsValued architecture addresses bytes values n other v
       → IsSameFront size (drop (offset_at bytes n) middle) (drop (offset_at bytes n) before)
   front_at other v (ByteSize k) is most relocated has = tt
   front_at {n} {middle} other v (BitMasking bits insn) is most relocated has =
@@ -553,8 +607,8 @@ module _ (architecture : Architecture) (addresses : Addresses) (bytes : List ℕ
 
   pub same_at : {n : ℕ} {middle : List ℕ} (other : RelocationKindInfo) (v : ℤ) (size : RelocationSize)
       → other.size ≡ size → n + 1 ≤ total
-      → AreRelocated architecture addresses bytes (by_index symbols) before n middle
-      → IsValued architecture addresses bytes (by_index symbols) n other v
+      → AreRelocated architecture addresses bytes values before n middle
+      → IsValued architecture addresses bytes values n other v
       → HaveSameWindow size (drop (offset_at bytes n) middle) (drop (offset_at bytes n) before)
   same_at other v (ByteSize k) is most relocated has = tt
   same_at {n} {middle} other v (BitMasking bits insn) is most relocated has =
@@ -568,10 +622,10 @@ module _ (architecture : Architecture) (addresses : Addresses) (bytes : List ℕ
       × (is_of_pair row ≡ true → OfPair (PairFits found bytes before) m i)
   accepted_more n m i row most accepts = (accepts.0, λ paired. of_pair_more n m most (accepts.1 paired))
 
-  pub are_accepted : {n : ℕ} {now : List ℕ} (relocated : AreRelocated architecture addresses bytes (by_index symbols) before n now)
+  pub are_accepted : {n : ℕ} {now : List ℕ} (relocated : AreRelocated architecture addresses bytes values before n now)
       → n ≤ total → Uses relocated → AreAccepted found bytes before n
   are_accepted none most used i row v below is = absurd (omega (arith, below))
-  are_accepted (mark {n} relocated value) most used i row v below is =
+  are_accepted (mark {n} relocated value inside) most used i row v below is =
       elim (cases_eq i n) [
         | inl at ↦ none_some (used.0) (ap found (sym at) ∙ is)
         | inr isnt ↦ accepted_more n (n + 1) i row (omega arith) (are_accepted relocated (omega (arith, most)) (used.1) i row v (omega (arith, below, isnt)) is)
@@ -623,9 +677,33 @@ module _ (architecture : Architecture) (addresses : Addresses) (bytes : List ℕ
         ]
       ]
 
+  -- ---- bytes that nothing is written to
+
+  stays : {n : ℕ} {now : List ℕ} (relocated : AreRelocated architecture addresses bytes values before n now)
+      → n ≤ total → Uses relocated → (p : ℕ) → IsUnwritten found bytes before n p
+      → slice_index now p ≡ slice_index before p
+  stays none most used p outside = refl
+  stays (mark {n} relocated value inside) most used p outside =
+      stays relocated (omega (arith, most)) (used.1) p (λ i row v below. outside i row v (omega (arith, below)))
+  stays (one {n} {middle} {after} {row} {v} relocated has written) most used p outside =
+      let o = offset_at bytes n in
+      let len : field_len row (drop o before) ≡ window_len row = len_alone row (drop o before) has.valued (written_alone row v o middle after written) in
+      local_byte o (window_len row) p middle after (one_local row v o middle after written)
+      (elim (outside n row v (omega arith) (used.0)) [
+        | inl below ↦ inl below
+        | inr following ↦ inr (omega (arith, following, len))
+      ])
+      ∙ stays relocated (omega (arith, most)) (used.1) p (λ i row v below. outside i row v (omega (arith, below)))
+  stays (pair {n} {middle} {after} relocated written) most used p outside =
+      let first = written.pair.row in
+      let place = pair_place architecture addresses bytes before middle after values n (fewer_apart n (n + 2) most) (untouched_at (omega (arith, most)) relocated) written in
+      local_byte (offset_at bytes n) (field_len first (drop (offset_at bytes n) before)) p middle after place.local
+      (outside n first written.pair.value (omega arith) (used.0))
+      ∙ stays relocated (omega (arith, most)) (used.2) p (λ i row v below. outside i row v (omega (arith, below)))
+
   -- ---- each field
 
-  value_held : {now : List ℕ} (relocated : AreRelocated architecture addresses bytes (by_index symbols) before total now)
+  value_held : {now : List ℕ} (relocated : AreRelocated architecture addresses bytes values before total now)
       → Uses relocated → ((j : ℕ) → slice_index before j < 256)
       → (i : ℕ) (row : RelocationKindInfo) (v : ℤ) → i < total
       → found i ≡ Some (row, v) → IsField architecture bytes before i row → has_value row.kind ≡ true
@@ -645,38 +723,38 @@ module _ (architecture : Architecture) (addresses : Addresses) (bytes : List ℕ
       held_number relocated (omega arith) used i row k below is_field alone valued size
       (number_small (field_bytes bytes before i row before) k (small_field bytes before i row small) most)
 
-  held : {now : List ℕ} (relocated : AreRelocated architecture addresses bytes (by_index symbols) before total now)
+  held : {now : List ℕ} (relocated : AreRelocated architecture addresses bytes values before total now)
       → Uses relocated → ((j : ℕ) → slice_index before j < 256)
       → (i : ℕ) (row : RelocationKindInfo) (v : ℤ) → i < total → found i ≡ Some (row, v)
       → 0 < field_len row (drop (offset_at bytes i) before)
       → IsHeld found bytes before now total i row v
   held relocated used small i row v below is some =
-      let has : HasValue architecture addresses bytes symbols (relocation_in bytes i) row v =
-      subst (λ x. IsRowValue architecture addresses bytes symbols (relocation_in bytes i) (Ok x)) is (found_are relocated used i below) in
-      let valued = some_value architecture addresses bytes symbols (relocation_in bytes i) row v has in
+      let has = valued_at relocated used i row v below is in
       let is_field : IsField architecture bytes before i row = record { is_row = has.is_row; some = some } in
       let accepts = are_accepted relocated (omega arith) used i row v below is in
       record {
-        value = λ alone. value_held relocated used small i row v below is is_field valued alone (supported_size row (accepts.0 alone).accepted.supported) row.size refl;
+        value = λ alone. value_held relocated used small i row v below is is_field has.valued alone (supported_size row (accepts.0 alone).accepted.supported) row.size refl;
         pair = λ paired. held_pair relocated (omega arith) used i row v below is is_field paired;
       }
 
 pub are_written : (architecture : Architecture) (addresses : Addresses) (bytes : List ℕ)
-    (symbols : List Symbol) (before after : List ℕ) → ((j : ℕ) → slice_index before j < 256)
-    → AreAllRelocated architecture addresses bytes symbols before after
-    → AreWritten architecture addresses bytes symbols before after
-are_written architecture addresses bytes symbols before after small all =
+    (values : Values) (before after : List ℕ) → ((j : ℕ) → slice_index before j < 256)
+    → AreAllRelocatedBy architecture addresses bytes values before after
+    → AreWrittenBy architecture addresses bytes values before after
+are_written architecture addresses bytes values before after small all =
     let n = length bytes / 24 in
     let found = found_of all.relocated in
-    let used = uses architecture addresses bytes symbols before n all.apart found all.relocated (λ i below. refl) in
+    let used = uses architecture addresses bytes values before n all.apart found all.relocated (λ i below. refl) in
     record {
       can = record {
         found = found;
-        are_found = found_are architecture addresses bytes symbols before n all.apart found all.relocated used;
+        are_found = found_are architecture addresses bytes values before n all.apart found all.relocated used;
         apart = all.apart;
-        accepted = are_accepted architecture addresses bytes symbols before n all.apart found all.relocated (omega arith) used;
+        accepted = are_accepted architecture addresses bytes values before n all.apart found all.relocated (omega arith) used;
+        inside = are_inside architecture addresses bytes values before n all.apart found all.relocated used;
       };
-      fields = held architecture addresses bytes symbols before n all.apart found all.relocated used small;
+      fields = held architecture addresses bytes values before n all.apart found all.relocated used small;
       others = all.others;
+      left = stays architecture addresses bytes values before n all.apart found all.relocated (omega arith) used;
       same_length = all.same_length;
     }

@@ -12,9 +12,11 @@ pub mod Held
 pub mod Lengths
 pub mod Local
 pub mod Numbers
+pub mod Outcomes
 pub mod QuickResolved
 pub mod QuickValues
 pub mod Reaching
+pub mod ResolvedOnce
 pub mod ResolvedValues
 pub mod Rows
 pub mod Runs

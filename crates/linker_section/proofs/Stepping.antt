@@ -20,7 +20,7 @@ use Rattle.linker_section.specs.Fields.{IsField, continues, field_end, field_len
 use Rattle.linker_section.specs.Inner.Claims.{is_clear_of, next_field, AreClaimed, HasField}
 use Rattle.linker_section.specs.Inner.Steps.{AreWrittenBelow, Ascends, HasNoValue, IsAlone, IsInOrder, IsLeftOut, IsLimit, IsStep, IsStopped, Reached, clear_in, field_of_row}
 use Rattle.linker_section.specs.Relocations.{relocation_in}
-use Rattle.linker_section.specs.Sections.{IsWritten, BeginsPair, IsPairWritten, IsFirstRejectedBy, IsCauseAt, Values}
+use Rattle.linker_section.specs.Sections.{IsWritten, BeginsPair, IsPairWritten, IsFirstRejectedBy, IsCauseAt, IsInside, Values}
 use Rattle.linker_section.specs.Values.{has_value, offset_at}
 use Rattle.linker_section.specs.declared.facts.Addresses.{Addresses}
 use Rattle.linker_section.specs.declared.fields.Field.{Field}
@@ -719,14 +719,14 @@ pub left_step : (limit : Option ℕ) (architecture : Architecture) (addresses : 
     (result : Result Step SectionError)
     → Reached architecture addresses bytes values limit before now memory k last
     → values architecture addresses bytes k (Ok None)
-    → AreWrittenBelow architecture addresses bytes values before now (set memory k word) (k + 1)
+    → (IsInside architecture bytes before k → AreWrittenBelow architecture addresses bytes values before now (set memory k word) (k + 1))
     → k < length bytes / 24 → IsLeftOut architecture bytes before now limit k result
     → IsStep architecture addresses bytes values limit before k now (set memory k word) result
 left_step limit architecture addresses bytes before now memory values k word last (Ok step) reached none below there left = (
   (let next = left.0 in omega (arith, next)),
   record {
     is_limit = reached.is_limit;
-    below = subst (AreWrittenBelow architecture addresses bytes values before now (set memory k word)) (sym (left.0)) below;
+    below = subst (AreWrittenBelow architecture addresses bytes values before now (set memory k word)) (sym (left.0)) (below (left.2));
     order = subst (λ i. IsInOrder limit architecture bytes before now i step.last) (sym (left.0)) (left.1);
   },
 )

@@ -204,14 +204,21 @@ pub record BeginsPair (architecture : Architecture) (bytes : List ℕ) (i : ℕ)
 
 -- ---- all relocations
 
+-- the field of the relocation at an index, if it has one, is in the section
+abbrev pub IsInside : Architecture → List ℕ → List ℕ → ℕ → Type 0
+IsInside architecture bytes section i =
+    (row : RelocationKindInfo) → IsField architecture bytes section i row
+    → field_end bytes section i row ≤ length section
+
 -- The values of those below an index are written, one after the other: nothing of a relocation
--- without a value, and one number of two relocations that are a pair.
+-- without a value or that is left out, and one number of two relocations that are a pair.
 pub data AreRelocated (architecture : Architecture) (addresses : Addresses) (bytes : List ℕ)
     (values : Values) (before : List ℕ) : ℕ → List ℕ → Type 0 where
   none : AreRelocated architecture addresses bytes values before 0 before
   mark : {n : ℕ} {middle : List ℕ}
       → AreRelocated architecture addresses bytes values before n middle
       → values architecture addresses bytes n (Ok None)
+      → IsInside architecture bytes before n
       → AreRelocated architecture addresses bytes values before (n + 1) middle
   one : {n : ℕ} {middle after : List ℕ} {row : RelocationKindInfo} {v : ℤ}
       → AreRelocated architecture addresses bytes values before n middle
@@ -261,12 +268,12 @@ pub record IsNotAccepted (architecture : Architecture) (addresses : Addresses) (
 
 -- no value is written to the field of the relocation at an index, which isn't in the section
 pub record IsLeftPast (architecture : Architecture) (addresses : Addresses) (bytes : List ℕ)
-    (values : Values) (i : ℕ) (now : List ℕ) (error : RelocateError) : Type 0 where
+    (values : Values) (i : ℕ) (before : List ℕ) (error : RelocateError) : Type 0 where
   pub is_error : error ≡ TooShort
   pub row : RelocationKindInfo
-  pub is_field : IsField architecture bytes now i row
+  pub is_field : IsField architecture bytes before i row
   pub no_value : values architecture addresses bytes i (Ok None)
-  pub past : length now < field_end bytes now i row
+  pub past : length before < field_end bytes before i row
 
 -- the instruction there is shorter or longer than its form
 pub record IsOtherLength (architecture : Architecture) (addresses : Addresses) (bytes : List ℕ)
@@ -292,7 +299,7 @@ IsCauseAt architecture addresses bytes values before i now OtherLength =
 IsCauseAt architecture addresses bytes values before i now (Write error) =
     AreApart architecture bytes before (i + 1)
     × (IsNotAccepted architecture addresses bytes values i now error
-    ⊎ IsLeftPast architecture addresses bytes values i now error)
+    ⊎ IsLeftPast architecture addresses bytes values i before error)
 IsCauseAt architecture addresses bytes values before i now (Uleb128 error) =
     AreApart architecture bytes before (i + 1)
     × IsPairRejected architecture addresses bytes values i now error

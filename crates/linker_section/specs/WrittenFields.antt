@@ -16,10 +16,10 @@ use Rattle.linker_elf.specs.declared.elf.RelocationKindInfo.{RelocationKindInfo}
 use Rattle.linker_elf.specs.declared.elf.RelocationSize.{RelocationSize}
 use Rattle.linker_elf.specs.declared.elf.RelocationSize.TheVariants.{ByteSize, BitMasking}
 use Rattle.linker_section.specs.Conditions.{HasLength, holds_offset}
-use Rattle.linker_section.specs.Fields.{field_len, begins_pair, ends_pair, is_of_pair, AreApart}
-use Rattle.linker_section.specs.Relocations.{relocation_in}
-use Rattle.linker_section.specs.Sections.{IsRowValue, IsNumberOfPair, IsInNoField, BeginsPair}
-use Rattle.linker_section.specs.Sections.{by_index, IsCauseAt, IsOfValue}
+use Rattle.linker_section.specs.Fields.{field_end, field_len, begins_pair, ends_pair, is_of_pair}
+use Rattle.linker_section.specs.Fields.{AreApart}
+use Rattle.linker_section.specs.Sections.{IsNumberOfPair, IsInNoField, IsInside, BeginsPair}
+use Rattle.linker_section.specs.Sections.{Values, by_index, IsCauseAt, IsOfValue}
 use Rattle.linker_section.specs.Values.{offset_at}
 use Rattle.linker_section.specs.declared.facts.Addresses.{Addresses}
 use Rattle.linker_section.specs.declared.facts.Symbol.{Symbol}
@@ -33,10 +33,9 @@ abbrev pub Found : Type 0
 Found = ℕ → Option (RelocationKindInfo × ℤ)
 
 -- those of the relocations below an index
-abbrev pub AreFound : Architecture → Addresses → List ℕ → List Symbol → ℕ → Found → Type 0
-AreFound architecture addresses bytes symbols n found =
-    (i : ℕ) → i < n
-    → IsRowValue architecture addresses bytes symbols (relocation_in bytes i) (Ok (found i))
+abbrev pub AreFound : Architecture → Addresses → List ℕ → Values → ℕ → Found → Type 0
+AreFound architecture addresses bytes values n found =
+    (i : ℕ) → i < n → values architecture addresses bytes i (Ok (found i))
 
 -- ---- values that compose
 
@@ -155,43 +154,75 @@ AreAccepted found bytes section n =
     → (is_of_pair row ≡ false → IsAcceptedAt row v (offset_at bytes i) section)
     × (is_of_pair row ≡ true → OfPair (PairFits found bytes section) n i)
 
+-- ---- fields that nothing is written to
+
+-- those of relocations below an index, which are left out, are in the section
+abbrev pub AreInside : Architecture → List ℕ → Found → List ℕ → ℕ → Type 0
+AreInside architecture bytes found section n =
+    (i : ℕ) → i < n → found i ≡ None → IsInside architecture bytes section i
+
+-- no field that a value is written to has the byte
+abbrev pub IsUnwritten : Found → List ℕ → List ℕ → ℕ → ℕ → Type 0
+IsUnwritten found bytes section n p =
+    (i : ℕ) (row : RelocationKindInfo) (v : ℤ) → i < n → found i ≡ Some (row, v)
+    → (p < offset_at bytes i) ⊎ (field_end bytes section i row ≤ p)
+
 -- ---- all relocations
 
 -- Each relocation has a value or none to write, fields that overlap compose, and each value is
 -- accepted by the bytes before all writes.
-pub record CanBeWritten (architecture : Architecture) (addresses : Addresses) (bytes : List ℕ)
-    (symbols : List Symbol) (section : List ℕ) : Type 0 where
+pub record CanBeWrittenBy (architecture : Architecture) (addresses : Addresses) (bytes : List ℕ)
+    (values : Values) (section : List ℕ) : Type 0 where
   pub found : Found
-  pub are_found : AreFound architecture addresses bytes symbols (length bytes / 24) found
+  pub are_found : AreFound architecture addresses bytes values (length bytes / 24) found
   pub apart : AreApart architecture bytes section (length bytes / 24)
   pub accepted : AreAccepted found bytes section (length bytes / 24)
+  pub inside : AreInside architecture bytes found section (length bytes / 24)
+
+-- so by a table of symbols
+abbrev pub CanBeWritten : Architecture → Addresses → List ℕ → List Symbol → List ℕ → Type 0
+CanBeWritten architecture addresses bytes symbols section =
+    CanBeWrittenBy architecture addresses bytes (by_index symbols) section
 
 -- A section that can be written is so: each field holds what its relocations compose over the bytes
--- that it had before, and each byte of no field is as before.
-pub record AreWritten (architecture : Architecture) (addresses : Addresses) (bytes : List ℕ)
-    (symbols : List Symbol) (before after : List ℕ) : Type 0 where
-  pub can : CanBeWritten architecture addresses bytes symbols before
+-- that it had before, and each byte that no value is written to is as before.
+pub record AreWrittenBy (architecture : Architecture) (addresses : Addresses) (bytes : List ℕ)
+    (values : Values) (before after : List ℕ) : Type 0 where
+  pub can : CanBeWrittenBy architecture addresses bytes values before
   pub fields : (i : ℕ) (row : RelocationKindInfo) (v : ℤ) → i < length bytes / 24
       → can.found i ≡ Some (row, v) → 0 < field_len row (drop (offset_at bytes i) before)
       → IsHeld can.found bytes before after (length bytes / 24) i row v
   pub others : (p : ℕ) → IsInNoField architecture bytes before (length bytes / 24) p
       → slice_index after p ≡ slice_index before p
+  pub left : (p : ℕ) → IsUnwritten can.found bytes before (length bytes / 24) p
+      → slice_index after p ≡ slice_index before p
   pub same_length : length after ≡ length before
+
+-- so by a table of symbols
+abbrev pub AreWritten : Architecture → Addresses → List ℕ → List Symbol → List ℕ → List ℕ → Type 0
+AreWritten architecture addresses bytes symbols before after =
+    AreWrittenBy architecture addresses bytes (by_index symbols) before after
 
 -- The relocation at an index is the first that can't be written, by the bytes before all writes. It
 -- has no value, its field overlaps that of an earlier one with which it doesn't compose, or its
 -- value isn't accepted. Those before it are found and accepted, except for the first of a pair of
 -- which it is the second.
-pub record IsFirstFault (architecture : Architecture) (addresses : Addresses) (bytes : List ℕ)
-    (symbols : List Symbol) (section : List ℕ) (error : SectionError) : Type 0 where
+pub record IsFirstFaultBy (architecture : Architecture) (addresses : Addresses) (bytes : List ℕ)
+    (values : Values) (section : List ℕ) (error : SectionError) : Type 0 where
   pub within : error.index < length bytes / 24
   pub written : ℕ
   pub is_next : (error.index ≡ written)
       ⊎ ((error.index ≡ written + 1) × BeginsPair architecture bytes written
       × IsOfValue error.error)
   pub found : Found
-  pub are_found : AreFound architecture addresses bytes symbols written found
+  pub are_found : AreFound architecture addresses bytes values written found
   pub apart : AreApart architecture bytes section error.index
   pub accepted : AreAccepted found bytes section written
-  pub cause : IsCauseAt architecture addresses bytes (by_index symbols) section error.index section
-      error.error
+  pub inside : AreInside architecture bytes found section written
+  pub cause : IsCauseAt architecture addresses bytes values section error.index section error.error
+
+-- so by a table of symbols
+abbrev pub IsFirstFault : Architecture → Addresses → List ℕ → List Symbol → List ℕ → SectionError
+    → Type 0
+IsFirstFault architecture addresses bytes symbols section error =
+    IsFirstFaultBy architecture addresses bytes (by_index symbols) section error

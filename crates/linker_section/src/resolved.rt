@@ -2,7 +2,7 @@
 //! symbols has to exist.
 
 ghost use Rattle.std.specs.Prelude.{◌≡◌, ◌<◌, ◌≤◌, ◌/◌, ℕ, Option, IfErr, IfSome, OnOk};
-ghost use Rattle.std.specs.Prelude.{length, Some, true, false};
+ghost use Rattle.std.specs.Prelude.{IsOk, ◌↔◌, length, Some, true, false};
 ghost use Rattle.linker_section.specs.Inner.Facts.{SaysNeeds, SaysWay, is_plain};
 ghost use Rattle.linker_elf.specs.Architectures.{IsRow};
 ghost use Rattle.linker_section.specs.Conditions.{needs_upper};
@@ -16,6 +16,7 @@ ghost use Rattle.linker_section.specs.Resolved.{resolved_value, lacks_resolved_s
 ghost use Rattle.linker_section.specs.Resolved.{IsResolvedBy};
 ghost use Rattle.linker_section.specs.Sections.{AreAllRelocatedBy, IsFirstRejectedBy};
 ghost use Rattle.linker_section.specs.Values.{is_of_got, names_label};
+ghost use Rattle.linker_section.specs.WrittenFields.{AreWrittenBy, CanBeWrittenBy, IsFirstFaultBy};
 ghost use Rattle.linker_section.specs.declared.relocations.Rela.{Rela as relocations};
 ghost use Rattle.linker_section.specs.declared.resolved.Resolved.{Resolved as knowledge};
 
@@ -536,8 +537,14 @@ pub fn relocate_resolved<L: Lookup>(
     requires memory { length relocations.now / 24 ≤ length memory.old }
     ensures ok { OnOk result (AreAllRelocatedBy architecture addresses.now relocations.now
         (by_lookup (L.resolved lookup)) section.old section.new) }
+    ensures fields { OnOk result (AreWrittenBy architecture addresses.now relocations.now
+        (by_lookup (L.resolved lookup)) section.old section.new) }
     ensures err { IfErr result (IsFirstRejectedBy architecture addresses.now relocations.now
         (by_lookup (L.resolved lookup)) section.old) }
+    ensures fault { IfErr result (IsFirstFaultBy architecture addresses.now relocations.now
+        (by_lookup (L.resolved lookup)) section.old) }
+    ensures exact { IsOk result ↔ CanBeWrittenBy architecture addresses.now relocations.now
+        (by_lookup (L.resolved lookup)) section.old }
     ensures unchanged { IfErr result (λ _. section.new ≡ section.old) }
 {
     relocate_values(

@@ -14,8 +14,8 @@ use Rattle.linker_section.specs.Inner.Saved.{IsSavedAt, Restores}
 use Rattle.linker_section.specs.Relocations.{relocation_in}
 use Rattle.linker_section.specs.Sections.{IsFirstRejectedBy, IsPairWritten, IsPairRejected}
 use Rattle.linker_section.specs.Sections.{IsWritten}
-use Rattle.linker_section.specs.Sections.{AreRelocated, AreAllRelocatedBy, IsValued, Outcome}
-use Rattle.linker_section.specs.Sections.{Values}
+use Rattle.linker_section.specs.Sections.{AreRelocated, AreAllRelocatedBy, IsInside, IsValued}
+use Rattle.linker_section.specs.Sections.{Outcome, Values}
 use Rattle.linker_section.specs.Values.{has_value, offset_at}
 use Rattle.linker_section.specs.declared.facts.Addresses.{Addresses}
 use Rattle.linker_section.specs.declared.fields.Field.{Field}
@@ -132,12 +132,13 @@ abbrev pub IsLeftOut : Architecture → List ℕ → List ℕ → List ℕ → O
     → Result Step SectionError → Type 0
 IsLeftOut architecture bytes before now limit i (Ok step) =
     (step.index ≡ i + 1) × IsInOrder limit architecture bytes before now (i + 1) step.last
+    × IsInside architecture bytes before i
 IsLeftOut architecture bytes before now limit i (Err error) =
     ((error ≡ record { index = i; error = Overlaps }) × IsOverlapped architecture bytes before i)
     ⊎ ((error ≡ record { index = i; error = Write TooShort })
     × AreApart architecture bytes before (i + 1)
-    × (row : RelocationKindInfo) × IsField architecture bytes now i row
-    × (length now < field_end bytes now i row))
+    × (row : RelocationKindInfo) × IsField architecture bytes before i row
+    × (length before < field_end bytes before i row))
 
 -- ---- one step
 

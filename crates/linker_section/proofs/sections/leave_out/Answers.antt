@@ -1,9 +1,10 @@
-use Rattle.std.proofs.Common.{◌≡◌, ◌+◌, ◌≤◌, ◌∙◌, ℕ, drop, refl, sym, ap, subst, arith, inl, inr, true, false}
+use Rattle.std.proofs.Common.{◌≡◌, ◌+◌, ◌≤◌, ◌∙◌, ℕ, List, length, drop, refl, sym, ap, subst, arith, inl, inr, true, false}
 use Rattle.std.specs.Prelude.{IfNone}
 use Rattle.linker_elf.specs.declared.elf.RelocationKind.{RelocationKind}
 use Rattle.linker_elf.specs.declared.elf.RelocationKindInfo.{RelocationKindInfo}
+use Rattle.linker_section.proofs.Rows.{one_info}
 use Rattle.linker_section.proofs.Stepping.{alone_field, apart_next, field_valued, left_order, len_alone, mark_order, next_some, overlap_now}
-use Rattle.linker_section.specs.Fields.{IsField, field_len, is_of_pair}
+use Rattle.linker_section.specs.Fields.{IsField, field_end, field_len, is_of_pair}
 use Rattle.linker_section.specs.Inner.Claims.{HasField, next_field}
 use Rattle.linker_section.specs.Inner.Steps.{IsInOrder, clear_in, field_of_row}
 use Rattle.linker_section.specs.Values.{has_value, offset_at}
@@ -28,6 +29,21 @@ record Known (c : In-Some) : Type 0 where
   alone : is_of_pair row ≡ false
   field_is : c.in-Some.field ≡ field_of_row row (offset_at c.args.relocations.now c.args.index) c.args.section.now
 
+-- the field ends where it did before all writes
+same_end : (c : In-Some) (before : List ℕ) (row : RelocationKindInfo) → Known c
+    → length c.args.section.now ≡ length before
+    → IsField c.args.architecture c.args.relocations.now before c.args.index row
+    → field_end c.args.relocations.now before c.args.index row ≡ c.in-Some.field.offset + c.in-Some.field.len
+same_end c before row w same is_field =
+    let a = c.args in
+    let o = offset_at a.relocations.now a.index in
+    let one = one_info a.architecture _ row w.row is_field.is_row w.has.is_field.is_row in
+    let offset = w.has.offset_is in
+    let end = w.has.end_is in
+    let now = len_alone w.row (drop o a.section.now) w.valued w.alone in
+    let was = ap (λ x. field_len x (drop o before)) one ∙ len_alone w.row (drop o before) w.valued w.alone in
+    omega (arith, offset, end, now, was)
+
 known : (c : In-Some) → Known c
 known c =
     let a = c.args in
@@ -50,10 +66,13 @@ pub returns-in_default : goal.returns-in_default
 returns-in_default c before is_limit order same =
     let a = c.args in
     let bytes = a.relocations.now in
-    let none = subst (λ x. IfNone x ((row : RelocationKindInfo) → IsField a.architecture bytes a.section.now a.index row → ⊥)) c.in_default.is c.field_in.ensures.none in (
+    let none : (row : RelocationKindInfo) → IsField a.architecture bytes a.section.now a.index row → ⊥ =
+    subst (λ x. IfNone x ((row : RelocationKindInfo) → IsField a.architecture bytes a.section.now a.index row → ⊥)) c.in_default.is c.field_in.ensures.none in
+    let fieldless : (row : RelocationKindInfo) → IsField a.architecture bytes before a.index row → ⊥ =
+    λ row is_field. none row (alone_field a.architecture bytes before a.section.now a.index row (c.requires.alone row is_field.is_row) is_field) in (
       refl,
-      mark_order a.limit a.architecture bytes before a.section.now a.index a.last is_limit order c.requires.within c.requires.alone
-          (λ row is_field. none row (alone_field a.architecture bytes before a.section.now a.index row (c.requires.alone row is_field.is_row) is_field)),
+      mark_order a.limit a.architecture bytes before a.section.now a.index a.last is_limit order c.requires.within c.requires.alone fieldless,
+      (λ row is_field. absurd (fieldless row is_field)),
     )
 
 pub is_clear-requires : goal.is_clear-requires
@@ -74,13 +93,14 @@ returns-then-not-is_within c before is_limit order same =
     let a = c.args in
     let clear = ap (λ f. clear_in a.limit a.index f a.last) (sym w.field_is) ∙ (sym c.is_clear.ensures ∙ c.if-not-is_clear.false) in
     let past = c.is_within.ensures.no c.if-not-is_within.true in
-    let end = w.has.end_is in
+    let is_field = alone_field a.architecture a.relocations.now a.section.now before a.index w.row w.alone w.has.is_field in
+    let end = same_end (goal.at.returns-then-not-is_within c).In-Some before w.row w same is_field in
     inr (
       refl,
       apart_next a.limit a.architecture a.relocations.now before a.section.now a.index a.last w.row is_limit order c.requires.within c.requires.after same w.has.is_field.is_row w.valued clear,
       w.row,
-      w.has.is_field,
-      omega (arith, past, end),
+      is_field,
+      omega (arith, past, end, same),
     )
 
 pub returns : goal.returns
@@ -101,4 +121,7 @@ returns c before is_limit order same =
       subst (IsInOrder a.limit a.architecture bytes before a.section.now (a.index + 1)) next
           (left_order a.limit a.architecture bytes before a.section.now a.index a.last w.row is_limit order c.requires.within c.requires.after same w.has.is_field.is_row w.valued w.alone
           (omega (arith, within, offset, len, end)) clear),
+      (λ row is_field.
+          let was = same_end (goal.at.returns c).In-Some before row w same is_field in
+          omega (arith, within, was, same)),
     )

@@ -8,7 +8,7 @@ use Rattle.linker_section.specs.Inner.Claims.{next_field}
 use Rattle.linker_section.specs.Inner.Saved.{IsSavedAt}
 use Rattle.linker_section.specs.Inner.Steps.{clear_in, field_of_row, AreWrittenBelow, IsInOrder, IsOutcome, IsPairOutcome, IsStopped, IsUnvalued, Reached}
 use Rattle.linker_section.specs.Relocations.{relocation_in}
-use Rattle.linker_section.specs.Sections.{IsValued, AreRelocated, IsWrittenAt, IsFirstRejectedBy, BeginsPair}
+use Rattle.linker_section.specs.Sections.{IsInside, IsValued, AreRelocated, IsWrittenAt, IsFirstRejectedBy, BeginsPair}
 use Rattle.linker_section.specs.Values.{has_value, offset_at}
 use Rattle.linker_section.specs.declared.sections.RelocationError.TheVariants.{Value, Overlaps, OtherLength, Write}
 use Rattle.linker_section.specs.declared.sections.Stopped.{Stopped}
@@ -56,8 +56,9 @@ record IsPassed (g : Over) (c : In-Ok-None g) (before : List ℕ) : Type 0 where
 
 passed : (g : Over) (c : In-Ok-None g) (before : List ℕ)
     → Reached c.args.architecture c.args.addresses.now c.args.relocations.now (g.S.Symbols.values c.args.symbols) c.args.limit before c.args.section.now c.args.memory.now c.args.index c.args.last
+    → IsInside c.args.architecture c.args.relocations.now before c.args.index
     → IsPassed g c before
-passed g c before inv =
+passed g c before inv inside =
     let a = c.args in
     let there = c.requires.within in
     let room = c.requires.room in
@@ -66,7 +67,7 @@ passed g c before inv =
     record {
       below = record {
         within = omega (arith, there);
-        relocated = AreRelocated.mark inv.below.relocated none.is_value;
+        relocated = AreRelocated.mark inv.below.relocated none.is_value inside;
         restores = mark_restores a.architecture a.relocations.now a.memory.now before a.section.now a.index c.word_at.result none.row (omega (arith, there, room)) none.is_row none.alone saved inv.below.restores;
         same_length = inv.below.same_length;
       };
@@ -83,7 +84,7 @@ returns-then-is_left_out-clause-step g c before inv =
     let bytes = a.relocations.now in
     let n = (goal.at.returns-then-is_left_out-clause-step g c).In-Ok-None in
     left_step a.limit a.architecture a.addresses.now bytes before a.section.now a.memory.now (g.S.Symbols.values a.symbols) i c.word_at.result a.last c.leave_out.result
-    inv (unvalued g n).is_value (passed g n before inv).below c.requires.within
+    inv (unvalued g n).is_value (λ inside. (passed g n before inv inside).below) c.requires.within
     (c.leave_out.ensures before inv.is_limit inv.order inv.below.same_length)
 
 pub returns-in-Ok-None-clause-step : goal.returns-in-Ok-None-clause-step
@@ -97,7 +98,7 @@ returns-in-Ok-None-clause-step g c before inv =
       (omega arith),
       record {
         is_limit = inv.is_limit;
-        below = (passed g n before inv).below;
+        below = (passed g n before inv (λ row is_field. absurd (no_field a.architecture bytes before i row valueless is_field))).below;
         order = mark_order a.limit a.architecture bytes before a.section.now i a.last inv.is_limit inv.order c.requires.within none.alone
             (λ row. no_field a.architecture bytes before i row valueless);
       },
