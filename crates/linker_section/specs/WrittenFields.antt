@@ -169,8 +169,8 @@ IsUnwritten found bytes section n p =
 
 -- ---- all relocations
 
--- Each relocation has a value or none to write, fields that overlap compose, and each value is
--- accepted by the bytes before all writes.
+-- Each relocation has a value or none to write, fields that overlap compose, each value is accepted
+-- by the bytes before all writes, and each field that none is written to is in the section.
 pub record CanBeWrittenBy (architecture : Architecture) (addresses : Addresses) (bytes : List ℕ)
     (values : Values) (section : List ℕ) : Type 0 where
   pub found : Found
