@@ -8,7 +8,8 @@
  * `linker_utils_value_at` or `linker_utils_relocate` rejects, or LINKER_UTILS_OVERLAPS of the first
  * whose field has bytes of the field of one before it, with which it doesn't compose; or that of an
  * alignment, a call or an instruction that would be wrong. Else the section
- * is what these calls make of it. Each buffer ends before an inaccessible page; with -DMALLOC they are blocks
+ * is what these calls make of it. `linker_utils_relocate_resolved` does the same by what the symbols
+ * say of each relocation. Each buffer ends before an inaccessible page; with -DMALLOC they are blocks
  * of `malloc`, for valgrind, of which `memory` isn't initialised. */
 #define _GNU_SOURCE
 #include <elf.h>
@@ -49,11 +50,11 @@ static uint64_t below(uint64_t bound) { /* xorshift64 */
 static void *room(size_t slot, size_t len) {
     expect(len <= MOST, "a long section");
 #ifdef MALLOC
-    static void *blocks[5];
+    static void *blocks[7];
     free(blocks[slot]);
     return blocks[slot] = len ? malloc(len) : NULL;
 #else
-    static uint8_t *pages[5];
+    static uint8_t *pages[7];
     if (!pages[slot]) {
         pages[slot] = mmap(NULL, MOST + 4096, PROT_READ | PROT_WRITE, MAP_PRIVATE | MAP_ANONYMOUS, -1, 0);
         expect(pages[slot] != MAP_FAILED && !mprotect(pages[slot] + MOST, 4096, PROT_NONE), "no pages");
@@ -385,6 +386,48 @@ static uint32_t one_by_one(const struct given *it, uint8_t *section, size_t *at)
     return LINKER_UTILS_OK;
 }
 
+/* The address of the entry that a relocation requires, of its symbol. */
+static uint64_t entry_of(const struct given *it, const struct linker_utils_symbol *symbol,
+                         const struct linker_utils_requirements *needs) {
+    if (needs->entry_class == LINKER_UTILS_ENTRY_MODULE) return it->link.module_entry;
+    if (needs->entry_addend != symbol->entry_addend) return 0;
+    switch (needs->entry_class) {
+    case LINKER_UTILS_ENTRY_ADDRESS: return symbol->address_entry;
+    case LINKER_UTILS_ENTRY_THREAD_OFFSET: return symbol->thread_entry;
+    case LINKER_UTILS_ENTRY_MODULE_OFFSET: return symbol->module_entry;
+    default: return symbol->descriptor;
+    }
+}
+
+/* The same by what the symbols say of each relocation, if each has one. */
+static void relocate_by_array(const struct given *it, const uint8_t *was, uint32_t wanted, size_t first) {
+    size_t count = it->relocations_len / 24, faulty = SIZE_MAX;
+    struct linker_utils_section section = section_of(it);
+    struct linker_utils_resolved *resolved = room(5, count * sizeof *resolved);
+    for (size_t i = 0; i < count; i++) {
+        uint64_t words[3];
+        struct linker_utils_requirements needs = {0};
+        relocation_at(it, i, words);
+        if (words[1] >> 32 >= it->symbols_len) return;
+        const struct linker_utils_symbol *symbol = &it->symbols[words[1] >> 32];
+        uint32_t type = (uint32_t)words[1];
+        bool is_size = it->link.machine == EM_X86_64 && (type == R_X86_64_SIZE32 || type == R_X86_64_SIZE64);
+        (void)!linker_utils_needs(it->link.machine, type, (int64_t)words[2], symbol->is_thread_local, &needs);
+        resolved[i] = (struct linker_utils_resolved){
+            .address = is_size ? symbol->size : symbol->address, .entry = entry_of(it, symbol, &needs),
+            .stub = symbol->stub, .other = symbol->other, .is_undefined_weak = symbol->is_undefined_weak};
+    }
+    section.bytes = room(6, it->len);
+    section.resolved = resolved;
+    section.resolved_len = count;
+    if (it->len) memcpy(section.bytes, was, it->len);
+    size_t memory_len = linker_utils_relocate_memory(&section);
+    uint64_t *memory = room(3, memory_len * sizeof *memory);
+    uint32_t status = linker_utils_relocate_resolved(&it->link, &section, memory, memory_len, &faulty);
+    expect(status == wanted && faulty == first, "another status by an array");
+    expect(!it->len || !memcmp(section.bytes, it->section, it->len), "other bytes by an array");
+}
+
 /* Relocates a section in one call and one by one. Returns the status. */
 static uint32_t relocate(const struct given *it) {
     const struct linker_utils_object object = object_of(it);
@@ -403,6 +446,7 @@ static uint32_t relocate(const struct given *it) {
         linker_utils_relocate_section(&it->link, &object, &section, memory, memory_len, &faulty);
     bool is_kept = !it->len || !memcmp(was, it->section, it->len);
     bool is_same = !it->len || !memcmp(copy, it->section, it->len);
+    relocate_by_array(it, was, status, faulty);
     free(was);
     if (status == LINKER_UTILS_OK) {
         expect(wanted == LINKER_UTILS_OK && faulty == SIZE_MAX, "an error one by one");
