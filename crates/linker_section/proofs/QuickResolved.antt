@@ -18,7 +18,7 @@ use Rattle.linker_section.specs.Inner.Facts.{SaysWay, is_high, is_high_way, is_l
 use Rattle.linker_section.specs.Inner.Quick.{IsPlainResolved, IsQuickAt, IsResolvedHigh, IsValueAt}
 use Rattle.linker_section.specs.Inner.Resolved.{IsQuickResolved}
 use Rattle.linker_section.specs.Relocations.{relocation_in}
-use Rattle.linker_section.specs.Resolved.{IsResolvedBy, IsResolvedUnless, IsLowResolved, Lookup, by_lookup, is_defined_in, is_left_out, is_skipped, lacks_resolved_stub, resolved_operands}
+use Rattle.linker_section.specs.Resolved.{IsResolvedBy, IsResolvedUnless, IsLowResolved, Lookup, by_lookup, is_defined_in, is_skipped, lacks_resolved_stub, resolved_operands}
 use Rattle.linker_section.specs.Values.{has_value, is_high_part, low_by, low_operands, names_label, value_by, IsHighPart}
 use Rattle.linker_section.specs.declared.facts.Addresses.{Addresses}
 use Rattle.linker_section.specs.declared.quick.HighPart.{HighPart}

@@ -15,7 +15,6 @@ use Rattle.linker_elf.specs.declared.elf.relocate.RelocateError.TheVariants.{Too
 use Rattle.linker_section.specs.declared.sections.SectionError.{SectionError}
 use Rattle.linker_section.proofs.Rows.{one_info}
 use Rattle.linker_section.proofs.Ulebs.{some_uleb, uleb_len_is, uleb_len_most}
-use Rattle.linker_section.proofs.Valued.{no_value}
 use Rattle.linker_section.specs.Fields.{IsField, continues, field_end, field_len, begins_pair, ends_pair, is_of_pair, uleb_len, of_number, of_pair, AreApart, IsOverlapped}
 use Rattle.linker_section.specs.Inner.Claims.{is_clear_of, next_field, AreClaimed, HasField}
 use Rattle.linker_section.specs.Inner.Steps.{AreWrittenBelow, Ascends, HasNoValue, IsAlone, IsInOrder, IsLeftOut, IsLimit, IsStep, IsStopped, Reached, clear_in, field_of_row}
