@@ -6,7 +6,7 @@ use Rattle.std.proofs.Common.{◌≡◌, ◌↔◌, ◌<◌, ◌≤◌, ◌++◌
 use Rattle.std.specs.Bool.{⊤}
 use Rattle.linker_elf.specs.Choices.{Condition, Entry, ConditionHolds, AllHold, choice, Applies, IsFirst, bound, weak_zero, fixed_address, fixed_distance, executable, local_exec_base, compressible, marked, label_marked, got_high_part, private_base, changed_toc, without_plt, group_fits}
 use Rattle.linker_elf.specs.Inner.ChoiceTables.{with_fact, fact_conditions, is_held, facts_hold, value_conditions, ValuesHold, addend_condition, conditions_of, EntryApplies, IsFirstOf, IsChoiceAt, IsTableOf, AreEqualities, AreSampled, seldom_facts_hold}
-use Rattle.linker_elf.specs.declared.elf.RelocationKindInfo.{RelocationKindInfo}
+use Rattle.linker_elf.specs.declared.elf.RowInfo.{RowInfo}
 use Rattle.linker_elf.specs.declared.elf.choice.Choice.{Choice}
 use Rattle.linker_elf.specs.declared.elf.choice.LinkFacts.{LinkFacts}
 use Rattle.linker_elf.specs.declared.elf.choice_table.ChoiceEntry.{ChoiceEntry}
@@ -14,7 +14,7 @@ use Rattle.linker_elf.specs.declared.elf.value.Operands.{Operands}
 
 -- ---- lists of conditions
 
-pub all_hold_both : {R : Type 0} → (row : R → Option RelocationKindInfo) (after : Operands) (facts : LinkFacts)
+pub all_hold_both : {R : Type 0} → (row : R → Option RowInfo) (after : Operands) (facts : LinkFacts)
     → (cs ds : List (Condition R))
     → AllHold row after facts (cs ++ ds) ↔ (AllHold row after facts cs × AllHold row after facts ds)
 all_hold_both row after facts [] ds = (λ h. (tt, h), λ h. h.1)
@@ -40,18 +40,18 @@ both true b = (λ h. (refl, h), λ h. h.1)
 both false b = (λ h. absurd (true≢false (sym h)), λ h. absurd (true≢false (sym h.0)))
 
 -- by whether a mask lacks the bit, and whether the condition holds
-by_bit : {R : Type 0} → (row : R → Option RelocationKindInfo) (after : Operands) (facts : LinkFacts)
+by_bit : {R : Type 0} → (row : R → Option RowInfo) (after : Operands) (facts : LinkFacts)
     → (c : Condition R) (cs : List (Condition R)) (lacks b : Bool) → (IsTrue b ↔ ConditionHolds row after facts c)
     → AllHold row after facts (if lacks then cs else c ∷ cs) ↔ (IsTrue (lacks || b) × AllHold row after facts cs)
 by_bit row after facts c cs true b known = (λ h. (refl, h), λ h. h.1)
 by_bit row after facts c cs false b known = (λ h. (known.1 h.0, h.1), λ h. (known.0 h.0, h.1))
 
-first : {R : Type 0} → (row : R → Option RelocationKindInfo) (after : Operands) (facts : LinkFacts) (mask bit : ℕ)
+first : {R : Type 0} → (row : R → Option RowInfo) (after : Operands) (facts : LinkFacts) (mask bit : ℕ)
     → (c : Condition R) (cs : List (Condition R)) (b : Bool) → (IsTrue b ↔ ConditionHolds row after facts c)
     → AllHold row after facts (with_fact mask bit c cs) ↔ (IsTrue (is_held mask bit b) × AllHold row after facts cs)
 first row after facts mask bit c cs b known = by_bit row after facts c cs (bit_and mask bit == 0) b known
 
-next : {R A : Type 0} → (row : R → Option RelocationKindInfo) (after : Operands) (facts : LinkFacts) (mask bit : ℕ)
+next : {R A : Type 0} → (row : R → Option RowInfo) (after : Operands) (facts : LinkFacts) (mask bit : ℕ)
     → (c : Condition R) (cs : List (Condition R)) (p b : Bool)
     → (A ↔ (IsTrue p × AllHold row after facts (with_fact mask bit c cs))) → (IsTrue b ↔ ConditionHolds row after facts c)
     → A ↔ (IsTrue (p && is_held mask bit b) × AllHold row after facts cs)
@@ -62,7 +62,7 @@ next row after facts mask bit c cs p b so_far known =
       λ h. so_far.1 ((two.0 h.0).0, one.1 ((two.0 h.0).1, h.1)),
     )
 
-all_facts : {R : Type 0} → (row : R → Option RelocationKindInfo) (after : Operands) (facts : LinkFacts) (mask : ℕ)
+all_facts : {R : Type 0} → (row : R → Option RowInfo) (after : Operands) (facts : LinkFacts) (mask : ℕ)
     → AllHold row after facts (fact_conditions mask) ↔ (IsTrue (facts_hold mask facts) × ⊤)
 all_facts {R} row after facts mask =
     let f13 : List (Condition R) = with_fact mask 8192 group_fits [] in
@@ -106,15 +106,15 @@ all_facts {R} row after facts mask =
     (is_same facts.operands.plt_entry facts.operands.symbol))
     (same (facts.group_fits ≡ true))
 
-addend_holds : {R : Type 0} → (row : R → Option RelocationKindInfo) (after : Operands) (facts : LinkFacts) (a : Option ℤ)
+addend_holds : {R : Type 0} → (row : R → Option RowInfo) (after : Operands) (facts : LinkFacts) (a : Option ℤ)
     → IfSome a (λ x. facts.operands.addend ≡ x) ↔ AllHold row after facts (addend_condition a)
 addend_holds row after facts None = (λ h. tt, λ h. tt)
 addend_holds row after facts (Some a) = (λ h. (h, tt), λ h. h.0)
 
-abbrev AreHeld : {O K R : Type 0} → (R → Option RelocationKindInfo) → Operands → LinkFacts → ChoiceEntry O K R → Type 0
+abbrev AreHeld : {O K R : Type 0} → (R → Option RowInfo) → Operands → LinkFacts → ChoiceEntry O K R → Type 0
 AreHeld row after facts e = AllHold row after facts (conditions_of e)
 
-parts : {O K R : Type 0} → (row : R → Option RelocationKindInfo) (after : Operands) (facts : LinkFacts) (e : ChoiceEntry O K R)
+parts : {O K R : Type 0} → (row : R → Option RowInfo) (after : Operands) (facts : LinkFacts) (e : ChoiceEntry O K R)
     → (IsTrue (facts_hold e.conditions.facts facts)
     × (IfSome e.conditions.addend (λ x. facts.operands.addend ≡ x) × ValuesHold row after facts e.conditions.values))
     ↔ AreHeld row after facts e
@@ -128,7 +128,7 @@ parts row after facts e =
     )
 
 -- whether an entry applies, where a test fails, and where only those of values are left
-pub without_fact : {O K R : Type 0} → (row : R → Option RelocationKindInfo) (after : Operands) (facts : LinkFacts) (e : ChoiceEntry O K R)
+pub without_fact : {O K R : Type 0} → (row : R → Option RowInfo) (after : Operands) (facts : LinkFacts) (e : ChoiceEntry O K R)
     → (M : Type 0) → facts_hold e.conditions.facts facts ≡ false → IsTrue false ↔ (M × AllHold row after facts (conditions_of e))
 without_fact row after facts e M n =
     (λ h. absurd (true≢false (sym h)), λ h. absurd (true≢false (sym ((parts row after facts e).1 h.1).0 ∙ n)))
@@ -146,7 +146,7 @@ seldom_fails mask facts n =
     (is_held mask 1 (facts.is_local && not facts.is_ifunc)) (is_held mask 2 facts.is_undefined_weak)
     (is_held mask 4 facts.has_fixed_address) n)))))))))))
 
-pub without_seldom_fact : {O K R : Type 0} → (row : R → Option RelocationKindInfo) (after : Operands) (facts : LinkFacts)
+pub without_seldom_fact : {O K R : Type 0} → (row : R → Option RowInfo) (after : Operands) (facts : LinkFacts)
     → (e : ChoiceEntry O K R) (M : Type 0) → seldom_facts_hold e.conditions.facts facts ≡ false
     → IsTrue false ↔ (M × AllHold row after facts (conditions_of e))
 without_seldom_fact row after facts e M n =
@@ -155,12 +155,12 @@ without_seldom_fact row after facts e M n =
 pub without_instructions : {M N : Type 0} → (M → ⊥) → IsTrue false ↔ (M × N)
 without_instructions n = (λ h. absurd (true≢false (sym h)), λ h. absurd (n h.0))
 
-pub without_addend : {O K R : Type 0} → (row : R → Option RelocationKindInfo) (after : Operands) (facts : LinkFacts) (e : ChoiceEntry O K R)
+pub without_addend : {O K R : Type 0} → (row : R → Option RowInfo) (after : Operands) (facts : LinkFacts) (e : ChoiceEntry O K R)
     → (M : Type 0) → (IfSome e.conditions.addend (λ x. facts.operands.addend ≡ x) → ⊥) → IsTrue false ↔ (M × AllHold row after facts (conditions_of e))
 without_addend row after facts e M n =
     (λ h. absurd (true≢false (sym h)), λ h. absurd (n ((parts row after facts e).1 h.1).1.0))
 
-pub by_values : {O K R : Type 0} → (row : R → Option RelocationKindInfo) (after : Operands) (facts : LinkFacts) (e : ChoiceEntry O K R)
+pub by_values : {O K R : Type 0} → (row : R → Option RowInfo) (after : Operands) (facts : LinkFacts) (e : ChoiceEntry O K R)
     → (M : Type 0) (r : Bool) → facts_hold e.conditions.facts facts ≡ true → IfSome e.conditions.addend (λ x. facts.operands.addend ≡ x) → M
     → (IsTrue r ↔ ValuesHold row after facts e.conditions.values) → IsTrue r ↔ (M × AllHold row after facts (conditions_of e))
 by_values row after facts e M r f a m v =
@@ -229,7 +229,7 @@ nowhere A es otherwise few = subst (λ l. IsFirstOf A l otherwise otherwise) (sy
 
 -- where the code's entries are the definition's, the first one of both is the same
 pub first_of_table : {O K R : Type 0} → (are_at : O → K → List ℕ → ℕ → Type 0) (Required : K → List ℕ → ℕ → Type 0)
-    → (row : R → Option RelocationKindInfo) (after : K → ℕ → Operands → Operands) (section : List ℕ) (o : ℕ) (facts : LinkFacts)
+    → (row : R → Option RowInfo) (after : K → ℕ → Operands → Operands) (section : List ℕ) (o : ℕ) (facts : LinkFacts)
     → (es : List (ChoiceEntry O K R)) (ds : List (Entry K R)) (otherwise chosen : Choice K R) → IsTableOf are_at Required es ds
     → IsFirstOf (EntryApplies are_at row after section o facts) es otherwise chosen
     → IsFirst (Applies Required row after section o facts) ds otherwise chosen

@@ -11,14 +11,14 @@ use Rattle.linker_elf.specs.Relocate.{ored_cleared}
 use Rattle.linker_elf.specs.RiscV.{riscv_layout, riscv_places}
 use Rattle.linker_elf.specs.declared.aarch64.forms.AArch64Instruction.{AArch64Instruction}
 use Rattle.linker_elf.specs.declared.aarch64.forms.AArch64Instruction.TheVariants.{Adr, Movnz, MachOLow12}
-use Rattle.linker_elf.specs.declared.elf.RelocationInstruction.{RelocationInstruction}
-use Rattle.linker_elf.specs.declared.elf.RelocationInstruction.TheVariants.{AArch64, LoongArch64, Ppc64, RiscV}
+use Rattle.linker_elf.specs.declared.elf.AnyForm.{AnyForm}
+use Rattle.linker_elf.specs.declared.elf.AnyForm.TheVariants.{AArch64, LoongArch64, Ppc64, RiscV}
 use Rattle.linker_elf.specs.declared.elf.engine.Encoding.{Encoding}
 use Rattle.linker_elf.specs.declared.elf.engine.Step.{Step}
 use Rattle.linker_elf.specs.declared.loongarch64.forms.LoongArch64Instruction.{LoongArch64Instruction}
 use Rattle.linker_elf.specs.declared.loongarch64.forms.LoongArch64Instruction.TheVariants.{Shift10, Call30, Call36}
-use Rattle.linker_elf.specs.declared.ppc64.forms.Ppc64Instruction.{Ppc64Instruction}
-use Rattle.linker_elf.specs.declared.ppc64.forms.Ppc64Instruction.TheVariants.{D}
+use Rattle.linker_elf.specs.declared.ppc64.forms.Ppc64Form.{Ppc64Form}
+use Rattle.linker_elf.specs.declared.ppc64.forms.Ppc64Form.TheVariants.{D}
 use Rattle.linker_elf.specs.declared.riscv64.forms.RiscVInstruction.{RiscVInstruction}
 use Rattle.linker_elf.specs.declared.riscv64.forms.RiscVInstruction.TheVariants.{UType, CluiType, UiType}
 use Rattle.linker_elf.proofs.LoongArch.{shift10_places, call36_places, shift10_value, call36_value}
@@ -29,7 +29,7 @@ use Rattle.linker_elf.proofs.Steps.{laid_below, written_by}
 use Rattle.linker_elf.proofs.RiscV.{u_value, clui_value, ui_value}
 
 -- The table has the form.
-pub record Coded (f : RelocationInstruction) : Type 0 where
+pub record Coded (f : AnyForm) : Type 0 where
   pub width : (relocation_form f).window ≡ width_of (code_of f).0.window
   pub moves : moves_places f (code_of f).1 ≡ true
   pub below : words_below (bits_of (code_of f).0.window) ((relocation_form f).places 0) ≡ true
@@ -110,7 +110,7 @@ riscv_coded f =
       flag = layout_flag (code_of (RiscV f)).0 (riscv_layout f) refl;
     }
 
-pub ppc64_coded : (f : Ppc64Instruction) → Coded (Ppc64 f)
+pub ppc64_coded : (f : Ppc64Form) → Coded (Ppc64 f)
 ppc64_coded D =
     record {
       width = refl;
@@ -168,31 +168,31 @@ loongarch_coded f =
       flag = layout_flag (code_of (LoongArch64 f)).0 (loongarch_layout f) refl;
     }
 
-pub coded : (f : RelocationInstruction) → is_plain f ≡ true → Coded f
+pub coded : (f : AnyForm) → is_plain f ≡ true → Coded f
 coded (AArch64 f) p = aarch64_coded f p
 coded (RiscV f) p = riscv_coded f
 coded (Ppc64 f) p = ppc64_coded f
 coded (LoongArch64 f) p = loongarch_coded f
 
-coded_parts : (f : RelocationInstruction) → is_plain f ≡ true
+coded_parts : (f : AnyForm) → is_plain f ≡ true
     → (writes (bits_of (code_of f).0.window) (code_of f).0 (code_of f).1 ((relocation_form f).places 0) ≡ true)
     × (reads (code_of f).1 ((relocation_form f).places 0) ≡ true)
 coded_parts f p =
     and_parts (writes (bits_of (code_of f).0.window) (code_of f).0 (code_of f).1 ((relocation_form f).places 0))
     (reads (code_of f).1 ((relocation_form f).places 0)) (coded f p).moves
 
-pub plain_reads : (f : RelocationInstruction) → is_plain f ≡ true → reads (code_of f).1 ((relocation_form f).places 0) ≡ true
+pub plain_reads : (f : AnyForm) → is_plain f ≡ true → reads (code_of f).1 ((relocation_form f).places 0) ≡ true
 plain_reads f p = (coded_parts f p).1
 
 -- what the engine writes of a plain form
-pub plain_laid : (f : RelocationInstruction) → is_plain f ≡ true → (code : Encoding) (steps : List Step) (v x y : ℕ) → code ≡ (code_of f).0 → steps ≡ (code_of f).1
+pub plain_laid : (f : AnyForm) → is_plain f ≡ true → (code : Encoding) (steps : List Step) (v x y : ℕ) → code ≡ (code_of f).0 → steps ≡ (code_of f).1
     → ((n : ℕ) (ps : List ImmediateBit) → writes n code steps ps ≡ true → x < 2 ^ n → BitsWritten ps v x y) → x < 2 ^ bits_of code.window
     → BitsWritten ((relocation_form f).places 0) v x y
 plain_laid f p code steps v x y e s h small =
     let fits : writes (bits_of code.window) code steps ((relocation_form f).places 0) ≡ true = rw (e, s) (coded_parts f p).0 in
     h (bits_of code.window) ((relocation_form f).places 0) fits small
 
-pub plain_below : (f : RelocationInstruction) → is_plain f ≡ true → (code : Encoding) (v x y : ℕ) → code ≡ (code_of f).0
+pub plain_below : (f : AnyForm) → is_plain f ≡ true → (code : Encoding) (v x y : ℕ) → code ≡ (code_of f).0
     → BitsWritten ((relocation_form f).places 0) v x y → x < 2 ^ bits_of code.window → y < 2 ^ bits_of code.window
 plain_below f p code v x y e laid small =
     let below : words_below (bits_of code.window) ((relocation_form f).places 0) ≡ true = rw e (coded f p).below in

@@ -8,9 +8,9 @@ use Rattle.linker_elf.specs.Value.{names_got_entry, names_plt_entry, sum_64, dif
 use Rattle.linker_elf.specs.LoongArch.{page, high_distance, high_correction}
 use Rattle.linker_elf.specs.declared.elf.RelocationKind.{RelocationKind}
 use Rattle.linker_elf.specs.declared.elf.RelocationKind.TheVariants as kinds
-use Rattle.linker_elf.specs.declared.elf.RelocationKindInfo.{RelocationKindInfo}
-use Rattle.linker_elf.specs.declared.elf.RelocationSize.{RelocationSize}
-use Rattle.linker_elf.specs.declared.elf.RelocationSize.TheVariants.{ByteSize, BitMasking}
+use Rattle.linker_elf.specs.declared.elf.RowInfo.{RowInfo}
+use Rattle.linker_elf.specs.declared.elf.RowSize.{RowSize}
+use Rattle.linker_elf.specs.declared.elf.RowSize.TheVariants.{ByteSize, BitMasking}
 use Rattle.linker_elf.specs.declared.elf.value.Operands.{Operands}
 
 -- ---- moved numbers
@@ -71,7 +71,7 @@ differs x y small is e =
     let below : x < 2 ^ 64 = omega arith in
     is_moved y small (sym is ∙ unsigned_of x below y small e)
 
-entry_moved : (row : RelocationKindInfo) (o : Operands)
+entry_moved : (row : RowInfo) (o : Operands)
     → entry_term row (with_got_entry (moved o.got_entry) o) ≡ moved (entry_term row o)
 entry_moved row o =
     let a = entry_addend row.size o.addend in
@@ -80,12 +80,12 @@ entry_moved row o =
     ∙ ap (page_if (masks_entry row.mask)) (sum_moved (sum_64 o.got_entry a) b)
     ∙ page_if_moved (masks_entry row.mask) (sum_64 (sum_64 o.got_entry a) b) (sum_below (sum_64 o.got_entry a) b)
 
-entry_below : (row : RelocationKindInfo) (o : Operands) → entry_term row o < 2 ^ 64
+entry_below : (row : RowInfo) (o : Operands) → entry_term row o < 2 ^ 64
 entry_below row o =
     page_if_below (masks_entry row.mask) _
     (sum_below (sum_64 o.got_entry (entry_addend row.size o.addend)) (bias_number row.bias))
 
-plt_moved : (row : RelocationKindInfo) (o : Operands)
+plt_moved : (row : RowInfo) (o : Operands)
     → plt_term row (with_plt_entry (moved o.plt_entry) o) ≡ moved (plt_term row o)
 plt_moved row o =
     let a = cast_unsigned w64 o.addend in
@@ -107,7 +107,7 @@ high_differs x y p is =
 
 -- ---- GOT entries
 
-got_differs : (kind : RelocationKind) (row : RelocationKindInfo) (o : Operands) → names_got_entry kind ≡ true
+got_differs : (kind : RelocationKind) (row : RowInfo) (o : Operands) → names_got_entry kind ≡ true
     → read_signed (formula kind row (with_got_entry (moved o.got_entry) o)) ≢ read_signed (formula kind row o)
 got_differs kinds.GotRelative row o h = distance_differs _ _ _ (entry_moved row o)
 got_differs kinds.GotRelativeLoongArch64 row o h = high_differs _ _ _ (entry_moved row o)
@@ -129,15 +129,15 @@ got_differs kinds.TlsDescGotBase row o h = distance_differs _ _ _ (entry_moved r
 got_differs kinds.TlsDescLoongArch64 row o h = high_differs _ _ _ (entry_moved row o)
 got_differs kind row o h = cc
 
-pub depends_on_got : (row : RelocationKindInfo) → names_got_entry row.kind ≡ true → DependsOn with_got_entry row
+pub depends_on_got : (row : RowInfo) → names_got_entry row.kind ≡ true → DependsOn with_got_entry row
 depends_on_got row h o = (moved o.got_entry, got_differs row.kind row o h)
 
-relative_ignores_got : (size : RelocationSize) (row : RelocationKindInfo) (o : Operands) (address : ℕ)
+relative_ignores_got : (size : RowSize) (row : RowInfo) (o : Operands) (address : ℕ)
     → relative_term size row (with_got_entry address o) ≡ relative_term size row o
 relative_ignores_got (ByteSize n) row o address = refl
 relative_ignores_got (BitMasking bits insn) row o address = refl
 
-got_same : (kind : RelocationKind) (row : RelocationKindInfo) (o : Operands) (address : ℕ) → names_got_entry kind ≡ false
+got_same : (kind : RelocationKind) (row : RowInfo) (o : Operands) (address : ℕ) → names_got_entry kind ≡ false
     → read_signed (formula kind row (with_got_entry address o)) ≡ read_signed (formula kind row o)
 got_same kinds.Relative row o address h = ap (λ n. read_signed (Some n)) (relative_ignores_got row.size row o address)
 got_same kinds.GotRelative row o address h = cc
@@ -160,43 +160,43 @@ got_same kinds.TlsDescGotBase row o address h = cc
 got_same kinds.TlsDescLoongArch64 row o address h = cc
 got_same kind row o address h = refl
 
-pub ignores_got : (row : RelocationKindInfo) → names_got_entry row.kind ≡ false → Ignores with_got_entry row
+pub ignores_got : (row : RowInfo) → names_got_entry row.kind ≡ false → Ignores with_got_entry row
 ignores_got row h o address = got_same row.kind row o address h
 
 -- ---- PLT entries
 
-plt_differs : (kind : RelocationKind) (row : RelocationKindInfo) (o : Operands) → names_plt_entry kind ≡ true
+plt_differs : (kind : RelocationKind) (row : RowInfo) (o : Operands) → names_plt_entry kind ≡ true
     → read_signed (formula kind row (with_plt_entry (moved o.plt_entry) o)) ≢ read_signed (formula kind row o)
 plt_differs kinds.PltRelGotBase row o h = distance_differs _ _ _ (plt_moved row o)
 plt_differs kinds.PltRelative row o h = distance_differs _ _ _ (plt_moved row o)
 plt_differs kind row o h = cc
 
-pub depends_on_plt : (row : RelocationKindInfo) → names_plt_entry row.kind ≡ true → DependsOn with_plt_entry row
+pub depends_on_plt : (row : RowInfo) → names_plt_entry row.kind ≡ true → DependsOn with_plt_entry row
 depends_on_plt row h o = (moved o.plt_entry, plt_differs row.kind row o h)
 
-relative_ignores_plt : (size : RelocationSize) (row : RelocationKindInfo) (o : Operands) (address : ℕ)
+relative_ignores_plt : (size : RowSize) (row : RowInfo) (o : Operands) (address : ℕ)
     → relative_term size row (with_plt_entry address o) ≡ relative_term size row o
 relative_ignores_plt (ByteSize n) row o address = refl
 relative_ignores_plt (BitMasking bits insn) row o address = refl
 
-plt_same : (kind : RelocationKind) (row : RelocationKindInfo) (o : Operands) (address : ℕ) → names_plt_entry kind ≡ false
+plt_same : (kind : RelocationKind) (row : RowInfo) (o : Operands) (address : ℕ) → names_plt_entry kind ≡ false
     → read_signed (formula kind row (with_plt_entry address o)) ≡ read_signed (formula kind row o)
 plt_same kinds.Relative row o address h = ap (λ n. read_signed (Some n)) (relative_ignores_plt row.size row o address)
 plt_same kinds.PltRelGotBase row o address h = cc
 plt_same kinds.PltRelative row o address h = cc
 plt_same kind row o address h = refl
 
-pub ignores_plt : (row : RelocationKindInfo) → names_plt_entry row.kind ≡ false → Ignores with_plt_entry row
+pub ignores_plt : (row : RowInfo) → names_plt_entry row.kind ≡ false → Ignores with_plt_entry row
 ignores_plt row h o address = plt_same row.kind row o address h
 
 -- ---- answers
 
-pub got_answer : (row : RelocationKindInfo) (answer : Bool) → is_of_high_part row.size ≡ false → answer ≡ names_got_entry row.kind
+pub got_answer : (row : RowInfo) (answer : Bool) → is_of_high_part row.size ≡ false → answer ≡ names_got_entry row.kind
     → IsGotAnswer row answer
 got_answer row true low is = (low, depends_on_got row (sym is))
 got_answer row false low is = inr (ignores_got row (sym is))
 
-pub plt_answer : (row : RelocationKindInfo) (answer : Bool) → is_branch row.size ≡ false → answer ≡ names_plt_entry row.kind
+pub plt_answer : (row : RowInfo) (answer : Bool) → is_branch row.size ≡ false → answer ≡ names_plt_entry row.kind
     → IsPltAnswer row answer
 plt_answer row true branch is = inr (depends_on_plt row (sym is))
 plt_answer row false branch is = (branch, ignores_plt row (sym is))

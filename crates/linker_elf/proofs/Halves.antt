@@ -11,15 +11,15 @@ use Rattle.linker_elf.specs.RiscV.{riscv_form, riscv_layout, riscv_places, ui_hi
 use Rattle.linker_elf.specs.Rows.{Bounds}
 use Rattle.linker_elf.specs.declared.loongarch64.forms.LoongArch64Instruction.{LoongArch64Instruction}
 use Rattle.linker_elf.specs.declared.loongarch64.forms.LoongArch64Instruction.TheVariants.{Call36}
-use Rattle.linker_elf.specs.declared.ppc64.forms.Ppc64Instruction.{Ppc64Instruction}
-use Rattle.linker_elf.specs.declared.ppc64.forms.Ppc64Instruction.TheVariants.{D, Ds}
+use Rattle.linker_elf.specs.declared.ppc64.forms.Ppc64Form.{Ppc64Form}
+use Rattle.linker_elf.specs.declared.ppc64.forms.Ppc64Form.TheVariants.{D, Ds}
 use Rattle.linker_elf.specs.declared.elf.Sign.TheVariants.{Signed}
-use Rattle.linker_elf.specs.declared.elf.RelocationInstruction.{RelocationInstruction}
-use Rattle.linker_elf.specs.declared.elf.RelocationInstruction.TheVariants.{AArch64, RiscV, Ppc64, LoongArch64}
+use Rattle.linker_elf.specs.declared.elf.AnyForm.{AnyForm}
+use Rattle.linker_elf.specs.declared.elf.AnyForm.TheVariants.{AArch64, RiscV, Ppc64, LoongArch64}
 use Rattle.linker_elf.specs.declared.elf.RelocationKind.{RelocationKind}
-use Rattle.linker_elf.specs.declared.elf.RelocationKindInfo.{RelocationKindInfo}
-use Rattle.linker_elf.specs.declared.elf.RelocationSize.{RelocationSize}
-use Rattle.linker_elf.specs.declared.elf.RelocationSize.TheVariants.{ByteSize, BitMasking}
+use Rattle.linker_elf.specs.declared.elf.RowInfo.{RowInfo}
+use Rattle.linker_elf.specs.declared.elf.RowSize.{RowSize}
+use Rattle.linker_elf.specs.declared.elf.RowSize.TheVariants.{ByteSize, BitMasking}
 use Rattle.linker_elf.specs.declared.riscv64.forms.RiscVInstruction.{RiscVInstruction}
 use Rattle.linker_elf.specs.declared.riscv64.forms.RiscVInstruction.TheVariants.{UType, IType, SType, CluiType, UiType}
 use Rattle.linker_elf.proofs.Agreement.{number_agrees}
@@ -273,7 +273,7 @@ ds_holds bits v neg before after small inside laid start long aligned n x high w
     ∙ completes_adjusted v (f % 65536) (omega arith)
     (sym (taken_low 16 bits v small start long inside (omega arith))) n x high within high_laid
 
-ppc64_holds : (f : Ppc64Instruction) (bits : BitRange) (v : ℤ) (before after : List ℕ)
+ppc64_holds : (f : Ppc64Form) (bits : BitRange) (v : ℤ) (before after : List ℕ)
     → FitsSigned w64 v → bits.end ≤ 64 → IsInUnits (BitMasking bits (Ppc64 f)) v before
     → InstructionWritten (Ppc64 f) bits v before after → bits.start ≡ 0 → 16 ≤ bits.end
     → Ppc64Holds f v (window_of (ppc64_form f) after)
@@ -295,7 +295,7 @@ ppc64_holds Ds bits v before after small inside units w start long =
     high within high_laid
 ppc64_holds f bits v before after small inside units w start long = tt
 
-instruction_holds : (insn : RelocationInstruction) (kind : RelocationKind) (bits : BitRange)
+instruction_holds : (insn : AnyForm) (kind : RelocationKind) (bits : BitRange)
     (own : Bounds) (v : ℤ) (before after : List ℕ) → FitsSigned w64 v → bits.end ≤ 64
     → IsWithin (reach_of_size kind (BitMasking bits insn) own) v
     → IsInUnits (BitMasking bits insn) v before → IsWritten (BitMasking bits insn) kind v before after
@@ -310,7 +310,7 @@ instruction_holds (LoongArch64 Call36) kind bits own v before after small inside
 instruction_holds (LoongArch64 f) kind bits own v before after small inside within units w =
     λ start end aligned. tt
 
-size_holds : (size : RelocationSize) (kind : RelocationKind) (own : Bounds) (v : ℤ)
+size_holds : (size : RowSize) (kind : RelocationKind) (own : Bounds) (v : ℤ)
     (before after : List ℕ) → FitsSigned w64 v → takes_size kind size ≡ true
     → IsWithin (reach_of_size kind size own) v → IsInUnits size v before
     → IsWritten size kind v before after → SizeHolds size v after
@@ -319,7 +319,7 @@ size_holds (BitMasking bits insn) kind own v before after small takes within uni
     let t = taken_bits_inside kind bits insn takes in
     instruction_holds insn kind bits own v before after small t.1 within units w
 
-pub row_holds : (row : RelocationKindInfo) (v : ℤ) (before after : List ℕ) → FitsSigned w64 v
+pub row_holds : (row : RowInfo) (v : ℤ) (before after : List ℕ) → FitsSigned w64 v
     → IsAccepted row v before → IsWritten row.size row.kind v before after → SizeHolds row.size v after
 row_holds row v before after small accepted w =
     size_holds row.size row.kind row.range.bounds v before after small

@@ -16,7 +16,7 @@ use Rattle.linker_elf.specs.declared.ppc64.relocations.Ppc64Relocation.TheVarian
 use Rattle.linker_elf.specs.X86Relocations.{x86_64_name, x86_64_row}
 use Rattle.linker_elf.specs.declared.x86_64.relocations.X86_64Relocation.{X86_64Relocation}
 use Rattle.linker_elf.specs.declared.x86_64.relocations.X86_64Relocation.TheVariants as x86_64_names
-use Rattle.linker_elf.specs.declared.elf.RelocationKindInfo.{RelocationKindInfo}
+use Rattle.linker_elf.specs.declared.elf.RowInfo.{RowInfo}
 use Rattle.linker_elf.specs.Architectures.{IsRow}
 use Rattle.linker_elf.specs.Handles.{IsFound, architecture_in, first_handle, handle_unit}
 use Rattle.linker_elf.specs.declared.elf.architecture.Architecture.{Architecture}
@@ -42,7 +42,7 @@ x86_64_below : (name : X86_64Relocation) → IfSome (x86_64_row name) (λ row. r
 x86_64_below (x86_64_names.Other r_type) = tt
 x86_64_below _ = lit≤ tt
 
-below : (architecture : Architecture) (r_type : ℕ) (row : RelocationKindInfo) → IsRow architecture r_type (Some row) → r_type ≤ 0xffff
+below : (architecture : Architecture) (r_type : ℕ) (row : RowInfo) → IsRow architecture r_type (Some row) → r_type ≤ 0xffff
 below AArch64 r_type row is =
     subst (λ c. c ≤ 0xffff) is.is_name.r_type_is
     (subst (λ r. IfSome r (λ row. r_type_of (aarch64_name is.name) ≤ 0xffff)) (sym is.value_is) (aarch64_below is.name))
@@ -74,7 +74,7 @@ rest Ppc64 r_type low = omega arith
 rest X86_64 r_type low = omega arith
 
 -- the handle of an `r_type` with a row
-pub found : (architecture : Architecture) (r_type : ℕ) (row : RelocationKindInfo) → IsRow architecture r_type (Some row)
+pub found : (architecture : Architecture) (r_type : ℕ) (row : RowInfo) → IsRow architecture r_type (Some row)
     → IsFound architecture r_type (Some row) (first_handle architecture + r_type % handle_unit)
 found architecture r_type row is =
     let low : r_type ≤ 0xffff = below architecture r_type row is in

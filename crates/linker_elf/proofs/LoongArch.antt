@@ -10,7 +10,7 @@ use Rattle.linker_elf.specs.LoongArch.{loongarch_form, loongarch_layout, shift10
 use Rattle.linker_elf.specs.declared.loongarch64.forms.LoongArch64Instruction.{LoongArch64Instruction}
 use Rattle.linker_elf.specs.declared.loongarch64.forms.LoongArch64Instruction.TheVariants.{Shift5, Shift10, Call30, Call36}
 use Rattle.linker_elf.specs.Inner.Runs.{code_of}
-use Rattle.linker_elf.specs.declared.elf.RelocationInstruction.TheVariants.{LoongArch64}
+use Rattle.linker_elf.specs.declared.elf.AnyForm.TheVariants.{LoongArch64}
 use Rattle.linker_elf.proofs.ReadNumbers.{value_of}
 
 abbrev pub shift5_places : List ImmediateBit

@@ -7,9 +7,9 @@ use Rattle.linker_elf.specs.Ppc64.{ppc64_form, ppc64_layout}
 use Rattle.linker_elf.specs.Relocate.{number_placed, with_low_4, is_dq_form, is_32_bit_move, bits_taken, ppc64_reads}
 use Rattle.linker_elf.specs.declared.aarch64.forms.AArch64Instruction.{AArch64Instruction}
 use Rattle.linker_elf.specs.declared.aarch64.forms.AArch64Instruction.TheVariants.{Movnz}
-use Rattle.linker_elf.specs.declared.ppc64.forms.Ppc64Instruction.TheVariants.{Ds}
-use Rattle.linker_elf.specs.declared.elf.RelocationInstruction.{RelocationInstruction}
-use Rattle.linker_elf.specs.declared.elf.RelocationInstruction.TheVariants.{Ppc64, AArch64}
+use Rattle.linker_elf.specs.declared.ppc64.forms.Ppc64Form.TheVariants.{Ds}
+use Rattle.linker_elf.specs.declared.elf.AnyForm.{AnyForm}
+use Rattle.linker_elf.specs.declared.elf.AnyForm.TheVariants.{Ppc64, AArch64}
 use Rattle.linker_elf.proofs.Clearing.{same_window}
 use Rattle.linker_elf.proofs.Steps.{consecutive_bits_outside}
 
@@ -119,7 +119,7 @@ bit_31_is_set f number neg x clear after h laid = cc
 -- ---- the value
 
 -- the code has a value from its bits
-pub of_value : (insn : RelocationInstruction) (bits : BitRange) (v z : ℤ) (n x clear after : ℕ)
+pub of_value : (insn : AnyForm) (bits : BitRange) (v z : ℤ) (n x clear after : ℕ)
     → n ≡ bits_taken bits z → z ≡ v
     → Written (relocation_form insn) (number_placed insn x n) (int_lt z (pos 0)) clear after
     → Written (relocation_form insn) (number_placed insn x (bits_taken bits v)) (int_lt v (pos 0))

@@ -8,16 +8,16 @@ use Rattle.linker_elf.specs.Relocate.{InstructionWritten, IsWritten, IsAccepted,
 use Rattle.linker_elf.specs.Inner.RowTables.{bytes_of, info_of, is_over, is_plain, is_unit, takes_all, tests_of, IsSound}
 use Rattle.linker_elf.specs.declared.aarch64.forms.AArch64Instruction.TheVariants.{Movnz}
 use Rattle.linker_elf.specs.declared.loongarch64.forms.LoongArch64Instruction.TheVariants.{Shift10}
-use Rattle.linker_elf.specs.declared.ppc64.forms.Ppc64Instruction.TheVariants.{Ds}
+use Rattle.linker_elf.specs.declared.ppc64.forms.Ppc64Form.TheVariants.{Ds}
 use Rattle.linker_elf.specs.declared.riscv64.forms.RiscVInstruction.TheVariants.{CluiType}
-use Rattle.linker_elf.specs.declared.elf.RelocationInstruction.{RelocationInstruction}
-use Rattle.linker_elf.specs.declared.elf.RelocationInstruction.TheVariants.{RiscV, Ppc64, LoongArch64, AArch64}
+use Rattle.linker_elf.specs.declared.elf.AnyForm.{AnyForm}
+use Rattle.linker_elf.specs.declared.elf.AnyForm.TheVariants.{RiscV, Ppc64, LoongArch64, AArch64}
 use Rattle.linker_elf.specs.declared.elf.RelocationKind.{RelocationKind}
 use Rattle.linker_elf.specs.declared.elf.RelocationKind.TheVariants.{AbsoluteLowPart}
 use Rattle.linker_elf.specs.declared.elf.RelocationKind.TheVariants as kinds
-use Rattle.linker_elf.specs.declared.elf.RelocationKindInfo.{RelocationKindInfo}
-use Rattle.linker_elf.specs.declared.elf.RelocationSize.{RelocationSize}
-use Rattle.linker_elf.specs.declared.elf.RelocationSize.TheVariants.{ByteSize, BitMasking}
+use Rattle.linker_elf.specs.declared.elf.RowInfo.{RowInfo}
+use Rattle.linker_elf.specs.declared.elf.RowSize.{RowSize}
+use Rattle.linker_elf.specs.declared.elf.RowSize.TheVariants.{ByteSize, BitMasking}
 use Rattle.linker_elf.specs.declared.elf.rows.TableRow.{TableRow}
 use Rattle.linker_elf.proofs.Reached.{accepts, within_from}
 use Rattle.linker_elf.proofs.Taken.{is_multiple}
@@ -57,7 +57,7 @@ unit_tells v n a small is unit =
 -- ---- the instruction
 
 -- it tests nothing of the value
-pub in_units : (size : RelocationSize) (kind : RelocationKind) (v : ℤ) (bytes : List ℕ)
+pub in_units : (size : RowSize) (kind : RelocationKind) (v : ℤ) (bytes : List ℕ)
     → is_plain size kind ≡ true → IsInUnits size v bytes
 in_units (ByteSize n) kind v bytes plain = tt
 in_units (BitMasking bits (Ppc64 Ds)) kind v bytes plain = cc
@@ -66,7 +66,7 @@ in_units (BitMasking bits (AArch64 f)) kind v bytes plain = tt
 in_units (BitMasking bits (RiscV f)) kind v bytes plain = tt
 in_units (BitMasking bits (LoongArch64 f)) kind v bytes plain = tt
 
-pub in_words : (size : RelocationSize) (kind : RelocationKind) (v : ℤ) (bytes : List ℕ)
+pub in_words : (size : RowSize) (kind : RelocationKind) (v : ℤ) (bytes : List ℕ)
     → is_plain size kind ≡ true → IsInWords size kind v bytes
 in_words (ByteSize n) kind v bytes plain = tt
 in_words (BitMasking bits (LoongArch64 Shift10)) AbsoluteLowPart v bytes plain = cc
@@ -76,7 +76,7 @@ in_words (BitMasking bits (AArch64 f)) kind v bytes plain = λ jump. cc
 in_words (BitMasking bits (RiscV f)) kind v bytes plain = λ jump. cc
 in_words (BitMasking bits (Ppc64 f)) kind v bytes plain = λ jump. cc
 
-pub encoded : (size : RelocationSize) (kind : RelocationKind) (v : ℤ) → is_plain size kind ≡ true
+pub encoded : (size : RowSize) (kind : RelocationKind) (v : ℤ) → is_plain size kind ≡ true
     → IsEncoded size v
 encoded (ByteSize n) kind v plain = tt
 encoded (BitMasking bits (RiscV CluiType)) kind v plain = cc
@@ -86,7 +86,7 @@ encoded (BitMasking bits (Ppc64 f)) kind v plain = tt
 encoded (BitMasking bits (LoongArch64 f)) kind v plain = tt
 
 -- and the bits are written in the row's form
-pub written : (bits : BitRange) (insn : RelocationInstruction) (kind : RelocationKind) (v : ℤ)
+pub written : (bits : BitRange) (insn : AnyForm) (kind : RelocationKind) (v : ℤ)
     (before after : List ℕ) → is_plain (BitMasking bits insn) kind ≡ true
     → InstructionWritten insn bits v before after → IsWritten (BitMasking bits insn) kind v before after
 written bits (AArch64 Movnz) kind v before after plain w = cc
@@ -100,24 +100,24 @@ written bits (Ppc64 f) kind v before after plain w = w
 -- ---- the row
 
 -- what such a row is
-pub record Takes (row : RelocationKindInfo) : Type 0 where
+pub record Takes (row : RowInfo) : Type 0 where
   pub supported : is_supported row ≡ true
   pub plain : is_plain row.size row.kind ≡ true
   pub unit : is_unit row.alignment ≡ true
 
-pub takes : (row : RelocationKindInfo) → takes_all row ≡ true → Takes row
+pub takes : (row : RowInfo) → takes_all row ≡ true → Takes row
 takes row h =
     let a = and_parts (is_supported row) (is_plain row.size row.kind && is_unit row.alignment) h in
     let b = and_parts (is_plain row.size row.kind) (is_unit row.alignment) a.1 in
     record { supported = a.0; plain = b.0; unit = b.1 }
 
-pub multiple : (row : RelocationKindInfo) (v : ℤ) (bytes : List ℕ) → takes_all row ≡ true
+pub multiple : (row : RowInfo) (v : ℤ) (bytes : List ℕ) → takes_all row ≡ true
     → IsAligned row.alignment v → IsMultiple row v bytes
 multiple row v bytes all aligned =
     let t = takes row all in
     (aligned, in_units row.size row.kind v bytes t.plain, in_words row.size row.kind v bytes t.plain)
 
-pub accepted : (row : RelocationKindInfo) (v : ℤ) (bytes : List ℕ) → FitsSigned w64 v → RowFits row
+pub accepted : (row : RowInfo) (v : ℤ) (bytes : List ℕ) → FitsSigned w64 v → RowFits row
     → takes_all row ≡ true → window_len row ≤ length bytes → IsAligned row.alignment v
     → least_within (reach_of row) ≤ℤ v → v ≤ℤ last_within (reach_of row) → IsAccepted row v bytes
 accepted row v bytes small fits all long aligned low high =
@@ -163,7 +163,7 @@ not_over kinds.AbsoluteAdditionWord6 v old none = cc
 not_over kinds.AbsoluteSubtractionWord6 v old none = cc
 not_over kind v old none = refl
 
-bytes_written : (size : RelocationSize) (kind : RelocationKind) (n number : ℕ) (v : ℤ)
+bytes_written : (size : RowSize) (kind : RelocationKind) (n number : ℕ) (v : ℤ)
     (before after : List ℕ) → bytes_of size kind ≡ n → 0 < n → number ≡ cast_unsigned w64 v
     → after ≡ low_bytes n number ++ drop n before → IsWritten size kind v before after
 bytes_written (BitMasking bits insn) kind n number v before after is some value laid = absurd (omega (arith, is, some))

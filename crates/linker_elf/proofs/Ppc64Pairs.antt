@@ -4,7 +4,7 @@ use Rattle.std.specs.Prelude.{◌*ℤ◌}
 use Rattle.linker_elf.proofs.Imports.{w32, from_le_bytes, int_rem_euclid, ints, int_rem_euclid_is, cases_lt, lt-ltb, le-ltb, agree_below_at, pow_pos, field, signed, ImmediateBit, bits_to, is_placed, place_sum, Written, MachineReads, same_fields, always_clear, place_sum_below}
 use Rattle.linker_base.proofs.Fields.{signed_rem}
 use Rattle.linker_elf.specs.Ppc64.{ppc64_form, pair, IsPairDistance, PairHolds, KeepsHigh}
-use Rattle.linker_elf.specs.declared.ppc64.forms.Ppc64Instruction.TheVariants.{D}
+use Rattle.linker_elf.specs.declared.ppc64.forms.Ppc64Form.TheVariants.{D}
 
 abbrev d_places : List ImmediateBit
 d_places = bits_to 0 15 0

@@ -7,9 +7,9 @@ use Rattle.linker_elf.specs.Bounds.{least_within, last_within}
 use Rattle.linker_elf.specs.Reach.{reach_of}
 use Rattle.linker_elf.specs.Relocate.{HoldsBits, IsAccepted, IsEncoded, IsMultiple, is_supported, window_len}
 use Rattle.linker_elf.specs.Rows.{Bounds}
-use Rattle.linker_elf.specs.declared.elf.RelocationSize.{RelocationSize}
-use Rattle.linker_elf.specs.declared.elf.RelocationSize.TheVariants.{ByteSize, BitMasking}
-use Rattle.linker_elf.specs.declared.elf.RelocationKindInfo.{RelocationKindInfo}
+use Rattle.linker_elf.specs.declared.elf.RowSize.{RowSize}
+use Rattle.linker_elf.specs.declared.elf.RowSize.TheVariants.{ByteSize, BitMasking}
+use Rattle.linker_elf.specs.declared.elf.RowInfo.{RowInfo}
 
 pub within_from : (b : Bounds) (v : ℤ) → least_within b ≤ℤ v → v ≤ℤ last_within b → FitsSigned w64 v → IsWithin b v
 within_from None v low high small = tt
@@ -28,11 +28,11 @@ ends_of (Some b) v small within =
     ]
 
 -- bits that fit the form are held by it
-pub holds : (size : RelocationSize) (v : ℤ) (bytes : List ℕ) → SizeFits size → HoldsBits size v bytes
+pub holds : (size : RowSize) (v : ℤ) (bytes : List ℕ) → SizeFits size → HoldsBits size v bytes
 holds (ByteSize n) v bytes fits = tt
 holds (BitMasking bits insn) v bytes fits = fits.fits _ _
 
-pub accepts : (row : RelocationKindInfo) (v : ℤ) (bytes : List ℕ) → RowFits row
+pub accepts : (row : RowInfo) (v : ℤ) (bytes : List ℕ) → RowFits row
     → is_supported row ≡ true → window_len row ≤ length bytes → IsMultiple row v bytes
     → IsWithin (reach_of row) v → IsEncoded row.size v → IsAccepted row v bytes
 accepts row v bytes fits supported long aligned within encoded =

@@ -23,13 +23,13 @@ use Rattle.linker_elf.specs.declared.aarch64.forms.AArch64Instruction.{AArch64In
 use Rattle.linker_elf.specs.declared.aarch64.forms.AArch64Instruction.TheVariants.{Movnz, MachOLow12}
 use Rattle.linker_elf.specs.declared.loongarch64.forms.LoongArch64Instruction.{LoongArch64Instruction}
 use Rattle.linker_elf.specs.declared.loongarch64.forms.LoongArch64Instruction.TheVariants.{Shift5, Shift10, Call30, Call36}
-use Rattle.linker_elf.specs.declared.ppc64.forms.Ppc64Instruction.{Ppc64Instruction}
-use Rattle.linker_elf.specs.declared.ppc64.forms.Ppc64Instruction.TheVariants.{D}
-use Rattle.linker_elf.specs.declared.elf.RelocationInstruction.{RelocationInstruction}
-use Rattle.linker_elf.specs.declared.elf.RelocationInstruction.TheVariants.{RiscV, Ppc64, LoongArch64, AArch64}
-use Rattle.linker_elf.specs.declared.elf.RelocationKindInfo.{RelocationKindInfo}
-use Rattle.linker_elf.specs.declared.elf.RelocationSize.{RelocationSize}
-use Rattle.linker_elf.specs.declared.elf.RelocationSize.TheVariants.{ByteSize, BitMasking}
+use Rattle.linker_elf.specs.declared.ppc64.forms.Ppc64Form.{Ppc64Form}
+use Rattle.linker_elf.specs.declared.ppc64.forms.Ppc64Form.TheVariants.{D}
+use Rattle.linker_elf.specs.declared.elf.AnyForm.{AnyForm}
+use Rattle.linker_elf.specs.declared.elf.AnyForm.TheVariants.{RiscV, Ppc64, LoongArch64, AArch64}
+use Rattle.linker_elf.specs.declared.elf.RowInfo.{RowInfo}
+use Rattle.linker_elf.specs.declared.elf.RowSize.{RowSize}
+use Rattle.linker_elf.specs.declared.elf.RowSize.TheVariants.{ByteSize, BitMasking}
 use Rattle.linker_elf.specs.declared.riscv64.forms.RiscVInstruction.{RiscVInstruction}
 use Rattle.linker_elf.specs.declared.riscv64.forms.RiscVInstruction.TheVariants.{UType, IType, SType, CluiType, UiType}
 use Rattle.linker_elf.specs.declared.aarch64.relocations.AArch64Relocation.{AArch64Relocation}
@@ -328,7 +328,7 @@ riscv_read f s a b h x y v even e = layout_read_even (riscv_layout f) refl s a b
 
 -- ---- PowerPC64
 
-ppc64_read : (f : Ppc64Instruction) (s : ℕ) (b : ℤ × ℤ) → layout_covers (ppc64_layout f) s b ≡ true
+ppc64_read : (f : Ppc64Form) (s : ℕ) (b : ℤ × ℤ) → layout_covers (ppc64_layout f) s b ≡ true
     → (x : ℕ) (v : ℤ) → (ppc64_form f).machine x ≡ bits_from s v → IsWithin (Some b) v
 ppc64_read D s b h x v e = layout_read (ppc64_layout D) refl s b h x v e
 ppc64_read f s b h x v e = layout_read (ppc64_layout f) refl s b h x v e
@@ -373,13 +373,13 @@ loongarch_read f is_signed s b h x v e = layout_read (loongarch_layout f) refl s
 
 -- ---- rows
 
-abbrev pub instruction_covers : Bool → RelocationInstruction → ℕ → ℕ → ℤ × ℤ → Bool
+abbrev pub instruction_covers : Bool → AnyForm → ℕ → ℕ → ℤ × ℤ → Bool
 instruction_covers is_signed (AArch64 f) s a b = aarch64_covers f s b
 instruction_covers is_signed (RiscV f) s a b = riscv_covers f s a b
 instruction_covers is_signed (Ppc64 f) s a b = layout_covers (ppc64_layout f) s b
 instruction_covers is_signed (LoongArch64 f) s a b = loongarch_covers f is_signed s b
 
-instruction_read : (is_signed : Bool) (insn : RelocationInstruction) (bits : BitRange) (a : ℕ)
+instruction_read : (is_signed : Bool) (insn : AnyForm) (bits : BitRange) (a : ℕ)
     (b : ℤ × ℤ) → instruction_covers is_signed insn bits.start a b ≡ true
     → (x y : ℕ) (v : ℤ) → IsAligned a v → InstructionReadsAs is_signed insn bits x y v
     → IsWithin (Some b) v
@@ -392,13 +392,13 @@ instruction_read is_signed (Ppc64 f) bits a b h x y v even reads =
 instruction_read is_signed (LoongArch64 f) bits a b h x y v even reads =
     loongarch_read f is_signed bits.start b h x v reads
 
-abbrev pub size_covers : Bool → RelocationSize → Bounds → ℕ → Bool
+abbrev pub size_covers : Bool → RowSize → Bounds → ℕ → Bool
 size_covers is_signed (ByteSize n) b a = true
 size_covers is_signed (BitMasking bits insn) None a = true
 size_covers is_signed (BitMasking bits insn) (Some b) a =
     reads_more insn bits || instruction_covers is_signed insn bits.start a b
 
-size_read : (is_signed : Bool) (size : RelocationSize) (b : Bounds) (a : ℕ)
+size_read : (is_signed : Bool) (size : RowSize) (b : Bounds) (a : ℕ)
     → size_covers is_signed size b a ≡ true → SizeReadsNoOther is_signed size b a
 size_read is_signed (ByteSize n) b a h = tt
 size_read is_signed (BitMasking bits insn) None a h = λ whole x y v even reads. tt
@@ -408,11 +408,11 @@ size_read is_signed (BitMasking bits insn) (Some b) a h = λ whole x y v even re
       | inr ends ↦ instruction_read is_signed insn bits a b ends x y v even reads
     ]
 
-abbrev pub row_covers : Bool → Option RelocationKindInfo → Bool
+abbrev pub row_covers : Bool → Option RowInfo → Bool
 row_covers is_signed None = true
 row_covers is_signed (Some row) = size_covers is_signed row.size (reach_of row) row.alignment
 
-row_read : (is_signed : Bool) (row : Option RelocationKindInfo) → row_covers is_signed row ≡ true
+row_read : (is_signed : Bool) (row : Option RowInfo) → row_covers is_signed row ≡ true
     → IfSome row (ReadsNoOther is_signed)
 row_read is_signed None h = tt
 row_read is_signed (Some row) h = size_read is_signed row.size (reach_of row) row.alignment h

@@ -14,15 +14,15 @@ use Rattle.linker_elf.specs.declared.aarch64.forms.AArch64Instruction.{AArch64In
 use Rattle.linker_elf.specs.declared.aarch64.forms.AArch64Instruction.TheVariants.{Movkz, Movnz, MachOLow12}
 use Rattle.linker_elf.specs.declared.loongarch64.forms.LoongArch64Instruction.{LoongArch64Instruction}
 use Rattle.linker_elf.specs.declared.loongarch64.forms.LoongArch64Instruction.TheVariants.{Shift10, Call36}
-use Rattle.linker_elf.specs.declared.ppc64.forms.Ppc64Instruction.{Ppc64Instruction}
-use Rattle.linker_elf.specs.declared.ppc64.forms.Ppc64Instruction.TheVariants.{D, Ds}
-use Rattle.linker_elf.specs.declared.elf.RelocationInstruction.{RelocationInstruction}
-use Rattle.linker_elf.specs.declared.elf.RelocationInstruction.TheVariants.{AArch64, RiscV, Ppc64, LoongArch64}
+use Rattle.linker_elf.specs.declared.ppc64.forms.Ppc64Form.{Ppc64Form}
+use Rattle.linker_elf.specs.declared.ppc64.forms.Ppc64Form.TheVariants.{D, Ds}
+use Rattle.linker_elf.specs.declared.elf.AnyForm.{AnyForm}
+use Rattle.linker_elf.specs.declared.elf.AnyForm.TheVariants.{AArch64, RiscV, Ppc64, LoongArch64}
 use Rattle.linker_elf.specs.declared.elf.RelocationKind.{RelocationKind}
 use Rattle.linker_elf.specs.declared.elf.Sign.TheVariants.{Signed}
-use Rattle.linker_elf.specs.declared.elf.RelocationKindInfo.{RelocationKindInfo}
-use Rattle.linker_elf.specs.declared.elf.RelocationSize.{RelocationSize}
-use Rattle.linker_elf.specs.declared.elf.RelocationSize.TheVariants.{ByteSize, BitMasking}
+use Rattle.linker_elf.specs.declared.elf.RowInfo.{RowInfo}
+use Rattle.linker_elf.specs.declared.elf.RowSize.{RowSize}
+use Rattle.linker_elf.specs.declared.elf.RowSize.TheVariants.{ByteSize, BitMasking}
 use Rattle.linker_elf.specs.declared.riscv64.forms.RiscVInstruction.{RiscVInstruction}
 use Rattle.linker_elf.specs.declared.riscv64.forms.RiscVInstruction.TheVariants.{UType, IType, SType, CluiType, UiType}
 use Rattle.linker_elf.proofs.Clearing.{same_window, clear_after}
@@ -48,7 +48,7 @@ riscv_within CluiType own v whole h = cc
 riscv_within UiType own v whole h = cc
 riscv_within f own v whole h = h
 
-ppc64_within : (f : Ppc64Instruction) (bits : BitRange) (own : Bounds) (v : ℤ)
+ppc64_within : (f : Ppc64Form) (bits : BitRange) (own : Bounds) (v : ℤ)
     → IsWithin (ppc64_reach f bits own) v → IsWithin own v
 ppc64_within f bits None v h = tt
 ppc64_within D bits (Some b) v h = h
@@ -60,20 +60,20 @@ loongarch_within Call36 own v whole h = cc
 loongarch_within f own v whole h = h
 
 -- The value is within bounds, if the instruction's number is that of the value's bits.
-abbrev IsInside : RelocationInstruction → Bounds → ℤ → Type 0
+abbrev IsInside : AnyForm → Bounds → ℤ → Type 0
 IsInside (AArch64 f) b v = IsWithin b v
 IsInside (RiscV f) b v = is_of_halves f ≡ false → IsWithin b v
 IsInside (Ppc64 f) b v = IsWithin b v
 IsInside (LoongArch64 f) b v = is_of_words f ≡ false → IsWithin b v
 
-inside_own : (insn : RelocationInstruction) (kind : RelocationKind) (bits : BitRange) (own : Bounds)
+inside_own : (insn : AnyForm) (kind : RelocationKind) (bits : BitRange) (own : Bounds)
     (v : ℤ) → IsWithin (reach_of_size kind (BitMasking bits insn) own) v → IsInside insn own v
 inside_own (AArch64 f) kind bits own v h = aarch64_within f bits own v h
 inside_own (RiscV f) kind bits own v h = λ whole. riscv_within f own v whole h
 inside_own (Ppc64 f) kind bits own v h = ppc64_within f bits own v h
 inside_own (LoongArch64 f) kind bits own v h = λ whole. loongarch_within f own v whole h
 
-inside_reach : (insn : RelocationInstruction) (b : Bounds) (v : ℤ) → IsWithin b v
+inside_reach : (insn : AnyForm) (b : Bounds) (v : ℤ) → IsWithin b v
     → IsInside insn b v
 inside_reach (AArch64 f) b v h = h
 inside_reach (RiscV f) b v h = λ whole. h
@@ -81,16 +81,16 @@ inside_reach (Ppc64 f) b v h = h
 inside_reach (LoongArch64 f) b v h = λ whole. h
 
 -- the same of a size
-abbrev IsInsideSize : RelocationSize → Bounds → ℤ → Type 0
+abbrev IsInsideSize : RowSize → Bounds → ℤ → Type 0
 IsInsideSize (ByteSize n) b v = ⊤
 IsInsideSize (BitMasking bits insn) b v = IsInside insn b v
 
-own_size : (kind : RelocationKind) (size : RelocationSize) (own : Bounds) (v : ℤ)
+own_size : (kind : RelocationKind) (size : RowSize) (own : Bounds) (v : ℤ)
     → IsWithin (reach_of_size kind size own) v → IsInsideSize size own v
 own_size kind (ByteSize n) own v h = tt
 own_size kind (BitMasking bits insn) own v h = inside_own insn kind bits own v h
 
-reached_size : (size : RelocationSize) (b : Bounds) (v : ℤ) → IsWithin b v → IsInsideSize size b v
+reached_size : (size : RowSize) (b : Bounds) (v : ℤ) → IsWithin b v → IsInsideSize size b v
 reached_size (ByteSize n) b v h = tt
 reached_size (BitMasking bits insn) b v h = inside_reach insn b v h
 
@@ -185,7 +185,7 @@ aarch64_instruction_reads is_signed f bits reached a v before after small some i
     (taken_is_field bits v small some inside)
     (aarch64_clear f x w.clear w.clears, λ e. cc) w.written
 
-ppc64_instruction_reads : (is_signed : Bool) (f : Ppc64Instruction) (bits : BitRange)
+ppc64_instruction_reads : (is_signed : Bool) (f : Ppc64Form) (bits : BitRange)
     (reached : Bounds) (a : ℕ) (v : ℤ) (before after : List ℕ)
     → FitsSigned w64 v → bits.start < bits.end → bits.end ≤ 64 → IsWithin reached v
     → IsAligned a v → IsInUnits (BitMasking bits (Ppc64 f)) v before
@@ -206,7 +206,7 @@ ppc64_instruction_reads is_signed f bits reached a v before after small some ins
     agrees v (bits_taken bits v) w.clear (window_of (ppc64_form f) after) within aligned
     (taken_is_field bits v small some inside) tt w.written
 
-instruction_reads : (is_signed : Bool) (insn : RelocationInstruction) (bits : BitRange)
+instruction_reads : (is_signed : Bool) (insn : AnyForm) (bits : BitRange)
     (reached : Bounds) (a : ℕ) (v : ℤ) (before after : List ℕ)
     → FitsSigned w64 v → bits.start < bits.end → bits.end ≤ 64 → IsInside insn reached v
     → IsAligned a v → IsInUnits (BitMasking bits insn) v before
@@ -235,7 +235,7 @@ instruction_reads is_signed (LoongArch64 f) bits reached a v before after small 
     (loongarch_ready f is_signed bits x w.clear w.clears wide) w.written
 
 -- a row that can be written takes some of a value's 64 bits
-pub taken_bits_inside : (kind : RelocationKind) (bits : BitRange) (insn : RelocationInstruction)
+pub taken_bits_inside : (kind : RelocationKind) (bits : BitRange) (insn : AnyForm)
     → takes_size kind (BitMasking bits insn) ≡ true → (bits.start < bits.end) × (bits.end ≤ 64)
 taken_bits_inside kind bits insn takes =
     let t = and_parts (ltb bits.start bits.end && ltb bits.end 65) (not (is_call30 insn)) takes in
@@ -246,7 +246,7 @@ taken_bits_inside kind bits insn takes =
 -- ---- MOVK, and `jirl` at a low part
 
 -- a write elsewhere places the row's bits of the value in the row's form
-pub plain_written : (insn : RelocationInstruction) (kind : RelocationKind) (bits : BitRange) (v : ℤ)
+pub plain_written : (insn : AnyForm) (kind : RelocationKind) (bits : BitRange) (v : ℤ)
     (before after : List ℕ)
     → stays_movk insn bits (window_of (relocation_form insn) before) ≡ false
     → is_low_jump insn kind (window_of (relocation_form insn) before) ≡ false
@@ -259,7 +259,7 @@ plain_written insn kind bits v before after move jump w =
     (value_at insn kind v (window_of (relocation_form insn) before)) before after) move w)
 
 -- at a MOVK it places them in that form
-pub movk_written : (insn : RelocationInstruction) (kind : RelocationKind) (bits : BitRange) (v : ℤ)
+pub movk_written : (insn : AnyForm) (kind : RelocationKind) (bits : BitRange) (v : ℤ)
     (before after : List ℕ)
     → stays_movk insn bits (window_of (relocation_form insn) before) ≡ true
     → IsWritten (BitMasking bits insn) kind v before after
@@ -272,7 +272,7 @@ movk_written (Ppc64 f) kind bits v before after move w = cc
 movk_written (LoongArch64 f) kind bits v before after move w = cc
 
 -- and at a `jirl` bits 2 to 17 of the low part
-pub jump_written : (insn : RelocationInstruction) (kind : RelocationKind) (bits : BitRange) (v : ℤ)
+pub jump_written : (insn : AnyForm) (kind : RelocationKind) (bits : BitRange) (v : ℤ)
     (before after : List ℕ)
     → is_low_jump insn kind (window_of (relocation_form insn) before) ≡ true
     → IsWritten (BitMasking bits insn) kind v before after
@@ -288,7 +288,7 @@ jump_written (RiscV f) kind bits v before after jump w = cc
 jump_written (Ppc64 f) kind bits v before after jump w = cc
 
 -- MOVK takes 16 bits at most
-pub few_bits : (insn : RelocationInstruction) (bits : BitRange) (x : ℕ)
+pub few_bits : (insn : AnyForm) (bits : BitRange) (x : ℕ)
     → stays_movk insn bits x ≡ true → bits.end - bits.start ≤ 16
 few_bits (AArch64 Movnz) bits x move =
     let short = ltb-true (bits.end - bits.start) 17
@@ -321,7 +321,7 @@ pub low_fits : (v : ℤ) → FitsSigned w64 (low_part v)
 low_fits v = signed_fits 12 (bits_taken (record { start = 0; end = 12 }) v) (omega arith) (omega arith) (omega arith)
 
 -- what is written fits the form in which it is
-pub fits_at : (insn : RelocationInstruction) (kind : RelocationKind) (bits : BitRange) (v : ℤ)
+pub fits_at : (insn : AnyForm) (kind : RelocationKind) (bits : BitRange) (v : ℤ)
     (x : ℕ) → Fits (relocation_form insn) (bits_taken bits v) x
     → Fits (relocation_form (insn_at insn bits x))
     (bits_taken (bits_at insn kind bits x) (value_at insn kind v x)) x
@@ -344,7 +344,7 @@ fits_at (Ppc64 f) kind bits v x fits = fits
 fits_at (LoongArch64 f) kind bits v x fits = fits
 
 -- the window is that of the row's form
-pub window_at : (insn : RelocationInstruction) (bits : BitRange) (x : ℕ)
+pub window_at : (insn : AnyForm) (bits : BitRange) (x : ℕ)
     → (relocation_form (insn_at insn bits x)).window ≡ (relocation_form insn).window
 window_at (AArch64 Movnz) bits x = by_movk (stays_movk (AArch64 Movnz) bits x)
   where
@@ -358,7 +358,7 @@ window_at (RiscV f) bits x = refl
 window_at (Ppc64 f) bits x = refl
 window_at (LoongArch64 f) bits x = refl
 
-pub value_fits : (insn : RelocationInstruction) (kind : RelocationKind) (v : ℤ) (x : ℕ)
+pub value_fits : (insn : AnyForm) (kind : RelocationKind) (v : ℤ) (x : ℕ)
     → FitsSigned w64 v → FitsSigned w64 (value_at insn kind v x)
 value_fits insn kind v x small = by_jump (is_low_jump insn kind x)
   where
@@ -418,7 +418,7 @@ jump_reads v before after small aligned w =
     four_times (pos n) e = let rest : n % 4 ≡ 0 = ap unsigned_abs e in ap pos (omega arith)
     four_times (negsuc n) e = omega (arith, ints)
 
-field_reads : (is_signed : Bool) (insn : RelocationInstruction) (kind : RelocationKind)
+field_reads : (is_signed : Bool) (insn : AnyForm) (kind : RelocationKind)
     (bits : BitRange) (reached : Bounds) (a : ℕ) (v : ℤ) (before after : List ℕ)
     → FitsSigned w64 v → bits.start < bits.end → bits.end ≤ 64 → IsInside insn reached v
     → IsAligned a v → IsInUnits (BitMasking bits insn) v before
@@ -441,7 +441,7 @@ field_reads is_signed insn kind bits reached a v before after small some inside 
           (jump_reads v before after small (words jump) (jump_written insn kind bits v before after jump w));
     }
   where
-    of_movk : (insn : RelocationInstruction)
+    of_movk : (insn : AnyForm)
         → stays_movk insn bits (window_of (relocation_form insn) before) ≡ true
         → (aarch64_form Movkz).machine (window_of (aarch64_form Movkz) after) ≡ pos (bits_taken bits v)
         → (aarch64_form Movkz).machine (window_of (relocation_form insn) after) ≡ pos (bits_taken bits v)
@@ -451,7 +451,7 @@ field_reads is_signed insn kind bits reached a v before after small some inside 
     of_movk (Ppc64 f) move e = cc
     of_movk (LoongArch64 f) move e = cc
 
-    of_jump : (insn : RelocationInstruction)
+    of_jump : (insn : AnyForm)
         → is_low_jump insn kind (window_of (relocation_form insn) before) ≡ true
         → (loongarch_form Shift10).machine (window_of (loongarch_form Shift10) after) *ℤ pos 4 ≡ low_part v
         → (loongarch_form Shift10).machine (window_of (relocation_form insn) after) *ℤ pos 4 ≡ low_part v
@@ -461,7 +461,7 @@ field_reads is_signed insn kind bits reached a v before after small some inside 
     of_jump (RiscV f) jump e = cc
     of_jump (Ppc64 f) jump e = cc
 
-size_reads : (is_signed : Bool) (size : RelocationSize) (kind : RelocationKind) (reached : Bounds)
+size_reads : (is_signed : Bool) (size : RowSize) (kind : RelocationKind) (reached : Bounds)
     (a : ℕ) (v : ℤ) (before after : List ℕ)
     → FitsSigned w64 v → takes_size kind size ≡ true → IsInsideSize size reached v → IsAligned a v
     → IsInUnits size v before → IsInWords size kind v before
@@ -476,14 +476,14 @@ size_reads is_signed (BitMasking bits insn) kind reached a v before after small 
     words w agrees
 
 -- a row that can be written takes bits of its size
-pub supported_size : (row : RelocationKindInfo) → is_supported row ≡ true
+pub supported_size : (row : RowInfo) → is_supported row ≡ true
     → takes_size row.kind row.size ≡ true
 supported_size row h =
     let parts = and_parts (takes_size row.kind row.size && ltb 0 row.alignment)
     (ltb row.alignment (2 ^ 63)) h in
     (and_parts (takes_size row.kind row.size) (ltb 0 row.alignment) parts.0).0
 
-pub row_reads : (is_signed : Bool) (row : RelocationKindInfo) (v : ℤ) (before after : List ℕ)
+pub row_reads : (is_signed : Bool) (row : RowInfo) (v : ℤ) (before after : List ℕ)
     → FitsSigned w64 v → IsAccepted row v before → IsWritten row.size row.kind v before after
     → AgreesBy is_signed row → SizeReads is_signed row.size row.kind row.range.bounds v before after
 row_reads is_signed row v before after small accepted w agrees =
@@ -492,7 +492,7 @@ row_reads is_signed row v before after small accepted w agrees =
     (own_size row.kind row.size row.range.bounds v accepted.reached.0)
     accepted.aligned.0 accepted.aligned.1 accepted.aligned.2 w agrees
 
-pub row_reads_in_reach : (is_signed : Bool) (row : RelocationKindInfo) (v : ℤ)
+pub row_reads_in_reach : (is_signed : Bool) (row : RowInfo) (v : ℤ)
     (before after : List ℕ)
     → FitsSigned w64 v → IsAccepted row v before → IsWritten row.size row.kind v before after
     → AgreesInReach is_signed row

@@ -7,7 +7,7 @@ use Rattle.linker_base.proofs.Rounded.{IsSoundPart, sound_part, rounded_machine}
 use Rattle.linker_elf.specs.RiscV.{riscv_form, riscv_layout, riscv_places, ui_high, ui_low, ui_sum, IsPairRange, IsPairOf, PairReads}
 use Rattle.linker_elf.specs.declared.riscv64.forms.RiscVInstruction.{RiscVInstruction}
 use Rattle.linker_elf.specs.Inner.Runs.{code_of}
-use Rattle.linker_elf.specs.declared.elf.RelocationInstruction.TheVariants.{RiscV}
+use Rattle.linker_elf.specs.declared.elf.AnyForm.TheVariants.{RiscV}
 use Rattle.linker_elf.proofs.ReadNumbers.{value_of, whole, sign_taken_off}
 use Rattle.linker_elf.specs.declared.riscv64.forms.RiscVInstruction.TheVariants.{UType, IType, SType, JType, CluiType, UiType}
 use Rattle.linker_base.proofs.Listed.{All-front, All-back}

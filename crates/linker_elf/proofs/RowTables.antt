@@ -5,7 +5,7 @@ use denote.Enum.Declared.{tag_of}
 use Rattle.linker_elf.specs.Agrees.{RowFits}
 use Rattle.linker_elf.specs.Rows.{raw_row}
 use Rattle.linker_elf.specs.Inner.RowTables.{raw_info_in, with_raw_kind, IsEntryOf, IsSound}
-use Rattle.linker_elf.specs.declared.elf.RelocationKindInfo.{RelocationKindInfo}
+use Rattle.linker_elf.specs.declared.elf.RowInfo.{RowInfo}
 use Rattle.linker_elf.specs.declared.elf.rows.TableRow.{TableRow}
 use Rattle.linker_elf.specs.AArch64Relocations.{aarch64_row}
 use Rattle.linker_elf.specs.contracts.aarch64.relocations.AArch64Relocation as aarch64
@@ -33,7 +33,7 @@ use Rattle.linker_elf.specs.declared.x86_64.relocations.TheConstants as x86_64_t
 use Rattle.linker_elf.specs.declared.x86_64.relocations.X86_64Relocation.{X86_64Relocation}
 use Rattle.linker_elf.specs.declared.x86_64.relocations.X86_64Relocation.TheVariants.{R_X86_64_NONE}
 
-entry_at : {row : Option RelocationKindInfo} (table : List (Option TableRow)) (i t : ℕ) → i ≡ t
+entry_at : {row : Option RowInfo} (table : List (Option TableRow)) (i t : ℕ) → i ≡ t
     → IsEntryOf row (slice_index_or table t None) → IsEntryOf row (slice_index_or table i None)
 entry_at {row} table i t is entry = subst (λ k. IsEntryOf row (slice_index_or table k None)) (sym is) entry
 
@@ -89,7 +89,7 @@ some_or other None = other
 some_or other (Some entry) = entry
 
 -- such an entry is sound where the row's bits fit its instruction
-pub sound_from : (row : Option RelocationKindInfo) (entry : Option TableRow) → IsEntryOf row entry
+pub sound_from : (row : Option RowInfo) (entry : Option TableRow) → IsEntryOf row entry
     → IfSome row RowFits → IfSome entry IsSound
 sound_from row None is fits = tt
 sound_from row (Some entry) is fits =
@@ -99,12 +99,12 @@ sound_from row (Some entry) is fits =
     }
 
 -- what holds of a row holds of it where some rows are left out
-pub unless : (P : RelocationKindInfo → Type 0) (is : Bool) (row : Option RelocationKindInfo)
+pub unless : (P : RowInfo → Type 0) (is : Bool) (row : Option RowInfo)
     → IfSome row P → IfSome (if is then None else row) P
 unless P true row holds = tt
 unless P false row holds = holds
 
 -- another kind changes no bits
-pub raw_kind_fits : (row : Option RelocationKindInfo) → IfSome row RowFits → IfSome (with_raw_kind row) RowFits
+pub raw_kind_fits : (row : Option RowInfo) → IfSome row RowFits → IfSome (with_raw_kind row) RowFits
 raw_kind_fits None fits = tt
 raw_kind_fits (Some row) fits = record { size = fits.size; aligned = fits.aligned }

@@ -19,13 +19,13 @@ use Rattle.linker_elf.specs.declared.aarch64.forms.AArch64Instruction.{AArch64In
 use Rattle.linker_elf.specs.declared.aarch64.forms.AArch64Instruction.TheVariants.{Movnz, MachOLow12}
 use Rattle.linker_elf.specs.declared.loongarch64.forms.LoongArch64Instruction.{LoongArch64Instruction}
 use Rattle.linker_elf.specs.declared.loongarch64.forms.LoongArch64Instruction.TheVariants.{Shift5, Shift10, Call30, Call36}
-use Rattle.linker_elf.specs.declared.ppc64.forms.Ppc64Instruction.{Ppc64Instruction}
-use Rattle.linker_elf.specs.declared.ppc64.forms.Ppc64Instruction.TheVariants.{D}
-use Rattle.linker_elf.specs.declared.elf.RelocationInstruction.{RelocationInstruction}
-use Rattle.linker_elf.specs.declared.elf.RelocationInstruction.TheVariants.{RiscV, Ppc64, LoongArch64, AArch64}
-use Rattle.linker_elf.specs.declared.elf.RelocationKindInfo.{RelocationKindInfo}
-use Rattle.linker_elf.specs.declared.elf.RelocationSize.{RelocationSize}
-use Rattle.linker_elf.specs.declared.elf.RelocationSize.TheVariants.{ByteSize, BitMasking}
+use Rattle.linker_elf.specs.declared.ppc64.forms.Ppc64Form.{Ppc64Form}
+use Rattle.linker_elf.specs.declared.ppc64.forms.Ppc64Form.TheVariants.{D}
+use Rattle.linker_elf.specs.declared.elf.AnyForm.{AnyForm}
+use Rattle.linker_elf.specs.declared.elf.AnyForm.TheVariants.{RiscV, Ppc64, LoongArch64, AArch64}
+use Rattle.linker_elf.specs.declared.elf.RowInfo.{RowInfo}
+use Rattle.linker_elf.specs.declared.elf.RowSize.{RowSize}
+use Rattle.linker_elf.specs.declared.elf.RowSize.TheVariants.{ByteSize, BitMasking}
 use Rattle.linker_elf.specs.declared.riscv64.forms.RiscVInstruction.{RiscVInstruction}
 use Rattle.linker_elf.specs.declared.riscv64.forms.RiscVInstruction.TheVariants.{UType, IType, SType, CluiType, UiType}
 use Rattle.linker_elf.specs.declared.aarch64.relocations.AArch64Relocation.{AArch64Relocation}
@@ -135,10 +135,10 @@ riscv_agrees insn bits b a h whole v f before after within z is_field ready laid
 
 -- ---- PowerPC64
 
-abbrev pub ppc64_check : Ppc64Instruction → ℕ → ℕ → Option (ℤ × ℤ) → ℕ → Bool
+abbrev pub ppc64_check : Ppc64Form → ℕ → ℕ → Option (ℤ × ℤ) → ℕ → Bool
 ppc64_check f s e b a = layout_check (ppc64_layout f) s e b a
 
-ppc64_agrees : (f : Ppc64Instruction) (bits : BitRange) (b : Option (ℤ × ℤ)) (a : ℕ) → ppc64_check f bits.start bits.end b a ≡ true → InstructionAgrees false (Ppc64 f) bits b a
+ppc64_agrees : (f : Ppc64Form) (bits : BitRange) (b : Option (ℤ × ℤ)) (a : ℕ) → ppc64_check f bits.start bits.end b a ≡ true → InstructionAgrees false (Ppc64 f) bits b a
 ppc64_agrees D bits b a h v f before after within z is_field ready laid =
     layout_agrees (ppc64_layout D) refl bits.start bits.end b a h v f before after within z is_field (always_clear ((ppc64_form D).places before) before refl) laid
 ppc64_agrees insn bits b a h v f before after within z is_field ready laid =
@@ -172,35 +172,35 @@ loongarch_agrees insn is_signed bits b a h whole v f before after within z is_fi
 
 -- ---- rows
 
-abbrev pub instruction_check : Bool → RelocationInstruction → ℕ → ℕ → Option (ℤ × ℤ) → ℕ → Bool
+abbrev pub instruction_check : Bool → AnyForm → ℕ → ℕ → Option (ℤ × ℤ) → ℕ → Bool
 instruction_check is_signed (AArch64 f) s e b a = aarch64_check f s e b a
 instruction_check is_signed (RiscV f) s e b a = riscv_check f s e b a
 instruction_check is_signed (Ppc64 f) s e b a = ppc64_check f s e b a
 instruction_check is_signed (LoongArch64 f) s e b a = loongarch_check f is_signed s e b a
 
-abbrev pub size_check : Bool → RelocationSize → Option (ℤ × ℤ) → ℕ → Bool
+abbrev pub size_check : Bool → RowSize → Option (ℤ × ℤ) → ℕ → Bool
 size_check is_signed (ByteSize n) b a = true
 size_check is_signed (BitMasking bits insn) b a = instruction_check is_signed insn bits.start bits.end b a
 
 -- what the laws require of a row, if there is one
-abbrev pub row_check : Bool → Option RelocationKindInfo → Bool
+abbrev pub row_check : Bool → Option RowInfo → Bool
 row_check is_signed None = true
 row_check is_signed (Some row) =
     size_check is_signed row.size row.range.bounds row.alignment && size_check is_signed row.size
     (reach_of row) row.alignment
 
-instruction_agrees : (is_signed : Bool) (insn : RelocationInstruction) (bits : BitRange) (b : Option (ℤ × ℤ)) (a : ℕ) → instruction_check is_signed insn bits.start bits.end b a ≡ true
+instruction_agrees : (is_signed : Bool) (insn : AnyForm) (bits : BitRange) (b : Option (ℤ × ℤ)) (a : ℕ) → instruction_check is_signed insn bits.start bits.end b a ≡ true
     → InstructionAgrees is_signed insn bits b a
 instruction_agrees is_signed (AArch64 f) bits b a h = aarch64_agrees f bits b a h
 instruction_agrees is_signed (RiscV f) bits b a h = riscv_agrees f bits b a h
 instruction_agrees is_signed (Ppc64 f) bits b a h = ppc64_agrees f bits b a h
 instruction_agrees is_signed (LoongArch64 f) bits b a h = loongarch_agrees f is_signed bits b a h
 
-size_agrees : (is_signed : Bool) (size : RelocationSize) (b : Option (ℤ × ℤ)) (a : ℕ) → size_check is_signed size b a ≡ true → SizeAgrees is_signed size b a
+size_agrees : (is_signed : Bool) (size : RowSize) (b : Option (ℤ × ℤ)) (a : ℕ) → size_check is_signed size b a ≡ true → SizeAgrees is_signed size b a
 size_agrees is_signed (ByteSize n) b a h = tt
 size_agrees is_signed (BitMasking bits insn) b a h = instruction_agrees is_signed insn bits b a h
 
-row_agrees : (is_signed : Bool) (row : Option RelocationKindInfo) → row_check is_signed row ≡ true
+row_agrees : (is_signed : Bool) (row : Option RowInfo) → row_check is_signed row ≡ true
     → IfSome row (λ r. AgreesBy is_signed r × AgreesInReach is_signed r)
 row_agrees is_signed None h = tt
 row_agrees is_signed (Some row) h =

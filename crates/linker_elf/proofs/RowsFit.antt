@@ -16,13 +16,13 @@ use Rattle.linker_elf.specs.declared.aarch64.forms.AArch64Instruction.{AArch64In
 use Rattle.linker_elf.specs.declared.aarch64.forms.AArch64Instruction.TheVariants.{MachOLow12}
 use Rattle.linker_elf.specs.declared.loongarch64.forms.LoongArch64Instruction.{LoongArch64Instruction}
 use Rattle.linker_elf.specs.declared.loongarch64.forms.LoongArch64Instruction.TheVariants.{Call36}
-use Rattle.linker_elf.specs.declared.ppc64.forms.Ppc64Instruction.{Ppc64Instruction}
-use Rattle.linker_elf.specs.declared.ppc64.forms.Ppc64Instruction.TheVariants.{D}
-use Rattle.linker_elf.specs.declared.elf.RelocationInstruction.{RelocationInstruction}
-use Rattle.linker_elf.specs.declared.elf.RelocationInstruction.TheVariants.{RiscV, Ppc64, LoongArch64, AArch64}
-use Rattle.linker_elf.specs.declared.elf.RelocationKindInfo.{RelocationKindInfo}
-use Rattle.linker_elf.specs.declared.elf.RelocationSize.{RelocationSize}
-use Rattle.linker_elf.specs.declared.elf.RelocationSize.TheVariants.{ByteSize, BitMasking}
+use Rattle.linker_elf.specs.declared.ppc64.forms.Ppc64Form.{Ppc64Form}
+use Rattle.linker_elf.specs.declared.ppc64.forms.Ppc64Form.TheVariants.{D}
+use Rattle.linker_elf.specs.declared.elf.AnyForm.{AnyForm}
+use Rattle.linker_elf.specs.declared.elf.AnyForm.TheVariants.{RiscV, Ppc64, LoongArch64, AArch64}
+use Rattle.linker_elf.specs.declared.elf.RowInfo.{RowInfo}
+use Rattle.linker_elf.specs.declared.elf.RowSize.{RowSize}
+use Rattle.linker_elf.specs.declared.elf.RowSize.TheVariants.{ByteSize, BitMasking}
 use Rattle.linker_elf.specs.declared.riscv64.forms.RiscVInstruction.{RiscVInstruction}
 use Rattle.linker_elf.specs.declared.riscv64.forms.RiscVInstruction.TheVariants.{UiType}
 use Rattle.linker_elf.specs.declared.aarch64.relocations.AArch64Relocation.{AArch64Relocation}
@@ -50,7 +50,7 @@ riscv_least : (f : RiscVInstruction) (x : ℕ) → (riscv_form f).width 0 ≤ (r
 riscv_least UiType x = no_less ((riscv_form UiType).width 0)
 riscv_least f x = no_less ((riscv_form f).width 0)
 
-ppc64_least : (f : Ppc64Instruction) (x : ℕ) → (ppc64_form f).width 0 ≤ (ppc64_form f).width x
+ppc64_least : (f : Ppc64Form) (x : ℕ) → (ppc64_form f).width 0 ≤ (ppc64_form f).width x
 ppc64_least D x = no_less ((ppc64_form D).width 0)
 ppc64_least f x = no_less ((ppc64_form f).width 0)
 
@@ -58,7 +58,7 @@ loongarch_least : (f : LoongArch64Instruction) (x : ℕ) → (loongarch_form f).
 loongarch_least Call36 x = no_less ((loongarch_form Call36).width 0)
 loongarch_least f x = no_less ((loongarch_form f).width 0)
 
-least : (insn : RelocationInstruction) (x : ℕ) → (relocation_form insn).width 0 ≤ (relocation_form insn).width x
+least : (insn : AnyForm) (x : ℕ) → (relocation_form insn).width 0 ≤ (relocation_form insn).width x
 least (AArch64 f) x = aarch64_least f x
 least (RiscV f) x = riscv_least f x
 least (Ppc64 f) x = ppc64_least f x
@@ -66,16 +66,16 @@ least (LoongArch64 f) x = loongarch_least f x
 
 -- ---- rows
 
-abbrev pub size_fits_check : RelocationSize → Bool
+abbrev pub size_fits_check : RowSize → Bool
 size_fits_check (ByteSize n) = true
 size_fits_check (BitMasking bits insn) =
     ltb bits.start bits.end && (leb bits.end 64 && leb (bits.end - bits.start) ((relocation_form insn).width 0))
 
-abbrev pub row_fits_check : Option RelocationKindInfo → Bool
+abbrev pub row_fits_check : Option RowInfo → Bool
 row_fits_check None = true
 row_fits_check (Some row) = size_fits_check row.size && ltb 0 row.alignment
 
-bits_fit : (bits : BitRange) (insn : RelocationInstruction) → size_fits_check (BitMasking bits insn) ≡ true → TakesBits (relocation_form insn) bits
+bits_fit : (bits : BitRange) (insn : AnyForm) → size_fits_check (BitMasking bits insn) ≡ true → TakesBits (relocation_form insn) bits
 bits_fit bits insn h =
     let a = and_parts (ltb bits.start bits.end) (leb bits.end 64 && leb (bits.end - bits.start) ((relocation_form insn).width 0)) h in
     let b = and_parts (leb bits.end 64) (leb (bits.end - bits.start) ((relocation_form insn).width 0)) a.1 in
@@ -89,11 +89,11 @@ bits_fit bits insn h =
           (mod_below (v / 2 ^ bits.start) (2 ^ (bits.end - bits.start)) (pow_pos (bits.end - bits.start))) (narrow x);
     }
 
-size_fits : (size : RelocationSize) → size_fits_check size ≡ true → SizeFits size
+size_fits : (size : RowSize) → size_fits_check size ≡ true → SizeFits size
 size_fits (ByteSize n) h = tt
 size_fits (BitMasking bits insn) h = bits_fit bits insn h
 
-row_fits : (row : Option RelocationKindInfo) → row_fits_check row ≡ true → IfSome row RowFits
+row_fits : (row : Option RowInfo) → row_fits_check row ≡ true → IfSome row RowFits
 row_fits None h = tt
 row_fits (Some row) h =
     let both = and_parts (size_fits_check row.size) (ltb 0 row.alignment) h in

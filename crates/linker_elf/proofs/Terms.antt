@@ -5,13 +5,13 @@ use Rattle.std.proofs.lemmas.Nat.Bits.{and_high_mask}
 use Rattle.linker_elf.specs.Inner.RowTables.{bits_of, addend_bits, formula_of, is_set, terms_of, symbol_of, entry_of_terms, plt_of, of_entry, signed_in}
 use Rattle.linker_elf.specs.LoongArch.{high_distance, page}
 use Rattle.linker_elf.specs.Value.{sum_64, difference_64, page_if, masks_symbol, masks_entry, masks_place, masks_got, bias_number, entry_addend, symbol_term, entry_term, place_term, got_term, plt_term, size_term, sequence_pc, relative_term, formula, read_signed, names_got_entry, names_plt_entry, is_offset, loads_plt_word, completed, or_no_value, value_given, value_of, lacks, lacks_entry, lacks_tls_base}
-use Rattle.linker_elf.specs.declared.elf.RelocationInstruction.TheVariants.{RiscV, Ppc64, LoongArch64, AArch64}
+use Rattle.linker_elf.specs.declared.elf.AnyForm.TheVariants.{RiscV, Ppc64, LoongArch64, AArch64}
 use Rattle.linker_elf.specs.declared.elf.RelocationKind.{RelocationKind}
 use Rattle.linker_elf.specs.declared.elf.RelocationKind.TheVariants.{Relative}
 use Rattle.linker_elf.specs.declared.elf.RelocationKind.TheVariants as kinds
-use Rattle.linker_elf.specs.declared.elf.RelocationKindInfo.{RelocationKindInfo}
-use Rattle.linker_elf.specs.declared.elf.RelocationSize.{RelocationSize}
-use Rattle.linker_elf.specs.declared.elf.RelocationSize.TheVariants.{ByteSize, BitMasking}
+use Rattle.linker_elf.specs.declared.elf.RowInfo.{RowInfo}
+use Rattle.linker_elf.specs.declared.elf.RowSize.{RowSize}
+use Rattle.linker_elf.specs.declared.elf.RowSize.TheVariants.{ByteSize, BitMasking}
 use Rattle.linker_elf.specs.declared.elf.value.Formula.{Formula}
 use Rattle.linker_elf.specs.declared.elf.value.Formula.TheVariants as formulas
 use Rattle.linker_elf.specs.declared.elf.value.FormulaError.{FormulaError}
@@ -32,18 +32,18 @@ pub masked : (is : Bool) (x : ℕ) → x < 2 ^ 64 → bit_and x (bits_of is) ≡
 masked true x small = page_bits x small
 masked false x small = all_bits x small
 
-symbol_is : (row : RelocationKindInfo) (o : Operands) → symbol_of (terms_of row) o ≡ symbol_term row o
+symbol_is : (row : RowInfo) (o : Operands) → symbol_of (terms_of row) o ≡ symbol_term row o
 symbol_is row o =
     masked (masks_symbol row.mask) (sum_64 (sum_64 o.symbol (cast_unsigned w64 o.addend)) (bias_number row.bias)) (omega arith)
 
-pub symbol_found : (row : RelocationKindInfo) (o : Operands) (terms : FormulaTerms) (s : ℕ) → terms ≡ terms_of row
+pub symbol_found : (row : RowInfo) (o : Operands) (terms : FormulaTerms) (s : ℕ) → terms ≡ terms_of row
     → s ≡ symbol_of terms o → s ≡ symbol_term row o
 symbol_found row o terms s is given = given ∙ (ap (λ t. symbol_of t o) is ∙ symbol_is row o)
 
 whole : (base a : ℕ) → sum_64 base (bit_and a (2 ^ 64 - 1)) ≡ sum_64 base a
 whole base a = ap (sum_64 base) (and_mask a 64) ∙ omega arith
 
-added : (size : RelocationSize) (base : ℕ) (addend : ℤ)
+added : (size : RowSize) (base : ℕ) (addend : ℤ)
     → sum_64 base (bit_and (cast_unsigned w64 addend) (addend_bits size))
     ≡ sum_64 base (entry_addend size addend)
 added (ByteSize n) base addend = whole base (cast_unsigned w64 addend)
@@ -52,30 +52,30 @@ added (BitMasking bits (RiscV insn)) base addend = whole base (cast_unsigned w64
 added (BitMasking bits (Ppc64 insn)) base addend = ap (sum_64 base) (and_zero_r (cast_unsigned w64 addend))
 added (BitMasking bits (LoongArch64 insn)) base addend = whole base (cast_unsigned w64 addend)
 
-entry_is : (row : RelocationKindInfo) (o : Operands)
+entry_is : (row : RowInfo) (o : Operands)
     → bit_and (sum_64 (sum_64 o.got_entry (bit_and (cast_unsigned w64 o.addend) (terms_of row).entry_addend)) (bias_number row.bias)) (terms_of row).entry
     ≡ entry_term row o
 entry_is row o =
     ap (λ n. bit_and (sum_64 n (bias_number row.bias)) (terms_of row).entry) (added row.size o.got_entry o.addend)
     ∙ masked (masks_entry row.mask) (sum_64 (sum_64 o.got_entry (entry_addend row.size o.addend)) (bias_number row.bias)) (omega arith)
 
-pub got_found : (row : RelocationKindInfo) (o : Operands) (terms : FormulaTerms) → terms ≡ terms_of row → o.got_base < 2 ^ 64
+pub got_found : (row : RowInfo) (o : Operands) (terms : FormulaTerms) → terms ≡ terms_of row → o.got_base < 2 ^ 64
     → bit_and o.got_base terms.got ≡ got_term row o
 got_found row o terms is small = ap (λ t. bit_and o.got_base t.got) is ∙ masked (masks_got row.mask) o.got_base small
 
-placed : (row : RelocationKindInfo) (o : Operands) (set : Bool) → set ≡ false → o.place < 2 ^ 64
+placed : (row : RowInfo) (o : Operands) (set : Bool) → set ≡ false → o.place < 2 ^ 64
     → bit_and o.place (if set then 0 else bits_of (masks_place row.mask)) ≡ place_term row o
 placed row o set unset small =
     ap (bit_and o.place) (cond-false set 0 (bits_of (masks_place row.mask)) unset)
     ∙ masked (masks_place row.mask) o.place small
 
-pub place_found : (row : RelocationKindInfo) (o : Operands) (terms : FormulaTerms) → terms ≡ terms_of row
+pub place_found : (row : RowInfo) (o : Operands) (terms : FormulaTerms) → terms ≡ terms_of row
     → is_set row.kind row.size ≡ false → o.place < 2 ^ 64 → bit_and o.place terms.place ≡ place_term row o
 place_found row o terms is unset small =
     ap (λ t. bit_and o.place t.place) is ∙ placed row o (is_set row.kind row.size) unset small
 
 -- S + A of the first of a pair at a ULEB128 number, and else S + A - P
-relative_by : (row : RelocationKindInfo) (o : Operands) (size : RelocationSize) → o.place < 2 ^ 64
+relative_by : (row : RowInfo) (o : Operands) (size : RowSize) → o.place < 2 ^ 64
     → symbol_term row o < 2 ^ 64
     → difference_64 (symbol_term row o) (bit_and o.place (if is_set Relative size then 0 else bits_of (masks_place row.mask)))
     ≡ relative_term size row o
@@ -92,7 +92,7 @@ relative_by row o (ByteSize n) small short =
     ]
 relative_by row o (BitMasking bits insn) small short = ap (difference_64 (symbol_term row o)) (placed row o false refl small)
 
-pub relative_is : (row : RelocationKindInfo) (o : Operands) → row.kind ≡ Relative → o.place < 2 ^ 64
+pub relative_is : (row : RowInfo) (o : Operands) → row.kind ≡ Relative → o.place < 2 ^ 64
     → symbol_term row o < 2 ^ 64
     → difference_64 (symbol_term row o) (bit_and o.place (terms_of row).place) ≡ relative_term row.size row o
 relative_is row o is small short =
@@ -102,25 +102,25 @@ relative_is row o is small short =
 -- ---- kinds
 
 -- the formula of a kind has a term, all bits of P, and no L and no origin of offsets
-pub record HasTerm (term : RelocationKindInfo → Operands → ℕ) (got : Bool) (kind : RelocationKind) : Type 0 where
-  pub formula_is : (row : RelocationKindInfo) (o : Operands) → formula kind row (completed o) ≡ Some (term row o)
+pub record HasTerm (term : RowInfo → Operands → ℕ) (got : Bool) (kind : RelocationKind) : Type 0 where
+  pub formula_is : (row : RowInfo) (o : Operands) → formula kind row (completed o) ≡ Some (term row o)
   pub got_is : names_got_entry kind ≡ got
   pub no_plt : names_plt_entry kind ≡ false
   pub no_offset : is_offset kind ≡ false
-  pub unset : (size : RelocationSize) → is_set kind size ≡ false
+  pub unset : (size : RowSize) → is_set kind size ≡ false
 
-no_word : (size : RelocationSize) (kind : RelocationKind) → names_plt_entry kind ≡ false → loads_plt_word size kind ≡ false
+no_word : (size : RowSize) (kind : RelocationKind) → names_plt_entry kind ≡ false → loads_plt_word size kind ≡ false
 no_word (BitMasking bits (Ppc64 insn)) kind none = none
 no_word size kind none = refl
 
 -- L isn't the word that a call loads, or there is one
-abbrev pub Loaded : RelocationKindInfo → Operands → Type 0
+abbrev pub Loaded : RowInfo → Operands → Type 0
 Loaded row o = (loads_plt_word row.size row.kind && not o.has_plt_entry) ≡ false
 
-no_load : (row : RelocationKindInfo) (o : Operands) → names_plt_entry row.kind ≡ false → Loaded row o
+no_load : (row : RowInfo) (o : Operands) → names_plt_entry row.kind ≡ false → Loaded row o
 no_load row o none = ap (λ b. b && not o.has_plt_entry) (no_word row.size row.kind none)
 
-pub lacks_none : (row : RelocationKindInfo) (o : Operands) (n : ℕ) (got : Bool) → names_got_entry row.kind ≡ got
+pub lacks_none : (row : RowInfo) (o : Operands) (n : ℕ) (got : Bool) → names_got_entry row.kind ≡ got
     → (got && not o.has_got_entry) ≡ false → Loaded row o → is_offset row.kind ≡ false
     → formula row.kind row (completed o) ≡ Some n → value_given row o ≡ Ok (cast_signed w64 n)
 lacks_none row o n got is there loaded no_offset found =
@@ -131,7 +131,7 @@ lacks_none row o n got is there loaded no_offset found =
     ∙ ap (λ x. or_no_value (read_signed x)) found)
 
 -- a kind that names neither an entry nor L
-without_entry : (row : RelocationKindInfo) (o : Operands) (kind : RelocationKind) → row.kind ≡ kind
+without_entry : (row : RowInfo) (o : Operands) (kind : RelocationKind) → row.kind ≡ kind
     → names_got_entry kind ≡ false → names_plt_entry kind ≡ false
     → value_given row o
     ≡ (if is_offset kind && not o.has_tls_base then Err NoTlsBase else or_no_value (read_signed (formula kind row (completed o))))
@@ -142,28 +142,28 @@ without_entry row o kind is no_got no_plt =
     ∙ ap (λ k. if is_offset k && not o.has_tls_base then Err NoTlsBase else or_no_value (read_signed (formula k row (completed o)))) is
 
 -- the kind whose formula depends on the size
-pub relative_value : (row : RelocationKindInfo) (o : Operands) → row.kind ≡ Relative
+pub relative_value : (row : RowInfo) (o : Operands) → row.kind ≡ Relative
     → value_given row o ≡ Ok (cast_signed w64 (relative_term row.size row o))
 relative_value row o is =
     lacks_none row o (relative_term row.size row o) false (ap names_got_entry is) refl (no_load row o (ap names_plt_entry is))
     (ap is_offset is) (ap (λ k. formula k row (completed o)) is ∙ ap Some (same row.size))
   where
-    same : (size : RelocationSize) → relative_term size row (completed o) ≡ relative_term size row o
+    same : (size : RowSize) → relative_term size row (completed o) ≡ relative_term size row o
     same (ByteSize n) = refl
     same (BitMasking bits insn) = refl
 
 -- a kind without an entry
-pub plain_value : (row : RelocationKindInfo) (o : Operands) (term : RelocationKindInfo → Operands → ℕ)
+pub plain_value : (row : RowInfo) (o : Operands) (term : RowInfo → Operands → ℕ)
     → HasTerm term false row.kind → value_given row o ≡ Ok (cast_signed w64 (term row o))
 plain_value row o term has = lacks_none row o (term row o) false has.got_is refl (no_load row o has.no_plt) has.no_offset (has.formula_is row o)
 
 -- a kind with one that is there
-pub entry_value : (row : RelocationKindInfo) (o : Operands) (term : RelocationKindInfo → Operands → ℕ)
+pub entry_value : (row : RowInfo) (o : Operands) (term : RowInfo → Operands → ℕ)
     → HasTerm term true row.kind → o.has_got_entry ≡ true → value_given row o ≡ Ok (cast_signed w64 (term row o))
 entry_value row o term has there =
     lacks_none row o (term row o) true has.got_is (ap not there) (no_load row o has.no_plt) has.no_offset (has.formula_is row o)
 
-pub no_entry_value : (row : RelocationKindInfo) (o : Operands) (term : RelocationKindInfo → Operands → ℕ)
+pub no_entry_value : (row : RowInfo) (o : Operands) (term : RowInfo → Operands → ℕ)
     → HasTerm term true row.kind → o.has_got_entry ≡ false → value_given row o ≡ Err NoEntry
 no_entry_value row o term has none =
     cond-true _ (Err NoEntry) _
@@ -200,25 +200,25 @@ has kinds.DtpOff = inl refl
 has kinds.TpOff = inr refl
 has kind = record { formula_is = λ r o. refl; got_is = refl; no_plt = refl; no_offset = refl; unset = λ size. refl }
 
-pub has_formula : (row : RelocationKindInfo) (terms : FormulaTerms) (f : Formula) → terms ≡ terms_of row → terms.formula ≡ f
+pub has_formula : (row : RowInfo) (terms : FormulaTerms) (f : Formula) → terms ≡ terms_of row → terms.formula ≡ f
     → Has f row.kind
 has_formula row terms f given is = subst (λ g. Has g row.kind) (sym (ap (λ t. t.formula) given) ∙ is) (has row.kind)
 
 -- no formula
-pub without_value : (row : RelocationKindInfo) (o : Operands) → Has formulas.Without row.kind → value_given row o ≡ Err NoValue
+pub without_value : (row : RowInfo) (o : Operands) → Has formulas.Without row.kind → value_given row o ≡ Err NoValue
 without_value row o (inl is) = without_entry row o kinds.None is refl refl
 without_value row o (inr (inl is)) = without_entry row o kinds.Alignment is refl refl
 without_value row o (inr (inr is)) = without_entry row o kinds.TlsDescCall is refl refl
 
 -- an offset of a thread-local symbol
-pub offset_value : (row : RelocationKindInfo) (o : Operands) → Has formulas.Offset row.kind
+pub offset_value : (row : RowInfo) (o : Operands) → Has formulas.Offset row.kind
     → value_given row o
     ≡ (if not o.has_tls_base then Err NoTlsBase else Ok (cast_signed w64 (difference_64 (symbol_term row o) o.tls_base)))
 offset_value row o (inl is) = without_entry row o kinds.DtpOff is refl refl
 offset_value row o (inr is) = without_entry row o kinds.TpOff is refl refl
 
 -- what is made of the entry, or that there is none
-pub entry_given : (row : RelocationKindInfo) (o : Operands) (terms : FormulaTerms) (term : RelocationKindInfo → Operands → ℕ)
+pub entry_given : (row : RowInfo) (o : Operands) (terms : FormulaTerms) (term : RowInfo → Operands → ℕ)
     (made : ℕ → ℕ) → terms ≡ terms_of row → HasTerm term true row.kind → made (entry_term row o) ≡ term row o
     → value_given row o ≡ signed_in (of_entry made (entry_of_terms terms o))
 entry_given row o terms term made is has made_is =
@@ -242,7 +242,7 @@ or_true true = refl
 or_true false = refl
 
 -- what is made of L, or that there is none
-pub plt_given : (row : RelocationKindInfo) (o : Operands) (terms : FormulaTerms) (made : ℕ → ℕ) → terms ≡ terms_of row
+pub plt_given : (row : RowInfo) (o : Operands) (terms : FormulaTerms) (made : ℕ → ℕ) → terms ≡ terms_of row
     → names_got_entry row.kind ≡ false → is_offset row.kind ≡ false
     → formula row.kind row (completed o) ≡ Some (made (plt_term row (completed o)))
     → value_given row o ≡ signed_in (of_entry made (plt_of terms o))
@@ -300,7 +300,7 @@ of_value None v is = absurd (no_ok NoValue v is)
 of_value (Some w) v is = ap (λ r. Some (value_or w r)) is
 
 -- what the formula has is there, and it has that value
-pub given : (row : RelocationKindInfo) (o : Operands) (v : ℤ) → value_given row o ≡ Ok v
+pub given : (row : RowInfo) (o : Operands) (v : ℤ) → value_given row o ≡ Ok v
     → (lacks row o ≡ false) × (value_of row (completed o) ≡ Some v)
 given row o v is =
     elim (cases_Bool (lacks_entry row o)) [
@@ -322,7 +322,7 @@ no_value None error is = refl
 no_value (Some v) error is = absurd (no_ok error v (sym is))
 
 -- without one it has none of what there is
-pub not_given : (row : RelocationKindInfo) (o : Operands) (error : FormulaError) → value_given row o ≡ Err error
+pub not_given : (row : RowInfo) (o : Operands) (error : FormulaError) → value_given row o ≡ Err error
     → lacks row o ≡ false → value_of row (completed o) ≡ None
 not_given row o error is lacks_none =
     let parts = or_parts (lacks_entry row o) (lacks_tls_base row o) lacks_none in

@@ -5,9 +5,9 @@ use Rattle.linker_elf.specs.Relocate.{number_of_bytes, low_bytes, number_written
 use Rattle.linker_elf.specs.Value.{sum_64, difference_64}
 use Rattle.linker_elf.specs.declared.elf.RelocationKind.{RelocationKind}
 use Rattle.linker_elf.specs.declared.elf.RelocationKind.TheVariants.{AbsoluteSetWord6, AbsoluteAddition, AbsoluteAdditionWord6, AbsoluteSubtraction, AbsoluteSubtractionWord6}
-use Rattle.linker_elf.specs.declared.elf.RelocationKindInfo.{RelocationKindInfo}
-use Rattle.linker_elf.specs.declared.elf.RelocationSize.{RelocationSize}
-use Rattle.linker_elf.specs.declared.elf.RelocationSize.TheVariants.{ByteSize, BitMasking}
+use Rattle.linker_elf.specs.declared.elf.RowInfo.{RowInfo}
+use Rattle.linker_elf.specs.declared.elf.RowSize.{RowSize}
+use Rattle.linker_elf.specs.declared.elf.RowSize.TheVariants.{ByteSize, BitMasking}
 use Rattle.linker_elf.proofs.Agreement.{rem_rem}
 use Rattle.linker_elf.proofs.Relocated.{supported_size}
 
@@ -78,7 +78,7 @@ whole_modulo kind v old h = value_modulo v h
 
 -- ---- rows
 
-size_number : (size : RelocationSize) (kind : RelocationKind) (v : ℤ) (before after : List ℕ)
+size_number : (size : RowSize) (kind : RelocationKind) (v : ℤ) (before after : List ℕ)
     → FitsSigned w64 v → takes_size kind size ≡ true → IsWritten size kind v before after
     → SizeNumber size kind v before after
 size_number (ByteSize n) kind v before after small takes w =
@@ -92,7 +92,7 @@ size_number (ByteSize n) kind v before after small takes w =
     (sym (whole_modulo kind v old small))
 size_number (BitMasking bits insn) kind v before after small takes w = tt
 
-pub row_number : (row : RelocationKindInfo) (v : ℤ) (before after : List ℕ) → FitsSigned w64 v
+pub row_number : (row : RowInfo) (v : ℤ) (before after : List ℕ) → FitsSigned w64 v
     → is_supported row ≡ true → IsWritten row.size row.kind v before after
     → SizeNumber row.size row.kind v before after
 row_number row v before after small supported w =

@@ -2,12 +2,12 @@
 use Rattle.std.proofs.Common.{ℕ, List, ℤ, FitsSigned}
 use Rattle.std.specs.Int.{w64}
 use Rattle.linker_elf.specs.Relocate.{IsAccepted, IsWritten, WritesRow}
-use Rattle.linker_elf.specs.declared.elf.RelocationKindInfo.{RelocationKindInfo}
+use Rattle.linker_elf.specs.declared.elf.RowInfo.{RowInfo}
 use Rattle.linker_elf.proofs.Halves.{row_holds}
 use Rattle.linker_elf.proofs.Relocated.{row_reads, row_reads_in_reach}
 use Rattle.linker_elf.proofs.WrittenNumbers.{row_number}
 
-pub writes_row : (row : RelocationKindInfo) (v : ℤ) (before after : List ℕ) → FitsSigned w64 v
+pub writes_row : (row : RowInfo) (v : ℤ) (before after : List ℕ) → FitsSigned w64 v
     → IsAccepted row v before → IsWritten row.size row.kind v before after
     → WritesRow row v before after
 writes_row row v before after small accepted written =

@@ -17,8 +17,8 @@ use Rattle.linker_elf.specs.declared.elf.RelocationKind.TheVariants.{TlsGd, TlsG
 use Rattle.linker_elf.specs.declared.elf.RelocationKind.TheVariants.{TlsGdGotBase, TlsLd}
 use Rattle.linker_elf.specs.declared.elf.RelocationKind.TheVariants.{TlsLdGot, TlsLdGotBase}
 use Rattle.linker_elf.specs.declared.elf.RelocationKind.TheVariants.{TpOff}
-use Rattle.linker_elf.specs.declared.elf.RelocationKindInfo.{RelocationKindInfo}
-use Rattle.linker_elf.specs.declared.elf.RelocationInstruction.TheVariants.{AArch64}
+use Rattle.linker_elf.specs.declared.elf.RowInfo.{RowInfo}
+use Rattle.linker_elf.specs.declared.elf.AnyForm.TheVariants.{AArch64}
 use Rattle.linker_elf.specs.declared.aarch64.forms.AArch64Instruction.{AArch64Instruction}
 use Rattle.linker_elf.specs.declared.aarch64.forms.AArch64Instruction.TheVariants.{Adr, Movkz}
 use Rattle.linker_elf.specs.declared.aarch64.forms.AArch64Instruction.TheVariants.{Movnz, Ldr}
@@ -30,7 +30,7 @@ use Rattle.linker_elf.specs.declared.aarch64.relocations.AArch64Relocation.{AArc
 use Rattle.linker_elf.specs.declared.aarch64.relocations.AArch64Relocation.TheVariants as r
 
 -- bits `start` and up, below `end`, into an instruction
-abbrev pub insn_row : RelocationKind → ℕ → ℕ → AArch64Instruction → RelocationKindInfo
+abbrev pub insn_row : RelocationKind → ℕ → ℕ → AArch64Instruction → RowInfo
 insn_row kind start end form = bits_row kind start end (AArch64 form)
 
 -- each name with its `r_type` and its row
@@ -314,5 +314,5 @@ abbrev pub aarch64_name : AArch64Relocation → ElfName
 aarch64_name name = (aarch64_relocation name).name
 
 -- what a relocation means, and none where it isn't known
-abbrev pub aarch64_row : AArch64Relocation → Option RelocationKindInfo
+abbrev pub aarch64_row : AArch64Relocation → Option RowInfo
 aarch64_row name = (aarch64_relocation name).row

@@ -21,12 +21,12 @@ use Rattle.linker_elf.specs.declared.loongarch64.forms.LoongArch64Instruction.Th
 use Rattle.linker_elf.specs.declared.loongarch64.forms.LoongArch64Instruction.TheVariants.{Shift10}
 use Rattle.linker_elf.specs.declared.loongarch64.forms.LoongArch64Instruction.TheVariants.{Call30}
 use Rattle.linker_elf.specs.declared.loongarch64.forms.LoongArch64Instruction.TheVariants.{Call36}
-use Rattle.linker_elf.specs.declared.elf.RelocationInstruction.{RelocationInstruction}
-use Rattle.linker_elf.specs.declared.elf.RelocationInstruction.TheVariants.{RiscV, Ppc64}
-use Rattle.linker_elf.specs.declared.elf.RelocationInstruction.TheVariants.{LoongArch64, AArch64}
-use Rattle.linker_elf.specs.declared.elf.RelocationKindInfo.{RelocationKindInfo}
-use Rattle.linker_elf.specs.declared.elf.RelocationSize.{RelocationSize}
-use Rattle.linker_elf.specs.declared.elf.RelocationSize.TheVariants.{ByteSize, BitMasking}
+use Rattle.linker_elf.specs.declared.elf.AnyForm.{AnyForm}
+use Rattle.linker_elf.specs.declared.elf.AnyForm.TheVariants.{RiscV, Ppc64}
+use Rattle.linker_elf.specs.declared.elf.AnyForm.TheVariants.{LoongArch64, AArch64}
+use Rattle.linker_elf.specs.declared.elf.RowInfo.{RowInfo}
+use Rattle.linker_elf.specs.declared.elf.RowSize.{RowSize}
+use Rattle.linker_elf.specs.declared.elf.RowSize.TheVariants.{ByteSize, BitMasking}
 use Rattle.linker_elf.specs.declared.riscv64.forms.RiscVInstruction.{RiscVInstruction}
 use Rattle.linker_elf.specs.declared.riscv64.forms.RiscVInstruction.TheVariants.{UType, IType}
 use Rattle.linker_elf.specs.declared.riscv64.forms.RiscVInstruction.TheVariants.{SType}
@@ -115,7 +115,7 @@ is_of_words f = false
 -- ---- rows
 
 -- an instruction of one architecture, by the sign that LoongArch's relocations give its immediates
-abbrev pub InstructionAgrees : Bool → RelocationInstruction → BitRange → Option (ℤ × ℤ) → ℕ → Type 0
+abbrev pub InstructionAgrees : Bool → AnyForm → BitRange → Option (ℤ × ℤ) → ℕ → Type 0
 InstructionAgrees is_signed (AArch64 f) bits bounds a =
     Agrees (aarch64_form f) (AArch64Ready f bits.start) (aarch64_reads f bits.start) bits bounds a
 InstructionAgrees is_signed (RiscV f) bits bounds a =
@@ -127,25 +127,25 @@ InstructionAgrees is_signed (LoongArch64 f) bits bounds a =
     → Agrees (loongarch_form f) (LoongArchReady f is_signed)
     (loongarch_reads f is_signed) bits bounds a
 
-abbrev pub SizeAgrees : Bool → RelocationSize → Option (ℤ × ℤ) → ℕ → Type 0
+abbrev pub SizeAgrees : Bool → RowSize → Option (ℤ × ℤ) → ℕ → Type 0
 SizeAgrees is_signed (ByteSize n) bounds a = ⊤
 SizeAgrees is_signed (BitMasking bits insn) bounds a =
     InstructionAgrees is_signed insn bits bounds a
 
 -- the row of a relocation whose instruction reads a LoongArch immediate so
-abbrev pub AgreesBy : Bool → RelocationKindInfo → Type 0
+abbrev pub AgreesBy : Bool → RowInfo → Type 0
 AgreesBy is_signed row = SizeAgrees is_signed row.size row.range.bounds row.alignment
 
 -- the same of the values that can be written, in place of those in the row's range
-abbrev pub AgreesInReach : Bool → RelocationKindInfo → Type 0
+abbrev pub AgreesInReach : Bool → RowInfo → Type 0
 AgreesInReach is_signed row = SizeAgrees is_signed row.size (reach_of row) row.alignment
 
 -- the row of a relocation
-abbrev pub RowAgrees : RelocationKindInfo → Type 0
+abbrev pub RowAgrees : RowInfo → Type 0
 RowAgrees row = AgreesBy false row × AgreesInReach false row
 
 -- the row of a LoongArch relocation
-abbrev pub LoongArchRowAgrees : LoongArch64Relocation → RelocationKindInfo → Type 0
+abbrev pub LoongArchRowAgrees : LoongArch64Relocation → RowInfo → Type 0
 LoongArchRowAgrees name row =
     AgreesBy (reads_signed name) row × AgreesInReach (reads_signed name) row
 
@@ -159,11 +159,11 @@ pub record TakesBits (form : Form) (bits : BitRange) : Type 0 where
   pub narrow : (before : ℕ) → bits.end - bits.start ≤ form.width before
   pub fits : (v before : ℕ) → Fits form (field v bits.start bits.end) before
 
-abbrev pub SizeFits : RelocationSize → Type 0
+abbrev pub SizeFits : RowSize → Type 0
 SizeFits (ByteSize n) = ⊤
 SizeFits (BitMasking bits insn) = TakesBits (relocation_form insn) bits
 
 -- the bits that a row names fit its form, and a value can be divided by its alignment
-pub record RowFits (row : RelocationKindInfo) : Type 0 where
+pub record RowFits (row : RowInfo) : Type 0 where
   pub size : SizeFits row.size
   pub aligned : 0 < row.alignment

@@ -2,11 +2,11 @@
 use Rattle.std.specs.Prelude.{◌≡◌, ℕ, List, Some, ℤ}
 use Rattle.linker_elf.specs.Relocate.{IsAccepted, IsWritten}
 use Rattle.linker_elf.specs.Value.{value_of}
-use Rattle.linker_elf.specs.declared.elf.RelocationKindInfo.{RelocationKindInfo}
+use Rattle.linker_elf.specs.declared.elf.RowInfo.{RowInfo}
 use Rattle.linker_elf.specs.declared.elf.value.Operands.{Operands}
 
 -- The relocation has a value, which is written.
-pub record IsApplied (row : RelocationKindInfo) (o : Operands)
+pub record IsApplied (row : RowInfo) (o : Operands)
     (before after : List ℕ) : Type 0 where
   pub value : ℤ
   pub value_is : value_of row o ≡ Some value
@@ -14,5 +14,5 @@ pub record IsApplied (row : RelocationKindInfo) (o : Operands)
   pub written : IsWritten row.size row.kind value before after
 
 -- It has no value, or one that isn't accepted.
-abbrev pub IsRejected : RelocationKindInfo → Operands → List ℕ → Type 0
+abbrev pub IsRejected : RowInfo → Operands → List ℕ → Type 0
 IsRejected row o before = (v : ℤ) → value_of row o ≡ Some v → ¬ IsAccepted row v before

@@ -15,9 +15,9 @@ use Rattle.linker_elf.specs.declared.elf.architecture.Architecture.{Architecture
 use Rattle.linker_elf.specs.declared.elf.architecture.Architecture.TheVariants.{AArch64, RiscV}
 use Rattle.linker_elf.specs.declared.elf.architecture.Architecture.TheVariants.{LoongArch64}
 use Rattle.linker_elf.specs.declared.elf.architecture.Architecture.TheVariants.{Ppc64, X86_64}
-use Rattle.linker_elf.specs.declared.elf.RelocationInstruction.{RelocationInstruction}
-use Rattle.linker_elf.specs.declared.elf.RelocationInstruction.TheVariants as insns
-use Rattle.linker_elf.specs.declared.elf.RelocationKindInfo.{RelocationKindInfo}
+use Rattle.linker_elf.specs.declared.elf.AnyForm.{AnyForm}
+use Rattle.linker_elf.specs.declared.elf.AnyForm.TheVariants as insns
+use Rattle.linker_elf.specs.declared.elf.RowInfo.{RowInfo}
 use Rattle.linker_elf.specs.declared.elf.Uleb128Role.{Uleb128Role}
 
 -- ---- relocations, by `r_type`
@@ -30,7 +30,7 @@ pub record IsNamedValue {Name A : Type 0} (elf : Name → ElfName) (value_of : N
   pub value_is : value ≡ value_of name
 
 -- what the relocation with an `r_type` means
-abbrev pub IsRow : Architecture → ℕ → Option RelocationKindInfo → Type 0
+abbrev pub IsRow : Architecture → ℕ → Option RowInfo → Type 0
 IsRow AArch64 = IsNamedValue aarch64_name aarch64_row
 IsRow RiscV = IsNamedValue riscv_name (λ name. (riscv_relocation name).row)
 IsRow LoongArch64 = IsNamedValue loongarch_name loongarch_row
@@ -58,7 +58,7 @@ of_some of None = None
 of_some of (Some x) = Some (of x)
 
 -- the form with a number
-abbrev pub form_of_number : Architecture → ℕ → Option RelocationInstruction
+abbrev pub form_of_number : Architecture → ℕ → Option AnyForm
 form_of_number AArch64 n = of_some insns.AArch64 (slice_get aarch64_forms n)
 form_of_number RiscV n = of_some insns.RiscV (slice_get riscv_forms n)
 form_of_number LoongArch64 n = of_some insns.LoongArch64 (slice_get loongarch64_forms n)

@@ -7,7 +7,7 @@ use Rattle.linker_base.specs.Rewrite.{Rewrite, offset_after, addend_after}
 use Rattle.linker_elf.specs.Elf.{IsWithin}
 use Rattle.linker_elf.specs.Relocate.{Reaches}
 use Rattle.linker_elf.specs.Value.{sum_64, difference_64, value_of}
-use Rattle.linker_elf.specs.declared.elf.RelocationKindInfo.{RelocationKindInfo}
+use Rattle.linker_elf.specs.declared.elf.RowInfo.{RowInfo}
 use Rattle.linker_elf.specs.declared.elf.choice.Choice.{Choice}
 use Rattle.linker_elf.specs.declared.elf.choice.LinkFacts.{LinkFacts}
 use Rattle.linker_elf.specs.declared.elf.value.Operands.{Operands}
@@ -67,7 +67,7 @@ choice kind relocation = record { kind = kind; relocation = relocation }
 
 -- ---- values in reach
 
-abbrev pub RowReaches : Option RelocationKindInfo → Operands → Type 0
+abbrev pub RowReaches : Option RowInfo → Operands → Type 0
 RowReaches None operands = ⊥
 RowReaches (Some row) operands = Reaches row operands
 
@@ -76,7 +76,7 @@ ValueIsWithin bounds None = ⊥
 ValueIsWithin bounds (Some v) = IsWithin (Some bounds) v
 
 -- the relocation has a value, which is from one number up and below another
-abbrev pub RowIsWithin : Option RelocationKindInfo → ℤ × ℤ → Operands → Type 0
+abbrev pub RowIsWithin : Option RowInfo → ℤ × ℤ → Operands → Type 0
 RowIsWithin None bounds operands = ⊥
 RowIsWithin (Some row) bounds operands = ValueIsWithin bounds (value_of row operands)
 
@@ -121,7 +121,7 @@ symbol_and_addend operands =
 
 -- A condition holds of the facts, where `row` is that of a name, and `after` are the operands after
 -- the rewrite.
-abbrev pub ConditionHolds : {R : Type 0} → (R → Option RelocationKindInfo) → Operands → LinkFacts
+abbrev pub ConditionHolds : {R : Type 0} → (R → Option RowInfo) → Operands → LinkFacts
     → Condition R → Type 0
 ConditionHolds row after facts bound = IsBound facts
 ConditionHolds row after facts weak_zero = facts.is_undefined_weak ≡ true
@@ -149,14 +149,14 @@ ConditionHolds row after facts (within name bounds n) =
 ConditionHolds row after facts (within_if_known name bounds n) =
     HasAddresses facts → RowIsWithin (row name) bounds (operands_before n after)
 
-abbrev pub AllHold : {R : Type 0} → (R → Option RelocationKindInfo) → Operands → LinkFacts
+abbrev pub AllHold : {R : Type 0} → (R → Option RowInfo) → Operands → LinkFacts
     → List (Condition R) → Type 0
 AllHold row after facts [] = ⊤
 AllHold row after facts (c ∷ cs) = ConditionHolds row after facts c × AllHold row after facts cs
 
 -- An entry applies: what is required with its rewrite is at an offset of the section, and its
 -- conditions hold, where `after` gives the operands after a rewrite at an offset.
-abbrev pub Applies : {K R : Type 0} → (K → List ℕ → ℕ → Type 0) → (R → Option RelocationKindInfo)
+abbrev pub Applies : {K R : Type 0} → (K → List ℕ → ℕ → Type 0) → (R → Option RowInfo)
     → (K → ℕ → Operands → Operands) → List ℕ → ℕ → LinkFacts → Entry K R → Type 0
 Applies Required row after section o facts e =
     Required e.kind section o × AllHold row (after e.kind o facts.operands) facts e.conditions

@@ -6,9 +6,9 @@ use Rattle.linker_base.specs.Form.{Form, Layout, form_of}
 use Rattle.linker_elf.specs.declared.elf.Sign.{Sign}
 use Rattle.linker_elf.specs.declared.elf.Sign.TheVariants.{Signed, Unsigned}
 use Rattle.linker_elf.specs.declared.elf.AllowedRange.{AllowedRange}
-use Rattle.linker_elf.specs.declared.elf.RelocationInstruction.{RelocationInstruction}
-use Rattle.linker_elf.specs.declared.elf.RelocationInstruction.TheVariants.{RiscV, Ppc64}
-use Rattle.linker_elf.specs.declared.elf.RelocationInstruction.TheVariants.{LoongArch64, AArch64}
+use Rattle.linker_elf.specs.declared.elf.AnyForm.{AnyForm}
+use Rattle.linker_elf.specs.declared.elf.AnyForm.TheVariants.{RiscV, Ppc64}
+use Rattle.linker_elf.specs.declared.elf.AnyForm.TheVariants.{LoongArch64, AArch64}
 use Rattle.linker_elf.specs.Ppc64.{ppc64_layout}
 use Rattle.linker_elf.specs.AArch64.{aarch64_layout}
 use Rattle.linker_elf.specs.RiscV.{riscv_layout}
@@ -47,11 +47,11 @@ abbrev pub IsAllowed : AllowedRange → ℤ → Type 0
 IsAllowed range v = IsWithin range.bounds v
 
 -- the layout and the form of an instruction of any architecture
-abbrev pub relocation_layout : RelocationInstruction → Layout
+abbrev pub relocation_layout : AnyForm → Layout
 relocation_layout (AArch64 f) = aarch64_layout f
 relocation_layout (RiscV f) = riscv_layout f
 relocation_layout (Ppc64 f) = ppc64_layout f
 relocation_layout (LoongArch64 f) = loongarch_layout f
 
-abbrev pub relocation_form : RelocationInstruction → Form
+abbrev pub relocation_form : AnyForm → Form
 relocation_form f = form_of (relocation_layout f)

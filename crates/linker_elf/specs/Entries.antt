@@ -13,14 +13,14 @@ use Rattle.linker_elf.specs.declared.loongarch64.forms.LoongArch64Instruction.Th
 use Rattle.linker_elf.specs.declared.loongarch64.forms.LoongArch64Instruction.TheVariants.{Branch21}
 use Rattle.linker_elf.specs.declared.loongarch64.forms.LoongArch64Instruction.TheVariants.{Call30}
 use Rattle.linker_elf.specs.declared.loongarch64.forms.LoongArch64Instruction.TheVariants.{Call36}
-use Rattle.linker_elf.specs.declared.ppc64.forms.Ppc64Instruction.{Ppc64Instruction}
-use Rattle.linker_elf.specs.declared.ppc64.forms.Ppc64Instruction.TheVariants.{Branch14, Branch24}
-use Rattle.linker_elf.specs.declared.elf.RelocationInstruction.{RelocationInstruction}
-use Rattle.linker_elf.specs.declared.elf.RelocationInstruction.TheVariants.{RiscV, Ppc64}
-use Rattle.linker_elf.specs.declared.elf.RelocationInstruction.TheVariants.{LoongArch64, AArch64}
-use Rattle.linker_elf.specs.declared.elf.RelocationKindInfo.{RelocationKindInfo}
-use Rattle.linker_elf.specs.declared.elf.RelocationSize.{RelocationSize}
-use Rattle.linker_elf.specs.declared.elf.RelocationSize.TheVariants.{ByteSize, BitMasking}
+use Rattle.linker_elf.specs.declared.ppc64.forms.Ppc64Form.{Ppc64Form}
+use Rattle.linker_elf.specs.declared.ppc64.forms.Ppc64Form.TheVariants.{Branch14, Branch24}
+use Rattle.linker_elf.specs.declared.elf.AnyForm.{AnyForm}
+use Rattle.linker_elf.specs.declared.elf.AnyForm.TheVariants.{RiscV, Ppc64}
+use Rattle.linker_elf.specs.declared.elf.AnyForm.TheVariants.{LoongArch64, AArch64}
+use Rattle.linker_elf.specs.declared.elf.RowInfo.{RowInfo}
+use Rattle.linker_elf.specs.declared.elf.RowSize.{RowSize}
+use Rattle.linker_elf.specs.declared.elf.RowSize.TheVariants.{ByteSize, BitMasking}
 use Rattle.linker_elf.specs.declared.elf.value.Operands.{Operands}
 use Rattle.linker_elf.specs.declared.riscv64.forms.RiscVInstruction.{RiscVInstruction}
 use Rattle.linker_elf.specs.declared.riscv64.forms.RiscVInstruction.TheVariants.{BType, JType}
@@ -38,12 +38,12 @@ abbrev pub with_plt_entry : ℕ → Operands → Operands
 with_plt_entry address o = record o { plt_entry = address }
 
 -- The value is the same wherever the entry is.
-abbrev pub Ignores : (ℕ → Operands → Operands) → RelocationKindInfo → Type 0
+abbrev pub Ignores : (ℕ → Operands → Operands) → RowInfo → Type 0
 Ignores put row =
     (o : Operands) (address : ℕ) → value_of row (put address o) ≡ value_of row o
 
 -- Whatever the operands are, some other entry gives another value.
-abbrev pub DependsOn : (ℕ → Operands → Operands) → RelocationKindInfo → Type 0
+abbrev pub DependsOn : (ℕ → Operands → Operands) → RowInfo → Type 0
 DependsOn put row =
     (o : Operands) → (address : ℕ) × (value_of row (put address o) ≢ value_of row o)
 
@@ -51,15 +51,15 @@ DependsOn put row =
 
 -- RISC-V's low parts: their symbol labels a high part, whose value they take, so that it is the
 -- high part that requires an entry
-abbrev pub is_of_high_part : RelocationSize → Bool
+abbrev pub is_of_high_part : RowSize → Bool
 is_of_high_part (BitMasking bits (RiscV IType)) = true
 is_of_high_part (BitMasking bits (RiscV SType)) = true
 is_of_high_part size = false
 
-abbrev pub AsksForGot : RelocationKindInfo → Type 0
+abbrev pub AsksForGot : RowInfo → Type 0
 AsksForGot row = (is_of_high_part row.size ≡ false) × DependsOn with_got_entry row
 
-abbrev pub AsksForNoGot : RelocationKindInfo → Type 0
+abbrev pub AsksForNoGot : RowInfo → Type 0
 AsksForNoGot row = (is_of_high_part row.size ≡ true) ⊎ Ignores with_got_entry row
 
 -- ---- PLT entries
@@ -80,7 +80,7 @@ is_riscv_branch CjType = true
 is_riscv_branch UiType = true
 is_riscv_branch f = false
 
-abbrev pub is_ppc64_branch : Ppc64Instruction → Bool
+abbrev pub is_ppc64_branch : Ppc64Form → Bool
 is_ppc64_branch Branch14 = true
 is_ppc64_branch Branch24 = true
 is_ppc64_branch f = false
@@ -94,34 +94,34 @@ is_loongarch_branch Call30 bits = true
 is_loongarch_branch Call36 bits = true
 is_loongarch_branch f bits = false
 
-abbrev pub is_branch_insn : RelocationInstruction → BitRange → Bool
+abbrev pub is_branch_insn : AnyForm → BitRange → Bool
 is_branch_insn (AArch64 f) bits = is_aarch64_branch f
 is_branch_insn (RiscV f) bits = is_riscv_branch f
 is_branch_insn (Ppc64 f) bits = is_ppc64_branch f
 is_branch_insn (LoongArch64 f) bits = is_loongarch_branch f bits
 
-abbrev pub is_branch : RelocationSize → Bool
+abbrev pub is_branch : RowSize → Bool
 is_branch (ByteSize n) = false
 is_branch (BitMasking bits insn) = is_branch_insn insn bits
 
-abbrev pub MayUsePlt : RelocationKindInfo → Type 0
+abbrev pub MayUsePlt : RowInfo → Type 0
 MayUsePlt row = (is_branch row.size ≡ true) ⊎ DependsOn with_plt_entry row
 
-abbrev pub MayUseNoPlt : RelocationKindInfo → Type 0
+abbrev pub MayUseNoPlt : RowInfo → Type 0
 MayUseNoPlt row = (is_branch row.size ≡ false) × Ignores with_plt_entry row
 
 -- ---- what the tests return
 
-abbrev pub IsGotAnswer : RelocationKindInfo → Bool → Type 0
+abbrev pub IsGotAnswer : RowInfo → Bool → Type 0
 IsGotAnswer row true = AsksForGot row
 IsGotAnswer row false = AsksForNoGot row
 
-abbrev pub IsPltAnswer : RelocationKindInfo → Bool → Type 0
+abbrev pub IsPltAnswer : RowInfo → Bool → Type 0
 IsPltAnswer row true = MayUsePlt row
 IsPltAnswer row false = MayUseNoPlt row
 
 -- of a name, which may have no row
-abbrev pub IsAnswerOf : (RelocationKindInfo → Bool → Type 0) → Option RelocationKindInfo → Bool
+abbrev pub IsAnswerOf : (RowInfo → Bool → Type 0) → Option RowInfo → Bool
     → Type 0
 IsAnswerOf Is None answer = answer ≡ false
 IsAnswerOf Is (Some row) answer = Is row answer

@@ -5,13 +5,13 @@ use Rattle.std.specs.Prelude.{◌==◌, ◌&&◌, ◌||◌, nat_lt, if◌then◌
 use Rattle.linker_elf.specs.Entries.{is_branch}
 use Rattle.linker_elf.specs.Value.{names_got_entry, names_plt_entry}
 use Rattle.linker_elf.specs.declared.aarch64.forms.AArch64Instruction.TheVariants.{TstBr, Bcond}
-use Rattle.linker_elf.specs.declared.elf.RelocationInstruction.TheVariants.{RiscV, Ppc64}
-use Rattle.linker_elf.specs.declared.elf.RelocationInstruction.TheVariants.{LoongArch64, AArch64}
+use Rattle.linker_elf.specs.declared.elf.AnyForm.TheVariants.{RiscV, Ppc64}
+use Rattle.linker_elf.specs.declared.elf.AnyForm.TheVariants.{LoongArch64, AArch64}
 use Rattle.linker_elf.specs.declared.elf.RelocationKind.{RelocationKind}
 use Rattle.linker_elf.specs.declared.elf.RelocationKind.TheVariants as kinds
-use Rattle.linker_elf.specs.declared.elf.RelocationKindInfo.{RelocationKindInfo}
-use Rattle.linker_elf.specs.declared.elf.RelocationSize.{RelocationSize}
-use Rattle.linker_elf.specs.declared.elf.RelocationSize.TheVariants.{ByteSize, BitMasking}
+use Rattle.linker_elf.specs.declared.elf.RowInfo.{RowInfo}
+use Rattle.linker_elf.specs.declared.elf.RowSize.{RowSize}
+use Rattle.linker_elf.specs.declared.elf.RowSize.TheVariants.{ByteSize, BitMasking}
 use Rattle.linker_elf.specs.declared.elf.facts.EntryUse.{EntryUse}
 use Rattle.linker_elf.specs.declared.elf.facts.EntryUse.TheVariants as entries
 use Rattle.linker_elf.specs.declared.elf.facts.Length.{Length}
@@ -19,7 +19,7 @@ use Rattle.linker_elf.specs.declared.elf.facts.Length.TheVariants as lengths
 use Rattle.linker_elf.specs.declared.elf.facts.RowFacts.{RowFacts}
 use Rattle.linker_elf.specs.declared.elf.facts.Way.{Way}
 use Rattle.linker_elf.specs.declared.elf.facts.Way.TheVariants as ways
-use Rattle.linker_elf.specs.declared.ppc64.forms.Ppc64Instruction.TheVariants.{Prefixed}
+use Rattle.linker_elf.specs.declared.ppc64.forms.Ppc64Form.TheVariants.{Prefixed}
 use Rattle.linker_elf.specs.declared.riscv64.forms.RiscVInstruction.TheVariants.{IType, SType}
 use Rattle.linker_elf.specs.declared.riscv64.forms.RiscVInstruction.TheVariants.{BType, JType}
 use Rattle.linker_elf.specs.declared.riscv64.forms.RiscVInstruction.TheVariants.{CbType, CjType}
@@ -48,7 +48,7 @@ abbrev pub low_half : EntryUse → EntryUse
 low_half entries.Address = entries.LowHalf
 low_half entry = entry
 
-abbrev pub entry_of : RelocationSize → RelocationKind → EntryUse
+abbrev pub entry_of : RowSize → RelocationKind → EntryUse
 entry_of (BitMasking bits (RiscV IType)) kind = entries.Without
 entry_of (BitMasking bits (RiscV SType)) kind = entries.Without
 entry_of (BitMasking bits (Ppc64 insn)) kind =
@@ -62,14 +62,14 @@ may_have_addend entries.Without = false
 may_have_addend entries.Module = false
 may_have_addend entry = true
 
-abbrev pub has_addend : RelocationSize → RelocationKind → Bool
+abbrev pub has_addend : RowSize → RelocationKind → Bool
 has_addend (BitMasking bits (Ppc64 insn)) kind =
     may_have_addend (entry_of (BitMasking bits (Ppc64 insn)) kind)
 has_addend (BitMasking bits (AArch64 insn)) kind = may_have_addend (class_of kind)
 has_addend size kind = false
 
 -- branches that go to the output's own definition
-abbrev pub is_bound : RelocationSize → Bool
+abbrev pub is_bound : RowSize → Bool
 is_bound (BitMasking bits (AArch64 TstBr)) = true
 is_bound (BitMasking bits (AArch64 Bcond)) = true
 is_bound (BitMasking bits (RiscV BType)) = true
@@ -79,11 +79,11 @@ is_bound (BitMasking bits (RiscV CjType)) = true
 is_bound size = false
 
 -- formulas with L, which isn't the word that PowerPC64's calls load
-abbrev pub has_plt : RelocationSize → RelocationKind → Bool
+abbrev pub has_plt : RowSize → RelocationKind → Bool
 has_plt (BitMasking bits (Ppc64 insn)) kind = false
 has_plt size kind = names_plt_entry kind
 
-abbrev pub is_word : RelocationSize → RelocationKind → Bool
+abbrev pub is_word : RowSize → RelocationKind → Bool
 is_word (ByteSize n) kinds.Absolute = n == 8
 is_word size kind = false
 
@@ -98,13 +98,13 @@ is_address kinds.GotTpOffGot = true
 is_address kinds.TlsDescGot = true
 is_address kind = false
 
-abbrev pub has_page : RelocationSize → Bool
+abbrev pub has_page : RowSize → Bool
 has_page (ByteSize n) = true
 has_page (BitMasking bits (RiscV IType)) = false
 has_page (BitMasking bits (RiscV SType)) = false
 has_page (BitMasking bits insn) = nat_lt 12 bits.end
 
-abbrev pub way_of : RelocationSize → RelocationKind → Way
+abbrev pub way_of : RowSize → RelocationKind → Way
 way_of size kinds.RelativeRiscVLow12 = ways.Low
 way_of (ByteSize n) kinds.PairSubtractionULEB128RiscV = ways.Other
 way_of (ByteSize n) kinds.PairSubtractionULEB128LoongArch = ways.Other
@@ -121,7 +121,7 @@ way_of (BitMasking bits (RiscV UType)) kinds.TlsGd = ways.High
 way_of size kind = ways.Plain
 
 -- how long its instruction is
-abbrev pub length_of : RelocationSize → Length
+abbrev pub length_of : RowSize → Length
 length_of (BitMasking bits (RiscV CbType)) = lengths.Two
 length_of (BitMasking bits (RiscV CjType)) = lengths.Two
 length_of (BitMasking bits (RiscV CluiType)) = lengths.Two
@@ -129,7 +129,7 @@ length_of (BitMasking bits (RiscV insn)) = lengths.Four
 length_of (BitMasking bits (Ppc64 Prefixed)) = lengths.Prefixed
 length_of size = lengths.Any
 
-abbrev pub facts_of : RelocationKindInfo → RowFacts
+abbrev pub facts_of : RowInfo → RowFacts
 facts_of row =
     record {
       entry = entry_of row.size row.kind;

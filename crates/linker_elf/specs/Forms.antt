@@ -6,13 +6,13 @@ use Rattle.linker_elf.specs.LoongArch.{has_16_bits}
 use Rattle.linker_elf.specs.Relocate.{is_dq_form}
 use Rattle.linker_elf.specs.declared.aarch64.forms.AArch64Instruction.{AArch64Instruction}
 use Rattle.linker_elf.specs.declared.aarch64.forms.AArch64Instruction.TheVariants as aarch64
-use Rattle.linker_elf.specs.declared.elf.RelocationInstruction.{RelocationInstruction}
-use Rattle.linker_elf.specs.declared.elf.RelocationInstruction.TheVariants.{AArch64, LoongArch64}
-use Rattle.linker_elf.specs.declared.elf.RelocationInstruction.TheVariants.{Ppc64, RiscV}
+use Rattle.linker_elf.specs.declared.elf.AnyForm.{AnyForm}
+use Rattle.linker_elf.specs.declared.elf.AnyForm.TheVariants.{AArch64, LoongArch64}
+use Rattle.linker_elf.specs.declared.elf.AnyForm.TheVariants.{Ppc64, RiscV}
 use Rattle.linker_elf.specs.declared.loongarch64.forms.LoongArch64Instruction.{LoongArch64Instruction}
 use Rattle.linker_elf.specs.declared.loongarch64.forms.LoongArch64Instruction.TheVariants as loongarch
-use Rattle.linker_elf.specs.declared.ppc64.forms.Ppc64Instruction.{Ppc64Instruction}
-use Rattle.linker_elf.specs.declared.ppc64.forms.Ppc64Instruction.TheVariants as ppc64
+use Rattle.linker_elf.specs.declared.ppc64.forms.Ppc64Form.{Ppc64Form}
+use Rattle.linker_elf.specs.declared.ppc64.forms.Ppc64Form.TheVariants as ppc64
 use Rattle.linker_elf.specs.declared.riscv64.forms.RiscVInstruction.{RiscVInstruction}
 use Rattle.linker_elf.specs.declared.riscv64.forms.RiscVInstruction.TheVariants as riscv
 
@@ -52,7 +52,7 @@ loongarch_mask loongarch.Call30 bits = 0x7fc0001ffffe0
 loongarch_mask loongarch.Call36 bits = 0x3fffc0001ffffe0
 
 -- of the forms of one word
-abbrev pub ppc64_word_mask : Ppc64Instruction → ℕ
+abbrev pub ppc64_word_mask : Ppc64Form → ℕ
 ppc64_word_mask ppc64.D = 0xffff
 ppc64_word_mask ppc64.Ds = 0xfffc
 ppc64_word_mask ppc64.Branch14 = 0xfffc
@@ -61,16 +61,16 @@ ppc64_word_mask ppc64.Prefixed = 0
 ppc64_word_mask ppc64.DUnsigned = 0xffff
 
 -- a word of DQ-form where one of DS-form is expected
-abbrev pub is_dq_at : Ppc64Instruction → ℕ → Bool
+abbrev pub is_dq_at : Ppc64Form → ℕ → Bool
 is_dq_at ppc64.Ds x = is_dq_form x
 is_dq_at f x = false
 
 -- One of DQ-form keeps its lowest four bits.
-abbrev pub ppc64_mask : Ppc64Instruction → ℕ → ℕ
+abbrev pub ppc64_mask : Ppc64Form → ℕ → ℕ
 ppc64_mask ppc64.Prefixed x = 0xffff0003ffff
 ppc64_mask f x = if is_dq_at f x then 0xfff0 else ppc64_word_mask f
 
-abbrev pub instruction_mask : RelocationInstruction → BitRange → ℕ → ℕ
+abbrev pub instruction_mask : AnyForm → BitRange → ℕ → ℕ
 instruction_mask (AArch64 insn) bits x = aarch64_mask insn
 instruction_mask (RiscV insn) bits x = riscv_mask insn
 instruction_mask (Ppc64 insn) bits x = ppc64_mask insn x
@@ -78,7 +78,7 @@ instruction_mask (LoongArch64 insn) bits x = loongarch_mask insn bits
 
 -- ---- the bits of its number that an immediate has; those below are 0
 
-abbrev pub immediate_of : RelocationInstruction → BitRange
+abbrev pub immediate_of : AnyForm → BitRange
 immediate_of (AArch64 aarch64.Adr) = record { start = 0; end = 21 }
 immediate_of (AArch64 aarch64.Movkz) = record { start = 0; end = 16 }
 immediate_of (AArch64 aarch64.Movnz) = record { start = 0; end = 16 }

@@ -1,6 +1,6 @@
 -- Handles of relocations: numbers that name an architecture and a type.
 use Rattle.std.specs.Prelude.{◌≡◌, ◌%◌, ℕ, nat_lt, if◌then◌else◌, Option, Some, None}
-use Rattle.linker_elf.specs.declared.elf.RelocationKindInfo.{RelocationKindInfo}
+use Rattle.linker_elf.specs.declared.elf.RowInfo.{RowInfo}
 use Rattle.linker_elf.specs.Architectures.{IsRow}
 use Rattle.linker_elf.specs.declared.elf.architecture.Architecture.{Architecture}
 use Rattle.linker_elf.specs.declared.elf.architecture.Architecture.TheVariants as architectures
@@ -29,15 +29,15 @@ architecture_in handle =
     else None)))))
 
 -- what the type that it names means, if its architecture has a row of it
-abbrev pub IsRowIn : Option Architecture → ℕ → Option RelocationKindInfo → Type 0
+abbrev pub IsRowIn : Option Architecture → ℕ → Option RowInfo → Type 0
 IsRowIn None r_type meaning = meaning ≡ None
 IsRowIn (Some architecture) r_type meaning = IsRow architecture r_type meaning
 
-abbrev pub IsRowOf : ℕ → Option RelocationKindInfo → Type 0
+abbrev pub IsRowOf : ℕ → Option RowInfo → Type 0
 IsRowOf handle = IsRowIn (architecture_in handle) (handle % handle_unit)
 
 -- the handle of a type with a row, and 0 of others
-abbrev pub IsFound : Architecture → ℕ → Option RelocationKindInfo → ℕ → Type 0
+abbrev pub IsFound : Architecture → ℕ → Option RowInfo → ℕ → Type 0
 IsFound architecture r_type None handle = handle ≡ 0
 IsFound architecture r_type (Some row) handle =
     (architecture_in handle ≡ Some architecture) × (handle % handle_unit ≡ r_type)

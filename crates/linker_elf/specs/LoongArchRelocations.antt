@@ -23,8 +23,8 @@ use Rattle.linker_elf.specs.declared.elf.RelocationKind.TheVariants.{TlsDesc, Tl
 use Rattle.linker_elf.specs.declared.elf.RelocationKind.TheVariants.{TlsDescGot}
 use Rattle.linker_elf.specs.declared.elf.RelocationKind.TheVariants.{TlsDescLoongArch64, TlsGd}
 use Rattle.linker_elf.specs.declared.elf.RelocationKind.TheVariants.{TlsGdGot, TpOff}
-use Rattle.linker_elf.specs.declared.elf.RelocationKindInfo.{RelocationKindInfo}
-use Rattle.linker_elf.specs.declared.elf.RelocationInstruction.TheVariants.{LoongArch64}
+use Rattle.linker_elf.specs.declared.elf.RowInfo.{RowInfo}
+use Rattle.linker_elf.specs.declared.elf.AnyForm.TheVariants.{LoongArch64}
 use Rattle.linker_elf.specs.declared.loongarch64.forms.LoongArch64Instruction.{LoongArch64Instruction}
 use Rattle.linker_elf.specs.declared.loongarch64.forms.LoongArch64Instruction.TheVariants.{Shift5}
 use Rattle.linker_elf.specs.declared.loongarch64.forms.LoongArch64Instruction.TheVariants.{Shift10}
@@ -38,28 +38,28 @@ use Rattle.linker_elf.specs.declared.loongarch64.relocations.LoongArch64Relocati
 use Rattle.linker_elf.specs.declared.loongarch64.relocations.LoongArch64Relocation.TheVariants as r
 
 -- bits `start` and up, below `end`, into an instruction
-abbrev pub insn_row : RelocationKind → ℕ → ℕ → LoongArch64Instruction → RelocationKindInfo
+abbrev pub insn_row : RelocationKind → ℕ → ℕ → LoongArch64Instruction → RowInfo
 insn_row kind start end form = bits_row kind start end (LoongArch64 form)
 
 -- a multiple of 4, of `end` signed bits
-abbrev pub branch_row : RelocationKind → ℕ → LoongArch64Instruction → RelocationKindInfo
+abbrev pub branch_row : RelocationKind → ℕ → LoongArch64Instruction → RowInfo
 branch_row kind end form = aligned_row 4 (signed_row end (insn_row kind 2 end form))
 
 -- the four parts of an address
-abbrev pub high_row : RelocationKind → RelocationKindInfo
+abbrev pub high_row : RelocationKind → RowInfo
 high_row kind = insn_row kind 12 32 Shift5
 
-abbrev pub low_row : RelocationKind → RelocationKindInfo
+abbrev pub low_row : RelocationKind → RowInfo
 low_row kind = insn_row kind 0 12 Shift10
 
-abbrev pub middle_row : RelocationKind → RelocationKindInfo
+abbrev pub middle_row : RelocationKind → RowInfo
 middle_row kind = insn_row kind 32 52 Shift5
 
-abbrev pub upper_row : RelocationKind → RelocationKindInfo
+abbrev pub upper_row : RelocationKind → RowInfo
 upper_row kind = insn_row kind 52 64 Shift10
 
 -- the high part rounded, since the low part is read in two's complement
-abbrev pub rounded_row : RelocationKind → RelocationKindInfo
+abbrev pub rounded_row : RelocationKind → RowInfo
 rounded_row kind = biased_row 0x800 (high_row kind)
 
 -- each name with its `r_type` and its row
@@ -204,11 +204,11 @@ abbrev pub loongarch_name : LoongArch64Relocation → ElfName
 loongarch_name name = (loongarch_relocation name).name
 
 -- what a relocation means, and none where it isn't known
-abbrev pub loongarch_row : LoongArch64Relocation → Option RelocationKindInfo
+abbrev pub loongarch_row : LoongArch64Relocation → Option RowInfo
 loongarch_row name = (loongarch_relocation name).row
 
 -- the row that the crate this one is a port of has; its `R_LARCH_ALIGN` has no kind of its own
-abbrev pub loongarch_raw_row : LoongArch64Relocation → Option RelocationKindInfo
+abbrev pub loongarch_raw_row : LoongArch64Relocation → Option RowInfo
 loongarch_raw_row r.R_LARCH_ALIGN = Some (bytes_row NoValue 0)
 loongarch_raw_row name = raw_row (loongarch_relocation name)
 

@@ -5,12 +5,12 @@ use denote.Enum.Declared.{tag_of}
 use Rattle.linker_elf.specs.contracts.aarch64.forms.AArch64Instruction as aarch64
 use Rattle.linker_elf.specs.contracts.riscv64.forms.RiscVInstruction as riscv
 use Rattle.linker_elf.specs.contracts.loongarch64.forms.LoongArch64Instruction as loongarch64
-use Rattle.linker_elf.specs.contracts.ppc64.forms.Ppc64Instruction as ppc64
-use Rattle.linker_elf.specs.declared.elf.RelocationInstruction.{RelocationInstruction}
-use Rattle.linker_elf.specs.declared.elf.RelocationInstruction.TheVariants as insns
-use Rattle.linker_elf.specs.declared.elf.RelocationKindInfo.{RelocationKindInfo}
-use Rattle.linker_elf.specs.declared.elf.RelocationSize.{RelocationSize}
-use Rattle.linker_elf.specs.declared.elf.RelocationSize.TheVariants.{ByteSize, BitMasking}
+use Rattle.linker_elf.specs.contracts.ppc64.forms.Ppc64Form as ppc64
+use Rattle.linker_elf.specs.declared.elf.AnyForm.{AnyForm}
+use Rattle.linker_elf.specs.declared.elf.AnyForm.TheVariants as insns
+use Rattle.linker_elf.specs.declared.elf.RowInfo.{RowInfo}
+use Rattle.linker_elf.specs.declared.elf.RowSize.{RowSize}
+use Rattle.linker_elf.specs.declared.elf.RowSize.TheVariants.{ByteSize, BitMasking}
 use Rattle.linker_elf.specs.declared.elf.numbers.RelocationNumbers.{RelocationNumbers}
 use Rattle.linker_elf.specs.Elf.{em_aarch64, em_riscv, em_loongarch, em_ppc64}
 use Rattle.linker_elf.specs.declared.elf.PageMask.{PageMask}
@@ -68,14 +68,14 @@ mask_number (Some (SymbolPlusAddendAndPosition pattern)) = 1
 mask_number (Some (GotEntryAndPosition pattern)) = 2
 mask_number (Some (GotBase pattern)) = 3
 
-abbrev pub form_number : RelocationInstruction → ℕ
+abbrev pub form_number : AnyForm → ℕ
 form_number (insns.AArch64 form) = tag_of aarch64.the_type form
 form_number (insns.RiscV form) = tag_of riscv.the_type form
 form_number (insns.LoongArch64 form) = tag_of loongarch64.the_type form
 form_number (insns.Ppc64 form) = tag_of ppc64.the_type form
 
 -- e_machine of the files that have such instructions
-abbrev pub form_machine : RelocationInstruction → ℕ
+abbrev pub form_machine : AnyForm → ℕ
 form_machine (insns.AArch64 form) = em_aarch64
 form_machine (insns.RiscV form) = em_riscv
 form_machine (insns.LoongArch64 form) = em_loongarch
@@ -90,7 +90,7 @@ pub record SizeNumbers : Type 0 where
   pub first_bit : ℕ
   pub end_bit : ℕ
 
-abbrev pub size_numbers : RelocationSize → SizeNumbers
+abbrev pub size_numbers : RowSize → SizeNumbers
 size_numbers (ByteSize n) = record {
   form = 0;
   machine = 0;
@@ -122,7 +122,7 @@ abbrev pub flag_number : Bool → ℕ
 flag_number false = 0
 flag_number true = 1
 
-abbrev pub numbers_of : RelocationKindInfo → RelocationNumbers
+abbrev pub numbers_of : RowInfo → RelocationNumbers
 numbers_of row = record {
   kind = kind_number row.kind;
   form = (size_numbers row.size).form;

@@ -7,10 +7,10 @@ use Rattle.std.specs.Int.{Width, w32, w64, from_le_bytes}
 use Rattle.linker_base.specs.Bits.{field, signed}
 use Rattle.linker_base.specs.Form.{ImmediateBit, Form, Layout, one_field, form_of, bits_to}
 use Rattle.linker_base.specs.Form.{Sign, unsigned, twos_complement, modulo, IsSameModulo}
-use Rattle.linker_elf.specs.declared.ppc64.forms.Ppc64Instruction.{Ppc64Instruction}
-use Rattle.linker_elf.specs.declared.ppc64.forms.Ppc64Instruction.TheVariants.{D, Ds, Branch14}
-use Rattle.linker_elf.specs.declared.ppc64.forms.Ppc64Instruction.TheVariants.{Branch24}
-use Rattle.linker_elf.specs.declared.ppc64.forms.Ppc64Instruction.TheVariants.{Prefixed, DUnsigned}
+use Rattle.linker_elf.specs.declared.ppc64.forms.Ppc64Form.{Ppc64Form}
+use Rattle.linker_elf.specs.declared.ppc64.forms.Ppc64Form.TheVariants.{D, Ds, Branch14}
+use Rattle.linker_elf.specs.declared.ppc64.forms.Ppc64Form.TheVariants.{Branch24}
+use Rattle.linker_elf.specs.declared.ppc64.forms.Ppc64Form.TheVariants.{Prefixed, DUnsigned}
 
 -- an immediate of n bits, of which those from bit `low` up stand at places
 abbrev pub immediate_at : Sign → Width → ℕ → ℕ → List ImmediateBit → Layout
@@ -31,7 +31,7 @@ immediate_at sign w n low ps =
 abbrev pub displacement : ℕ → ℕ → Layout
 displacement n low = immediate_at twos_complement w32 n low (bits_to low (n - 1) low)
 
-abbrev pub ppc64_layout : Ppc64Instruction → Layout
+abbrev pub ppc64_layout : Ppc64Form → Layout
 ppc64_layout D = displacement 16 0
 ppc64_layout Ds = displacement 16 2
 ppc64_layout Branch14 = displacement 16 2
@@ -41,10 +41,10 @@ ppc64_layout Prefixed =
 ppc64_layout DUnsigned = immediate_at unsigned w32 16 0 (bits_to 0 15 0)
 
 -- the forms by their numbers from 0 up
-abbrev pub ppc64_forms : List Ppc64Instruction
+abbrev pub ppc64_forms : List Ppc64Form
 ppc64_forms = D ∷ Ds ∷ Branch14 ∷ Branch24 ∷ Prefixed ∷ DUnsigned ∷ []
 
-abbrev pub ppc64_form : Ppc64Instruction → Form
+abbrev pub ppc64_form : Ppc64Form → Form
 ppc64_form f = form_of (ppc64_layout f)
 
 -- what `addis` by the high half and `addi` by the low half add, by the words of both

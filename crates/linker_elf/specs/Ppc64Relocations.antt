@@ -13,52 +13,52 @@ use Rattle.linker_elf.specs.declared.elf.RelocationKind.TheVariants.{TlsGd, TlsL
 use Rattle.linker_elf.specs.declared.elf.RelocationKind.TheVariants.{None as NoValue, Relative}
 use Rattle.linker_elf.specs.declared.elf.RelocationKind.TheVariants.{SymRelGotBase, TlsGdGotBase}
 use Rattle.linker_elf.specs.declared.elf.RelocationKind.TheVariants.{TlsLdGotBase, TpOff}
-use Rattle.linker_elf.specs.declared.elf.RelocationKindInfo.{RelocationKindInfo}
-use Rattle.linker_elf.specs.declared.elf.RelocationInstruction.TheVariants.{Ppc64}
-use Rattle.linker_elf.specs.declared.ppc64.forms.Ppc64Instruction.{Ppc64Instruction}
-use Rattle.linker_elf.specs.declared.ppc64.forms.Ppc64Instruction.TheVariants.{D, Ds, Branch14}
-use Rattle.linker_elf.specs.declared.ppc64.forms.Ppc64Instruction.TheVariants.{Branch24, Prefixed}
-use Rattle.linker_elf.specs.declared.ppc64.forms.Ppc64Instruction.TheVariants.{DUnsigned}
+use Rattle.linker_elf.specs.declared.elf.RowInfo.{RowInfo}
+use Rattle.linker_elf.specs.declared.elf.AnyForm.TheVariants.{Ppc64}
+use Rattle.linker_elf.specs.declared.ppc64.forms.Ppc64Form.{Ppc64Form}
+use Rattle.linker_elf.specs.declared.ppc64.forms.Ppc64Form.TheVariants.{D, Ds, Branch14}
+use Rattle.linker_elf.specs.declared.ppc64.forms.Ppc64Form.TheVariants.{Branch24, Prefixed}
+use Rattle.linker_elf.specs.declared.ppc64.forms.Ppc64Form.TheVariants.{DUnsigned}
 use Rattle.linker_elf.specs.declared.ppc64.relocations.Ppc64Relocation.{Ppc64Relocation}
 use Rattle.linker_elf.specs.declared.ppc64.relocations.Ppc64Relocation.TheVariants as r
 
 -- the high half
-abbrev pub high_row : RelocationKind → RelocationKindInfo
+abbrev pub high_row : RelocationKind → RowInfo
 high_row kind = bits_row kind 16 32 (Ppc64 D)
 
 -- a part that is adjusted for the sign of the low half
-abbrev pub adjusted_row : RelocationKindInfo → RelocationKindInfo
+abbrev pub adjusted_row : RowInfo → RowInfo
 adjusted_row row = biased_row 0x8000 row
 
 -- the high half so
-abbrev pub high_adjusted_row : RelocationKind → RelocationKindInfo
+abbrev pub high_adjusted_row : RelocationKind → RowInfo
 high_adjusted_row kind = adjusted_row (high_row kind)
 
 -- the low half
-abbrev pub low_row : RelocationKind → RelocationKindInfo
+abbrev pub low_row : RelocationKind → RowInfo
 low_row kind = bits_row kind 0 16 (Ppc64 D)
 
 -- the low half in whole words
-abbrev pub low_ds_row : RelocationKind → RelocationKindInfo
+abbrev pub low_ds_row : RelocationKind → RowInfo
 low_ds_row kind = aligned_row 4 (bits_row kind 0 16 (Ppc64 Ds))
 
 -- the parts of a value of 64 bits above its low half, which aren't checked: `lis` takes the highest
 -- one, `ori` and `oris` the others
-abbrev pub highest_row : RelocationKind → RelocationKindInfo
+abbrev pub highest_row : RelocationKind → RowInfo
 highest_row kind = bits_row kind 48 64 (Ppc64 D)
 
-abbrev pub higher_row : RelocationKind → RelocationKindInfo
+abbrev pub higher_row : RelocationKind → RowInfo
 higher_row kind = bits_row kind 32 48 (Ppc64 DUnsigned)
 
-abbrev pub unchecked_row : RelocationKind → RelocationKindInfo
+abbrev pub unchecked_row : RelocationKind → RowInfo
 unchecked_row kind = bits_row kind 16 32 (Ppc64 DUnsigned)
 
 -- a signed distance, or address, of n bits
-abbrev pub branch_row : RelocationKind → ℕ → Ppc64Instruction → RelocationKindInfo
+abbrev pub branch_row : RelocationKind → ℕ → Ppc64Form → RowInfo
 branch_row kind n form = aligned_row 4 (signed_row n (bits_row kind 0 n (Ppc64 form)))
 
 -- 34 signed bits into a prefixed instruction
-abbrev pub prefixed_row : RelocationKind → RelocationKindInfo
+abbrev pub prefixed_row : RelocationKind → RowInfo
 prefixed_row kind = signed_row 34 (bits_row kind 0 34 (Ppc64 Prefixed))
 
 -- each name with its `r_type` and its row
@@ -245,5 +245,5 @@ abbrev pub ppc64_name : Ppc64Relocation → ElfName
 ppc64_name name = (ppc64_relocation name).name
 
 -- what a relocation means, and none where it isn't known
-abbrev pub ppc64_row : Ppc64Relocation → Option RelocationKindInfo
+abbrev pub ppc64_row : Ppc64Relocation → Option RowInfo
 ppc64_row name = (ppc64_relocation name).row

@@ -9,16 +9,16 @@ use Rattle.linker_elf.specs.declared.aarch64.forms.AArch64Instruction.{AArch64In
 use Rattle.linker_elf.specs.declared.aarch64.forms.AArch64Instruction.TheVariants.{Movnz}
 use Rattle.linker_elf.specs.declared.loongarch64.forms.LoongArch64Instruction.{LoongArch64Instruction}
 use Rattle.linker_elf.specs.declared.loongarch64.forms.LoongArch64Instruction.TheVariants.{Call36}
-use Rattle.linker_elf.specs.declared.ppc64.forms.Ppc64Instruction.{Ppc64Instruction}
-use Rattle.linker_elf.specs.declared.ppc64.forms.Ppc64Instruction.TheVariants.{D}
-use Rattle.linker_elf.specs.declared.elf.RelocationInstruction.TheVariants.{RiscV, Ppc64}
-use Rattle.linker_elf.specs.declared.elf.RelocationInstruction.TheVariants.{LoongArch64, AArch64}
+use Rattle.linker_elf.specs.declared.ppc64.forms.Ppc64Form.{Ppc64Form}
+use Rattle.linker_elf.specs.declared.ppc64.forms.Ppc64Form.TheVariants.{D}
+use Rattle.linker_elf.specs.declared.elf.AnyForm.TheVariants.{RiscV, Ppc64}
+use Rattle.linker_elf.specs.declared.elf.AnyForm.TheVariants.{LoongArch64, AArch64}
 use Rattle.linker_elf.specs.declared.elf.RelocationKind.{RelocationKind}
 use Rattle.linker_elf.specs.declared.elf.RelocationKind.TheVariants.{GotRelative, GotRelGotBase}
 use Rattle.linker_elf.specs.declared.elf.RelocationKind.TheVariants.{PltRelative}
-use Rattle.linker_elf.specs.declared.elf.RelocationKindInfo.{RelocationKindInfo}
-use Rattle.linker_elf.specs.declared.elf.RelocationSize.{RelocationSize}
-use Rattle.linker_elf.specs.declared.elf.RelocationSize.TheVariants.{ByteSize, BitMasking}
+use Rattle.linker_elf.specs.declared.elf.RowInfo.{RowInfo}
+use Rattle.linker_elf.specs.declared.elf.RowSize.{RowSize}
+use Rattle.linker_elf.specs.declared.elf.RowSize.TheVariants.{ByteSize, BitMasking}
 use Rattle.linker_elf.specs.declared.riscv64.forms.RiscVInstruction.{RiscVInstruction}
 use Rattle.linker_elf.specs.declared.riscv64.forms.RiscVInstruction.TheVariants.{UType, IType}
 use Rattle.linker_elf.specs.declared.riscv64.forms.RiscVInstruction.TheVariants.{SType}
@@ -62,7 +62,7 @@ loongarch_reach Call36 own = Some call36_bounds
 loongarch_reach insn own = own
 
 -- the high halves, which the psABI checks: 16 signed bits from bit 16 up
-abbrev pub ppc64_reach : Ppc64Instruction → BitRange → Bounds → Bounds
+abbrev pub ppc64_reach : Ppc64Form → BitRange → Bounds → Bounds
 ppc64_reach D bits None = if bits.start == 16 then Some (bit_bounds 32 Signed) else None
 ppc64_reach insn bits own = own
 
@@ -78,12 +78,12 @@ abbrev pub bytes_reach : RelocationKind → ℕ → Bounds → Bounds
 bytes_reach kind n own =
     if signed_in_4_bytes kind && n == 4 then Some (bit_bounds 32 Signed) else own
 
-abbrev pub reach_of_size : RelocationKind → RelocationSize → Bounds → Bounds
+abbrev pub reach_of_size : RelocationKind → RowSize → Bounds → Bounds
 reach_of_size kind (ByteSize n) own = bytes_reach kind n own
 reach_of_size kind (BitMasking bits (AArch64 insn)) own = aarch64_reach insn bits own
 reach_of_size kind (BitMasking bits (RiscV insn)) own = riscv_reach insn own
 reach_of_size kind (BitMasking bits (Ppc64 insn)) own = ppc64_reach insn bits own
 reach_of_size kind (BitMasking bits (LoongArch64 insn)) own = loongarch_reach insn own
 
-abbrev pub reach_of : RelocationKindInfo → Bounds
+abbrev pub reach_of : RowInfo → Bounds
 reach_of row = reach_of_size row.kind row.size row.range.bounds

@@ -13,12 +13,12 @@ use Rattle.linker_elf.specs.Rows.{Bounds}
 use Rattle.linker_elf.specs.declared.aarch64.forms.AArch64Instruction.TheVariants.{Movnz, LdSt}
 use Rattle.linker_elf.specs.declared.loongarch64.forms.LoongArch64Instruction.{LoongArch64Instruction}
 use Rattle.linker_elf.specs.declared.loongarch64.forms.LoongArch64Instruction.TheVariants.{Call36}
-use Rattle.linker_elf.specs.declared.elf.RelocationInstruction.{RelocationInstruction}
-use Rattle.linker_elf.specs.declared.elf.RelocationInstruction.TheVariants.{RiscV, Ppc64}
-use Rattle.linker_elf.specs.declared.elf.RelocationInstruction.TheVariants.{LoongArch64, AArch64}
-use Rattle.linker_elf.specs.declared.elf.RelocationKindInfo.{RelocationKindInfo}
-use Rattle.linker_elf.specs.declared.elf.RelocationSize.{RelocationSize}
-use Rattle.linker_elf.specs.declared.elf.RelocationSize.TheVariants.{ByteSize, BitMasking}
+use Rattle.linker_elf.specs.declared.elf.AnyForm.{AnyForm}
+use Rattle.linker_elf.specs.declared.elf.AnyForm.TheVariants.{RiscV, Ppc64}
+use Rattle.linker_elf.specs.declared.elf.AnyForm.TheVariants.{LoongArch64, AArch64}
+use Rattle.linker_elf.specs.declared.elf.RowInfo.{RowInfo}
+use Rattle.linker_elf.specs.declared.elf.RowSize.{RowSize}
+use Rattle.linker_elf.specs.declared.elf.RowSize.TheVariants.{ByteSize, BitMasking}
 use Rattle.linker_elf.specs.declared.riscv64.forms.RiscVInstruction.{RiscVInstruction}
 use Rattle.linker_elf.specs.declared.riscv64.forms.RiscVInstruction.TheVariants.{UType, IType}
 use Rattle.linker_elf.specs.declared.riscv64.forms.RiscVInstruction.TheVariants.{SType}
@@ -45,13 +45,13 @@ LoongArchReads is_signed f s x v = loongarch_reads f is_signed x ≡ bits_from s
 
 -- LDR and STR of 2 to 16 bytes: the psABI allows offsets of 12 bits from the thread pointer or in a
 -- TLS block, and the machine reads as many units.
-abbrev pub reads_more : RelocationInstruction → BitRange → Bool
+abbrev pub reads_more : AnyForm → BitRange → Bool
 reads_more (AArch64 LdSt) bits = nat_lt (bits.end - bits.start) 12
 reads_more insn bits = false
 
 -- The machine reads v, or its bits from the range's start up, from x and y. MOVN and MOVZ are those
 -- of that shift.
-abbrev pub InstructionReadsAs : Bool → RelocationInstruction → BitRange → ℕ → ℕ → ℤ → Type 0
+abbrev pub InstructionReadsAs : Bool → AnyForm → BitRange → ℕ → ℕ → ℤ → Type 0
 InstructionReadsAs is_signed (AArch64 f) bits x y v =
     (f ≡ Movnz → shift_of x ≡ bits.start) × (aarch64_reads f bits.start x ≡ bits_from bits.start v)
 InstructionReadsAs is_signed (RiscV f) bits x y v = RiscVReads f bits.start x y v
@@ -61,7 +61,7 @@ InstructionReadsAs is_signed (LoongArch64 f) bits x y v = LoongArchReads is_sign
 
 -- The machine reads no aligned value out of the bounds: from no instruction of the row, and from no
 -- pair that it is a half of.
-abbrev pub SizeReadsNoOther : Bool → RelocationSize → Bounds → ℕ → Type 0
+abbrev pub SizeReadsNoOther : Bool → RowSize → Bounds → ℕ → Type 0
 SizeReadsNoOther is_signed (ByteSize n) bounds a = ⊤
 SizeReadsNoOther is_signed (BitMasking bits insn) bounds a =
     reads_more insn bits ≡ false
@@ -69,13 +69,13 @@ SizeReadsNoOther is_signed (BitMasking bits insn) bounds a =
     → IsWithin bounds v
 
 -- The machine reads no other values than those within reach.
-abbrev pub ReadsNoOther : Bool → RelocationKindInfo → Type 0
+abbrev pub ReadsNoOther : Bool → RowInfo → Type 0
 ReadsNoOther is_signed row = SizeReadsNoOther is_signed row.size (reach_of row) row.alignment
 
 -- the row of a relocation
-abbrev pub RowReadsNoOther : RelocationKindInfo → Type 0
+abbrev pub RowReadsNoOther : RowInfo → Type 0
 RowReadsNoOther row = ReadsNoOther false row
 
 -- the row of a LoongArch relocation
-abbrev pub LoongArchRowReadsNoOther : LoongArch64Relocation → RelocationKindInfo → Type 0
+abbrev pub LoongArchRowReadsNoOther : LoongArch64Relocation → RowInfo → Type 0
 LoongArchRowReadsNoOther name row = ReadsNoOther (reads_signed name) row

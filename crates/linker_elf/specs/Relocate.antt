@@ -25,12 +25,12 @@ use Rattle.linker_elf.specs.declared.loongarch64.forms.LoongArch64Instruction.{L
 use Rattle.linker_elf.specs.declared.loongarch64.forms.LoongArch64Instruction.TheVariants.{Shift10}
 use Rattle.linker_elf.specs.declared.loongarch64.forms.LoongArch64Instruction.TheVariants.{Call30}
 use Rattle.linker_elf.specs.declared.loongarch64.forms.LoongArch64Instruction.TheVariants.{Call36}
-use Rattle.linker_elf.specs.declared.ppc64.forms.Ppc64Instruction.{Ppc64Instruction}
-use Rattle.linker_elf.specs.declared.ppc64.forms.Ppc64Instruction.TheVariants.{D, Ds}
+use Rattle.linker_elf.specs.declared.ppc64.forms.Ppc64Form.{Ppc64Form}
+use Rattle.linker_elf.specs.declared.ppc64.forms.Ppc64Form.TheVariants.{D, Ds}
 use Rattle.linker_elf.specs.declared.elf.Sign.TheVariants.{Signed}
-use Rattle.linker_elf.specs.declared.elf.RelocationInstruction.{RelocationInstruction}
-use Rattle.linker_elf.specs.declared.elf.RelocationInstruction.TheVariants.{RiscV, Ppc64}
-use Rattle.linker_elf.specs.declared.elf.RelocationInstruction.TheVariants.{LoongArch64, AArch64}
+use Rattle.linker_elf.specs.declared.elf.AnyForm.{AnyForm}
+use Rattle.linker_elf.specs.declared.elf.AnyForm.TheVariants.{RiscV, Ppc64}
+use Rattle.linker_elf.specs.declared.elf.AnyForm.TheVariants.{LoongArch64, AArch64}
 use Rattle.linker_elf.specs.declared.elf.RelocationKind.{RelocationKind}
 use Rattle.linker_elf.specs.declared.elf.RelocationKind.TheVariants.{Relative, AbsoluteSetWord6}
 use Rattle.linker_elf.specs.declared.elf.RelocationKind.TheVariants.{AbsoluteAddition}
@@ -40,9 +40,9 @@ use Rattle.linker_elf.specs.declared.elf.RelocationKind.TheVariants.{AbsoluteSub
 use Rattle.linker_elf.specs.declared.elf.RelocationKind.TheVariants.{AbsoluteSubtractionWord6}
 use Rattle.linker_elf.specs.declared.elf.RelocationKind.TheVariants.{PairSubtractionULEB128RiscV}
 use Rattle.linker_elf.specs.declared.elf.RelocationKind.TheVariants.{PairSubtractionULEB128LoongArch}
-use Rattle.linker_elf.specs.declared.elf.RelocationKindInfo.{RelocationKindInfo}
-use Rattle.linker_elf.specs.declared.elf.RelocationSize.{RelocationSize}
-use Rattle.linker_elf.specs.declared.elf.RelocationSize.TheVariants.{ByteSize, BitMasking}
+use Rattle.linker_elf.specs.declared.elf.RowInfo.{RowInfo}
+use Rattle.linker_elf.specs.declared.elf.RowSize.{RowSize}
+use Rattle.linker_elf.specs.declared.elf.RowSize.TheVariants.{ByteSize, BitMasking}
 use Rattle.linker_elf.specs.declared.riscv64.forms.RiscVInstruction.{RiscVInstruction}
 use Rattle.linker_elf.specs.declared.riscv64.forms.RiscVInstruction.TheVariants.{UType, IType}
 use Rattle.linker_elf.specs.declared.riscv64.forms.RiscVInstruction.TheVariants.{SType}
@@ -92,7 +92,7 @@ ored_cleared (p ∷ ps) = clearing p.mark p (ored_cleared ps)
 -- The places that are cleared before a write: those that the form only ORs. LoongArch's `Shift10`
 -- with an immediate of 12 bits has a part of its opcode there. No form of RISC-V or PowerPC64 has
 -- such places.
-abbrev pub places_cleared : RelocationInstruction → BitRange → ℕ → List ImmediateBit
+abbrev pub places_cleared : AnyForm → BitRange → ℕ → List ImmediateBit
 places_cleared (AArch64 f) bits x = ored_cleared ((aarch64_form f).places x)
 places_cleared (RiscV f) bits x = []
 places_cleared (Ppc64 f) bits x = []
@@ -117,13 +117,13 @@ with_low_4 n low = n - n % 16 + low % 16
 
 -- The number whose bits are placed: those of the value. The lowest four of a word of DQ-form stay,
 -- since they aren't its displacement's.
-abbrev pub number_placed : RelocationInstruction → ℕ → ℕ → ℕ
+abbrev pub number_placed : AnyForm → ℕ → ℕ → ℕ
 number_placed (Ppc64 Ds) before taken =
     if is_dq_form before then with_low_4 taken before else taken
 number_placed insn before taken = taken
 
 -- MOVN and MOVZ of 32 bits are those of 64 but for bit 31, which stays 0.
-abbrev pub is_32_bit_move : RelocationInstruction → ℕ → Bool
+abbrev pub is_32_bit_move : AnyForm → ℕ → Bool
 is_32_bit_move (AArch64 Movnz) before = bit_at before 31 == 0
 is_32_bit_move insn before = false
 
@@ -133,7 +133,7 @@ with_bit_31_if false window = window
 
 -- The instruction's places are cleared, and then the value's bits are written with its sign. All
 -- other bytes stay.
-pub record InstructionWritten (insn : RelocationInstruction) (bits : BitRange) (v : ℤ)
+pub record InstructionWritten (insn : AnyForm) (bits : BitRange) (v : ℤ)
     (before after : List ℕ) : Type 0 where
   pub clear : ℕ
   pub clears : BitsWritten (places_cleared insn bits (window_of (relocation_form insn) before)) 0
@@ -153,12 +153,12 @@ abbrev pub is_movk : ℕ → Bool
 is_movk word = field word 23 31 == 0xe5
 
 -- It has no form with a sign, and stays what it is.
-abbrev pub stays_movk : RelocationInstruction → BitRange → ℕ → Bool
+abbrev pub stays_movk : AnyForm → BitRange → ℕ → Bool
 stays_movk (AArch64 Movnz) bits before = is_movk before && nat_lt (bits.end - bits.start) 17
 stays_movk insn bits before = false
 
 -- the form in which the bits are written
-abbrev pub insn_at : RelocationInstruction → BitRange → ℕ → RelocationInstruction
+abbrev pub insn_at : AnyForm → BitRange → ℕ → AnyForm
 insn_at insn bits before = if stays_movk insn bits before then AArch64 Movkz else insn
 
 -- ---- `jirl`, where a row is for 12 bits of an address
@@ -168,7 +168,7 @@ abbrev pub is_jirl : ℕ → Bool
 is_jirl word = field word 26 32 == 19
 
 -- the row of `R_LARCH_PCALA_LO12` at a `jirl`, which jumps from the page of a `pcalau12i`
-abbrev pub is_low_jump : RelocationInstruction → RelocationKind → ℕ → Bool
+abbrev pub is_low_jump : AnyForm → RelocationKind → ℕ → Bool
 is_low_jump (LoongArch64 Shift10) AbsoluteLowPart before = is_jirl before
 is_low_jump insn kind before = false
 
@@ -177,16 +177,16 @@ abbrev pub low_part : ℤ → ℤ
 low_part v = signed 12 (bits_taken (record { start = 0; end = 12 }) v)
 
 -- Such a jump gets bits 2 to 17 of that number, as a branch with 16 bits does of a distance.
-abbrev pub bits_at : RelocationInstruction → RelocationKind → BitRange → ℕ → BitRange
+abbrev pub bits_at : AnyForm → RelocationKind → BitRange → ℕ → BitRange
 bits_at insn kind bits before =
     if is_low_jump insn kind before then record { start = 2; end = 18 } else bits
 
-abbrev pub value_at : RelocationInstruction → RelocationKind → ℤ → ℕ → ℤ
+abbrev pub value_at : AnyForm → RelocationKind → ℤ → ℕ → ℤ
 value_at insn kind v before = if is_low_jump insn kind before then low_part v else v
 
 -- ---- what is written
 
-abbrev pub IsWritten : RelocationSize → RelocationKind → ℤ → List ℕ → List ℕ → Type 0
+abbrev pub IsWritten : RowSize → RelocationKind → ℤ → List ℕ → List ℕ → Type 0
 IsWritten (ByteSize n) kind v before after =
     after ≡ low_bytes n (number_written kind v (number_of_bytes n before)) ++ drop n before
 IsWritten (BitMasking bits insn) kind v before after =
@@ -214,7 +214,7 @@ MoveReads true bits None v after =
     (bits_from bits.start v)
 
 -- what an instruction of PowerPC64 reads as its displacement
-abbrev pub ppc64_reads : Ppc64Instruction → ℕ → ℤ
+abbrev pub ppc64_reads : Ppc64Form → ℕ → ℤ
 ppc64_reads Ds word =
     if is_dq_form word then (ppc64_form Ds).machine (word - word % 16)
     else (ppc64_form Ds).machine word
@@ -225,7 +225,7 @@ ppc64_reads f word = (ppc64_form f).machine word
 -- start; those of 32 bits take bits below 32. A displacement of DQ-form begins with the value's bit
 -- 0. An immediate in two's complement of a LoongArch `Shift10` is one of 16 bits. What a half
 -- or a pair of instructions holds is said elsewhere.
-abbrev pub InstructionReads : Bool → RelocationInstruction → BitRange → Option (ℤ × ℤ) → ℤ → ℕ → ℕ
+abbrev pub InstructionReads : Bool → AnyForm → BitRange → Option (ℤ × ℤ) → ℤ → ℕ → ℕ
     → Type 0
 InstructionReads is_signed (AArch64 Movnz) bits bounds v before after =
     shift_of before ≡ bits.start → (bit_at before 31 ≡ 0 → bits.end ≤ 32)
@@ -248,7 +248,7 @@ InstructionReads is_signed (LoongArch64 f) bits bounds v before after =
     (bits_from bits.start v)
 
 -- The same, but that MOVK takes the bits as they are, and a `jirl` jumps by the low part.
-pub record FieldReads (is_signed : Bool) (insn : RelocationInstruction) (kind : RelocationKind)
+pub record FieldReads (is_signed : Bool) (insn : AnyForm) (kind : RelocationKind)
     (bits : BitRange) (bounds : Option (ℤ × ℤ)) (v : ℤ) (before after : ℕ) : Type 0 where
   pub other : stays_movk insn bits before ≡ false → is_low_jump insn kind before ≡ false
       → InstructionReads is_signed insn bits bounds v before after
@@ -257,7 +257,7 @@ pub record FieldReads (is_signed : Bool) (insn : RelocationInstruction) (kind : 
   pub jump : is_low_jump insn kind before ≡ true
       → (loongarch_form Shift10).machine after *ℤ pos 4 ≡ low_part v
 
-abbrev pub SizeReads : Bool → RelocationSize → RelocationKind → Option (ℤ × ℤ) → ℤ → List ℕ
+abbrev pub SizeReads : Bool → RowSize → RelocationKind → Option (ℤ × ℤ) → ℤ → List ℕ
     → List ℕ → Type 0
 SizeReads is_signed (ByteSize n) kind bounds v before after = ⊤
 SizeReads is_signed (BitMasking bits insn) kind bounds v before after =
@@ -278,7 +278,7 @@ whole_number AbsoluteSubtractionWord6 v old =
 whole_number kind v old = v
 
 -- The little-endian number of n bytes is that, modulo 2 ^ (8 * n).
-abbrev pub SizeNumber : RelocationSize → RelocationKind → ℤ → List ℕ → List ℕ → Type 0
+abbrev pub SizeNumber : RowSize → RelocationKind → ℤ → List ℕ → List ℕ → Type 0
 SizeNumber (ByteSize n) kind v before after =
     pos (number_of_bytes n after)
     ≡ int_rem_euclid (whole_number kind v (number_of_bytes n before)) (pos (2 ^ (8 * n)))
@@ -295,73 +295,73 @@ is_of_uleb128 Relative n = n == 0
 is_of_uleb128 kind n = false
 
 -- the pair of a LoongArch call of which no manual says how far it goes
-abbrev pub is_call30 : RelocationInstruction → Bool
+abbrev pub is_call30 : AnyForm → Bool
 is_call30 (LoongArch64 Call30) = true
 is_call30 insn = false
 
 -- at most 8 bytes, or some of a value's 64 bits
-abbrev pub takes_size : RelocationKind → RelocationSize → Bool
+abbrev pub takes_size : RelocationKind → RowSize → Bool
 takes_size kind (ByteSize n) = nat_lt n 9 && not (is_of_uleb128 kind n)
 takes_size kind (BitMasking bits insn) =
     (nat_lt bits.start bits.end && nat_lt bits.end 65) && not (is_call30 insn)
 
 -- such a row, with an alignment that a value can have
-abbrev pub is_supported : RelocationKindInfo → Bool
+abbrev pub is_supported : RowInfo → Bool
 is_supported row =
     takes_size row.kind row.size && nat_lt 0 row.alignment && nat_lt row.alignment (2 ^ 63)
 
-abbrev pub size_len : RelocationSize → ℕ
+abbrev pub size_len : RowSize → ℕ
 size_len (ByteSize n) = n
 size_len (BitMasking bits insn) = byte_len (relocation_form insn).window
 
 -- how many bytes are written
-abbrev pub window_len : RelocationKindInfo → ℕ
+abbrev pub window_len : RowInfo → ℕ
 window_len row = size_len row.size
 
 abbrev pub IsAligned : ℕ → ℤ → Type 0
 IsAligned alignment v = int_rem_euclid v (pos alignment) ≡ pos 0
 
 -- a multiple of 16, for a word of DQ-form
-abbrev pub IsInUnits : RelocationSize → ℤ → List ℕ → Type 0
+abbrev pub IsInUnits : RowSize → ℤ → List ℕ → Type 0
 IsInUnits (BitMasking bits (Ppc64 Ds)) v bytes =
     is_dq_form (window_of (ppc64_form Ds) bytes) ≡ true → IsAligned 16 v
 IsInUnits size v bytes = ⊤
 
 -- a multiple of 4, for a `jirl`
-abbrev pub IsInWords : RelocationSize → RelocationKind → ℤ → List ℕ → Type 0
+abbrev pub IsInWords : RowSize → RelocationKind → ℤ → List ℕ → Type 0
 IsInWords (ByteSize n) kind v bytes = ⊤
 IsInWords (BitMasking bits insn) kind v bytes =
     is_low_jump insn kind (window_of (relocation_form insn) bytes) ≡ true → IsAligned 4 v
 
 -- a multiple of the alignment of the row and of its instruction
-abbrev pub IsMultiple : RelocationKindInfo → ℤ → List ℕ → Type 0
+abbrev pub IsMultiple : RowInfo → ℤ → List ℕ → Type 0
 IsMultiple row v bytes =
     IsAligned row.alignment v × IsInUnits row.size v bytes × IsInWords row.size row.kind v bytes
 
 -- the form holds the bits, as it does of each row of the relocation tables
-abbrev pub HoldsBits : RelocationSize → ℤ → List ℕ → Type 0
+abbrev pub HoldsBits : RowSize → ℤ → List ℕ → Type 0
 HoldsBits (ByteSize n) v bytes = ⊤
 HoldsBits (BitMasking bits insn) v bytes =
     Fits (relocation_form insn) (bits_taken bits v) (window_of (relocation_form insn) bytes)
 
 -- an encoding that isn't reserved holds the value
-abbrev pub IsEncoded : RelocationSize → ℤ → Type 0
+abbrev pub IsEncoded : RowSize → ℤ → Type 0
 IsEncoded (BitMasking bits (RiscV CluiType)) v = ¬ IsWithin (Some clui_hole) v
 IsEncoded size v = ⊤
 
-abbrev pub IsReached : RelocationKindInfo → ℤ → List ℕ → Type 0
+abbrev pub IsReached : RowInfo → ℤ → List ℕ → Type 0
 IsReached row v bytes =
     IsWithin (reach_of row) v × HoldsBits row.size v bytes × IsEncoded row.size v
 
 -- the value is written
-pub record IsAccepted (row : RelocationKindInfo) (v : ℤ) (bytes : List ℕ) : Type 0 where
+pub record IsAccepted (row : RowInfo) (v : ℤ) (bytes : List ℕ) : Type 0 where
   pub supported : is_supported row ≡ true
   pub long : window_len row ≤ length bytes
   pub aligned : IsMultiple row v bytes
   pub reached : IsReached row v bytes
 
 -- why it isn't: the first of these that does not hold
-abbrev pub IsCause : RelocationKindInfo → ℤ → List ℕ → RelocateError → Type 0
+abbrev pub IsCause : RowInfo → ℤ → List ℕ → RelocateError → Type 0
 IsCause row v bytes Unsupported = is_supported row ≡ false
 IsCause row v bytes TooShort = (is_supported row ≡ true) × (length bytes < window_len row)
 IsCause row v bytes Misaligned =
@@ -395,14 +395,14 @@ RiscVHolds UiType bits v after = (riscv_form UiType).machine after ≡ v
 RiscVHolds f bits v after = ⊤
 
 -- A low half completes each high half of the value plus 0x8000, which is a number of 32 bits.
-abbrev pub CompletesAdjusted : Ppc64Instruction → ℤ → ℕ → Type 0
+abbrev pub CompletesAdjusted : Ppc64Form → ℤ → ℕ → Type 0
 CompletesAdjusted low v after =
     (neg : Bool) (before high : ℕ) → IsWithin (Some (bit_bounds 32 Signed)) (v +ℤ pos 0x8000)
     → Written (ppc64_form D) (bits_taken (record { start = 16; end = 32 }) (v +ℤ pos 0x8000)) neg
     before high
     → ((ppc64_form D).machine high *ℤ pos (2 ^ 16)) +ℤ ppc64_reads low after ≡ v
 
-abbrev pub Ppc64Holds : Ppc64Instruction → ℤ → ℕ → Type 0
+abbrev pub Ppc64Holds : Ppc64Form → ℤ → ℕ → Type 0
 Ppc64Holds D v after = CompletesAdjusted D v after
 Ppc64Holds Ds v after = IsAligned 4 v → CompletesAdjusted Ds v after
 Ppc64Holds f v after = ⊤
@@ -414,14 +414,14 @@ LoongArchHolds f v after = ⊤
 -- RISC-V's pairs make the value of which the low 32 bits, or more, were taken, and PowerPC64's low
 -- halves that of which the low 16 were; LoongArch's `pcaddu18i` and `jirl` go as far as the
 -- multiple of 4 of which bits 2 to 37 were.
-abbrev pub InstructionHolds : RelocationInstruction → BitRange → ℤ → ℕ → Type 0
+abbrev pub InstructionHolds : AnyForm → BitRange → ℤ → ℕ → Type 0
 InstructionHolds (AArch64 f) bits v after = ⊤
 InstructionHolds (RiscV f) bits v after = bits.start ≡ 0 → 32 ≤ bits.end → RiscVHolds f bits v after
 InstructionHolds (Ppc64 f) bits v after = bits.start ≡ 0 → 16 ≤ bits.end → Ppc64Holds f v after
 InstructionHolds (LoongArch64 f) bits v after =
     bits.start ≡ 2 → bits.end ≡ 38 → IsAligned 4 v → LoongArchHolds f v after
 
-abbrev pub SizeHolds : RelocationSize → ℤ → List ℕ → Type 0
+abbrev pub SizeHolds : RowSize → ℤ → List ℕ → Type 0
 SizeHolds (ByteSize n) v after = ⊤
 SizeHolds (BitMasking bits insn) v after =
     InstructionHolds insn bits v (window_of (relocation_form insn) after)
@@ -430,7 +430,7 @@ SizeHolds (BitMasking bits insn) v after =
 
 -- The value is written, and the machine reads it: with the range's bounds and with those of the
 -- reach, where the row agrees with the machine so.
-pub record WritesRow (row : RelocationKindInfo) (v : ℤ) (before after : List ℕ) : Type 0 where
+pub record WritesRow (row : RowInfo) (v : ℤ) (before after : List ℕ) : Type 0 where
   pub accepted : IsAccepted row v before
   pub written : IsWritten row.size row.kind v before after
   pub number : SizeNumber row.size row.kind v before after
@@ -441,23 +441,23 @@ pub record WritesRow (row : RelocationKindInfo) (v : ℤ) (before after : List �
   pub pairs : SizeHolds row.size v after
 
 -- The value is rejected, with the error whose cause it has, and nothing is written.
-abbrev pub RejectsValue : RelocationKindInfo → ℤ → List ℕ → List ℕ → RelocateError → Type 0
+abbrev pub RejectsValue : RowInfo → ℤ → List ℕ → List ℕ → RelocateError → Type 0
 RejectsValue row v before after error = IsCause row v before error × (after ≡ before)
 
 -- ---- values in reach
 
 -- A value can be written: it is within the row's reach, an encoding holds it, and it is a multiple
 -- of the row's alignment.
-pub record IsInReach (row : RelocationKindInfo) (v : ℤ) : Type 0 where
+pub record IsInReach (row : RowInfo) (v : ℤ) : Type 0 where
   pub supported : is_supported row ≡ true
   pub within : IsWithin (reach_of row) v
   pub encoded : IsEncoded row.size v
   pub aligned : IsAligned row.alignment v
 
-abbrev pub ReachesValue : RelocationKindInfo → Option ℤ → Type 0
+abbrev pub ReachesValue : RowInfo → Option ℤ → Type 0
 ReachesValue row None = ⊥
 ReachesValue row (Some v) = IsInReach row v
 
 -- the relocation has a value, which can be written
-abbrev pub Reaches : RelocationKindInfo → Operands → Type 0
+abbrev pub Reaches : RowInfo → Operands → Type 0
 Reaches row operands = ReachesValue row (value_of row operands)

@@ -16,8 +16,8 @@ use Rattle.linker_elf.specs.declared.elf.RelocationKind.TheVariants.{PairSubtrac
 use Rattle.linker_elf.specs.declared.elf.RelocationKind.TheVariants.{PltRelative, Relative}
 use Rattle.linker_elf.specs.declared.elf.RelocationKind.TheVariants.{RelativeRiscVLow12, TlsDesc}
 use Rattle.linker_elf.specs.declared.elf.RelocationKind.TheVariants.{TlsDescCall, TlsGd, TpOff}
-use Rattle.linker_elf.specs.declared.elf.RelocationKindInfo.{RelocationKindInfo}
-use Rattle.linker_elf.specs.declared.elf.RelocationInstruction.TheVariants.{RiscV}
+use Rattle.linker_elf.specs.declared.elf.RowInfo.{RowInfo}
+use Rattle.linker_elf.specs.declared.elf.AnyForm.TheVariants.{RiscV}
 use Rattle.linker_elf.specs.declared.riscv64.forms.RiscVInstruction.{RiscVInstruction}
 use Rattle.linker_elf.specs.declared.riscv64.forms.RiscVInstruction.TheVariants.{UType, IType}
 use Rattle.linker_elf.specs.declared.riscv64.forms.RiscVInstruction.TheVariants.{SType, BType}
@@ -30,15 +30,15 @@ use Rattle.linker_elf.specs.declared.riscv64.relocations.RiscVRelocation.{RiscVR
 use Rattle.linker_elf.specs.declared.riscv64.relocations.RiscVRelocation.TheVariants as r
 
 -- a part of a value of 32 bits, or both, of a pair of instructions
-abbrev pub pair_row : RelocationKind → ℕ → RiscVInstruction → RelocationKindInfo
+abbrev pub pair_row : RelocationKind → ℕ → RiscVInstruction → RowInfo
 pair_row kind end form = signed_or_unsigned_row 32 (bits_row kind 0 end (RiscV form))
 
 -- the high part of a value that `c.lui` holds
-abbrev pub clui_row : RelocationKindInfo
+abbrev pub clui_row : RowInfo
 clui_row = pair_row Absolute 32 CluiType
 
 -- an even distance within bounds
-abbrev pub jump_row : ℕ → RiscVInstruction → ℤ × ℤ → RelocationKindInfo
+abbrev pub jump_row : ℕ → RiscVInstruction → ℤ × ℤ → RowInfo
 jump_row end form bounds = aligned_row 2 (within_row bounds (bits_row Relative 0 end (RiscV form)))
 
 -- each name with its `r_type` and its row
@@ -131,7 +131,7 @@ abbrev pub riscv_name : RiscVRelocation → ElfName
 riscv_name name = (riscv_relocation name).name
 
 -- the row that the crate this one is a port of has: none for TLS descriptors and `c.lui`
-abbrev pub riscv_row : RiscVRelocation → Option RelocationKindInfo
+abbrev pub riscv_row : RiscVRelocation → Option RowInfo
 riscv_row name = raw_row (riscv_relocation name)
 
 -- V = S + A of the first of a pair, and V - S - A of the second

@@ -8,11 +8,11 @@ use Rattle.linker_elf.specs.declared.elf.PageMask.{PageMask}
 use Rattle.linker_elf.specs.declared.elf.PageMask.TheVariants.{SymbolPlusAddendAndPosition}
 use Rattle.linker_elf.specs.declared.elf.PageMask.TheVariants.{GotEntryAndPosition, GotBase}
 use Rattle.linker_elf.specs.declared.elf.PageMaskPattern.TheVariants.{Size4KB}
-use Rattle.linker_elf.specs.declared.elf.RelocationInstruction.{RelocationInstruction}
+use Rattle.linker_elf.specs.declared.elf.AnyForm.{AnyForm}
 use Rattle.linker_elf.specs.declared.elf.RelocationKind.{RelocationKind}
-use Rattle.linker_elf.specs.declared.elf.RelocationKindInfo.{RelocationKindInfo}
-use Rattle.linker_elf.specs.declared.elf.RelocationSize.{RelocationSize}
-use Rattle.linker_elf.specs.declared.elf.RelocationSize.TheVariants.{ByteSize, BitMasking}
+use Rattle.linker_elf.specs.declared.elf.RowInfo.{RowInfo}
+use Rattle.linker_elf.specs.declared.elf.RowSize.{RowSize}
+use Rattle.linker_elf.specs.declared.elf.RowSize.TheVariants.{ByteSize, BitMasking}
 use Rattle.linker_elf.specs.declared.elf.Sign.TheVariants.{Signed, Unsigned}
 
 -- the bounds of values: from the first up, below the second, or none
@@ -20,7 +20,7 @@ abbrev pub Bounds : Type 0
 Bounds = Option (ℤ × ℤ)
 
 -- a row of a kind and a size: every value, no page mask, the addend beside the relocation
-abbrev pub plain_row : RelocationKind → RelocationSize → RelocationKindInfo
+abbrev pub plain_row : RelocationKind → RowSize → RowInfo
 plain_row kind size =
     record {
       kind = kind;
@@ -34,44 +34,44 @@ plain_row kind size =
     }
 
 -- n whole bytes
-abbrev pub bytes_row : RelocationKind → ℕ → RelocationKindInfo
+abbrev pub bytes_row : RelocationKind → ℕ → RowInfo
 bytes_row kind n = plain_row kind (ByteSize n)
 
 -- bits `start` and up, below `end`, into an instruction
-abbrev pub bits_row : RelocationKind → ℕ → ℕ → RelocationInstruction → RelocationKindInfo
+abbrev pub bits_row : RelocationKind → ℕ → ℕ → AnyForm → RowInfo
 bits_row kind start end insn =
     plain_row kind (BitMasking (record { start = start; end = end }) insn)
 
 -- values from the first bound up, below the second
-abbrev pub within_row : ℤ × ℤ → RelocationKindInfo → RelocationKindInfo
+abbrev pub within_row : ℤ × ℤ → RowInfo → RowInfo
 within_row bounds row = record row { range = record { bounds = Some bounds } }
 
 -- numbers of n bits, in two's complement
-abbrev pub signed_row : ℕ → RelocationKindInfo → RelocationKindInfo
+abbrev pub signed_row : ℕ → RowInfo → RowInfo
 signed_row n = within_row (bit_bounds n Signed)
 
 -- numbers of n bits, unsigned
-abbrev pub unsigned_row : ℕ → RelocationKindInfo → RelocationKindInfo
+abbrev pub unsigned_row : ℕ → RowInfo → RowInfo
 unsigned_row n = within_row (bit_bounds n Unsigned)
 
 -- numbers of n bits, in two's complement or unsigned
-abbrev pub signed_or_unsigned_row : ℕ → RelocationKindInfo → RelocationKindInfo
+abbrev pub signed_or_unsigned_row : ℕ → RowInfo → RowInfo
 signed_or_unsigned_row n = within_row (signed_or_unsigned n)
 
 -- multiples of n
-abbrev pub aligned_row : ℕ → RelocationKindInfo → RelocationKindInfo
+abbrev pub aligned_row : ℕ → RowInfo → RowInfo
 aligned_row n row = record row { alignment = n }
 
 -- values to which n is added first
-abbrev pub biased_row : ℕ → RelocationKindInfo → RelocationKindInfo
+abbrev pub biased_row : ℕ → RowInfo → RowInfo
 biased_row n row = record row { bias = Some n }
 
 -- addresses cut to their page
-abbrev pub paged_row : PageMask → RelocationKindInfo → RelocationKindInfo
+abbrev pub paged_row : PageMask → RowInfo → RowInfo
 paged_row mask row = record row { mask = Some mask }
 
 -- a thunk may stand in for a target out of range
-abbrev pub thunkable_row : RelocationKindInfo → RelocationKindInfo
+abbrev pub thunkable_row : RowInfo → RowInfo
 thunkable_row row = record row { thunkable = true }
 
 abbrev pub place_pages : PageMask
@@ -87,18 +87,18 @@ got_page = GotBase Size4KB
 -- known, and whether the crate that this one is a port of has no row for it
 pub record Relocation : Type 0 where
   pub name : ElfName
-  pub row : Option RelocationKindInfo
+  pub row : Option RowInfo
   pub is_own : Bool
 
-abbrev pub with_row : ℕ → List ℕ → RelocationKindInfo → Relocation
+abbrev pub with_row : ℕ → List ℕ → RowInfo → Relocation
 with_row r_type text row = record { name = named r_type text; row = Some row; is_own = false }
 
-abbrev pub with_own_row : ℕ → List ℕ → RelocationKindInfo → Relocation
+abbrev pub with_own_row : ℕ → List ℕ → RowInfo → Relocation
 with_own_row r_type text row = record (with_row r_type text row) { is_own = true }
 
 abbrev pub unnamed_relocation : ℕ → Relocation
 unnamed_relocation r_type = record { name = unnamed r_type; row = None; is_own = false }
 
 -- the row that that crate has
-abbrev pub raw_row : Relocation → Option RelocationKindInfo
+abbrev pub raw_row : Relocation → Option RowInfo
 raw_row relocation = if relocation.is_own then None else relocation.row

@@ -9,13 +9,13 @@ use Rattle.linker_elf.specs.LoongArch.{page, high_distance}
 use Rattle.linker_elf.specs.declared.elf.PageMask.{PageMask}
 use Rattle.linker_elf.specs.declared.elf.PageMask.TheVariants.{SymbolPlusAddendAndPosition}
 use Rattle.linker_elf.specs.declared.elf.PageMask.TheVariants.{GotEntryAndPosition, GotBase}
-use Rattle.linker_elf.specs.declared.elf.RelocationInstruction.TheVariants.{RiscV, Ppc64}
-use Rattle.linker_elf.specs.declared.elf.RelocationInstruction.TheVariants.{LoongArch64, AArch64}
+use Rattle.linker_elf.specs.declared.elf.AnyForm.TheVariants.{RiscV, Ppc64}
+use Rattle.linker_elf.specs.declared.elf.AnyForm.TheVariants.{LoongArch64, AArch64}
 use Rattle.linker_elf.specs.declared.elf.RelocationKind.{RelocationKind}
 use Rattle.linker_elf.specs.declared.elf.RelocationKind.TheVariants as kinds
-use Rattle.linker_elf.specs.declared.elf.RelocationKindInfo.{RelocationKindInfo}
-use Rattle.linker_elf.specs.declared.elf.RelocationSize.{RelocationSize}
-use Rattle.linker_elf.specs.declared.elf.RelocationSize.TheVariants.{ByteSize, BitMasking}
+use Rattle.linker_elf.specs.declared.elf.RowInfo.{RowInfo}
+use Rattle.linker_elf.specs.declared.elf.RowSize.{RowSize}
+use Rattle.linker_elf.specs.declared.elf.RowSize.TheVariants.{ByteSize, BitMasking}
 use Rattle.linker_elf.specs.declared.elf.value.FormulaError.{FormulaError}
 use Rattle.linker_elf.specs.declared.elf.value.FormulaError.TheVariants.{NoEntry, NoTlsBase}
 use Rattle.linker_elf.specs.declared.elf.value.FormulaError.TheVariants.{NoValue}
@@ -65,7 +65,7 @@ bias_number (Some n) = n
 
 -- the addend that is added to a GOT entry's address: none in the instructions of AArch64 and
 -- PowerPC64, whose entry is that of S + A
-abbrev pub entry_addend : RelocationSize → ℤ → ℕ
+abbrev pub entry_addend : RowSize → ℤ → ℕ
 entry_addend (ByteSize n) addend = cast_unsigned w64 addend
 entry_addend (BitMasking bits (AArch64 insn)) addend = 0
 entry_addend (BitMasking bits (RiscV insn)) addend = cast_unsigned w64 addend
@@ -74,43 +74,43 @@ entry_addend (BitMasking bits (LoongArch64 insn)) addend = cast_unsigned w64 add
 
 -- the address of the first of LoongArch's five instructions plus 8: that of the third, which takes
 -- bits 32 to 51, and 4 below that of the fourth, which takes bits 52 to 63
-abbrev pub sequence_pc : RelocationSize → ℕ → ℕ
+abbrev pub sequence_pc : RowSize → ℕ → ℕ
 sequence_pc (ByteSize n) place = place
 sequence_pc (BitMasking bits insn) place = if bits.start == 52 then difference_64 place 4 else place
 
 -- ---- the parts of the formulas, the bias added first and the page masks applied last
 
 -- S + A
-abbrev pub symbol_term : RelocationKindInfo → Operands → ℕ
+abbrev pub symbol_term : RowInfo → Operands → ℕ
 symbol_term row o =
     page_if (masks_symbol row.mask)
     (sum_64 (sum_64 o.symbol (cast_unsigned w64 o.addend)) (bias_number row.bias))
 
 -- GOT + G + A, or the same of an entry of TLS
-abbrev pub entry_term : RelocationKindInfo → Operands → ℕ
+abbrev pub entry_term : RowInfo → Operands → ℕ
 entry_term row o =
     page_if (masks_entry row.mask)
     (sum_64 (sum_64 o.got_entry (entry_addend row.size o.addend)) (bias_number row.bias))
 
 -- L + A
-abbrev pub plt_term : RelocationKindInfo → Operands → ℕ
+abbrev pub plt_term : RowInfo → Operands → ℕ
 plt_term row o = sum_64 (sum_64 o.plt_entry (cast_unsigned w64 o.addend)) (bias_number row.bias)
 
 -- Z + A
-abbrev pub size_term : RelocationKindInfo → Operands → ℕ
+abbrev pub size_term : RowInfo → Operands → ℕ
 size_term row o = sum_64 (sum_64 o.symbol_size (cast_unsigned w64 o.addend)) (bias_number row.bias)
 
 -- P
-abbrev pub place_term : RelocationKindInfo → Operands → ℕ
+abbrev pub place_term : RowInfo → Operands → ℕ
 place_term row o = page_if (masks_place row.mask) o.place
 
 -- GOT
-abbrev pub got_term : RelocationKindInfo → Operands → ℕ
+abbrev pub got_term : RowInfo → Operands → ℕ
 got_term row o = page_if (masks_got row.mask) o.got_base
 
 -- S + A - P; of no bytes, S + A: so are the rows of the first of a pair at a ULEB128 number, which
 -- isn't relative to the place
-abbrev pub relative_term : RelocationSize → RelocationKindInfo → Operands → ℕ
+abbrev pub relative_term : RowSize → RowInfo → Operands → ℕ
 relative_term (ByteSize n) row o =
     if n == 0 then symbol_term row o else difference_64 (symbol_term row o) (place_term row o)
 relative_term (BitMasking bits insn) row o = difference_64 (symbol_term row o) (place_term row o)
@@ -118,7 +118,7 @@ relative_term (BitMasking bits insn) row o = difference_64 (symbol_term row o) (
 -- ---- the formulas
 
 -- the value modulo 2 ^ 64, and none of a kind that has none
-abbrev pub formula : RelocationKind → RelocationKindInfo → Operands → Option ℕ
+abbrev pub formula : RelocationKind → RowInfo → Operands → Option ℕ
 formula kinds.None row o = None
 formula kinds.Absolute row o = Some (symbol_term row o)
 formula kinds.AbsoluteLowPart row o = Some (symbol_term row o)
@@ -169,7 +169,7 @@ read_signed None = None
 read_signed (Some n) = Some (cast_signed w64 n)
 
 -- the value, read in two's complement
-abbrev pub value_of : RelocationKindInfo → Operands → Option ℤ
+abbrev pub value_of : RowInfo → Operands → Option ℤ
 value_of row o = read_signed (formula row.kind row o)
 
 -- ---- what a formula reads
@@ -209,7 +209,7 @@ is_offset kind = false
 
 -- PowerPC64's calls that load the function's address themselves: L is the word that holds it
 -- (64-Bit ELF V2 ABI, "Relocation Types")
-abbrev pub loads_plt_word : RelocationSize → RelocationKind → Bool
+abbrev pub loads_plt_word : RowSize → RelocationKind → Bool
 loads_plt_word (BitMasking bits (Ppc64 insn)) kind = names_plt_entry kind
 loads_plt_word size kind = false
 
@@ -221,16 +221,16 @@ completed o = record o { plt_entry = if o.has_plt_entry then o.plt_entry else o.
 
 -- the formula has an entry of the GOT, or the word that PowerPC64's calls load themselves, and
 -- there is none
-abbrev pub lacks_entry : RelocationKindInfo → Operands → Bool
+abbrev pub lacks_entry : RowInfo → Operands → Bool
 lacks_entry row o =
     (names_got_entry row.kind && not o.has_got_entry)
     || (loads_plt_word row.size row.kind && not o.has_plt_entry)
 
 -- it has the origin of thread-local offsets, and there is none
-abbrev pub lacks_tls_base : RelocationKindInfo → Operands → Bool
+abbrev pub lacks_tls_base : RowInfo → Operands → Bool
 lacks_tls_base row o = is_offset row.kind && not o.has_tls_base
 
-abbrev pub lacks : RelocationKindInfo → Operands → Bool
+abbrev pub lacks : RowInfo → Operands → Bool
 lacks row o = lacks_entry row o || lacks_tls_base row o
 
 abbrev pub or_no_value : Option ℤ → Result ℤ FormulaError
@@ -238,7 +238,7 @@ or_no_value None = Err NoValue
 or_no_value (Some v) = Ok v
 
 -- the value of what there is, or why there is none
-abbrev pub value_given : RelocationKindInfo → Operands → Result ℤ FormulaError
+abbrev pub value_given : RowInfo → Operands → Result ℤ FormulaError
 value_given row o =
     if lacks_entry row o then Err NoEntry
     else (if lacks_tls_base row o then Err NoTlsBase else or_no_value (value_of row (completed o)))

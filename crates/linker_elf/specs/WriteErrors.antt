@@ -4,7 +4,7 @@ use Rattle.std.specs.Int.{w64, cast_signed, cast_unsigned}
 use Rattle.linker_elf.specs.Reach.{reach_of}
 use Rattle.linker_elf.specs.Rows.{Bounds}
 use Rattle.linker_elf.specs.Value.{difference_64}
-use Rattle.linker_elf.specs.declared.elf.RelocationKindInfo.{RelocationKindInfo}
+use Rattle.linker_elf.specs.declared.elf.RowInfo.{RowInfo}
 use Rattle.linker_elf.specs.declared.elf.relocate.RelocateError.{RelocateError}
 use Rattle.linker_elf.specs.declared.elf.relocate.WriteError.{WriteError}
 
@@ -18,7 +18,7 @@ abbrev pub greatest_within : Bounds → ℤ
 greatest_within None = pos (2 ^ 63 - 1)
 greatest_within (Some b) = cast_signed w64 (difference_64 (cast_unsigned w64 b.1) 1)
 
-abbrev pub write_error : RelocationKindInfo → ℤ → RelocateError → WriteError
+abbrev pub write_error : RowInfo → ℤ → RelocateError → WriteError
 write_error row value error =
     record {
       error = error;

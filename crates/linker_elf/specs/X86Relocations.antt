@@ -12,7 +12,7 @@ use Rattle.linker_elf.specs.declared.elf.RelocationKind.TheVariants.{Relative, S
 use Rattle.linker_elf.specs.declared.elf.RelocationKind.TheVariants.{SymbolSize, TlsDesc}
 use Rattle.linker_elf.specs.declared.elf.RelocationKind.TheVariants.{TlsDescCall, TlsGd, TlsLd}
 use Rattle.linker_elf.specs.declared.elf.RelocationKind.TheVariants.{TpOff}
-use Rattle.linker_elf.specs.declared.elf.RelocationKindInfo.{RelocationKindInfo}
+use Rattle.linker_elf.specs.declared.elf.RowInfo.{RowInfo}
 use Rattle.linker_elf.specs.declared.x86_64.relocations.X86_64Relocation.{X86_64Relocation}
 use Rattle.linker_elf.specs.declared.x86_64.relocations.X86_64Relocation.TheVariants as r
 
@@ -97,5 +97,5 @@ abbrev pub x86_64_name : X86_64Relocation → ElfName
 x86_64_name name = (x86_64_relocation name).name
 
 -- what a relocation means, and none where it isn't known
-abbrev pub x86_64_row : X86_64Relocation → Option RelocationKindInfo
+abbrev pub x86_64_row : X86_64Relocation → Option RowInfo
 x86_64_row name = (x86_64_relocation name).row

@@ -27,7 +27,7 @@ ghost use Rattle.linker_elf.specs.Inner.FormLaws.{relocation_keeps, relocation_r
 
 pub use crate::aarch64::AArch64Instruction;
 pub use crate::loongarch64::LoongArch64Instruction;
-pub use crate::ppc64::Ppc64Instruction;
+pub use crate::ppc64::Ppc64Form;
 pub use crate::riscv64::RiscVInstruction;
 pub use architecture::{Architecture, HANDLE_UNIT, Uleb128PairError};
 pub use choice::{Choice, LinkFacts, OtherRelocation};
@@ -182,72 +182,69 @@ pub enum Sign {
 
 /// Where a relocation's value is written.
 #[derive(Debug, Clone, Copy, PartialEq, Eq)]
-pub enum RelocationSize {
+pub enum RowSize {
     /// This number of whole bytes.
     ByteSize(u8),
     /// A bit range of the value into an instruction of a form.
-    BitMasking {
-        range: BitRange,
-        insn: RelocationInstruction,
-    },
+    BitMasking { range: BitRange, insn: AnyForm },
 }
 
-impl RelocationSize {
+impl RowSize {
     /// Bits `start` and up, below `end`, into an AArch64 instruction.
-    pub fn bit_mask_aarch64(start: u8, end: u8, insn: AArch64Instruction) -> RelocationSize
+    pub fn bit_mask_aarch64(start: u8, end: u8, insn: AArch64Instruction) -> RowSize
         ensures { result
-            ≡ RelocationSize.BitMasking (record { start = start; end = end })
-            (RelocationInstruction.AArch64 insn) }
+            ≡ RowSize.BitMasking (record { start = start; end = end })
+            (AnyForm.AArch64 insn) }
     {
-        RelocationSize::BitMasking {
+        RowSize::BitMasking {
             range: BitRange { start, end },
-            insn: RelocationInstruction::AArch64(insn),
+            insn: AnyForm::AArch64(insn),
         }
     }
 
     /// Bits `start` and up, below `end`, into a RISC-V instruction.
-    pub fn bit_mask_riscv(start: u8, end: u8, insn: RiscVInstruction) -> RelocationSize
+    pub fn bit_mask_riscv(start: u8, end: u8, insn: RiscVInstruction) -> RowSize
         ensures { result
-            ≡ RelocationSize.BitMasking (record { start = start; end = end })
-            (RelocationInstruction.RiscV insn) }
+            ≡ RowSize.BitMasking (record { start = start; end = end })
+            (AnyForm.RiscV insn) }
     {
-        RelocationSize::BitMasking {
+        RowSize::BitMasking {
             range: BitRange { start, end },
-            insn: RelocationInstruction::RiscV(insn),
+            insn: AnyForm::RiscV(insn),
         }
     }
 
     /// Bits `start` and up, below `end`, into a PowerPC64 instruction.
-    pub fn bit_mask_ppc64(start: u8, end: u8, insn: Ppc64Instruction) -> RelocationSize
+    pub fn bit_mask_ppc64(start: u8, end: u8, insn: Ppc64Form) -> RowSize
         ensures { result
-            ≡ RelocationSize.BitMasking (record { start = start; end = end })
-            (RelocationInstruction.Ppc64 insn) }
+            ≡ RowSize.BitMasking (record { start = start; end = end })
+            (AnyForm.Ppc64 insn) }
     {
-        RelocationSize::BitMasking {
+        RowSize::BitMasking {
             range: BitRange { start, end },
-            insn: RelocationInstruction::Ppc64(insn),
+            insn: AnyForm::Ppc64(insn),
         }
     }
 
     /// Bits `start` and up, below `end`, into a LoongArch instruction.
-    pub fn bit_mask_loongarch64(start: u8, end: u8, insn: LoongArch64Instruction) -> RelocationSize
+    pub fn bit_mask_loongarch64(start: u8, end: u8, insn: LoongArch64Instruction) -> RowSize
         ensures { result
-            ≡ RelocationSize.BitMasking (record { start = start; end = end })
-            (RelocationInstruction.LoongArch64 insn) }
+            ≡ RowSize.BitMasking (record { start = start; end = end })
+            (AnyForm.LoongArch64 insn) }
     {
-        RelocationSize::BitMasking {
+        RowSize::BitMasking {
             range: BitRange { start, end },
-            insn: RelocationInstruction::LoongArch64(insn),
+            insn: AnyForm::LoongArch64(insn),
         }
     }
 }
 
 /// An instruction form of one of the architectures.
 #[derive(Debug, Clone, Copy, PartialEq, Eq)]
-pub enum RelocationInstruction {
+pub enum AnyForm {
     AArch64(AArch64Instruction),
     RiscV(RiscVInstruction),
-    Ppc64(Ppc64Instruction),
+    Ppc64(Ppc64Form),
     LoongArch64(LoongArch64Instruction),
 }
 
@@ -376,11 +373,11 @@ impl AllowedRange {
 
 /// What a relocation means.
 #[derive(Debug, Clone, Copy, PartialEq, Eq)]
-pub struct RelocationKindInfo {
+pub struct RowInfo {
     /// The formula of its value.
     pub kind: RelocationKind,
     /// Where its value is written.
-    pub size: RelocationSize,
+    pub size: RowSize,
     /// The addresses whose offset in the page is cleared.
     pub mask: Option<PageMask>,
     /// The allowed values.
@@ -493,17 +490,17 @@ pub trait InstructionRewrite: Copy {
 macro_rules! of_form {
     ($insn:expr, $form:ident => $made:expr) => {
         match $insn {
-            RelocationInstruction::AArch64($form) => $made,
-            RelocationInstruction::RiscV($form) => $made,
-            RelocationInstruction::Ppc64($form) => $made,
-            RelocationInstruction::LoongArch64($form) => $made,
+            AnyForm::AArch64($form) => $made,
+            AnyForm::RiscV($form) => $made,
+            AnyForm::Ppc64($form) => $made,
+            AnyForm::LoongArch64($form) => $made,
         }
     };
 }
 
 pub(crate) use of_form;
 
-impl InstructionForm for RelocationInstruction {
+impl InstructionForm for AnyForm {
     ghost form = { relocation_form };
 
     ghost keeps = { relocation_keeps };

@@ -1,5 +1,5 @@
 -- Addresses of AArch64 by two instructions, of which `nop` and `adr` are made, are groups.
-use Rattle.linker_final.proofs.Imports.{◌≡◌, ℕ, ◌+◌, ◌-◌, ◌≤◌, length, take, drop, false, refl, sym, ap, subst, ◌∙◌, arith, Some, cond-false, take-take, slice_get, replaces, insn_row, entry, paged_row, place_pages, signed_row, sum_64, Adr, Relative, RelocationKindInfo, AArch64, Operands, Code, Has, Leaves, Stands, IsPair, following, word_of, symbol_address, Kinds, State, IsDone, IsMade, relocation_after, relocation_in, operands_with, Symbol, AArch64Entry, AreOfOneRegister, relaxation_rewrite, IsWrittenByNoOther, Linked, UntouchedInstructions, instruction_at, two_at, IsAddressRewritten, IsAdd64, nop_adr, to_adr}
+use Rattle.linker_final.proofs.Imports.{◌≡◌, ℕ, ◌+◌, ◌-◌, ◌≤◌, length, take, drop, false, refl, sym, ap, subst, ◌∙◌, arith, Some, cond-false, take-take, slice_get, replaces, insn_row, entry, paged_row, place_pages, signed_row, sum_64, Adr, Relative, RowInfo, AArch64, Operands, Code, Has, Leaves, Stands, IsPair, following, word_of, symbol_address, Kinds, State, IsDone, IsMade, relocation_after, relocation_in, operands_with, Symbol, AArch64Entry, AreOfOneRegister, relaxation_rewrite, IsWrittenByNoOther, Linked, UntouchedInstructions, instruction_at, two_at, IsAddressRewritten, IsAdd64, nop_adr, to_adr}
 use Rattle.linker_elf.specs.declared.aarch64.relocations.AArch64Relocation.TheVariants as names
 use Rattle.linker_final.proofs.InstructionFields.{of_bits}
 use Rattle.linker_final.proofs.AArch64Written.{IsAfter, IsNamedAs, IsNew, IsOfEntry, after, has_after, of_entry, of_part, place_of, same_value, stands_left}
@@ -10,10 +10,10 @@ use Rattle.linker_laws.specs.AArch64Groups.{Groups, seen}
 use Rattle.linker_laws.specs.AArch64RewriteLaws.{IsRewritten}
 use Rattle.linker_utils.specs.declared.aarch64.rewrites.RewriteKind.TheVariants as kinds
 
-abbrev pub page_row : RelocationKindInfo
+abbrev pub page_row : RowInfo
 page_row = paged_row place_pages (signed_row 33 (insn_row Relative 12 33 Adr))
 
-abbrev adr_row : RelocationKindInfo
+abbrev adr_row : RowInfo
 adr_row = signed_row 21 (insn_row Relative 0 21 Adr)
 
 abbrev adr_after : IsAfter names.R_AARCH64_ADR_PREL_LO21

@@ -1,5 +1,5 @@
 -- Instructions of AArch64 that are rewritten each by itself are groups.
-use Rattle.linker_final.proofs.Imports.{◌≡◌, ◌≢◌, ℕ, ◌+◌, [], ◌∷◌, drop, refl, ap, subst, Bool, true, eqb, aarch64_name, insn_row, entry, IsNamed, sum_64, value_of, AArch64Relocation, TpOff, RelocationKindInfo, AArch64, Operands, Code, Has, Leaves, link, load_64, word_of, put, with_register, plt_address, Group, Kinds, State, half, of_link, relocation_in, operands_with, AArch64Entry, IsLdr64, aarch64_entries, halves_to_local_exec, nop, weak_zero, page, Movkz, Movnz, IsWrittenByNoOther, Linked, UntouchedInstruction, instruction_at}
+use Rattle.linker_final.proofs.Imports.{◌≡◌, ◌≢◌, ℕ, ◌+◌, [], ◌∷◌, drop, refl, ap, subst, Bool, true, eqb, aarch64_name, insn_row, entry, IsNamed, sum_64, value_of, AArch64Relocation, TpOff, RowInfo, AArch64, Operands, Code, Has, Leaves, link, load_64, word_of, put, with_register, plt_address, Group, Kinds, State, half, of_link, relocation_in, operands_with, AArch64Entry, IsLdr64, aarch64_entries, halves_to_local_exec, nop, weak_zero, page, Movkz, Movnz, IsWrittenByNoOther, Linked, UntouchedInstruction, instruction_at}
 use Rattle.linker_elf.specs.declared.aarch64.relocations.AArch64Relocation.TheVariants as names
 use Rattle.linker_final.proofs.InstructionFields.{of_bits}
 use Rattle.linker_final.proofs.AArch64Written.{IsAfter, IsNew, becomes, has_after, named_after, of_entry, stands_left}
@@ -11,13 +11,13 @@ use Rattle.linker_laws.specs.AArch64RewriteLaws.{thread_offset}
 use Rattle.linker_utils.specs.AArch64Rewrites.{HasPattern, IsAdrp, IsIntoOwnSource, rd_of, rn_of}
 use Rattle.linker_utils.specs.declared.aarch64.rewrites.RewriteKind.TheVariants as kinds
 
-abbrev pub high_row : RelocationKindInfo
+abbrev pub high_row : RowInfo
 high_row = insn_row TpOff 16 32 Movnz
 
 abbrev pub high_after : IsAfter names.R_AARCH64_TLSLE_MOVW_TPREL_G1
 high_after = record { row = high_row; is = refl; named = tt; of = of_bits refl refl refl refl refl (λ o. tt) }
 
-abbrev pub low_row : RelocationKindInfo
+abbrev pub low_row : RowInfo
 low_row = insn_row TpOff 0 16 Movkz
 
 abbrev pub low_after : IsAfter names.R_AARCH64_TLSLE_MOVW_TPREL_G0_NC

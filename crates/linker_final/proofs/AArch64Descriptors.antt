@@ -1,5 +1,5 @@
 -- Sequences of TLS descriptors of AArch64, of which local-exec or initial-exec is made, are groups.
-use Rattle.linker_final.proofs.Imports.{◌≡◌, ℕ, ◌+◌, ◌<◌, ◌^◌, List, [], ◌∷◌, refl, sym, ap, subst, ◌∙◌, inl, inr, true, Some, None, cond, slice_get, insn_row, entry, entry_pages, paged_row, signed_row, sum_64, value_of, Adr, AArch64Relocation, GotTpOff, GotTpOffGot, RelocationKindInfo, AArch64, Choice, Operands, Code, Stands, link, following, Group, Kinds, State, of_link, relocation_in, is_there, operands_by, operands_with, ThreadOffset, AArch64Entry, nop, Relaxation, Condition, aligned_row, LdrRegister, ComesTo, HoldsOffset, IsDescriptorLeft, IsRewrittenOf, object, IsWrittenByNoOther, Linked, UntouchedInstruction, instruction_at, IsDescriptorRewritten}
+use Rattle.linker_final.proofs.Imports.{◌≡◌, ℕ, ◌+◌, ◌<◌, ◌^◌, List, [], ◌∷◌, refl, sym, ap, subst, ◌∙◌, inl, inr, true, Some, None, cond, slice_get, insn_row, entry, entry_pages, paged_row, signed_row, sum_64, value_of, Adr, AArch64Relocation, GotTpOff, GotTpOffGot, RowInfo, AArch64, Choice, Operands, Code, Stands, link, following, Group, Kinds, State, of_link, relocation_in, is_there, operands_by, operands_with, ThreadOffset, AArch64Entry, nop, Relaxation, Condition, aligned_row, LdrRegister, ComesTo, HoldsOffset, IsDescriptorLeft, IsRewrittenOf, object, IsWrittenByNoOther, Linked, UntouchedInstruction, instruction_at, IsDescriptorRewritten}
 use Rattle.linker_elf.specs.declared.aarch64.relocations.AArch64Relocation.TheVariants as names
 use Rattle.linker_final.proofs.AArch64Alone.{high_after, high_row, low_after, low_row}
 use Rattle.linker_final.proofs.InstructionFields.{of_bits}
@@ -126,13 +126,13 @@ local_is_group laws l c new i of k k' s s' o at left described =
 
 -- ---- for initial-exec
 
-abbrev page_row : RelocationKindInfo
+abbrev page_row : RowInfo
 page_row = paged_row entry_pages (signed_row 33 (insn_row GotTpOff 12 33 Adr))
 
 abbrev page_after : IsAfter names.R_AARCH64_TLSIE_ADR_GOTTPREL_PAGE21
 page_after = record { row = page_row; is = refl; named = tt; of = of_bits refl refl refl refl refl (λ o. tt) }
 
-abbrev load_row : RelocationKindInfo
+abbrev load_row : RowInfo
 load_row = aligned_row 8 (insn_row GotTpOffGot 3 12 LdrRegister)
 
 abbrev load_after : IsAfter names.R_AARCH64_TLSIE_LD64_GOTTPREL_LO12_NC

@@ -1,6 +1,6 @@
 -- Loads of AArch64 from the GOT, of which a sum is made, or in two phases `nop` and `adr`, are
 -- groups.
-use Rattle.linker_final.proofs.Imports.{◌≡◌, ℕ, ◌+◌, ◌-◌, ◌≤◌, length, drop, false, refl, sym, ap, subst, ◌∙◌, arith, cond-false, slice_get, field, insn_row, entry, entry_pages, paged_row, signed_row, sum_64, Adr, AbsoluteLowPart, GotRelative, RelocationKindInfo, AArch64, Operands, Code, Has, Leaves, load_64, IsPair, following, word_of, symbol_address, Kinds, State, IsLoadRewritten, relocation_in, operands_with, Rela, AArch64Entry, AreOfOneRegister, IsLdr64, relaxation_rewrite, Add, IsRewrittenByNoOther, Linked, UntouchedInstructions, instruction_at, two_at, is_ldr64, to_address}
+use Rattle.linker_final.proofs.Imports.{◌≡◌, ℕ, ◌+◌, ◌-◌, ◌≤◌, length, drop, false, refl, sym, ap, subst, ◌∙◌, arith, cond-false, slice_get, field, insn_row, entry, entry_pages, paged_row, signed_row, sum_64, Adr, AbsoluteLowPart, GotRelative, RowInfo, AArch64, Operands, Code, Has, Leaves, load_64, IsPair, following, word_of, symbol_address, Kinds, State, IsLoadRewritten, relocation_in, operands_with, Rela, AArch64Entry, AreOfOneRegister, IsLdr64, relaxation_rewrite, Add, IsRewrittenByNoOther, Linked, UntouchedInstructions, instruction_at, two_at, is_ldr64, to_address}
 use Rattle.linker_elf.specs.declared.aarch64.relocations.AArch64Relocation.TheVariants as names
 use Rattle.linker_final.proofs.AArch64Addresses.{adr_there, made_two, nop_there, page_row}
 use Rattle.linker_final.proofs.InstructionFields.{of_bits}
@@ -11,13 +11,13 @@ use Rattle.linker_final.specs.SectionRuns.{Section, offset_of}
 use Rattle.linker_laws.specs.AArch64Groups.{Groups, seen}
 use Rattle.linker_utils.specs.declared.aarch64.rewrites.RewriteKind.TheVariants as kinds
 
-abbrev pub got_row : RelocationKindInfo
+abbrev pub got_row : RowInfo
 got_row = paged_row entry_pages (signed_row 33 (insn_row GotRelative 12 33 Adr))
 
 abbrev page_after : IsAfter names.R_AARCH64_ADR_PREL_PG_HI21
 page_after = record { row = page_row; is = refl; named = tt; of = of_bits refl refl refl refl refl (λ o. tt) }
 
-abbrev low_row : RelocationKindInfo
+abbrev low_row : RowInfo
 low_row = insn_row AbsoluteLowPart 0 12 Add
 
 abbrev low_after : IsAfter names.R_AARCH64_ADD_ABS_LO12_NC

@@ -1,5 +1,5 @@
 -- Rewritten instructions of AArch64 in a phase, and in code that has the final bytes.
-use Rattle.linker_final.proofs.Imports.{◌≡◌, ℕ, ℤ, ◌+◌, ◌<◌, ◌≤◌, List, [], ◌∷◌, length, sym, ap, subst, ◌∙◌, refl, arith, Some, Ok, Bool, true, IsSomeAnd, slice_get, addend_after, offset_after, aarch64_name, IsRow, IsNamed, r_type_of, bytes_row, sum_64, value_of, AArch64Relocation, RelocationKindInfo, AArch64, Choice, Operands, Code, Has, Stands, loaded, chosen_at, decision_at, IsScopeIn, IsRewrittenBy, entry_of, relocation_in, entry_address, is_there, operands_by, operands_with, Symbol, Entry, Rela, AArch64Entry, aarch64_entries, IsArchitectureChoice, relaxation_rewrite, Relaxation, aarch64_row, HasFinal, IsRewrittenOf, object, IsLinked, IsWrittenByNoOther, Linked, UntouchedInstruction, count, instruction_at, unlabelled, IsPartAt}
+use Rattle.linker_final.proofs.Imports.{◌≡◌, ℕ, ℤ, ◌+◌, ◌<◌, ◌≤◌, List, [], ◌∷◌, length, sym, ap, subst, ◌∙◌, refl, arith, Some, Ok, Bool, true, IsSomeAnd, slice_get, addend_after, offset_after, aarch64_name, IsRow, IsNamed, r_type_of, bytes_row, sum_64, value_of, AArch64Relocation, RowInfo, AArch64, Choice, Operands, Code, Has, Stands, loaded, chosen_at, decision_at, IsScopeIn, IsRewrittenBy, entry_of, relocation_in, entry_address, is_there, operands_by, operands_with, Symbol, Entry, Rela, AArch64Entry, aarch64_entries, IsArchitectureChoice, relaxation_rewrite, Relaxation, aarch64_row, HasFinal, IsRewrittenOf, object, IsLinked, IsWrittenByNoOther, Linked, UntouchedInstruction, count, instruction_at, unlabelled, IsPartAt}
 use Rattle.linker_elf.specs.declared.aarch64.relocations.AArch64Relocation.TheVariants as names
 use Rattle.linker_elf.specs.declared.elf.RelocationKind.TheVariants.{None as NoValue}
 use Rattle.linker_final.proofs.InstructionFields.{IsOfInstruction}
@@ -17,7 +17,7 @@ use Rattle.linker_utils.specs.declared.architecture.Relaxation.TheVariants as re
 
 -- of an instruction
 pub record IsAfter (name : AArch64Relocation) : Type 0 where
-  pub row : RelocationKindInfo
+  pub row : RowInfo
   pub is : aarch64_row name ≡ Some row
   pub named : IsNamed (aarch64_name name)
   pub of : IsOfInstruction 4 row
@@ -31,7 +31,7 @@ abbrev pub IsNamedAs : AArch64Relocation → Linked → ℕ → Type 0
 IsNamedAs name l i = relocation_in l.relocations_after i ≡ after l i name
 
 -- Of a formula of S, A and P alone the value is that of other operands with these.
-pub same_value : (row : RelocationKindInfo)
+pub same_value : (row : RowInfo)
     → ((w v : Operands) → value_of row w ≡ value_of row (record v { symbol = w.symbol; addend = w.addend; place = w.place }))
     → (w v : Operands) → w.symbol ≡ v.symbol → w.addend ≡ v.addend → w.place ≡ v.place
     → value_of row w ≡ value_of row v
@@ -76,7 +76,7 @@ pub record IsNew (l : Linked) (c : Code) : Type 0 where
   pub final : HasFinal l.addresses l.final c
 
 module _ {l : Linked} {c : Code} (new : IsNew l c) where
-  row_of : (name : AArch64Relocation) → IsNamed (aarch64_name name) → (row : RelocationKindInfo)
+  row_of : (name : AArch64Relocation) → IsNamed (aarch64_name name) → (row : RowInfo)
       → aarch64_row name ≡ Some row → IsRowOf l.context.architecture (r_type_of (aarch64_name name)) row
   row_of name named row is found there =
       by_name aarch64_name aarch64_row name named found

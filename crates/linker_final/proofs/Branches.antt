@@ -1,5 +1,5 @@
 -- Branches that stay, in the final bytes of a packed section.
-use Rattle.linker_final.proofs.Imports.{◌≡◌, ℕ, take, drop, refl, sym, ap, subst, ◌∙◌, true, false, Option, Some, None, Ok, pos, IsSomeAnd, ⊤, BitRange, loongarch_form, loongarch_row, window_len, riscv_form, riscv_row, bytes_row, sum_64, value_of, RelocationInstruction, RelocationKindInfo, BitMasking, Operands, Branch26, Shift10, LoongArch64Relocation, RiscVRelocation, IsAddress, plt_address, symbol_address, Machine, RiscV64, relocation_in, has_value, names_label, offset_at, operands_in, operands_of, operands_with, Addresses, Symbol, Rela, ℤ, ◌+ℤ◌, ◌*ℤ◌, Branch21, Shift5, BType, CbType, CjType, JType, address_at, architecture_of, place_of}
+use Rattle.linker_final.proofs.Imports.{◌≡◌, ℕ, take, drop, refl, sym, ap, subst, ◌∙◌, true, false, Option, Some, None, Ok, pos, IsSomeAnd, ⊤, BitRange, loongarch_form, loongarch_row, window_len, riscv_form, riscv_row, bytes_row, sum_64, value_of, AnyForm, RowInfo, BitMasking, Operands, Branch26, Shift10, LoongArch64Relocation, RiscVRelocation, IsAddress, plt_address, symbol_address, Machine, RiscV64, relocation_in, has_value, names_label, offset_at, operands_in, operands_of, operands_with, Addresses, Symbol, Rela, ℤ, ◌+ℤ◌, ◌*ℤ◌, Branch21, Shift5, BType, CbType, CjType, JType, address_at, architecture_of, place_of}
 use Rattle.linker_elf.specs.declared.elf.RelocationKind.TheVariants.{None as NoValue}
 use Rattle.linker_elf.specs.declared.loongarch64.relocations.LoongArch64Relocation.TheVariants as loongarch_names
 use Rattle.linker_elf.specs.declared.riscv64.relocations.RiscVRelocation.TheVariants as riscv_names
@@ -13,7 +13,7 @@ use Rattle.linker_laws.specs.Schemes.{Adds, here, place}
 use Rattle.linker_runs.specs.declared.packing.Machine.TheVariants.{LoongArch64}
 
 -- by a row of an instruction that takes no entry
-goes : (machine : Machine) (row : RelocationKindInfo) (bits : BitRange) (insn : RelocationInstruction)
+goes : (machine : Machine) (row : RowInfo) (bits : BitRange) (insn : AnyForm)
     (reads : ℕ → ℤ) (unit : ℕ) (target : Operands → ℕ)
     → row.size ≡ BitMasking bits insn → has_value row.kind ≡ true → names_label row.size row.kind ≡ false
     → ((a : Addresses) (symbol : Symbol) (r : Rela) → operands_in (architecture_of machine) a row r (Some symbol)
@@ -46,14 +46,14 @@ goes machine row bits insn reads unit target size has unlabelled taken valued la
     subst (λ a. IsAddress (pos a +ℤ (reads (final_number p i row) *ℤ pos unit)) (target y)) placed
     (law y small 0 (take n (drop (place_of p o) p.packed)) (take n (drop (place_of p o) p.final)) applied tt)
 
-abbrev pub the_row : Option RelocationKindInfo → RelocationKindInfo
+abbrev pub the_row : Option RowInfo → RowInfo
 the_row (Some row) = row
 the_row None = bytes_row NoValue 0
 
-abbrev riscv : RiscVRelocation → RelocationKindInfo
+abbrev riscv : RiscVRelocation → RowInfo
 riscv name = the_row (riscv_row name)
 
-abbrev loongarch : LoongArch64Relocation → RelocationKindInfo
+abbrev loongarch : LoongArch64Relocation → RowInfo
 loongarch name = the_row (loongarch_row name)
 
 pub riscv_branches : riscv_laws.Jumps → RiscVBranchesGo

@@ -1,5 +1,5 @@
 -- The field of a plain row in the final bytes of a section.
-use Rattle.linker_final.proofs.Imports.{◌≡◌, ℕ, ℤ, pos, ◌+◌, ◌*◌, ◌/◌, ◌%◌, ◌^◌, ◌<◌, ◌≤◌, ◌⊎◌, List, [], ◌∷◌, length, take, drop, get_or, cond, sym, ap, subst, ◌∙◌, inl, inr, arith, Some, Ok, unsigned_abs, cond-true, cond-false, cases_lt, length-drop, length-take-le, get_or-take, get_or-drop, get_or_past, w64, cast_unsigned, int_rem_euclid, byte_at, number_of_bytes, low_bytes, window_len, size_len, value_of, RelocationKindInfo, Operands, IsField, field_len, field_end, is_of_pair, uleb_len, relocation_in, IsRowValue, has_value, offset_at, operands_of, AreWritten, HoldsValue, HoldsNumber, composed, field_bytes, Addresses, Symbol, IsRow, Architecture, IsAccepted}
+use Rattle.linker_final.proofs.Imports.{◌≡◌, ℕ, ℤ, pos, ◌+◌, ◌*◌, ◌/◌, ◌%◌, ◌^◌, ◌<◌, ◌≤◌, ◌⊎◌, List, [], ◌∷◌, length, take, drop, get_or, cond, sym, ap, subst, ◌∙◌, inl, inr, arith, Some, Ok, unsigned_abs, cond-true, cond-false, cases_lt, length-drop, length-take-le, get_or-take, get_or-drop, get_or_past, w64, cast_unsigned, int_rem_euclid, byte_at, number_of_bytes, low_bytes, window_len, size_len, value_of, RowInfo, Operands, IsField, field_len, field_end, is_of_pair, uleb_len, relocation_in, IsRowValue, has_value, offset_at, operands_of, AreWritten, HoldsValue, HoldsNumber, composed, field_bytes, Addresses, Symbol, IsRow, Architecture, IsAccepted}
 use Rattle.linker_final.proofs.PlainRows.{IsPlain, found_is, composed_alone}
 use Rattle.linker_section.specs.Sections.{HasValue}
 
@@ -62,7 +62,7 @@ eight_bytes xs number long small is = absurd (omega (arith, long))
 
 -- What is left of a relocation of n bytes: its formula has a value, the bytes between accept it,
 -- and those in the end are its lowest.
-pub record UntouchedField (n : ℕ) (row : RelocationKindInfo) (operands : Operands) (o : ℕ) (before after : List ℕ)
+pub record UntouchedField (n : ℕ) (row : RowInfo) (operands : Operands) (o : ℕ) (before after : List ℕ)
     : Type 0 where
   pub value : ℤ
   pub value_is : value_of row operands ≡ Some value
@@ -70,7 +70,7 @@ pub record UntouchedField (n : ℕ) (row : RelocationKindInfo) (operands : Opera
   pub accepted : IsAccepted row value (drop o before)
   pub field : take n (drop o after) ≡ low_bytes n (cast_unsigned w64 value)
 
-pub len_is : (n : ℕ) (row : RelocationKindInfo) (bytes : List ℕ) → IsPlain n row
+pub len_is : (n : ℕ) (row : RowInfo) (bytes : List ℕ) → IsPlain n row
     → field_len row bytes ≡ n
 len_is n row bytes plain =
     cond-true (has_value row.kind) (cond (is_of_pair row) (uleb_len (take 10 bytes)) (window_len row)) 0 plain.valued
@@ -81,10 +81,10 @@ module _ (n : ℕ) (there : 0 < n) (are : AreLowest n) (architecture : Architect
     (symbols : List Symbol) (before after : List ℕ)
     (written : AreWritten architecture addresses bytes symbols before after)
     (small : (p : ℕ) → get_or after p 0 < 256)
-    (i : ℕ) (below : i < length bytes / 24) (row : RelocationKindInfo) (plain : IsPlain n row)
+    (i : ℕ) (below : i < length bytes / 24) (row : RowInfo) (plain : IsPlain n row)
     (is_row : IsRow architecture (relocation_in bytes i).r_type (Some row)) (operands : Operands)
     (taken : operands_of architecture addresses symbols row (relocation_in bytes i) ≡ Ok operands)
-    (alone : (j : ℕ) (other : RelocationKindInfo) → j < length bytes / 24 → (j ≡ i → ⊥)
+    (alone : (j : ℕ) (other : RowInfo) → j < length bytes / 24 → (j ≡ i → ⊥)
     → IsField architecture bytes before j other
     → (offset_at bytes i < offset_at bytes j) ⊎ (field_end bytes before j other ≤ offset_at bytes i))
   where
@@ -134,7 +134,7 @@ module _ (n : ℕ) (there : 0 < n) (are : AreLowest n) (architecture : Architect
               (ap (number_of_bytes n) (sym new_is) ∙ ap unsigned_abs holds);
         }
       where
-        far : (j : ℕ) (other : RelocationKindInfo) (w : ℤ) → j < length bytes / 24 → (j ≡ i → ⊥)
+        far : (j : ℕ) (other : RowInfo) (w : ℤ) → j < length bytes / 24 → (j ≡ i → ⊥)
             → written.can.found j ≡ Some (other, w) → offset_at bytes j ≡ offset_at bytes i
             → 0 < field_len other (drop (offset_at bytes i) before) → ⊥
         far j other w most isnt is same some =

@@ -27,11 +27,11 @@ pub use Rattle.linker_elf.specs.Value.{difference_64, loads_plt_word, sum_64, sy
 pub use Rattle.linker_elf.specs.X86Relocations.{x86_64_name, x86_64_row}
 pub use Rattle.linker_elf.specs.declared.aarch64.forms.AArch64Instruction.TheVariants.{Add, Adr, LdrRegister, Movkz, Movnz}
 pub use Rattle.linker_elf.specs.declared.aarch64.relocations.AArch64Relocation.{AArch64Relocation}
-pub use Rattle.linker_elf.specs.declared.elf.RelocationInstruction.{RelocationInstruction}
+pub use Rattle.linker_elf.specs.declared.elf.AnyForm.{AnyForm}
 pub use Rattle.linker_elf.specs.declared.elf.RelocationKind.TheVariants.{Absolute, AbsoluteLowPart, GotRelative, GotTpOff, GotTpOffGot, Relative, RelativeRiscVLow12, TpOff}
 pub use Rattle.linker_elf.specs.declared.elf.RelocationKind.{RelocationKind}
-pub use Rattle.linker_elf.specs.declared.elf.RelocationKindInfo.{RelocationKindInfo}
-pub use Rattle.linker_elf.specs.declared.elf.RelocationSize.TheVariants.{BitMasking, ByteSize}
+pub use Rattle.linker_elf.specs.declared.elf.RowInfo.{RowInfo}
+pub use Rattle.linker_elf.specs.declared.elf.RowSize.TheVariants.{BitMasking, ByteSize}
 pub use Rattle.linker_elf.specs.declared.elf.Sign.TheVariants.{Signed, Unsigned}
 pub use Rattle.linker_elf.specs.declared.elf.architecture.Architecture.TheVariants.{AArch64, LoongArch64, Ppc64, RiscV, X86_64}
 pub use Rattle.linker_elf.specs.declared.elf.architecture.Architecture.{Architecture}

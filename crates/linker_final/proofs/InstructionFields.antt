@@ -1,12 +1,12 @@
 -- The relocation of an instruction in the final bytes of a section: it is applied to the bytes
 -- between.
-use Rattle.linker_final.proofs.Imports.{◌≡◌, ℕ, ℤ, ◌/◌, ◌<◌, List, length, take, drop, true, false, cond, subst, ◌∙◌, refl, arith, Ok, Option, Some, None, IsSomeAnd, cond-true, cond-false, ⊤, BitRange, IsApplied, window_len, value_of, RelocationInstruction, RelocationKindInfo, BitMasking, Operands, field_len, is_of_pair, uleb_len, relocation_in, has_value, names_label, offset_at, operands_of, AreWritten, HoldsValue, composed, field_bytes, Addresses, Symbol, IsRow, Architecture, WritesRow}
+use Rattle.linker_final.proofs.Imports.{◌≡◌, ℕ, ℤ, ◌/◌, ◌<◌, List, length, take, drop, true, false, cond, subst, ◌∙◌, refl, arith, Ok, Option, Some, None, IsSomeAnd, cond-true, cond-false, ⊤, BitRange, IsApplied, window_len, value_of, AnyForm, RowInfo, BitMasking, Operands, field_len, is_of_pair, uleb_len, relocation_in, has_value, names_label, offset_at, operands_of, AreWritten, HoldsValue, composed, field_bytes, Addresses, Symbol, IsRow, Architecture, WritesRow}
 use Rattle.linker_final.proofs.PlainRows.{IsFoundOf, found_is}
 
 -- of an instruction of n bytes
-pub record IsOfInstruction (n : ℕ) (row : RelocationKindInfo) : Type 0 where
+pub record IsOfInstruction (n : ℕ) (row : RowInfo) : Type 0 where
   pub bits : BitRange
-  pub insn : RelocationInstruction
+  pub insn : AnyForm
   pub size : row.size ≡ BitMasking bits insn
   pub wide : window_len row ≡ n
   pub valued : has_value row.kind ≡ true
@@ -19,7 +19,7 @@ some_value None nothing = absurd nothing
 some_value (Some z) there = (z, refl)
 
 -- whichever bits it has
-pub of_bits : {n : ℕ} {row : RelocationKindInfo} {bits : BitRange} {insn : RelocationInstruction}
+pub of_bits : {n : ℕ} {row : RowInfo} {bits : BitRange} {insn : AnyForm}
     → row.size ≡ BitMasking bits insn → window_len row ≡ n → has_value row.kind ≡ true
     → names_label row.size row.kind ≡ false → is_of_pair row ≡ false
     → ((o : Operands) → IsSomeAnd (value_of row o) (λ _. ⊤)) → IsOfInstruction n row
@@ -35,23 +35,23 @@ of_bits size wide valued unlabelled alone some =
       some = some;
     }
 
-pub plain_len : (n : ℕ) (row : RelocationKindInfo) → window_len row ≡ n → has_value row.kind ≡ true
+pub plain_len : (n : ℕ) (row : RowInfo) → window_len row ≡ n → has_value row.kind ≡ true
     → is_of_pair row ≡ false → (bytes : List ℕ) → field_len row bytes ≡ n
 plain_len n row wide valued alone bytes =
     cond-true (has_value row.kind) (cond (is_of_pair row) (uleb_len (take 10 bytes)) (window_len row)) 0 valued
     ∙ (cond-false (is_of_pair row) (uleb_len (take 10 bytes)) (window_len row) alone ∙ wide)
 
-pub instruction_len : (n : ℕ) (row : RelocationKindInfo) → IsOfInstruction n row → (bytes : List ℕ)
+pub instruction_len : (n : ℕ) (row : RowInfo) → IsOfInstruction n row → (bytes : List ℕ)
     → field_len row bytes ≡ n
 instruction_len n row of = plain_len n row of.wide of.valued of.alone
 
 module _ (architecture : Architecture) (addresses : Addresses) (bytes : List ℕ)
     (symbols : List Symbol) (before after : List ℕ)
     (written : AreWritten architecture addresses bytes symbols before after)
-    (i : ℕ) (below : i < length bytes / 24) (n : ℕ) (wide : 0 < n) (row : RelocationKindInfo)
+    (i : ℕ) (below : i < length bytes / 24) (n : ℕ) (wide : 0 < n) (row : RowInfo)
   where
     -- where the field's value is known
-    module _ (bits : BitRange) (insn : RelocationInstruction) (size : row.size ≡ BitMasking bits insn)
+    module _ (bits : BitRange) (insn : AnyForm) (size : row.size ≡ BitMasking bits insn)
         (len_is : window_len row ≡ n) (valued : has_value row.kind ≡ true)
         (alone : is_of_pair row ≡ false) (operands : Operands)
         (mine : IsFoundOf row operands (written.can.found i))

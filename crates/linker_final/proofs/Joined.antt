@@ -1,5 +1,5 @@
 -- Instructions that were rewritten, and stay in a section that was packed then.
-use Rattle.linker_final.proofs.Imports.{◌≡◌, ℕ, ℤ, ◌+◌, ◌/◌, ◌<◌, length, sym, ap, subst, ◌∙◌, arith, Ok, Some, ◌≤◌, slice_get, IsApplied, RelocationKindInfo, Operands, relocation_in, offset_at, operands_in, operands_with, Symbol, Rela, IsRow, UntouchedInstruction, UntouchedBytes, Linked, count, instruction_at, IsRewrittenAndPacked, IsKeptInstruction, IsUnwritten, Packed, StayTogether, architecture_of, place_of, Architecture, value_of, operands_of}
+use Rattle.linker_final.proofs.Imports.{◌≡◌, ℕ, ℤ, ◌+◌, ◌/◌, ◌<◌, length, sym, ap, subst, ◌∙◌, arith, Ok, Some, ◌≤◌, slice_get, IsApplied, RowInfo, Operands, relocation_in, offset_at, operands_in, operands_with, Symbol, Rela, IsRow, UntouchedInstruction, UntouchedBytes, Linked, count, instruction_at, IsRewrittenAndPacked, IsKeptInstruction, IsUnwritten, Packed, StayTogether, architecture_of, place_of, Architecture, value_of, operands_of}
 use Rattle.linker_final.proofs.InstructionFields.{IsOfInstruction, applied}
 use Rattle.linker_final.proofs.PackedBytes.{packed_there, places_inside, same_there, stay_inside}
 use Rattle.linker_final.proofs.Phases.{later_as_many, later_bytes, later_keep, later_length}
@@ -69,7 +69,7 @@ module _ (l : Linked) (p : Packed) (joined : IsRewrittenAndPacked l p) (i : ℕ)
       ∙ (ap (λ bytes. instruction_at bytes o) joined.bytes ∙ later_bytes l joined.later i o 4 left)
 
   -- what is written there, is written to what was rewritten
-  kept_there : (row : RelocationKindInfo) (y : Operands)
+  kept_there : (row : RowInfo) (y : Operands)
       → IsApplied row y (instruction_at p.packed (offset_at p.relocations_after i)) (instruction_at p.final (offset_at p.relocations_after i))
       → IsApplied row y (instruction_at l.rewritten o) (instruction_at p.final (place_of p o))
   kept_there row y there =
@@ -77,7 +77,7 @@ module _ (l : Linked) (p : Packed) (joined : IsRewrittenAndPacked l p) (i : ℕ)
       (subst (λ n. IsApplied row y (instruction_at p.packed n) (instruction_at p.final n)) place_is there)
 
   -- so is the value of its own symbol
-  pub own_there : (row : RelocationKindInfo) (of : IsOfInstruction 4 row)
+  pub own_there : (row : RowInfo) (of : IsOfInstruction 4 row)
       → IsRow (architecture_of p.machine) after.r_type (Some row)
       → (architecture : Architecture) → architecture_of p.machine ≡ architecture → (here : Symbol) (got : ℕ)
       → operands_in architecture p.addresses row after (Some here) ≡ Ok (operands_with architecture p.addresses row here after got)

@@ -1,20 +1,20 @@
 -- The value of a low part of RISC-V in the final bytes of a section: that of the high part at its
 -- label.
-use Rattle.linker_final.proofs.Imports.{◌≡◌, ℕ, ℤ, ◌/◌, ◌<◌, List, length, take, drop, Bool, true, false, cond, refl, sym, ap, subst, ◌∙◌, inl, inr, arith, ltb, Option, Some, None, Ok, Err, Result, IsSomeAnd, cases_eq, cases_lt, cond-true, cond-false, ltb-true, slice_get, ⊤, size_len, window_len, value_of, difference_64, RelocationKind, RelocationKindInfo, BitMasking, Operands, UType, one_info, Composes, IsField, begins_pair, continues, ends_pair, field_len, is_of_pair, of_number, of_pair, uleb_len, relocation_in, IsRowValue, IsValueBy, IsValueIn, has_value, names_label, offset_at, operands_of, Addresses, Symbol, Rela, ValueError, IsRow, Architecture, AreApart, relocation_at, IsHighPartAt, IsLowValue, is_auipc, is_high_kind, is_high_part, low_by, low_operands, low_value, NoHighPart, and_parts, or_from}
-use Rattle.linker_elf.specs.declared.elf.RelocationInstruction.TheVariants.{RiscV}
+use Rattle.linker_final.proofs.Imports.{◌≡◌, ℕ, ℤ, ◌/◌, ◌<◌, List, length, take, drop, Bool, true, false, cond, refl, sym, ap, subst, ◌∙◌, inl, inr, arith, ltb, Option, Some, None, Ok, Err, Result, IsSomeAnd, cases_eq, cases_lt, cond-true, cond-false, ltb-true, slice_get, ⊤, size_len, window_len, value_of, difference_64, RelocationKind, RowInfo, BitMasking, Operands, UType, one_info, Composes, IsField, begins_pair, continues, ends_pair, field_len, is_of_pair, of_number, of_pair, uleb_len, relocation_in, IsRowValue, IsValueBy, IsValueIn, has_value, names_label, offset_at, operands_of, Addresses, Symbol, Rela, ValueError, IsRow, Architecture, AreApart, relocation_at, IsHighPartAt, IsLowValue, is_auipc, is_high_kind, is_high_part, low_by, low_operands, low_value, NoHighPart, and_parts, or_from}
+use Rattle.linker_elf.specs.declared.elf.AnyForm.TheVariants.{RiscV}
 use Rattle.linker_elf.specs.declared.elf.RelocationKind.TheVariants as kinds
-use Rattle.linker_elf.specs.declared.elf.RelocationSize.{RelocationSize}
+use Rattle.linker_elf.specs.declared.elf.RowSize.{RowSize}
 use Rattle.linker_final.proofs.PlainRows.{IsFoundOf, found_by}
 
 -- ---- high parts
 
 -- what an `auipc` has
-pub record IsUpper (size : RelocationSize) : Type 0 where
+pub record IsUpper (size : RowSize) : Type 0 where
   pub len : size_len size ≡ 4
   pub begins_none : (kind : RelocationKind) → begins_pair size kind ≡ false
   pub ends_none : (kind : RelocationKind) → ends_pair size kind ≡ false
 
-upper : (size : RelocationSize) → is_auipc size ≡ true → IsUpper size
+upper : (size : RowSize) → is_auipc size ≡ true → IsUpper size
 upper (BitMasking bits (RiscV UType)) is =
     record { len = refl; begins_none = λ kind. refl; ends_none = λ kind. refl }
 upper size is = absurd (let e : false ≡ true = is in cc)
@@ -32,16 +32,16 @@ of_high kinds.TlsGd is = record { valued = refl; alone = λ other. refl }
 of_high kind is = absurd (let e : false ≡ true = is in cc)
 
 -- the row of a high part of a PC-relative low part
-abbrev pub IsHigh : RelocationKindInfo → Type 0
+abbrev pub IsHigh : RowInfo → Type 0
 IsHigh row = is_high_part kinds.RelativeRiscVLow12 (Some row) ≡ true
 
-high_size : (row : RelocationKindInfo) → IsHigh row → IsUpper row.size
+high_size : (row : RowInfo) → IsHigh row → IsUpper row.size
 high_size row is = upper row.size ((and_parts (is_auipc row.size) (is_high_kind kinds.RelativeRiscVLow12 row.kind) is).0)
 
-high_kind : (row : RelocationKindInfo) → IsHigh row → IsOfHigh row.kind
+high_kind : (row : RowInfo) → IsHigh row → IsOfHigh row.kind
 high_kind row is = of_high row.kind ((and_parts (is_auipc row.size) (is_high_kind kinds.RelativeRiscVLow12 row.kind) is).1)
 
-high_len : (row : RelocationKindInfo) (there : List ℕ) → IsHigh row → field_len row there ≡ 4
+high_len : (row : RowInfo) (there : List ℕ) → IsHigh row → field_len row there ≡ 4
 high_len row there is =
     let size = high_size row is in
     let kind = high_kind row is in
@@ -51,7 +51,7 @@ high_len row there is =
     ∙ size.len)
 
 -- nothing composes with one
-alone : (bytes : List ℕ) (i j : ℕ) (row other : RelocationKindInfo) → IsHigh row
+alone : (bytes : List ℕ) (i j : ℕ) (row other : RowInfo) → IsHigh row
     → Composes bytes i row j other → ⊥
 alone bytes i j row other is (of_number same wide continuing) =
     let e : true ≡ false = sym continuing ∙ (high_kind row is).alone other.kind in cc
@@ -77,16 +77,16 @@ there_is bytes i r is = there_by bytes i r (ltb i (length bytes / 24)) refl is
 
 module _ (architecture : Architecture) (bytes section : List ℕ)
     (apart : AreApart architecture bytes section (length bytes / 24))
-    (i : ℕ) (below : i < length bytes / 24) (row : RelocationKindInfo)
+    (i : ℕ) (below : i < length bytes / 24) (row : RowInfo)
     (is_row : IsRow architecture (relocation_in bytes i).r_type (Some row)) (high : IsHigh row) where
-  field_of : (j : ℕ) (other : RelocationKindInfo)
+  field_of : (j : ℕ) (other : RowInfo)
       → IsRow architecture (relocation_in bytes j).r_type (Some other) → IsHigh other
       → IsField architecture bytes section j other
   field_of j other of is =
       record { is_row = of; some = let n = high_len other (drop (offset_at bytes j) section) is in omega (arith, n) }
 
   -- no other is there, since their fields would overlap
-  one_there : (j : ℕ) (other : RelocationKindInfo) → j < length bytes / 24
+  one_there : (j : ℕ) (other : RowInfo) → j < length bytes / 24
       → IsRow architecture (relocation_in bytes j).r_type (Some other) → IsHigh other
       → offset_at bytes j ≡ offset_at bytes i → j ≡ i
   one_there j other within of is same =
@@ -111,16 +111,16 @@ module _ (architecture : Architecture) (bytes section : List ℕ)
 module _ (architecture : Architecture) (addresses : Addresses) (bytes : List ℕ)
     (symbols : List Symbol) (section : List ℕ)
     (apart : AreApart architecture bytes section (length bytes / 24))
-    (i : ℕ) (below : i < length bytes / 24) (row : RelocationKindInfo)
+    (i : ℕ) (below : i < length bytes / 24) (row : RowInfo)
     (is_row : IsRow architecture (relocation_in bytes i).r_type (Some row)) (high : IsHigh row)
     (operands : Operands)
     (taken : operands_of architecture addresses symbols row (relocation_in bytes i) ≡ Ok operands)
-    (r : Rela) (low : RelocationKindInfo) (low_is : IsRow architecture r.r_type (Some low))
+    (r : Rela) (low : RowInfo) (low_is : IsRow architecture r.r_type (Some low))
     (labelled : names_label low.size low.kind ≡ true) (of_low : low.kind ≡ kinds.RelativeRiscVLow12)
     (label : Symbol) (is_label : slice_get symbols r.symbol ≡ Some label)
     (labels : difference_64 label.address addresses.section ≡ offset_at bytes i)
     (some : IsSomeAnd (value_of low (low_operands row operands)) (λ _. ⊤)) where
-  by_high : (found : Option (Rela × RelocationKindInfo))
+  by_high : (found : Option (Rela × RowInfo))
       → IsHighPartAt architecture bytes kinds.RelativeRiscVLow12 (offset_at bytes i) found
       → (result : Result (Option ℤ) ValueError) (value : Option ℤ) → result ≡ Ok value
       → result ≡ low_value architecture addresses symbols low found
@@ -159,7 +159,7 @@ module _ (architecture : Architecture) (addresses : Addresses) (bytes : List ℕ
       (subst (λ s. IsLowValue architecture addresses bytes symbols low s (Ok value)) is_label
       (subst (λ labels. IsValueBy labels architecture addresses bytes symbols low r (Ok value)) labelled is))
 
-  pub low_found : (found : Option (RelocationKindInfo × ℤ))
+  pub low_found : (found : Option (RowInfo × ℤ))
       → IsRowValue architecture addresses bytes symbols r (Ok found)
       → IsFoundOf low (low_operands row operands) found
   low_found =

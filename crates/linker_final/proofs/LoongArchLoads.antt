@@ -1,5 +1,5 @@
 -- Rewritten loads from the GOT of LoongArch are groups in the final bytes.
-use Rattle.linker_final.proofs.Imports.{◌≡◌, ℕ, ℤ, ◌+◌, ◌<◌, drop, refl, sym, ap, subst, ◌∙◌, IsSomeAnd, slice_get, field, IsApplied, IsNameOf, r_type_of, loongarch_name, loongarch_row, low_row, rounded_row, paged_row, place_pages, entry_pages, value_of, Relative, AbsoluteLowPart, GotRelative, RelocationKindInfo, Choice, LoongArch64Relocation, isnt, IsRewritten, IsLd, decision_at, RelaxContext, Rewritten, relocation_in, operands_with, Addresses, Symbol, Rela, relaxation_rewrite, Relaxation, LoongArch64, UntouchedInstructions, Linked, IsLinked, IsRewrittenByNoOther, count, instruction_at, IsLoad, LoadsTheSame}
+use Rattle.linker_final.proofs.Imports.{◌≡◌, ℕ, ℤ, ◌+◌, ◌<◌, drop, refl, sym, ap, subst, ◌∙◌, IsSomeAnd, slice_get, field, IsApplied, IsNameOf, r_type_of, loongarch_name, loongarch_row, low_row, rounded_row, paged_row, place_pages, entry_pages, value_of, Relative, AbsoluteLowPart, GotRelative, RowInfo, Choice, LoongArch64Relocation, isnt, IsRewritten, IsLd, decision_at, RelaxContext, Rewritten, relocation_in, operands_with, Addresses, Symbol, Rela, relaxation_rewrite, Relaxation, LoongArch64, UntouchedInstructions, Linked, IsLinked, IsRewrittenByNoOther, count, instruction_at, IsLoad, LoadsTheSame}
 use Rattle.linker_elf.specs.declared.loongarch64.relocations.LoongArch64Relocation.TheVariants as names
 use Rattle.linker_final.proofs.InstructionFields.{of_bits}
 use Rattle.linker_final.proofs.LoongArchChosen.{IsEntry, by_table, entry_by, shown}
@@ -13,7 +13,7 @@ use Rattle.linker_utils.specs.declared.loongarch64.rewrites.RewriteKind.TheVaria
 
 -- ---- rows
 
-abbrev got_row : RelocationKindInfo
+abbrev got_row : RowInfo
 got_row = paged_row entry_pages (rounded_row GotRelative)
 
 abbrev page_after : IsAfter names.R_LARCH_PCALA_HI20

@@ -1,7 +1,7 @@
 -- LoongArch: what sites do in the final bytes of a packed section.
 use Rattle.linker_final.proofs.Imports.{◌≡◌, ◌≢◌, ℕ, ◌+◌, ◌/◌, ◌^◌, ◌<◌, ◌≤◌, inl, inr, Bool, true, false, not, eqb, if◌then◌else◌, List, [], ◌∷◌, length, take, drop, IsSomeAnd, refl, sym, ap, subst, ◌∙◌, arith, pos, ◌+ℤ◌, ◌*ℤ◌, ℤ, Some, cond-false, or_parts, drop-drop, length-drop, All-drop, All-take, field, signed, IsApplied, loongarch_form, loongarch_row, IsWritten, sum_64, AbsoluteLowPart, BitMasking, Operands, Branch26, Shift10, word_below, Fits32, IsRelocated, IsRewritten, pair, Relocated, loaded, wrapped, AreAddresses, IsAddress, plt_address, symbol_address, IsLd, rd_of, rj_of, destination, SiteBecomes, word_of_front, ne_eqb, ◌==◌, ValueIsWithin, pcalau12i, InstructionWritten, is_jirl, AreBytes, CallsTheSame, AddressesAreMade, LoadedAddressesAreMade, words_in, Packed, IsPacked, IsSiteOf, site_after, site_bytes, site_len, site_offset, site_place, site_target, entry_and_addend, IsBranch, IsCall36At, IsFarCall, IsPcalaAt, IsPcaddi, LoongArchBecomes}
 use Rattle.linker_elf.proofs.Relocated.{plain_written}
-use Rattle.linker_elf.specs.declared.elf.RelocationInstruction.TheVariants.{LoongArch64 as of_loongarch}
+use Rattle.linker_elf.specs.declared.elf.AnyForm.TheVariants.{LoongArch64 as of_loongarch}
 use Rattle.linker_elf.specs.declared.loongarch64.relocations.LoongArch64Relocation.TheVariants as names
 use Rattle.linker_final.proofs.PackedSites.{site_becomes, site_inside, site_length, site_small}
 use Rattle.linker_final.proofs.PutBack.{window_length}

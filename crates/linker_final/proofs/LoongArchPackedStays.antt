@@ -1,5 +1,5 @@
 -- LoongArch: calls and addresses that stay, in the final bytes of a packed section.
-use Rattle.linker_final.proofs.Imports.{◌≡◌, ℕ, ◌+◌, ◌^◌, ◌<◌, take, drop, refl, sym, ap, subst, ◌∙◌, arith, true, false, Some, Ok, IsSomeAnd, All-drop, All-take, ⊤, slice_get, BitRange, IsApplied, loongarch_row, window_len, sum_64, value_of, RelocationInstruction, RelocationKindInfo, BitMasking, Operands, LoongArch64Relocation, Fits32, pair, AreAddresses, plt_address, symbol_address, rd_of, destination, relocation_in, has_value, names_label, offset_at, operands_in, operands_of, Symbol, IsRow, LongAddressesStay, LongCallsStay, LongLoadedAddressesStay, IsPairOf, StaysAs, operands_at, Packed, IsPacked, architecture_of, place_of}
+use Rattle.linker_final.proofs.Imports.{◌≡◌, ℕ, ◌+◌, ◌^◌, ◌<◌, take, drop, refl, sym, ap, subst, ◌∙◌, arith, true, false, Some, Ok, IsSomeAnd, All-drop, All-take, ⊤, slice_get, BitRange, IsApplied, loongarch_row, window_len, sum_64, value_of, AnyForm, RowInfo, BitMasking, Operands, LoongArch64Relocation, Fits32, pair, AreAddresses, plt_address, symbol_address, rd_of, destination, relocation_in, has_value, names_label, offset_at, operands_in, operands_of, Symbol, IsRow, LongAddressesStay, LongCallsStay, LongLoadedAddressesStay, IsPairOf, StaysAs, operands_at, Packed, IsPacked, architecture_of, place_of}
 use Rattle.linker_elf.specs.declared.loongarch64.relocations.LoongArch64Relocation.TheVariants as names
 use Rattle.linker_final.proofs.Branches.{the_row}
 use Rattle.linker_final.proofs.InstructionFields.{some_value}
@@ -15,19 +15,19 @@ use Rattle.linker_utils.specs.LoongArchRewrites.{word_at}
 use Rattle.linker_runs.specs.declared.packing.Machine.TheVariants.{LoongArch64}
 use Rattle.linker_elf.specs.declared.elf.architecture.Architecture.TheVariants as architectures
 
-abbrev call_row : RelocationKindInfo
+abbrev call_row : RowInfo
 call_row = the_row (loongarch_row names.R_LARCH_CALL36)
 
-abbrev high_row : RelocationKindInfo
+abbrev high_row : RowInfo
 high_row = the_row (loongarch_row names.R_LARCH_PCALA_HI20)
 
-abbrev low_row : RelocationKindInfo
+abbrev low_row : RowInfo
 low_row = the_row (loongarch_row names.R_LARCH_PCALA_LO12)
 
 -- The relocation of an instruction that stays is applied to it.
 module _ (p : Packed) (is : IsPacked p) (machine : p.machine ≡ LoongArch64) (i : ℕ)
-    (name : LoongArch64Relocation) (n : ℕ) (stays : StaysAs p i name n) (row : RelocationKindInfo)
-    (bits : BitRange) (insn : RelocationInstruction) (row_is : loongarch_row name ≡ Some row)
+    (name : LoongArch64Relocation) (n : ℕ) (stays : StaysAs p i name n) (row : RowInfo)
+    (bits : BitRange) (insn : AnyForm) (row_is : loongarch_row name ≡ Some row)
     (size : row.size ≡ BitMasking bits insn) (wide : window_len row ≡ n)
     (has : has_value row.kind ≡ true) (unlabelled : names_label row.size row.kind ≡ false)
     (symbol : Symbol)

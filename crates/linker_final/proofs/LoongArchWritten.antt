@@ -1,5 +1,5 @@
 -- Instructions of LoongArch and their relocations in the final bytes of a section.
-use Rattle.linker_final.proofs.Imports.{◌≡◌, ℕ, ℤ, ◌<◌, List, sym, ap, subst, ◌∙◌, arith, Some, Ok, refl, IsSomeAnd, slice_get, offset_after, addend_after, IsApplied, IsNamed, r_type_of, loongarch_name, loongarch_row, bytes_row, value_of, RelocationKindInfo, Choice, Operands, LoongArch64Relocation, IsRelocated, IsRewritten, loongarch_rewrite, rewrites_word, decision_at, Rewritten, relocation_in, operands_with, operands_in, Symbol, Rela, IsRow, relaxation_rewrite, Relaxation, Architecture, LoongArch64, AreRewritten, UntouchedInstruction, Linked, IsLinked, IsWrittenByNoOther, count, instruction_at, named_as, BeginsRewritten}
+use Rattle.linker_final.proofs.Imports.{◌≡◌, ℕ, ℤ, ◌<◌, List, sym, ap, subst, ◌∙◌, arith, Some, Ok, refl, IsSomeAnd, slice_get, offset_after, addend_after, IsApplied, IsNamed, r_type_of, loongarch_name, loongarch_row, bytes_row, value_of, RowInfo, Choice, Operands, LoongArch64Relocation, IsRelocated, IsRewritten, loongarch_rewrite, rewrites_word, decision_at, Rewritten, relocation_in, operands_with, operands_in, Symbol, Rela, IsRow, relaxation_rewrite, Relaxation, Architecture, LoongArch64, AreRewritten, UntouchedInstruction, Linked, IsLinked, IsWrittenByNoOther, count, instruction_at, named_as, BeginsRewritten}
 use Rattle.linker_elf.specs.declared.elf.RelocationKind.TheVariants.{None as NoValue}
 use Rattle.linker_elf.specs.declared.loongarch64.relocations.LoongArch64Relocation.TheVariants as names
 use Rattle.linker_final.proofs.InstructionFields.{IsOfInstruction}
@@ -12,7 +12,7 @@ use Rattle.linker_utils.specs.declared.architecture.Relaxation.TheVariants as re
 
 -- of an instruction
 pub record IsAfter (name : LoongArch64Relocation) : Type 0 where
-  pub row : RelocationKindInfo
+  pub row : RowInfo
   pub is : loongarch_row name ≡ Some row
   pub named : IsNamed (loongarch_name name)
   pub of : IsOfInstruction 4 row
@@ -24,7 +24,7 @@ as_named name a y before after is =
     subst (λ q. IsSomeAnd q (λ row. IsApplied row y before after)) (sym a.is) is
 
 pub row_of : (architecture : Architecture) → architecture ≡ LoongArch64 → (name : LoongArch64Relocation)
-    → IsNamed (loongarch_name name) → (row : RelocationKindInfo) → loongarch_row name ≡ Some row
+    → IsNamed (loongarch_name name) → (row : RowInfo) → loongarch_row name ≡ Some row
     → IsRowOf architecture (r_type_of (loongarch_name name)) row
 row_of architecture loongarch name named row is found there =
     by_name loongarch_name loongarch_row name named found

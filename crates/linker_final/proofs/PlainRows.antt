@@ -1,9 +1,9 @@
 -- Rows of whole bytes whose value replaces what is there, and what a section's relocation of such a
 -- row leaves in its field.
-use Rattle.linker_final.proofs.Imports.{◌≡◌, ℕ, zero, suc, ℤ, pos, ◌*◌, ◌%◌, ◌^◌, ◌<◌, ◌≤◌, List, drop, true, false, eqb, ltb, cond, refl, sym, ap, subst, ◌∙◌, inl, inr, arith, Option, Some, None, Ok, Err, Result, IsSomeAnd, Bool, cases_eq, cases_lt, cases_Bool, cond-true, cond-false, eq-eqb, ⊤, w64, cast_unsigned, int_rem_euclid, IsWithin, number_of_bytes, number_written, value_of, RelocationKindInfo, Operands, one_row, one_info, field_len, is_of_pair, IsRowValue, IsValueIn, IsValueBy, has_value, names_label, offset_at, lacks_origin, operands_of, value_by, composed, HoldsNumber, Addresses, Symbol, Rela, ValueError, IsRow, Architecture, eqb-true, lt-ltb, le-ltb, reach_of, ByteSize, Found, composed_by, composed_with, NoTlsBase}
+use Rattle.linker_final.proofs.Imports.{◌≡◌, ℕ, zero, suc, ℤ, pos, ◌*◌, ◌%◌, ◌^◌, ◌<◌, ◌≤◌, List, drop, true, false, eqb, ltb, cond, refl, sym, ap, subst, ◌∙◌, inl, inr, arith, Option, Some, None, Ok, Err, Result, IsSomeAnd, Bool, cases_eq, cases_lt, cases_Bool, cond-true, cond-false, eq-eqb, ⊤, w64, cast_unsigned, int_rem_euclid, IsWithin, number_of_bytes, number_written, value_of, RowInfo, Operands, one_row, one_info, field_len, is_of_pair, IsRowValue, IsValueIn, IsValueBy, has_value, names_label, offset_at, lacks_origin, operands_of, value_by, composed, HoldsNumber, Addresses, Symbol, Rela, ValueError, IsRow, Architecture, eqb-true, lt-ltb, le-ltb, reach_of, ByteSize, Found, composed_by, composed_with, NoTlsBase}
 
 -- of n bytes, which the value replaces
-pub record IsPlain (n : ℕ) (row : RelocationKindInfo) : Type 0 where
+pub record IsPlain (n : ℕ) (row : RowInfo) : Type 0 where
   pub size : row.size ≡ ByteSize n
   pub valued : has_value row.kind ≡ true
   pub unlabelled : names_label row.size row.kind ≡ false
@@ -16,7 +16,7 @@ pub record IsPlain (n : ℕ) (row : RelocationKindInfo) : Type 0 where
   pub holds : (len : ℕ) (v : ℤ) (before after : List ℕ) → HoldsNumber row.kind len v before after
       → pos (number_of_bytes len after) ≡ int_rem_euclid v (pos (2 ^ (8 * len)))
 
-abbrev pub plain : {n : ℕ} {row : RelocationKindInfo} → row.size ≡ ByteSize n → has_value row.kind ≡ true
+abbrev pub plain : {n : ℕ} {row : RowInfo} → row.size ≡ ByteSize n → has_value row.kind ≡ true
     → names_label row.size row.kind ≡ false → is_of_pair row ≡ false
     → ((o : Operands) → IsSomeAnd (value_of row o) (λ _. ⊤))
     → ((v : ℤ) (old : ℕ) → number_written row.kind v old ≡ cast_unsigned w64 v)
@@ -42,8 +42,8 @@ plain size valued unlabelled alone some writes composes remainder holds =
 -- ---- what is composed at the field
 
 -- a relocation without a field in the bytes there composes nothing
-by_other : (there : List ℕ) (f : Option (RelocationKindInfo × ℤ)) (number : ℤ)
-    → ((row : RelocationKindInfo) (v : ℤ) → f ≡ Some (row, v) → 0 < field_len row there → ⊥)
+by_other : (there : List ℕ) (f : Option (RowInfo × ℤ)) (number : ℤ)
+    → ((row : RowInfo) (v : ℤ) → f ≡ Some (row, v) → 0 < field_len row there → ⊥)
     → composed_by there f number ≡ number
 by_other there None number far = refl
 by_other there (Some one) number far =
@@ -53,17 +53,17 @@ by_other there (Some one) number far =
       | inr empty ↦ empty
     ]))
 
-by_own : (there : List ℕ) (row : RelocationKindInfo) (v number : ℤ) → 0 < field_len row there
+by_own : (there : List ℕ) (row : RowInfo) (v number : ℤ) → 0 < field_len row there
     → composed_with row.kind v number ≡ v → composed_by there (Some (row, v)) number ≡ v
 by_own there row v number some is =
     cond-true (ltb 0 (field_len row there)) (composed_with row.kind v number) number
     (lt-ltb 0 (field_len row there) some) ∙ is
 
-module _ (found : Found) (bytes section : List ℕ) (number : ℤ) (i : ℕ) (row : RelocationKindInfo)
+module _ (found : Found) (bytes section : List ℕ) (number : ℤ) (i : ℕ) (row : RowInfo)
     (v : ℤ) (is : found i ≡ Some (row, v)) (one : (m : ℤ) → composed_with row.kind v m ≡ v)
     (some : 0 < field_len row (drop (offset_at bytes i) section))
     (total : ℕ)
-    (far : (j : ℕ) (other : RelocationKindInfo) (w : ℤ) → j < total → (j ≡ i → ⊥)
+    (far : (j : ℕ) (other : RowInfo) (w : ℤ) → j < total → (j ≡ i → ⊥)
     → found j ≡ Some (other, w) → offset_at bytes j ≡ offset_at bytes i
     → 0 < field_len other (drop (offset_at bytes i) section) → ⊥) where
   abbrev so_far : ℕ → ℤ
@@ -115,13 +115,13 @@ module _ (found : Found) (bytes section : List ℕ) (number : ℤ) (i : ℕ) (ro
 -- ---- what is found
 
 -- a relocation of a row, with the operands of its formula, has the value of the formula
-pub record IsFoundOf (row : RelocationKindInfo) (operands : Operands)
-    (found : Option (RelocationKindInfo × ℤ)) : Type 0 where
+pub record IsFoundOf (row : RowInfo) (operands : Operands)
+    (found : Option (RowInfo × ℤ)) : Type 0 where
   pub value : ℤ
   pub is : found ≡ Some (row, value)
   pub value_is : value_of row operands ≡ Some value
 
-abbrev with_row : RelocationKindInfo → Option ℤ → Option (RelocationKindInfo × ℤ)
+abbrev with_row : RowInfo → Option ℤ → Option (RowInfo × ℤ)
 with_row row None = None
 with_row row (Some v) = Some (row, v)
 
@@ -130,10 +130,10 @@ some_is_not None nothing is = nothing
 some_is_not (Some v) there is = absurd (let e : None ≡ Some v = is in cc)
 
 module _ (architecture : Architecture) (addresses : Addresses) (bytes : List ℕ)
-    (symbols : List Symbol) (r : Rela) (row : RelocationKindInfo)
+    (symbols : List Symbol) (r : Rela) (row : RowInfo)
     (is_row : IsRow architecture r.r_type (Some row)) where
   -- it is found by the row
-  of_row : (found : Option (RelocationKindInfo × ℤ)) → IsRowValue architecture addresses bytes symbols r (Ok found)
+  of_row : (found : Option (RowInfo × ℤ)) → IsRowValue architecture addresses bytes symbols r (Ok found)
       → (value : Option ℤ) × (found ≡ with_row row value)
       × IsValueIn architecture addresses bytes symbols r (Some row) (Ok value)
   of_row (Some one) has =
@@ -152,17 +152,17 @@ module _ (architecture : Architecture) (addresses : Addresses) (bytes : List ℕ
   module _ (operands : Operands)
       (by : (value : Option ℤ) → IsValueIn architecture addresses bytes symbols r (Some row) (Ok value) → value ≡ value_of row operands)
       (some : IsSomeAnd (value_of row operands) (λ _. ⊤)) where
-    made : (found : Option (RelocationKindInfo × ℤ)) (value : Option ℤ) → found ≡ with_row row value
+    made : (found : Option (RowInfo × ℤ)) (value : Option ℤ) → found ≡ with_row row value
         → value ≡ value_of row operands → IsFoundOf row operands found
     made found (Some v) is value_is = record { value = v; is = is; value_is = sym value_is }
     made found None is value_is = absurd (some_is_not (value_of row operands) some value_is)
 
-    pub found_by : (found : Option (RelocationKindInfo × ℤ))
+    pub found_by : (found : Option (RowInfo × ℤ))
         → IsRowValue architecture addresses bytes symbols r (Ok found) → IsFoundOf row operands found
     found_by found has = let own = of_row found has in made found (own.0) (own.1) (by (own.0) (own.2))
 
 module _ (architecture : Architecture) (addresses : Addresses) (bytes : List ℕ)
-    (symbols : List Symbol) (r : Rela) (row : RelocationKindInfo)
+    (symbols : List Symbol) (r : Rela) (row : RowInfo)
     (is_row : IsRow architecture r.r_type (Some row))
     (valued : has_value row.kind ≡ true)
     (unlabelled : names_label row.size row.kind ≡ false) where
@@ -182,7 +182,7 @@ module _ (architecture : Architecture) (addresses : Addresses) (bytes : List ℕ
       let e : Ok value ≡ Err error = same ∙ ap (value_by (lacks_origin addresses symbols row r) row) is in cc
 
   -- it has what its formula takes
-  pub are_there : (found : Option (RelocationKindInfo × ℤ))
+  pub are_there : (found : Option (RowInfo × ℤ))
       → IsRowValue architecture addresses bytes symbols r (Ok found) → (error : ValueError)
       → operands_of architecture addresses symbols row r ≡ Err error → ⊥
   are_there found has error is =
@@ -190,7 +190,7 @@ module _ (architecture : Architecture) (addresses : Addresses) (bytes : List ℕ
       no_error (own.0) error is (of_operands (Ok (own.0)) (own.2))
 
 module _ (architecture : Architecture) (addresses : Addresses) (bytes : List ℕ)
-    (symbols : List Symbol) (r : Rela) (row : RelocationKindInfo) (operands : Operands)
+    (symbols : List Symbol) (r : Rela) (row : RowInfo) (operands : Operands)
     (is_row : IsRow architecture r.r_type (Some row))
     (valued : has_value row.kind ≡ true)
     (unlabelled : names_label row.size row.kind ≡ false)
@@ -208,7 +208,7 @@ module _ (architecture : Architecture) (addresses : Addresses) (bytes : List ℕ
       (of_operands architecture addresses bytes symbols r row is_row valued unlabelled (Ok value) is
       ∙ ap (value_by (lacks_origin addresses symbols row r) row) taken)
 
-  pub found_is : (found : Option (RelocationKindInfo × ℤ))
+  pub found_is : (found : Option (RowInfo × ℤ))
       → IsRowValue architecture addresses bytes symbols r (Ok found)
       → IsFoundOf row operands found
   found_is = found_by architecture addresses bytes symbols r row is_row operands by_row some

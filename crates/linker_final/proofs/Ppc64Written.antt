@@ -1,8 +1,8 @@
 -- Instructions of PowerPC64 and their relocations in the final bytes of a section.
-use Rattle.linker_final.proofs.Imports.{true, ◌≡◌, ◌⊎◌, ℕ, ◌+◌, ◌-◌, ◌<◌, ◌≤◌, take, drop, sym, ap, subst, ◌∙◌, refl, arith, Some, None, Ok, IsSomeAnd, cond, take-take, IsTrue, slice_get, Rewrite, addend_after, offset_after, IsNamed, r_type_of, ppc64_name, ppc64_row, bytes_row, signed_row, value_of, GotTpOff, Relative, TpOff, RelocationKindInfo, Choice, Operands, Ppc64Relocation, HasTest, ppc64_rewrite, rewrites_marked, decision_at, IsDone, IsMade, Rewritten, entry_of, relocation_in, entry_address, is_there, operands_by, operands_with, Symbol, Entry, ThreadOffset, Rela, IsRow, relaxation_rewrite, Relaxation, Ppc64, UntouchedBytes, AreRewritten, Linked, IsLinked, IsWrittenByNoOther, count, instruction_at}
+use Rattle.linker_final.proofs.Imports.{true, ◌≡◌, ◌⊎◌, ℕ, ◌+◌, ◌-◌, ◌<◌, ◌≤◌, take, drop, sym, ap, subst, ◌∙◌, refl, arith, Some, None, Ok, IsSomeAnd, cond, take-take, IsTrue, slice_get, Rewrite, addend_after, offset_after, IsNamed, r_type_of, ppc64_name, ppc64_row, bytes_row, signed_row, value_of, GotTpOff, Relative, TpOff, RowInfo, Choice, Operands, Ppc64Relocation, HasTest, ppc64_rewrite, rewrites_marked, decision_at, IsDone, IsMade, Rewritten, entry_of, relocation_in, entry_address, is_there, operands_by, operands_with, Symbol, Entry, ThreadOffset, Rela, IsRow, relaxation_rewrite, Relaxation, Ppc64, UntouchedBytes, AreRewritten, Linked, IsLinked, IsWrittenByNoOther, count, instruction_at}
 use Rattle.linker_elf.specs.Ppc64Relocations.{branch_row, high_adjusted_row, low_ds_row, low_row, prefixed_row}
 use Rattle.linker_elf.specs.declared.elf.RelocationKind.TheVariants.{None as NoValue, GotTpOffGotBase, SymRelGotBase}
-use Rattle.linker_elf.specs.declared.ppc64.forms.Ppc64Instruction.TheVariants.{Branch24}
+use Rattle.linker_elf.specs.declared.ppc64.forms.Ppc64Form.TheVariants.{Branch24}
 use Rattle.linker_elf.specs.declared.ppc64.relocations.Ppc64Relocation.TheVariants as names
 use Rattle.linker_final.proofs.InstructionFields.{IsOfInstruction, of_bits}
 use Rattle.linker_final.proofs.Phases.{relocation_left}
@@ -16,13 +16,13 @@ use Rattle.linker_utils.specs.declared.architecture.Relaxation.TheVariants as re
 
 -- of an instruction of n bytes
 pub record IsAfter (n : ℕ) (name : Ppc64Relocation) : Type 0 where
-  pub row : RelocationKindInfo
+  pub row : RowInfo
   pub is : ppc64_row name ≡ Some row
   pub named : IsNamed (ppc64_name name)
   pub of : IsOfInstruction n row
 
 pub row_of : (l : Linked) → l.context.architecture ≡ Ppc64 → (name : Ppc64Relocation)
-    → IsNamed (ppc64_name name) → (row : RelocationKindInfo) → ppc64_row name ≡ Some row
+    → IsNamed (ppc64_name name) → (row : RowInfo) → ppc64_row name ≡ Some row
     → IsRowOf l.context.architecture (r_type_of (ppc64_name name)) row
 row_of l ppc64 name named row is found there =
     by_name ppc64_name ppc64_row name named found
@@ -139,7 +139,7 @@ module _ (l : Linked) (linked : IsLinked l) (ppc64 : l.context.architecture ≡ 
 
 -- ---- rows
 
-abbrev after_of : (n : ℕ) (name : Ppc64Relocation) (row : RelocationKindInfo) → ppc64_row name ≡ Some row
+abbrev after_of : (n : ℕ) (name : Ppc64Relocation) (row : RowInfo) → ppc64_row name ≡ Some row
     → IsNamed (ppc64_name name) → IsOfInstruction n row → IsAfter n name
 after_of n name row is named of = record { row = row; is = is; named = named; of = of }
 
@@ -166,7 +166,7 @@ Writes n entry name =
     (take n (drop r.offset l.rewritten)) (take n (drop r.offset l.final)))
 
 -- of a relocation without an entry
-written : (n : ℕ) → 0 < n → (name : Ppc64Relocation) (row : RelocationKindInfo) → ppc64_row name ≡ Some row
+written : (n : ℕ) → 0 < n → (name : Ppc64Relocation) (row : RowInfo) → ppc64_row name ≡ Some row
     → IsNamed (ppc64_name name) → IsOfInstruction n row
     → ((l : Linked) (r : Rela) (symbol : Symbol)
     → operands_by Ppc64 l.addresses row r symbol (entry_address l.addresses symbol (entry_of row r.addend symbol.is_thread_local))
@@ -185,7 +185,7 @@ written n some name row is named of none same l linked ppc64 i below code left =
     (operands_with Ppc64 l.addresses row symbol r any) (same l r symbol any))
 
 -- and of one with that of an offset
-written_by_entry : (n : ℕ) → 0 < n → (name : Ppc64Relocation) (row : RelocationKindInfo) → ppc64_row name ≡ Some row
+written_by_entry : (n : ℕ) → 0 < n → (name : Ppc64Relocation) (row : RowInfo) → ppc64_row name ≡ Some row
     → IsNamed (ppc64_name name) → IsOfInstruction n row
     → ((r : Rela) (symbol : Symbol) → entry_of row r.addend symbol.is_thread_local
     ≡ Some (record { class = ThreadOffset; addend = r.addend }))

@@ -10,10 +10,10 @@ use Rattle.linker_elf.specs.Reach.{reach_of, riscv_pair_bounds}
 use Rattle.linker_elf.specs.Rows.{Bounds}
 use Rattle.linker_elf.specs.Value.{formula, read_signed, is_offset}
 use Rattle.linker_elf.specs.declared.elf.RelocationKind.TheVariants as kinds
-use Rattle.linker_elf.specs.declared.elf.RelocationSize.{RelocationSize}
-use Rattle.linker_elf.specs.declared.elf.RelocationSize.TheVariants.{ByteSize}
+use Rattle.linker_elf.specs.declared.elf.RowSize.{RowSize}
+use Rattle.linker_elf.specs.declared.elf.RowSize.TheVariants.{ByteSize}
 use Rattle.linker_elf.specs.declared.riscv64.relocations.RiscVRelocation.TheVariants as riscv64
-use Rattle.linker_final.proofs.Imports.{and_parts, cases_lt, cond-true, ltb-true, ints, of_z-to_z, w64, cast_signed, cast_unsigned, if◌then◌else◌, slice_get, ◌&&◌, IsRow, IsWithin, riscv_relocation, sum_64, difference_64, value_of, loads_plt_word, RelocationKind, RelocationKindInfo, BitMasking, RiscV, Operands, RiscVRelocation, one_row, entry_of, relocation_in, IsValueBy, IsValueIn, entry_address, has_value, lacks_origin, names_label, operands_by, operands_in, operands_of, operands_with, value_by, Addresses, Symbol, Rela, ValueError}
+use Rattle.linker_final.proofs.Imports.{and_parts, cases_lt, cond-true, ltb-true, ints, of_z-to_z, w64, cast_signed, cast_unsigned, if◌then◌else◌, slice_get, ◌&&◌, IsRow, IsWithin, riscv_relocation, sum_64, difference_64, value_of, loads_plt_word, RelocationKind, RowInfo, BitMasking, RiscV, Operands, RiscVRelocation, one_row, entry_of, relocation_in, IsValueBy, IsValueIn, entry_address, has_value, lacks_origin, names_label, operands_by, operands_in, operands_of, operands_with, value_by, Addresses, Symbol, Rela, ValueError}
 use Rattle.linker_laws.proofs.Sums.{sum_below}
 use Rattle.linker_section.proofs.QuickValues.{when_true}
 use Rattle.linker_section.specs.Inner.Facts.{When}
@@ -140,11 +140,11 @@ base_of kinds.TlsDesc o = o.got_entry
 base_of kind o = o.symbol
 
 -- what is subtracted
-abbrev less_of_size : RelocationSize → Operands → Option ℕ
+abbrev less_of_size : RowSize → Operands → Option ℕ
 less_of_size (ByteSize n) o = if n == 0 then None else Some o.place
 less_of_size (BitMasking bits insn) o = Some o.place
 
-abbrev less_of : RelocationKind → RelocationSize → Operands → Option ℕ
+abbrev less_of : RelocationKind → RowSize → Operands → Option ℕ
 less_of kinds.Relative size o = less_of_size size o
 less_of kinds.RelativeRiscVLow12 size o = Some o.place
 less_of kinds.PltRelative size o = Some o.place
@@ -211,7 +211,7 @@ low_result of_descriptor o =
     (difference_64 (sum_64 (sum_64 (end_of of_descriptor o) (cast_unsigned w64 o.addend)) 0) o.place))
 
 -- a high part has the value of its low parts
-record IsHigh (of_descriptor : Bool) (row : RelocationKindInfo) : Type 0 where
+record IsHigh (of_descriptor : Bool) (row : RowInfo) : Type 0 where
   value : (o : Operands)
       → When (is_high_part (low_kind of_descriptor) (Some row)) (low_result of_descriptor (low_operands row o)) (value_of row o)
   valued : When (is_high_part (low_kind of_descriptor) (Some row)) (has_value row.kind) true
@@ -219,12 +219,12 @@ record IsHigh (of_descriptor : Bool) (row : RelocationKindInfo) : Type 0 where
   unlabelled : When (is_high_part (low_kind of_descriptor) (Some row)) (names_label row.size row.kind) false
   bounds : When (is_high_part (low_kind of_descriptor) (Some row)) (reach_of row) (Some riscv_pair_bounds)
 
-record IsLow (row : RelocationKindInfo) : Type 0 where
+record IsLow (row : RowInfo) : Type 0 where
   kind : When (names_label row.size row.kind) row.kind (low_kind (is_of_descriptor row.kind))
   value : (o : Operands) → When (names_label row.size row.kind) (value_of row o) (low_result (is_of_descriptor row.kind) o)
   bounds : When (names_label row.size row.kind) (reach_of row) (Some riscv_pair_bounds)
 
-record IsSum (row : RelocationKindInfo) : Type 0 where
+record IsSum (row : RowInfo) : Type 0 where
   formula_is : (o : Operands) (a : ℤ)
       → formula row.kind row (record o { addend = a })
       ≡ number_if (has_value row.kind) (made (base_of row.kind o) (less_of row.kind row.size o) (cast_unsigned w64 a))
@@ -235,7 +235,7 @@ record IsSum (row : RelocationKindInfo) : Type 0 where
   high_of_descriptor : IsHigh true row
   high : IsHigh false row
 
-abbrev AreSums : Option RelocationKindInfo → Type 0
+abbrev AreSums : Option RowInfo → Type 0
 AreSums None = Unit
 AreSums (Some row) = IsSum row
 
@@ -251,10 +251,10 @@ are_sums name = record {
   high = record { value = λ o. refl; valued = refl; no_offset = refl; unlabelled = refl; bounds = refl };
 }
 
-is_sum : (r_type : ℕ) (row : RelocationKindInfo) → IsRow RiscV r_type (Some row) → IsSum row
+is_sum : (r_type : ℕ) (row : RowInfo) → IsRow RiscV r_type (Some row) → IsSum row
 is_sum r_type row of = subst AreSums (sym of.value_is) (are_sums of.name)
 
-high_is : (of_descriptor : Bool) (row : RelocationKindInfo) → IsSum row → IsHigh of_descriptor row
+high_is : (of_descriptor : Bool) (row : RowInfo) → IsSum row → IsHigh of_descriptor row
 high_is true row sum = sum.high_of_descriptor
 high_is false row sum = sum.high
 
@@ -268,7 +268,7 @@ record HasMoved (r after : Rela) (wanted : ℤ) (result : Value) : Type 0 where
   addend : IsSame32 after.addend r.addend
   is : result ≡ Ok (Some wanted)
 
-module _ (row : RelocationKindInfo) (sum : IsSum row) (addresses : Addresses) (r : Rela) (value wanted : ℤ)
+module _ (row : RowInfo) (sum : IsSum row) (addresses : Addresses) (r : Rela) (value wanted : ℤ)
     (fits : FitsSigned w64 wanted) (same : IsSame32 wanted value) where
   abbrev HasMovedTo : Value → Type 0
   HasMovedTo result = HasMoved r (with_value r value wanted) wanted result
@@ -354,7 +354,7 @@ unbounded (Err error) = refl
 unbounded (Ok None) = refl
 unbounded (Ok (Some value)) = (value, refl, record { same = refl; within = λ v same inside. inside })
 
-module _ (addresses : Addresses) (symbols : List Symbol) (row : RelocationKindInfo) (sum : IsSum row) (r : Rela) where
+module _ (addresses : Addresses) (symbols : List Symbol) (row : RowInfo) (sum : IsSum row) (r : Rela) where
   -- what becomes of it, by its value
   abbrev Becomes : Bounds → Value → Rela → Type 0
   Becomes bounds result after =
@@ -384,7 +384,7 @@ module _ (addresses : Addresses) (symbols : List Symbol) (row : RelocationKindIn
       (wrapped_to (if labelled then None else least_in (reach_of row)) r (own_value RiscV addresses symbols row r))) (sym isnt)
       (becomes (reach_of row) (near (reach_of row) sum.near) (own_value RiscV addresses symbols row r) refl)
 
-addend_by : (addresses : Addresses) (symbols : List Symbol) (r : Rela) (row : Option RelocationKindInfo)
+addend_by : (addresses : Addresses) (symbols : List Symbol) (r : Rela) (row : Option RowInfo)
     → IsRow RiscV r.r_type row → HasWrappedAddend r (wrapped_by addresses symbols r row)
 addend_by addresses symbols r None of = unchanged r
 addend_by addresses symbols r (Some row) of =
@@ -396,7 +396,7 @@ addends addresses symbols before after are n below =
     subst (HasWrappedAddend (relocation_in before n)) (sym each.2) (addend_by addresses symbols (relocation_in before n) each.0 each.1)
 
 -- the value of a relocation that is no low part
-own_wrapped : (addresses : Addresses) (symbols : List Symbol) (row : RelocationKindInfo) (r after : Rela)
+own_wrapped : (addresses : Addresses) (symbols : List Symbol) (row : RowInfo) (r after : Rela)
     → IsRow RiscV r.r_type (Some row) → IsWrapped addresses symbols r after → names_label row.size row.kind ≡ false
     → IsWrappedValue (reach_of row) (own_value RiscV addresses symbols row r) (own_value RiscV addresses symbols row after)
 own_wrapped addresses symbols row r after of each isnt =
@@ -406,7 +406,7 @@ own_wrapped addresses symbols row r after of each isnt =
 
 -- ---- a low part
 
-module _ (addresses : Addresses) (symbols : List Symbol) (row high : RelocationKindInfo) (low : IsLow row)
+module _ (addresses : Addresses) (symbols : List Symbol) (row high : RowInfo) (low : IsLow row)
     (labelled : names_label row.size row.kind ≡ true) (upper : IsHigh (is_of_descriptor row.kind) high)
     (is_high : is_high_part row.kind (Some high) ≡ true) where
   high_part : is_high_part (low_kind (is_of_descriptor row.kind)) (Some high) ≡ true
@@ -478,9 +478,9 @@ module _ (addresses : Addresses) (symbols : List Symbol) (before after : List �
       let old : new ≡ record r { addend = new.addend } = becomes.others ∙ ap (λ (x : Rela). record x { addend = new.addend }) there.is in
       subst (IsNoHighPart RiscV kind at) old (none i new now)
 
-  low_was : (row : RelocationKindInfo) → IsSum row → names_label row.size row.kind ≡ true → (at : ℕ)
-      (found : Option (Rela × RelocationKindInfo)) → IsHighPartAt RiscV after row.kind at found
-      → (first : Option (Rela × RelocationKindInfo)) × IsHighPartAt RiscV before row.kind at first
+  low_was : (row : RowInfo) → IsSum row → names_label row.size row.kind ≡ true → (at : ℕ)
+      (found : Option (Rela × RowInfo)) → IsHighPartAt RiscV after row.kind at found
+      → (first : Option (Rela × RowInfo)) × IsHighPartAt RiscV before row.kind at first
       × IsWrappedValue (reach_of row) (low_value RiscV addresses symbols row first) (low_value RiscV addresses symbols row found)
   low_was row sum labelled at None none = (None, none_was row.kind at none, refl)
   low_was row sum labelled at (Some (new, high)) part =
@@ -500,11 +500,11 @@ module _ (addresses : Addresses) (symbols : List Symbol) (before after : List �
             part.is_high r new of each,
       )
 
-  abbrev Was : RelocationKindInfo → Rela → Value → Type 0
+  abbrev Was : RowInfo → Rela → Value → Type 0
   Was row r result =
       (first : Value) × IsValue RiscV addresses before symbols r first × IsWrappedValue (reach_of row) first result
 
-  was_low : (row : RelocationKindInfo) (r : Rela) → IsRow RiscV r.r_type (Some row) → names_label row.size row.kind ≡ true
+  was_low : (row : RowInfo) (r : Rela) → IsRow RiscV r.r_type (Some row) → names_label row.size row.kind ≡ true
       → (label : Option Symbol) → slice_get symbols r.symbol ≡ label → (first : Value)
       → IsLowValue RiscV addresses before symbols row label first → IsValue RiscV addresses before symbols r first
   was_low row r of labelled label is first low = (
@@ -514,7 +514,7 @@ module _ (addresses : Addresses) (symbols : List Symbol) (before after : List �
         (subst (λ s. IsLowValue RiscV addresses before symbols row s first) (sym is) low),
   )
 
-  label_was : (row : RelocationKindInfo) → IsSum row → (r : Rela) → IsRow RiscV r.r_type (Some row)
+  label_was : (row : RowInfo) → IsSum row → (r : Rela) → IsRow RiscV r.r_type (Some row)
       → names_label row.size row.kind ≡ true → (label : Option Symbol) → slice_get symbols r.symbol ≡ label
       → (result : Value) → IsLowValue RiscV addresses after symbols row label result → Was row r result
   label_was row sum r of labelled None is result value =
@@ -527,7 +527,7 @@ module _ (addresses : Addresses) (symbols : List Symbol) (before after : List �
         subst (λ x. IsWrappedValue (reach_of row) first x) (sym value.2) low.2,
       )
 
-  by_kind : (n : ℕ) → n < length before / 24 → (row : RelocationKindInfo)
+  by_kind : (n : ℕ) → n < length before / 24 → (row : RowInfo)
       → IsRow RiscV (relocation_in before n).r_type (Some row)
       → (labelled : Bool) → names_label row.size row.kind ≡ labelled → (result : Value)
       → IsValueBy labelled RiscV addresses after symbols row (relocation_in after n) result

@@ -1,5 +1,5 @@
 -- RISC-V: low parts over x3 and x0, and what is deleted before them.
-use Rattle.linker_final.proofs.Imports.{◌≡◌, ℕ, pos, ◌+ℤ◌, ◌+◌, ◌-◌, ◌%◌, ◌^◌, ◌<◌, ◌≤◌, ◌⊎◌, Bool, true, false, true≢false, refl, sym, ◌∙◌, ap, subst, arith, List, drop, ℤ, Option, Some, None, if◌then◌else◌, ◌&&◌, IsTrue, w32, w64, cast_signed, cast_unsigned, from_le_bytes, ints, of_z-to_z, ltb-true, signed, riscv_form, pair_row, sum_64, difference_64, RelocationKind, Absolute, Relative, RelativeRiscVLow12, RelocationKindInfo, Operands, IType, UType, opcode_of, funct3_of, adds_low12, address_in, Relocated, wrapped, symbol_address, IsAddress, unsigned_abs, IsSomeAnd, lo12, moved, sum_zero}
+use Rattle.linker_final.proofs.Imports.{◌≡◌, ℕ, pos, ◌+ℤ◌, ◌+◌, ◌-◌, ◌%◌, ◌^◌, ◌<◌, ◌≤◌, ◌⊎◌, Bool, true, false, true≢false, refl, sym, ◌∙◌, ap, subst, arith, List, drop, ℤ, Option, Some, None, if◌then◌else◌, ◌&&◌, IsTrue, w32, w64, cast_signed, cast_unsigned, from_le_bytes, ints, of_z-to_z, ltb-true, signed, riscv_form, pair_row, sum_64, difference_64, RelocationKind, Absolute, Relative, RelativeRiscVLow12, RowInfo, Operands, IType, UType, opcode_of, funct3_of, adds_low12, address_in, Relocated, wrapped, symbol_address, IsAddress, unsigned_abs, IsSomeAnd, lo12, moved, sum_zero}
 use Rattle.linker_riscv64.specs.RiscVCalls.{word_at}
 use Rattle.linker_laws.specs.RiscVRelocationLaws.{AbsoluteAddresses, RelativeAddresses}
 use Rattle.linker_laws.specs.RiscVMachine.{Action, register}
@@ -86,7 +86,7 @@ first_of_and true b is = refl
 first_of_and false b is = absurd (true≢false (sym is))
 
 parts : (kind : RelocationKind) (number : Operands → ℕ) → IsFormulaOf kind number
-    → (row : Action → Option RelocationKindInfo) → ((a : Action) → row a ≡ row_of kind a)
+    → (row : Action → Option RowInfo) → ((a : Action) → row a ≡ row_of kind a)
     → PartsFromBase row number
 parts kind number of row rows section o gp small inside is =
     let word = word_at section o in

@@ -1,7 +1,7 @@
 -- What new has of rewritten instructions of RISC-V, in the final bytes or once they are packed, is
 -- what the rewrites left, with the values of their relocations.
-use Rattle.linker_final.proofs.Imports.{◌≡◌, ℕ, ◌+◌, ◌/◌, ◌<◌, ◌≤◌, List, length, refl, sym, ap, subst, ◌∙◌, arith, Option, Some, Ok, IsSomeAnd, slice_get, BitRange, IsApplied, IsRow, IsNamed, r_type_of, Choice, addend_after, offset_after, pair_row, riscv_name, riscv_relocation, riscv_row, difference_64, value_of, Relative, RelativeRiscVLow12, RelocationKindInfo, Architecture, RiscV, Operands, IType, UType, RiscVRelocation, after_rewrite, decision_at, Rewritten, RewrittenWithSymbol, Subject, riscv_entries, riscv_rewrite, Relaxation, RiscV64, relocation_in, offset_at, operands_in, operands_of, operands_with, AreWritten, Addresses, Symbol, Rela, AreBytes, AreRewritten, IsLinked, Linked, UntouchedInstruction, count, instruction_at, IsKeptInstruction, IsRewrittenAndPacked, Packed, architecture_of, place_of, HasLow, HasNamed, HasOwn, HasValue, IsNamedAs, New, anywhere, final, packed}
-use Rattle.linker_elf.specs.declared.elf.RelocationInstruction.TheVariants as insns
+use Rattle.linker_final.proofs.Imports.{◌≡◌, ℕ, ◌+◌, ◌/◌, ◌<◌, ◌≤◌, List, length, refl, sym, ap, subst, ◌∙◌, arith, Option, Some, Ok, IsSomeAnd, slice_get, BitRange, IsApplied, IsRow, IsNamed, r_type_of, Choice, addend_after, offset_after, pair_row, riscv_name, riscv_relocation, riscv_row, difference_64, value_of, Relative, RelativeRiscVLow12, RowInfo, Architecture, RiscV, Operands, IType, UType, RiscVRelocation, after_rewrite, decision_at, Rewritten, RewrittenWithSymbol, Subject, riscv_entries, riscv_rewrite, Relaxation, RiscV64, relocation_in, offset_at, operands_in, operands_of, operands_with, AreWritten, Addresses, Symbol, Rela, AreBytes, AreRewritten, IsLinked, Linked, UntouchedInstruction, count, instruction_at, IsKeptInstruction, IsRewrittenAndPacked, Packed, architecture_of, place_of, HasLow, HasNamed, HasOwn, HasValue, IsNamedAs, New, anywhere, final, packed}
+use Rattle.linker_elf.specs.declared.elf.AnyForm.TheVariants as insns
 use Rattle.linker_elf.specs.declared.riscv64.relocations.RiscVRelocation.TheVariants as names
 use Rattle.linker_final.proofs.InstructionFields.{applied, applied_found, of_bits}
 use Rattle.linker_final.proofs.Joined.{r_type_is, final_inside, place_is, rewritten_inside, same_kept, within}
@@ -53,7 +53,7 @@ module _ (l : Linked) (o : Output) (name : RiscVRelocation) (n place : ℕ) (the
       (o.written.can.found n) (o.written.can.are_found n there.within)
 
   -- the instruction has the value of operands
-  has : (row : Option RelocationKindInfo) → row ≡ Some a.row → (mine y : Operands) → value_of a.row y ≡ value_of a.row mine
+  has : (row : Option RowInfo) → row ≡ Some a.row → (mine y : Operands) → value_of a.row y ≡ value_of a.row mine
       → IsApplied a.row mine (instruction_at o.before (offset_at o.relocations n)) (instruction_at o.after (offset_at o.relocations n))
       → (code : ℕ → ℕ) (at : ℕ) → Stands 4 code at (instruction_at o.after place)
       → Has 4 code at row y (instruction_at l.rewritten (offset_of l n))
@@ -76,7 +76,7 @@ module _ (l : Linked) (o : Output) (name : RiscVRelocation) (n place : ℕ) (the
       }
 
 -- what the value of a relocation's own symbol is computed from
-module _ (o : Output) (name : RiscVRelocation) (w : IsOwn name) (n : ℕ) (row : Option RelocationKindInfo) (y : Operands)
+module _ (o : Output) (name : RiscVRelocation) (w : IsOwn name) (n : ℕ) (row : Option RowInfo) (y : Operands)
     (v : HasValue name row n y o.addresses o.symbols o.relocations) where
   abbrev mine : Operands
   mine = operands_with RiscV o.addresses w.after.row (v.0) (relocation_in o.relocations n) 0
@@ -96,7 +96,7 @@ module _ (o : Output) (name : RiscVRelocation) (w : IsOwn name) (n : ℕ) (row :
       ∙ w.no_entry o.addresses (relocation_in o.relocations n) (v.0))
 
 own : (l : Linked) (o : Output) (name : RiscVRelocation) (w : IsOwn name) (n place : ℕ) → IsIn l o name n place
-    → (row : Option RelocationKindInfo) (y : Operands) → HasValue name row n y o.addresses o.symbols o.relocations
+    → (row : Option RowInfo) (y : Operands) → HasValue name row n y o.addresses o.symbols o.relocations
     → (code : ℕ → ℕ) (at : ℕ) → Stands 4 code at (instruction_at o.after place)
     → Has 4 code at row y (instruction_at l.rewritten (offset_of l n))
 own l o name w n place there row y v =
@@ -271,7 +271,7 @@ module _ (l : Linked) (riscv : l.context.architecture ≡ RiscV) where
               (bytes_there l.last (offset_of l n) (subst AreBytes joined.bytes joined.packed.section_bytes));
         }
 
-    pub has_own : (w : IsOwn name) (new : New l) (row : Option RelocationKindInfo) (y : Operands) (code : ℕ → ℕ) (at : ℕ)
+    pub has_own : (w : IsOwn name) (new : New l) (row : Option RowInfo) (y : Operands) (code : ℕ → ℕ) (at : ℕ)
         → HasOwn l new name row n y code at → Has 4 code at row y (instruction_at l.rewritten (offset_of l n))
     has_own w anywhere row y code at is = is
     has_own w (final linked) row y code at is =

@@ -1,5 +1,5 @@
 -- What the choice of a rewrite over the thread pointer tested: the offset is a number of 12 bits.
-use Rattle.linker_final.proofs.Imports.{◌≡◌, ◌≢◌, ◌⊎◌, ◌^◌, ◌<◌, ◌-◌, ◌*◌, pos, negsuc, ℕ, suc, [], ◌∷◌, Bool, true, false, refl, sym, ap, subst, ◌∙◌, inl, inr, arith, List, Option, Some, None, if◌then◌else◌, slice_get, nat_lt, w64, cast_signed, cast_unsigned, from_le_bytes, AllHold, entry, IsWithin, ints, ltb-true, IsNamed, IsNameOf, pair_row, riscv_name, difference_64, sum_64, GotTpOff, TpOff, RelocationKindInfo, Choice, LinkFacts, Operands, IType, UType, RiscVRelocation, IsChosen, chosen_or_labelled, IsLowOffset, AppliesToRiscV, HasPattern, RiscVEntry, by_low_offset, riscv_entries, RelaxContext, address_in, link_facts, IsScopeIn, riscv_scope_in, is_labelled, Rewritten, RewrittenWithSymbol, Labelled, NotRelaxable, Phase, relocation_in, operands_with, Addresses, Symbol, Rela, Relaxation, RiscV, take, drop, HasAddresses, low_12_bounds, operands_before, Reaches, riscv_pair_bounds, count, IsNotRewrittenBy, NoneIsInitialExec, OffsetsAreLow, OffsetsAreLowOf, riscv_row_of, facts_at, facts_by, facts_with, placed_facts, far_entry, is_label_marked, without_entry, IsOfOne, of_entry}
+use Rattle.linker_final.proofs.Imports.{◌≡◌, ◌≢◌, ◌⊎◌, ◌^◌, ◌<◌, ◌-◌, ◌*◌, pos, negsuc, ℕ, suc, [], ◌∷◌, Bool, true, false, refl, sym, ap, subst, ◌∙◌, inl, inr, arith, List, Option, Some, None, if◌then◌else◌, slice_get, nat_lt, w64, cast_signed, cast_unsigned, from_le_bytes, AllHold, entry, IsWithin, ints, ltb-true, IsNamed, IsNameOf, pair_row, riscv_name, difference_64, sum_64, GotTpOff, TpOff, RowInfo, Choice, LinkFacts, Operands, IType, UType, RiscVRelocation, IsChosen, chosen_or_labelled, IsLowOffset, AppliesToRiscV, HasPattern, RiscVEntry, by_low_offset, riscv_entries, RelaxContext, address_in, link_facts, IsScopeIn, riscv_scope_in, is_labelled, Rewritten, RewrittenWithSymbol, Labelled, NotRelaxable, Phase, relocation_in, operands_with, Addresses, Symbol, Rela, Relaxation, RiscV, take, drop, HasAddresses, low_12_bounds, operands_before, Reaches, riscv_pair_bounds, count, IsNotRewrittenBy, NoneIsInitialExec, OffsetsAreLow, OffsetsAreLowOf, riscv_row_of, facts_at, facts_by, facts_with, placed_facts, far_entry, is_label_marked, without_entry, IsOfOne, of_entry}
 use mir.Val.{sel}
 use Rattle.linker_base.proofs.Bits.{cast_negative}
 use Rattle.linker_final.proofs.RiscVChosen.{anyhow, kind_in, of_table}
@@ -79,7 +79,7 @@ address_is : (addresses : Addresses) (value : Symbol) → value.is_thread_local 
 address_is addresses value is =
     ap (λ b. if value.is_undefined_weak then (if b then addresses.thread_origin else 0) else value.address) is
 
-abbrev row : RelocationKindInfo
+abbrev row : RowInfo
 row = pair_row TpOff 32 IType
 
 -- what the entry's last condition says
@@ -139,7 +139,7 @@ offsets_are_low = (
 
 -- ---- no entry of the GOT is in reach
 
-abbrev entry_row : RelocationKindInfo
+abbrev entry_row : RowInfo
 entry_row = pair_row GotTpOff 32 UType
 
 -- what is read as a signed number has 64 bits

@@ -1,5 +1,5 @@
 -- Instructions of RISC-V and their relocations in the final bytes of a section.
-use Rattle.linker_final.proofs.Imports.{◌≡◌, ℕ, zero, suc, ℤ, ◌+◌, ◌-◌, ◌<◌, ◌≤◌, ◌^◌, List, [], ◌∷◌, length, drop, get_or, sym, ap, subst, ◌∙◌, arith, Some, Ok, refl, length-drop, length-take-le, All-drop, All-from_get_or, All-take, w32, from_le_bytes, to_le_bytes, offset_after, addend_after, rewritten, IsNamed, r_type_of, riscv_name, riscv_relocation, riscv_row, RelocationKindInfo, Choice, RiscVRelocation, after_rewrite, decision_at, IsDone, IsMade, relocation_after, Decision, RewrittenWithSymbol, Rewritten, Subject, riscv_rewrite, relocation_in, operands_in, operands_with, Addresses, Symbol, Rela, relaxation_rewrite, Relaxation, RiscV, AreBytes, AreRewritten, Linked, count, instruction_at}
+use Rattle.linker_final.proofs.Imports.{◌≡◌, ℕ, zero, suc, ℤ, ◌+◌, ◌-◌, ◌<◌, ◌≤◌, ◌^◌, List, [], ◌∷◌, length, drop, get_or, sym, ap, subst, ◌∙◌, arith, Some, Ok, refl, length-drop, length-take-le, All-drop, All-from_get_or, All-take, w32, from_le_bytes, to_le_bytes, offset_after, addend_after, rewritten, IsNamed, r_type_of, riscv_name, riscv_relocation, riscv_row, RowInfo, Choice, RiscVRelocation, after_rewrite, decision_at, IsDone, IsMade, relocation_after, Decision, RewrittenWithSymbol, Rewritten, Subject, riscv_rewrite, relocation_in, operands_in, operands_with, Addresses, Symbol, Rela, relaxation_rewrite, Relaxation, RiscV, AreBytes, AreRewritten, Linked, count, instruction_at}
 use Rattle.linker_final.proofs.Written.{rela}
 use Rattle.linker_final.proofs.InstructionFields.{IsOfInstruction}
 use Rattle.linker_utils.specs.RiscVRewrites.{rewrites_word}
@@ -66,7 +66,7 @@ module _ (l : Linked) (made : AreRewritten l) (i : ℕ) (chosen : Choice Relaxat
 
 -- a name with a row
 pub record IsAfter (name : RiscVRelocation) : Type 0 where
-  pub row : RelocationKindInfo
+  pub row : RowInfo
   pub is : (riscv_relocation name).row ≡ Some row
   pub named : IsNamed (riscv_name name)
 
@@ -79,7 +79,7 @@ pub record IsOwn (name : RiscVRelocation) : Type 0 where
       → operands_in RiscV addresses after.row r (Some symbol)
       ≡ Ok (operands_with RiscV addresses after.row symbol r 0)
 
-abbrev pub own_row : (name : RiscVRelocation) (row : RelocationKindInfo) → (riscv_relocation name).row ≡ Some row
+abbrev pub own_row : (name : RiscVRelocation) (row : RowInfo) → (riscv_relocation name).row ≡ Some row
     → IsNamed (riscv_name name) → IsOfInstruction 4 row → riscv_row name ≡ Some row
     → ((addresses : Addresses) (r : Rela) (symbol : Symbol)
     → operands_in RiscV addresses row r (Some symbol) ≡ Ok (operands_with RiscV addresses row symbol r 0))

@@ -1,5 +1,5 @@
 -- Instructions and their relocations in the bytes that rewrites leave, and in the final bytes.
-use Rattle.linker_final.proofs.Imports.{◌≡◌, ℕ, ℤ, ◌+◌, ◌-◌, ◌/◌, ◌<◌, ◌≤◌, ◌⊎◌, List, length, take, drop, sym, ap, subst, ◌∙◌, refl, inl, inr, arith, Option, Some, None, IsSomeAnd, Ok, true, cases_eq, cases_lt, cases_Bool, cond-false, take-take, drop-drop, w32, from_le_bytes, slice_get, Rewrite, addend_after, offset_after, window_of_rewrite, RewriteWindow, IsApplied, IsNamed, r_type_of, bytes_row, value_of, RelocationKindInfo, Choice, Operands, decision_at, window_of, written_end_at, IsDone, IsMade, relocation_after, Decision, Rewritten, IsField, field_end, field_len, entry_of, relocation_in, IsInNoField, IsRowValue, entry_address, has_value, is_there, offset_at, operands_by, operands_in, operands_of, operands_with, Addresses, Symbol, Entry, Rela, NoEntry, IsRow, relaxation_rewrite, Relaxation, Architecture, word_of_front, drop-take, ElfName, AreRewritten, Linked, UntouchedBytes, IsLinked, IsOutside, IsRewrittenByNoOther, IsWrittenByNoOther, count, instruction_at, two_at, start_by, written_end_by, entry_in, IsNamedValue, AreBytes, All-get_or, get_or_past, get_or, ◌^◌, names_label, false}
+use Rattle.linker_final.proofs.Imports.{◌≡◌, ℕ, ℤ, ◌+◌, ◌-◌, ◌/◌, ◌<◌, ◌≤◌, ◌⊎◌, List, length, take, drop, sym, ap, subst, ◌∙◌, refl, inl, inr, arith, Option, Some, None, IsSomeAnd, Ok, true, cases_eq, cases_lt, cases_Bool, cond-false, take-take, drop-drop, w32, from_le_bytes, slice_get, Rewrite, addend_after, offset_after, window_of_rewrite, RewriteWindow, IsApplied, IsNamed, r_type_of, bytes_row, value_of, RowInfo, Choice, Operands, decision_at, window_of, written_end_at, IsDone, IsMade, relocation_after, Decision, Rewritten, IsField, field_end, field_len, entry_of, relocation_in, IsInNoField, IsRowValue, entry_address, has_value, is_there, offset_at, operands_by, operands_in, operands_of, operands_with, Addresses, Symbol, Entry, Rela, NoEntry, IsRow, relaxation_rewrite, Relaxation, Architecture, word_of_front, drop-take, ElfName, AreRewritten, Linked, UntouchedBytes, IsLinked, IsOutside, IsRewrittenByNoOther, IsWrittenByNoOther, count, instruction_at, two_at, start_by, written_end_by, entry_in, IsNamedValue, AreBytes, All-get_or, get_or_past, get_or, ◌^◌, names_label, false}
 use Rattle.linker_elf.specs.declared.elf.RelocationKind.TheVariants.{None as NoValue}
 use Rattle.linker_final.proofs.InstructionFields.{IsOfInstruction, applied, instruction_len}
 use Rattle.linker_final.proofs.Phases.{bytes_left, last_as_many, last_within, relocation_left}
@@ -52,12 +52,12 @@ by_name elf meaning name named value is =
     is.value_is ∙ ap meaning (is.is_name.named name named refl)
 
 -- a code has no other row
-abbrev pub IsRowOf : Architecture → ℕ → RelocationKindInfo → Type 0
+abbrev pub IsRowOf : Architecture → ℕ → RowInfo → Type 0
 IsRowOf architecture code row =
-    (found : Option RelocationKindInfo) → IsRow architecture code found → found ≡ Some row
+    (found : Option RowInfo) → IsRow architecture code found → found ≡ Some row
 
 pub row_in : (architecture : Architecture) (addresses : Addresses) (relocations : List ℕ) (symbols : List Symbol)
-    (r : Rela) (row : RelocationKindInfo) → IsRowOf architecture r.r_type row
+    (r : Rela) (row : RowInfo) → IsRowOf architecture r.r_type row
     → (found : _) → IsRowValue architecture addresses relocations symbols r (Ok found)
     → IsRow architecture r.r_type (Some row)
 row_in architecture addresses relocations symbols r row only (Some one) has =
@@ -70,13 +70,13 @@ row_in architecture addresses relocations symbols r row only None marked =
 abbrev pub rela : ℕ → ℕ → ℕ → ℤ → Rela
 rela offset code symbol addend = record { offset = offset; r_type = code; symbol = symbol; addend = addend }
 
-pub with_operands : (row : RelocationKindInfo) (o p : Operands) (old new : List ℕ)
+pub with_operands : (row : RowInfo) (o p : Operands) (old new : List ℕ)
     → value_of row p ≡ value_of row o → IsApplied row o old new → IsApplied row p old new
 with_operands row o p old new same is =
     record { value = is.value; value_is = same ∙ is.value_is; accepted = is.accepted; written = is.written }
 
 module _ (l : Linked) (linked : IsLinked l) (i : ℕ) (below : i < count l) (n : ℕ) (some : 0 < n)
-    (row : RelocationKindInfo) (of : IsOfInstruction n row)
+    (row : RowInfo) (of : IsOfInstruction n row)
     (after : Rela) (is_after : relocation_in l.relocations_after i ≡ after)
     (left : UntouchedBytes l i after.offset n) (only : IsRowOf l.context.architecture after.r_type row)
     (symbol : Symbol) (is_symbol : slice_get l.symbols after.symbol ≡ Some symbol) (got : ℕ)
@@ -100,7 +100,7 @@ module _ (l : Linked) (linked : IsLinked l) (i : ℕ) (below : i < count l) (n :
       (linked.written.can.found i) (linked.written.can.are_found i within)
 
   -- is applied to the bytes between, by operands with the same value
-  pub applied_after : (o : Operands) → value_of row o ≡ value_of row operands → (found : Option RelocationKindInfo) → found ≡ Some row
+  pub applied_after : (o : Operands) → value_of row o ≡ value_of row operands → (found : Option RowInfo) → found ≡ Some row
       → IsSomeAnd found (λ row. IsApplied row o (take n (drop after.offset l.rewritten)) (take n (drop after.offset l.final)))
   applied_after o same found is =
       subst (λ q. IsSomeAnd q (λ row. IsApplied row o (take n (drop after.offset l.rewritten)) (take n (drop after.offset l.final)))) (sym is)
@@ -116,7 +116,7 @@ module _ (l : Linked) (linked : IsLinked l) (i : ℕ) (below : i < count l) (n :
 -- ---- entries of the GOT
 
 -- the entry that its formula has is there
-pub entry_is_there : (l : Linked) → IsLinked l → (i : ℕ) → i < count l → (row : RelocationKindInfo)
+pub entry_is_there : (l : Linked) → IsLinked l → (i : ℕ) → i < count l → (row : RowInfo)
     → has_value row.kind ≡ true → names_label row.size row.kind ≡ false
     → (after : Rela) → relocation_in l.relocations_last i ≡ after
     → IsRowOf l.context.architecture after.r_type row
@@ -237,7 +237,7 @@ unwritten l linked p free =
 -- The field of a relocation is apart from an instruction.
 abbrev pub IsApart : Linked → ℕ → ℕ → Type 0
 IsApart l i p =
-    (row : RelocationKindInfo) → IsField l.context.architecture l.relocations_last l.last i row
+    (row : RowInfo) → IsField l.context.architecture l.relocations_last l.last i row
     → (p + 4 ≤ offset_at l.relocations_last i) ⊎ (field_end l.relocations_last l.last i row ≤ p)
 
 -- no other relocation has one in it
@@ -256,20 +256,20 @@ unwritten_but l linked i p left apart alone =
     ])
     ∙ bytes_left l linked i p 4 left
 
-abbrev pub of_row : RelocationKindInfo → Option RelocationKindInfo → RelocationKindInfo
+abbrev pub of_row : RowInfo → Option RowInfo → RowInfo
 of_row other None = other
 of_row other (Some row) = row
 
 module _ (l : Linked) (i : ℕ) (after : Rela) (is_after : relocation_in l.relocations_last i ≡ after)
-    (row : RelocationKindInfo) (only : IsRowOf l.context.architecture after.r_type row) where
-  same_row : (other : RelocationKindInfo)
+    (row : RowInfo) (only : IsRowOf l.context.architecture after.r_type row) where
+  same_row : (other : RowInfo)
       → IsField l.context.architecture l.relocations_last l.last i other → other ≡ row
   same_row other field =
       ap (of_row other)
       (only (Some other) (subst (λ (x : Rela). IsRow l.context.architecture x.r_type (Some other)) is_after field.is_row))
 
   -- one without a value has no field
-  pub no_field : row ≡ bytes_row NoValue 0 → (other : RelocationKindInfo)
+  pub no_field : row ≡ bytes_row NoValue 0 → (other : RowInfo)
       → IsField l.context.architecture l.relocations_last l.last i other → ⊥
   no_field is other field =
       let some : 0 < field_len (bytes_row NoValue 0) (drop (offset_at l.relocations_last i) l.last) =

@@ -1,5 +1,5 @@
 -- A rewritten instruction of x86-64 is a group in the final bytes.
-use Rattle.linker_final.proofs.Imports.{◌≡◌, ℕ, ℤ, pos, ◌+◌, ◌-◌, ◌^◌, ◌<◌, ◌≤◌, List, length, false, refl, sym, ap, subst, ◌∙◌, arith, Option, Some, IsSomeAnd, cond-false, slice_get, Rewrite, rewritten, offset_after, operands_after, IsNameOf, r_type_of, sum_64, difference_64, value_of, x86_64_name, x86_64_row, RelocationKindInfo, Choice, Operands, X86_64Relocation, decision_at, Rewritten, loads_plt_word, relocation_in, operands_with, operands_in, is_of_got, Addresses, Symbol, Rela, IsRow, Relaxation, X86_64, x86_64_relocation_after, x86_64_rewrite, x86_64_originals, RewriteKind, Linked, IsLinked, UntouchedByOthers, count}
+use Rattle.linker_final.proofs.Imports.{◌≡◌, ℕ, ℤ, pos, ◌+◌, ◌-◌, ◌^◌, ◌<◌, ◌≤◌, List, length, false, refl, sym, ap, subst, ◌∙◌, arith, Option, Some, IsSomeAnd, cond-false, slice_get, Rewrite, rewritten, offset_after, operands_after, IsNameOf, r_type_of, sum_64, difference_64, value_of, x86_64_name, x86_64_row, RowInfo, Choice, Operands, X86_64Relocation, decision_at, Rewritten, loads_plt_word, relocation_in, operands_with, operands_in, is_of_got, Addresses, Symbol, Rela, IsRow, Relaxation, X86_64, x86_64_relocation_after, x86_64_rewrite, x86_64_originals, RewriteKind, Linked, IsLinked, UntouchedByOthers, count}
 use Rattle.linker_final.proofs.Inner.{HasWindow}
 use Rattle.linker_final.proofs.X86Chosen.{of_table}
 use Rattle.linker_final.proofs.X86Lawful.{HasLaw, IsServed, of_choice, shaped_of}
@@ -114,7 +114,7 @@ module _ (laws : Groups) (name : X86_64Relocation) (operand : GotOperand)
     abbrev around : Window
     around = window (in_got operand.held) operand.back 4
 
-    abbrev DoesTheSame : RelocationKindInfo → Type 0
+    abbrev DoesTheSame : RowInfo → Type 0
     DoesTheSame row =
         (symbol : Symbol) → slice_get l.symbols r.symbol ≡ Some symbol → LawAt l i name row around chosen.kind symbol
 
@@ -182,13 +182,13 @@ module _ (laws : Groups) (name : X86_64Relocation) (operand : GotOperand)
           there.applied (relocated a symbol is_symbol entry) there.old there.new)
 
     -- the row of the relocation after
-    row_same : (row : RelocationKindInfo) (is_row : IsRow X86_64 chosen.relocation (Some row))
+    row_same : (row : RowInfo) (is_row : IsRow X86_64 chosen.relocation (Some row))
         → law.row.row ≡ row
     row_same row is_row =
         let same = is_row.is_name.named after law.row.named (sym served.r_type_is) in
         ap (of_row row) (sym (is_row.value_is ∙ (ap x86_64_row same ∙ law.row.is)))
 
-    of_any_row : UntouchedByOthers l i (o - operand.back) (operand.back + 4) → (row : RelocationKindInfo)
+    of_any_row : UntouchedByOthers l i (o - operand.back) (operand.back + 4) → (row : RowInfo)
         → IsRow X86_64 chosen.relocation (Some row) → DoesTheSame row
     of_any_row alone row is_row = subst DoesTheSame (row_same row is_row) (does_the_same alone law.row)
 

@@ -1,5 +1,5 @@
 -- The rows of the relocations that x86-64's rewrites leave.
-use Rattle.linker_final.proofs.Imports.{◌≡◌, ℕ, ℤ, pos, negsuc, ◌%◌, ◌^◌, ◌<◌, false, refl, ap, arith, Some, Ok, ints, w64, cast_unsigned, int_rem_euclid, IsWithin, bit_bounds, IsNamed, r_type_of, bytes_row, signed_row, value_of, x86_64_name, x86_64_row, RelocationKindInfo, Relative, Absolute, TpOff, Signed, Operands, X86_64Relocation, operands_by, operands_with, entry_address, is_of_got, loads_plt_word, entry_of, Addresses, Symbol, Rela, X86_64, unsigned_row, Unsigned, target_of}
+use Rattle.linker_final.proofs.Imports.{◌≡◌, ℕ, ℤ, pos, negsuc, ◌%◌, ◌^◌, ◌<◌, false, refl, ap, arith, Some, Ok, ints, w64, cast_unsigned, int_rem_euclid, IsWithin, bit_bounds, IsNamed, r_type_of, bytes_row, signed_row, value_of, x86_64_name, x86_64_row, RowInfo, Relative, Absolute, TpOff, Signed, Operands, X86_64Relocation, operands_by, operands_with, entry_address, is_of_got, loads_plt_word, entry_of, Addresses, Symbol, Rela, X86_64, unsigned_row, Unsigned, target_of}
 use Rattle.linker_elf.specs.declared.x86_64.relocations.X86_64Relocation.TheVariants as names
 use Rattle.linker_final.proofs.PlainRows.{IsPlain, plain}
 
@@ -21,7 +21,7 @@ unsigned_remainder (negsuc n) within = let low = within.0 in absurd (omega (arit
 -- A relocation with a row of 4 bytes that needs no entry and names no stub: its operands are those
 -- of `operands_with`, and S doesn't depend on the place.
 pub record IsAfterRow (name : X86_64Relocation) : Type 0 where
-  pub row : RelocationKindInfo
+  pub row : RowInfo
   pub is : x86_64_row name ≡ Some row
   pub plain : IsPlain 4 row
   pub unloaded : loads_plt_word row.size row.kind ≡ false
@@ -36,7 +36,7 @@ pub record IsAfterRow (name : X86_64Relocation) : Type 0 where
   pub is_not_of_got : is_of_got X86_64 (r_type_of (x86_64_name name)) ≡ false
   pub named : IsNamed (x86_64_name name)
 
-abbrev after_row : (name : X86_64Relocation) (row : RelocationKindInfo) → x86_64_row name ≡ Some row → IsPlain 4 row
+abbrev after_row : (name : X86_64Relocation) (row : RowInfo) → x86_64_row name ≡ Some row → IsPlain 4 row
     → loads_plt_word row.size row.kind ≡ false
     → ((addresses : Addresses) (symbol : Symbol) (place other : ℕ)
     → target_of X86_64 addresses row symbol place ≡ target_of X86_64 addresses row symbol other)

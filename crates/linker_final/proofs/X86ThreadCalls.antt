@@ -1,5 +1,5 @@
 -- Calls of `__tls_get_addr` of x86-64 that were rewritten are groups in the final bytes.
-use Rattle.linker_final.proofs.Imports.{Some, ◌≡◌, ℕ, ◌+◌, ◌-◌, ◌^◌, ◌<◌, ◌≤◌, List, [], ◌∷◌, length, drop, refl, sym, ap, subst, ◌∙◌, inl, inr, arith, neg_ℤ, pos, ⊤, slice_get, IsNameOf, r_type_of, x86_64_name, RelocationKindInfo, Choice, Operands, X86_64Relocation, rewritten, x86_64_relocation_after, thread_row, Kinds, State, seen, IsBefore, decision_at, Rewritten, relocation_in, is_of_got, operands_with, Symbol, Rela, Relaxation, X86_64, Original, puts, x86_64_matches, x86_64_originals, x86_64_rewrite, RewriteKind, UntouchedByOthers, IsLinked, Linked, count, tls_module_row}
+use Rattle.linker_final.proofs.Imports.{Some, ◌≡◌, ℕ, ◌+◌, ◌-◌, ◌^◌, ◌<◌, ◌≤◌, List, [], ◌∷◌, length, drop, refl, sym, ap, subst, ◌∙◌, inl, inr, arith, neg_ℤ, pos, ⊤, slice_get, IsNameOf, r_type_of, x86_64_name, RowInfo, Choice, Operands, X86_64Relocation, rewritten, x86_64_relocation_after, thread_row, Kinds, State, seen, IsBefore, decision_at, Rewritten, relocation_in, is_of_got, operands_with, Symbol, Rela, Relaxation, X86_64, Original, puts, x86_64_matches, x86_64_originals, x86_64_rewrite, RewriteKind, UntouchedByOthers, IsLinked, Linked, count, tls_module_row}
 use Rattle.linker_elf.specs.declared.x86_64.relocations.X86_64Relocation.TheVariants as names
 use Rattle.linker_final.proofs.Inner.{HasWindow, own_window}
 use Rattle.linker_final.proofs.X86Chosen.{IsOfEntry, IsOfTable}
@@ -62,8 +62,8 @@ module _ (l : Linked) (linked : IsLinked l) (x86 : l.context.architecture ≡ X8
       → ((symbol : Symbol) (w : Operands) (c : Code) (s : State)
       → HasObject form l i name chosen.relocation (around form) symbol w c s
       → IsObject l i name chosen.relocation (around form) symbol w c s)
-      → (row : RelocationKindInfo)
-      → (UntouchedByOthers l i (o - back) (back + (4 + call)) → (symbol : Symbol) (other : RelocationKindInfo)
+      → (row : RowInfo)
+      → (UntouchedByOthers l i (o - back) (back + (4 + call)) → (symbol : Symbol) (other : RowInfo)
       → AreBy form l i chosen.relocation symbol other
       → (row ≡ other) × LawAt l i name row (around form) chosen.kind symbol)
       → Lawful l i chosen name

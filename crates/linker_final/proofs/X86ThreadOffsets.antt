@@ -1,5 +1,5 @@
 -- Offsets in a module's block that became offsets from the thread pointer lead to the same address.
-use Rattle.linker_final.proofs.Imports.{◌≡◌, ℕ, ◌+◌, ◌/◌, ◌^◌, ◌<◌, ◌≤◌, ◌⊎◌, List, length, take, drop, false, refl, sym, ap, subst, ◌∙◌, inl, inr, arith, cond, Some, Ok, cases_lt, cond-false, length-take-le, addend_after, offset_after, IsApplied, IsNamed, IsNameOf, r_type_of, number_of_bytes, sum_64, value_of, x86_64_name, x86_64_row, RelocationKind, RelocationKindInfo, Choice, Operands, X86_64Relocation, long_thread_row, thread_row, IsRelocatedBy, decision_at, relocation_after, Rewritten, Composes, IsField, begins_pair, continues, ends_pair, field_end, of_number, of_pair, entry_of, relocation_in, entry_address, is_of_got, offset_at, operands_by, operands_in, operands_of, operands_with, Addresses, Symbol, Rela, IsRow, relaxation_rewrite, Relaxation, X86_64, drop_at, UntouchedBytes, IsLinked, Linked, count, LeadsToTheSame, Offsets, put_back, block_row, long_block_row, BlockOffsets, LeadToTheSame}
+use Rattle.linker_final.proofs.Imports.{◌≡◌, ℕ, ◌+◌, ◌/◌, ◌^◌, ◌<◌, ◌≤◌, ◌⊎◌, List, length, take, drop, false, refl, sym, ap, subst, ◌∙◌, inl, inr, arith, cond, Some, Ok, cases_lt, cond-false, length-take-le, addend_after, offset_after, IsApplied, IsNamed, IsNameOf, r_type_of, number_of_bytes, sum_64, value_of, x86_64_name, x86_64_row, RelocationKind, RowInfo, Choice, Operands, X86_64Relocation, long_thread_row, thread_row, IsRelocatedBy, decision_at, relocation_after, Rewritten, Composes, IsField, begins_pair, continues, ends_pair, field_end, of_number, of_pair, entry_of, relocation_in, entry_address, is_of_got, offset_at, operands_by, operands_in, operands_of, operands_with, Addresses, Symbol, Rela, IsRow, relaxation_rewrite, Relaxation, X86_64, drop_at, UntouchedBytes, IsLinked, Linked, count, LeadsToTheSame, Offsets, put_back, block_row, long_block_row, BlockOffsets, LeadToTheSame}
 use Rattle.linker_elf.specs.declared.elf.RelocationKind.TheVariants as values
 use Rattle.linker_elf.specs.declared.x86_64.relocations.X86_64Relocation.TheVariants as names
 use Rattle.linker_final.proofs.Fields.{AreLowest, UntouchedField, eight_bytes, four_bytes, left, len_is}
@@ -25,11 +25,11 @@ continues_none values.AbsoluteSet = refl
 continues_none kind = refl
 
 -- a row of n bytes
-abbrev IsOffsetOf : RelocationKindInfo → Type 0
+abbrev IsOffsetOf : RowInfo → Type 0
 IsOffsetOf row =
     (row.kind ≡ values.TpOff) × (begins_pair row.size row.kind ≡ false) × (ends_pair row.size row.kind ≡ false)
 
-module _ (bytes : List ℕ) (row : RelocationKindInfo) (of : IsOffsetOf row) (other : RelocationKindInfo) where
+module _ (bytes : List ℕ) (row : RowInfo) (of : IsOffsetOf row) (other : RowInfo) where
   not_first : (i j : ℕ) → Composes bytes i row j other → ⊥
   not_first i j (of_number same wide on) =
       never (sym (ap (λ kind. continues kind other.kind) (of.0)) ∙ on)
@@ -59,7 +59,7 @@ abbrev with_symbol : Operands → ℕ → Operands
 with_symbol o symbol = record o { symbol = symbol }
 
 -- The rows of both, where the second is that of the first counted from elsewhere.
-record AreRows (n : ℕ) (block thread : RelocationKindInfo) : Type 0 where
+record AreRows (n : ℕ) (block thread : RowInfo) : Type 0 where
   some : 0 < n
   lowest : AreLowest n
   plain : IsPlain n thread
@@ -106,12 +106,12 @@ long_rows =
 
 -- ---- one field
 
-rest_is : (row : RelocationKindInfo) (o : Operands) (p : ℕ) (before after : List ℕ)
+rest_is : (row : RowInfo) (o : Operands) (p : ℕ) (before after : List ℕ)
     (is : IsRelocatedBy row o p before after) → p ≤ length before → drop p after ≡ is.rest
 rest_is row o p before after is inside =
     ap (drop p) is.whole ∙ drop_at (take p before) is.rest p (length-take-le p before inside)
 
-module _ (n : ℕ) (read : ℕ → ℕ) (block_row thread_row : RelocationKindInfo)
+module _ (n : ℕ) (read : ℕ → ℕ) (block_row thread_row : RowInfo)
     (rows : AreRows n block_row thread_row) (name after : X86_64Relocation)
     (is_block : x86_64_row name ≡ Some block_row) (is_thread : x86_64_row after ≡ Some thread_row)
     (name_is : is_of_got X86_64 (r_type_of (x86_64_name name)) ≡ false)
@@ -153,7 +153,7 @@ module _ (n : ℕ) (read : ℕ → ℕ) (block_row thread_row : RelocationKindIn
       let len = len_is n thread_row (drop (offset_at l.relocations_last i) l.last) rows.plain in
       record { is_row = row_there; some = omega (arith, some, len) }
 
-  others_apart : (j : ℕ) (other : RelocationKindInfo) → j < length l.relocations_last / 24
+  others_apart : (j : ℕ) (other : RowInfo) → j < length l.relocations_last / 24
       → (j ≡ i → ⊥) → IsField l.context.architecture l.relocations_last l.last j other
       → (offset_at l.relocations_last i < offset_at l.relocations_last j)
       ⊎ (field_end l.relocations_last l.last j other ≤ offset_at l.relocations_last i)

@@ -1,5 +1,5 @@
 -- The window of an instruction or a sequence of x86-64 in the final bytes of a section.
-use Rattle.linker_final.proofs.Imports.{◌≡◌, ℕ, ◌+◌, ◌-◌, ◌*◌, ◌/◌, ◌^◌, ◌<◌, ◌≤◌, ◌⊎◌, List, ◌++◌, length, take, drop, get_or, sym, ap, subst, ◌∙◌, inl, inr, arith, Some, Ok, IsSomeAnd, IsTrue, cases_eq, cases_lt, length-drop, drop-drop, ext_get_or, get_or-drop, All-take, All-drop, w64, from_le_bytes, cast_unsigned, CanRewrite, IsRewritable, rewritten, rewrite_window, offset_after, IsNamed, r_type_of, IsWritten, low_bytes, number_of_bytes, number_written, window_len, size_len, bytes_row, difference_64, sum_64, value_of, x86_64_name, x86_64_row, RelocationKindInfo, Choice, Operands, X86_64Relocation, AreAddresses, State, IsRelocatedBy, decision_at, written_end_at, IsDone, IsMade, Rewritten, one_info, IsField, field_end, field_len, relocation_in, IsInNoField, operands_of, operands_with, offset_at, Symbol, Rela, IsRow, relaxation_rewrite, Relaxation, X86_64, x86_64_rewrite, x86_64_matches, x86_64_originals, Original, is_one_at, RewriteKind, take-append-drop, All-append, Linked, IsLinked, UntouchedByOthers, AreBytes, count, start_at, HaveSameWindow, accepted_same, neg_ℤ, pos, IsBefore, seen, refl}
+use Rattle.linker_final.proofs.Imports.{◌≡◌, ℕ, ◌+◌, ◌-◌, ◌*◌, ◌/◌, ◌^◌, ◌<◌, ◌≤◌, ◌⊎◌, List, ◌++◌, length, take, drop, get_or, sym, ap, subst, ◌∙◌, inl, inr, arith, Some, Ok, IsSomeAnd, IsTrue, cases_eq, cases_lt, length-drop, drop-drop, ext_get_or, get_or-drop, All-take, All-drop, w64, from_le_bytes, cast_unsigned, CanRewrite, IsRewritable, rewritten, rewrite_window, offset_after, IsNamed, r_type_of, IsWritten, low_bytes, number_of_bytes, number_written, window_len, size_len, bytes_row, difference_64, sum_64, value_of, x86_64_name, x86_64_row, RowInfo, Choice, Operands, X86_64Relocation, AreAddresses, State, IsRelocatedBy, decision_at, written_end_at, IsDone, IsMade, Rewritten, one_info, IsField, field_end, field_len, relocation_in, IsInNoField, operands_of, operands_with, offset_at, Symbol, Rela, IsRow, relaxation_rewrite, Relaxation, X86_64, x86_64_rewrite, x86_64_matches, x86_64_originals, Original, is_one_at, RewriteKind, take-append-drop, All-append, Linked, IsLinked, UntouchedByOthers, AreBytes, count, start_at, HaveSameWindow, accepted_same, neg_ℤ, pos, IsBefore, seen, refl}
 use Rattle.linker_elf.specs.declared.elf.RelocationKind.TheVariants.{None as NoValue}
 use Rattle.linker_elf.specs.declared.x86_64.relocations.X86_64Relocation.TheVariants as names
 use Rattle.linker_final.proofs.Fields.{UntouchedField, four_bytes, left, len_is}
@@ -41,7 +41,7 @@ small_number bytes small =
 -- ---- the field in bytes that were put back
 
 -- Bytes agree with the final ones outside of the field, and with those before the write in it.
-module _ (n : ℕ) (row : RelocationKindInfo) (plain : IsPlain n row) (operands was : Operands) (p : ℕ)
+module _ (n : ℕ) (row : RowInfo) (plain : IsPlain n row) (operands was : Operands) (p : ℕ)
     (before final bytes : List ℕ) (field : UntouchedField n row operands p before final)
     (same_value : value_of row was ≡ value_of row operands)
     (long : length bytes ≡ length final) (same_length : length before ≡ length final)
@@ -83,7 +83,7 @@ module _ (n : ℕ) (row : RelocationKindInfo) (plain : IsPlain n row) (operands 
 -- ---- rows
 
 pub row_of : (l : Linked) → l.context.architecture ≡ X86_64 → (name : X86_64Relocation)
-    → IsNamed (x86_64_name name) → (row : RelocationKindInfo) → x86_64_row name ≡ Some row
+    → IsNamed (x86_64_name name) → (row : RowInfo) → x86_64_row name ≡ Some row
     → IsRowOf l.context.architecture (r_type_of (x86_64_name name)) row
 row_of l x86 name named row is found there =
     by_name x86_64_name x86_64_row name named found
@@ -92,7 +92,7 @@ row_of l x86 name named row is found there =
 -- a relocation of a code, once the section is written
 pub row_after : (l : Linked) → IsLinked l → l.context.architecture ≡ X86_64 → (i : ℕ) → i < count l
     → (name : X86_64Relocation) → IsNamed (x86_64_name name)
-    → (row : RelocationKindInfo) → x86_64_row name ≡ Some row
+    → (row : RowInfo) → x86_64_row name ≡ Some row
     → (relocation_in l.relocations_last i).r_type ≡ r_type_of (x86_64_name name)
     → IsRow l.context.architecture (relocation_in l.relocations_last i).r_type (Some row)
 row_after l linked x86 i below name named row is r_type_is =
@@ -263,7 +263,7 @@ module _ (l : Linked) (i back end : ℕ) (kind : RewriteKind) (is : HasRewrite l
     -- ---- fields in the window
 
     apart_by : (j : ℕ) → j < length l.relocations_last / 24 → (j ≡ i → ⊥) → (at : ℕ) → start ≤ at
-        → at < o + end → (row : RelocationKindInfo)
+        → at < o + end → (row : RowInfo)
         → IsField l.context.architecture l.relocations_last l.last j row
         → (at < offset_at l.relocations_last j) ⊎ (field_end l.relocations_last l.last j row ≤ at)
     apart_by j lj isnt at from less row is_field =
@@ -272,7 +272,7 @@ module _ (l : Linked) (i back end : ℕ) (kind : RewriteKind) (is : HasRewrite l
 
     -- a byte that the relocation after has not
     in_no_field : (at : ℕ) → start ≤ at → at < o + end
-        → ((row : RelocationKindInfo) → IsField l.context.architecture l.relocations_last l.last i row
+        → ((row : RowInfo) → IsField l.context.architecture l.relocations_last l.last i row
         → (at < offset_at l.relocations_last i) ⊎ (field_end l.relocations_last l.last i row ≤ at))
         → IsInNoField l.context.architecture l.relocations_last l.last (length l.relocations_last / 24) at
     in_no_field at from less own j row lj is_field =
@@ -283,7 +283,7 @@ module _ (l : Linked) (i back end : ℕ) (kind : RewriteKind) (is : HasRewrite l
         ]
 
     between_same : (at : ℕ)
-        → (start ≤ at → at < o + end → (row : RelocationKindInfo)
+        → (start ≤ at → at < o + end → (row : RowInfo)
         → IsField l.context.architecture l.relocations_last l.last i row
         → (at < offset_at l.relocations_last i) ⊎ (field_end l.relocations_last l.last i row ≤ at))
         → get_or between at 0 ≡ get_or l.final at 0
@@ -321,7 +321,7 @@ module _ (l : Linked) (i back end : ℕ) (kind : RewriteKind) (is : HasRewrite l
 
     -- ---- with one, whose value is written
 
-    pub relocated_after : (after : X86_64Relocation) (row : RelocationKindInfo) → IsPlain 4 row
+    pub relocated_after : (after : X86_64Relocation) (row : RowInfo) → IsPlain 4 row
         → x86_64_row after ≡ Some row → IsNamed (x86_64_name after)
         → is.chosen.relocation ≡ r_type_of (x86_64_name after) → (taken : Operands)
         → operands_of X86_64 l.addresses l.symbols row (rela (w.made.offset o) is.chosen.relocation r.symbol (w.made.addend r.addend))
@@ -351,7 +351,7 @@ module _ (l : Linked) (i back end : ℕ) (kind : RewriteKind) (is : HasRewrite l
             row_after l linked is.x86 i is.below after named row row_is
             (ap (λ (x : Rela). x.r_type) r_after ∙ r_type_is)
 
-        others_apart : (j : ℕ) (other : RelocationKindInfo) → j < length l.relocations_last / 24
+        others_apart : (j : ℕ) (other : RowInfo) → j < length l.relocations_last / 24
             → (j ≡ i → ⊥)
             → IsField l.context.architecture l.relocations_last l.last j other
             → (offset_at l.relocations_last i < offset_at l.relocations_last j)
@@ -360,7 +360,7 @@ module _ (l : Linked) (i back end : ℕ) (kind : RewriteKind) (is : HasRewrite l
             subst (λ (x : Rela). (x.offset < offset_at l.relocations_last j) ⊎ (field_end l.relocations_last l.last j other ≤ x.offset)) (sym r_after)
             (apart_by j lj isnt (w.made.offset o) low (omega (arith, high)) other is_field)
 
-        own_field : (at : ℕ) → (at < w.made.offset o) ⊎ (w.made.offset o + 4 ≤ at) → (other : RelocationKindInfo)
+        own_field : (at : ℕ) → (at < w.made.offset o) ⊎ (w.made.offset o + 4 ≤ at) → (other : RowInfo)
             → IsField l.context.architecture l.relocations_last l.last i other
             → (at < offset_at l.relocations_last i) ⊎ (field_end l.relocations_last l.last i other ≤ at)
         own_field at outside other is_field =
@@ -401,7 +401,7 @@ before l i back end kind has name operands c s there addend =
     }
 
 -- what holds where they do
-abbrev pub LawAt : Linked → ℕ → X86_64Relocation → RelocationKindInfo → Window → Relaxation → Symbol → Type 0
+abbrev pub LawAt : Linked → ℕ → X86_64Relocation → RowInfo → Window → Relaxation → Symbol → Type 0
 LawAt l i name row w kind symbol =
     (entry : ℕ) (c : Code) (s : State)
     → let operands = operands_with X86_64 l.addresses row symbol (relocation_in l.relocations i) entry in
@@ -428,7 +428,7 @@ module _ (l : Linked) (linked : IsLinked l) (i : ℕ) (chosen : Choice Relaxatio
     (symbol : Symbol) (o : Operands) (c : Code) (s : State) (final : HasFinal l.addresses l.final c)
     (pc : s.pc ≡ sum_64 l.addresses.section (offset_of l i - w.back))
     (object : IsObject l i name chosen.relocation w symbol o c s) where
-  pub of_field : (row : RelocationKindInfo) → row ≡ object.row → LawAt l i name row w chosen.kind symbol
+  pub of_field : (row : RowInfo) → row ≡ object.row → LawAt l i name row w chosen.kind symbol
       → LawOf w.form w chosen.kind symbol c o s
   of_field row same law =
       let low = room.0 in

@@ -5,7 +5,7 @@ use Rattle.std.specs.Prelude.{◌≡◌, ◌<◌, ◌≤◌, length, ℕ, ℤ, p
 use Rattle.std.specs.Prelude.{IsSomeAnd, Option, Some}
 use Rattle.linker_final.specs.Imports.{loongarch_form, loongarch_row, symbol_address, relocation_in}
 use Rattle.linker_final.specs.Imports.{window_len, riscv_form, riscv_row, offset_at, IsAddress}
-use Rattle.linker_final.specs.Imports.{RelocationKindInfo, LoongArch64Relocation, RiscVRelocation}
+use Rattle.linker_final.specs.Imports.{RowInfo, LoongArch64Relocation, RiscVRelocation}
 use Rattle.linker_final.specs.Imports.{Operands, Branch21, Branch26, Shift10, Machine, number_at}
 use Rattle.linker_final.specs.Imports.{Shift5, JType, CbType, CjType, RiscV64, Symbol, IsRow}
 use Rattle.linker_final.specs.Imports.{BType, AreAddresses, plt_address, LoongArch64, operands_with}
@@ -17,21 +17,21 @@ use Rattle.linker_final.specs.Packed.{Packed, IsPacked, address_at, architecture
 use Rattle.linker_final.specs.Packed.{place_of}
 
 -- The relocation at an index, whose place is in the section, has a row where it is written.
-pub record IsOfRow (p : Packed) (i : ℕ) (row : RelocationKindInfo) : Type 0 where
+pub record IsOfRow (p : Packed) (i : ℕ) (row : RowInfo) : Type 0 where
   pub within : i < count p
   pub inside : offset_at p.relocations i ≤ length p.section.bytes
   pub is_row : IsRow (architecture_of p.machine) (relocation_in p.relocations_after i).r_type
       (Some row)
 
 -- the number of the instruction's final bytes
-abbrev pub final_number : Packed → ℕ → RelocationKindInfo → ℕ
+abbrev pub final_number : Packed → ℕ → RowInfo → ℕ
 final_number p i row =
     number_at row.size
     (take (window_len row) (drop (place_of p (offset_at p.relocations i)) p.final))
 
 -- What the machine reads of a final branch, in units of n bytes, and adds to the address
 -- where the branch goes, leads to the target of its relocation's formula.
-abbrev pub Goes : Machine → Option RelocationKindInfo → (ℕ → ℤ) → ℕ → (Operands → ℕ) → Type 0
+abbrev pub Goes : Machine → Option RowInfo → (ℕ → ℤ) → ℕ → (Operands → ℕ) → Type 0
 Goes machine row reads unit target =
     IsSomeAnd row (λ row.
     (p : Packed) → IsPacked p → p.machine ≡ machine → (i : ℕ) → IsOfRow p i row

@@ -3,7 +3,7 @@
 use Rattle.std.specs.Prelude.{◌≡◌, ◌≢◌, ◌⊎◌, ℕ, ◌+◌, ◌/◌, ◌^◌, ◌<◌, ◌≤◌, List, [], ◌∷◌}
 use Rattle.std.specs.Prelude.{length, take, drop, get_or, ℤ, Some}
 use Rattle.std.specs.List.{All}
-use Rattle.linker_final.specs.Imports.{RelocationKindInfo, decision_at, RelaxContext, pre_layout}
+use Rattle.linker_final.specs.Imports.{RowInfo, decision_at, RelaxContext, pre_layout}
 use Rattle.linker_final.specs.Imports.{Decision, Kept, UnrelaxableGroups, relocation_in, offset_at}
 use Rattle.linker_final.specs.Imports.{AreWritten, Addresses, Symbol, Architecture, IsRejected}
 use Rattle.linker_final.specs.Imports.{IsRejectedIn, IsRejectedPlaced, AreDecidedIn, start_at}
@@ -244,7 +244,7 @@ UntouchedBytes l i start len = All (UntouchedInPhase i start len) l.later
 abbrev pub HasNoByte : Linked → ℕ → ℕ → Type 0
 HasNoByte l j at =
     IsOutside l.relocations l.decisions j at
-    × ((row : RelocationKindInfo)
+    × ((row : RowInfo)
     → IsField l.context.architecture l.relocations_last l.last j row
     → (at < offset_at l.relocations_last j) ⊎ (field_end l.relocations_last l.last j row ≤ at))
 
@@ -284,7 +284,7 @@ IsRewrittenByNoOther l i o =
 abbrev pub IsWrittenByNoOther : Linked → ℕ → ℕ → Type 0
 IsWrittenByNoOther l i o =
     (j at : ℕ) → j < count l → j ≢ i → o ≤ at → at < o + 4
-    → (row : RelocationKindInfo)
+    → (row : RowInfo)
     → IsField l.context.architecture l.relocations_last l.last j row
     → (at < offset_at l.relocations_last j) ⊎ (field_end l.relocations_last l.last j row ≤ at)
 
@@ -304,6 +304,6 @@ OtherFields =
     (l : Linked) (linked : IsLinked l) (i : ℕ) → i < count l → decision_at l.decisions i ≡ Kept
     → All (Keeps i) l.later
     → (relocation_in l.relocations_last i ≡ relocation_in l.relocations i)
-    × ((row : RelocationKindInfo) (v : ℤ) → linked.written.can.found i ≡ Some (row, v)
+    × ((row : RowInfo) (v : ℤ) → linked.written.can.found i ≡ Some (row, v)
     → 0 < field_len row (drop (offset_at l.relocations_last i) l.last)
     → IsHeld linked.written.can.found l.relocations_last l.last l.final (count l) i row v)

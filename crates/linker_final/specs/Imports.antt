@@ -11,7 +11,7 @@ pub use Rattle.linker_elf.specs.RiscV.{riscv_form}
 pub use Rattle.linker_elf.specs.RiscVRelocations.{pair_row, riscv_name, riscv_row}
 pub use Rattle.linker_elf.specs.Value.{difference_64, sum_64, value_of}
 pub use Rattle.linker_elf.specs.declared.aarch64.forms.AArch64Instruction.TheVariants.{Add}
-pub use Rattle.linker_elf.specs.declared.elf.RelocationKindInfo.{RelocationKindInfo}
+pub use Rattle.linker_elf.specs.declared.elf.RowInfo.{RowInfo}
 pub use Rattle.linker_elf.specs.declared.elf.architecture.Architecture.{Architecture}
 pub use Rattle.linker_elf.specs.declared.elf.architecture.Architecture.TheVariants.{AArch64, Ppc64}
 pub use Rattle.linker_elf.specs.declared.elf.architecture.Architecture.TheVariants.{RiscV, X86_64}

@@ -3,7 +3,7 @@
 use Rattle.std.specs.Prelude.{◌≡◌, ℕ, ◌+◌, ◌==◌, List, [], ◌∷◌, take, drop, if◌then◌else◌}
 use Rattle.std.specs.Prelude.{IsSomeAnd, Some, slice_get, ◌<◌, ◌^◌}
 use Rattle.linker_final.specs.Imports.{RowIsWithin, IsNameOf, loongarch_name, loongarch_row, sum_64}
-use Rattle.linker_final.specs.Imports.{RelocationKindInfo, Operands, LoongArch64Relocation, Fits32}
+use Rattle.linker_final.specs.Imports.{RowInfo, Operands, LoongArch64Relocation, Fits32}
 use Rattle.linker_final.specs.Imports.{IsRelocated, word_of, Relocated, loaded, Symbol}
 use Rattle.linker_final.specs.Imports.{AreAddresses, entry_and_addend, plt_address, symbol_address}
 use Rattle.linker_final.specs.Imports.{Kinds, rj_of, signed_12, tp, LoongArch64, relocation_in}
@@ -106,7 +106,7 @@ pub record StaysAs (p : Packed) (i : ℕ) (name : LoongArch64Relocation) (len : 
   pub stays : StayTogether p (offset_at p.relocations i) len
 
 -- what its formula takes
-abbrev pub operands_at : Packed → ℕ → RelocationKindInfo → Symbol → Operands
+abbrev pub operands_at : Packed → ℕ → RowInfo → Symbol → Operands
 operands_at p i row symbol =
     operands_with architectures.LoongArch64 p.addresses row symbol
     (relocation_in p.relocations_after i) 0

@@ -3,7 +3,7 @@
 use Rattle.std.specs.Prelude.{◌≡◌, ◌≢◌, ℕ, pos, ◌+◌, ◌<◌, ◌^◌, true, List, Some, ⊤, IsSomeAnd}
 use Rattle.std.specs.Prelude.{slice_get}
 use Rattle.linker_final.specs.Imports.{RowIsWithin, IsNameOf, r_type_of, loongarch_name}
-use Rattle.linker_final.specs.Imports.{loongarch_row, sum_64, RelocationKindInfo, Choice, Operands}
+use Rattle.linker_final.specs.Imports.{loongarch_row, sum_64, RowInfo, Choice, Operands}
 use Rattle.linker_final.specs.Imports.{LoongArch64Relocation, Fits32, IsRelocated, word_of}
 use Rattle.linker_final.specs.Imports.{AreAddresses, symbol_address, Group, Kinds, State, of_link}
 use Rattle.linker_final.specs.Imports.{decision_at, pre_layout, Rewritten, NotRelaxable}
@@ -171,7 +171,7 @@ IsAlone kind l i = ⊤
 
 -- The pair of a relocation at an index, where the entry at an address holds S + A, is a group. New
 -- has the final bytes. The distances to the entry and to the symbol, in pages, have 32 bits.
-abbrev pub LoadsTheSame : Linked → ℕ → RelocationKindInfo → Type 0
+abbrev pub LoadsTheSame : Linked → ℕ → RowInfo → Type 0
 LoadsTheSame l i row =
     let r = relocation_in l.relocations i in
     let ld = instruction_at l.section (r.offset + 4) in

@@ -5,15 +5,15 @@ use Rattle.std.specs.Prelude.{take, drop, slice_index, IsTrue, Ok, Some, true, f
 use Rattle.linker_base.specs.Deletions.{is_kept}
 use Rattle.linker_base.specs.declared.bit_misc.BitRange.{BitRange}
 use Rattle.linker_elf.specs.Applied.{IsApplied}
-use Rattle.linker_final.specs.Imports.{window_len, sum_64, value_of, RelocationKindInfo, Operands}
+use Rattle.linker_final.specs.Imports.{window_len, sum_64, value_of, RowInfo, Operands}
 use Rattle.linker_final.specs.Imports.{AreMoved, packed_offset, address_of, kept_len, IsPackedRun}
 use Rattle.linker_final.specs.Imports.{item_at, Machine, RiscV64, LoongArch64, Alignment, Item}
 use Rattle.linker_final.specs.Imports.{Aligned, relocation_in, offset_at, AreWritten, Addresses}
 use Rattle.linker_final.specs.Imports.{Symbol, IsRow, Architecture, IsMoved, Section, is_fixed}
 use Rattle.linker_final.specs.Imports.{nops, IsFirstRejected, IsInside, IsNotIn, len_of, offset_of}
 use Rattle.linker_final.specs.Imports.{Site, IsFirstFault}
-use Rattle.linker_elf.specs.declared.elf.RelocationInstruction.{RelocationInstruction}
-use Rattle.linker_elf.specs.declared.elf.RelocationSize.TheVariants.{BitMasking}
+use Rattle.linker_elf.specs.declared.elf.AnyForm.{AnyForm}
+use Rattle.linker_elf.specs.declared.elf.RowSize.TheVariants.{BitMasking}
 use Rattle.linker_final.specs.Final.{AreBytes}
 use Rattle.linker_final.specs.declared.packed.PackError.{PackError}
 use Rattle.linker_final.specs.declared.packed.PackError.TheVariants.{Misplaced, Packing, Writing}
@@ -219,12 +219,12 @@ pub record IsBefore (p : Packed) (o : ℕ) (moved : ℕ → ℕ) (pc : ℕ) : Ty
 -- ---- relocated instructions
 
 -- The relocation at an index is of an instruction by its row, and has a value by its own symbol.
-pub record HasValue (p : Packed) (i : ℕ) (row : RelocationKindInfo) (operands : Operands) : Type 0 where
+pub record HasValue (p : Packed) (i : ℕ) (row : RowInfo) (operands : Operands) : Type 0 where
   pub within : i < count p
   pub is_row : IsRow (architecture_of p.machine) (relocation_in p.relocations_after i).r_type
       (Some row)
   pub bits : BitRange
-  pub insn : RelocationInstruction
+  pub insn : AnyForm
   pub size : row.size ≡ BitMasking bits insn
   pub has : has_value row.kind ≡ true
   pub unlabelled : names_label row.size row.kind ≡ false
@@ -238,7 +238,7 @@ pub record HasValue (p : Packed) (i : ℕ) (row : RelocationKindInfo) (operands 
 -- shorter.
 abbrev pub PlacesAreRelocated : Type 0
 PlacesAreRelocated =
-    (p : Packed) → IsPacked p → (i : ℕ) (row : RelocationKindInfo) (operands : Operands)
+    (p : Packed) → IsPacked p → (i : ℕ) (row : RowInfo) (operands : Operands)
     → HasValue p i row operands → offset_at p.relocations i ≤ length p.section.bytes
     → let place = place_of p (offset_at p.relocations i) in
     IsApplied row operands (take (window_len row) (drop place p.packed))
@@ -248,7 +248,7 @@ PlacesAreRelocated =
 -- applied.
 abbrev pub InstructionsAreRelocated : Type 0
 InstructionsAreRelocated =
-    (p : Packed) → IsPacked p → (i : ℕ) (row : RelocationKindInfo) (operands : Operands)
+    (p : Packed) → IsPacked p → (i : ℕ) (row : RowInfo) (operands : Operands)
     → HasValue p i row operands → let o = offset_at p.relocations i in
     StayTogether p o (window_len row)
     → IsApplied row operands (take (window_len row) (drop o p.section.bytes))

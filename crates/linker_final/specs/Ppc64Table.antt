@@ -1,9 +1,9 @@
 -- What qemu-ppc64le made of instructions. `tools/oracle words` makes this file.
 use Rattle.std.specs.Prelude.{List, [], ◌∷◌, ◌^◌}
 use Rattle.linker_elf.specs.Ppc64.{ppc64_form}
-use Rattle.linker_elf.specs.declared.ppc64.forms.Ppc64Instruction.TheVariants.{D, Ds, Branch14}
-use Rattle.linker_elf.specs.declared.ppc64.forms.Ppc64Instruction.TheVariants.{Branch24, Prefixed}
-use Rattle.linker_elf.specs.declared.ppc64.forms.Ppc64Instruction.TheVariants.{DUnsigned}
+use Rattle.linker_elf.specs.declared.ppc64.forms.Ppc64Form.TheVariants.{D, Ds, Branch14}
+use Rattle.linker_elf.specs.declared.ppc64.forms.Ppc64Form.TheVariants.{Branch24, Prefixed}
+use Rattle.linker_elf.specs.declared.ppc64.forms.Ppc64Form.TheVariants.{DUnsigned}
 use Rattle.linker_elf.specs.Relocate.{ppc64_reads}
 use Rattle.linker_final.specs.Sequences.{halves_number, unadjusted_number, quarters_number}
 use Rattle.linker_final.specs.Emulated.{Words, words, IsComputed}

@@ -12,7 +12,7 @@ use Rattle.linker_elf.specs.declared.riscv64.forms.RiscVInstruction.{RiscVInstru
 use Rattle.linker_elf.specs.declared.riscv64.forms.RiscVInstruction.TheVariants.{IType, SType}
 use Rattle.linker_elf.specs.declared.riscv64.forms.RiscVInstruction.TheVariants.{UType}
 use Rattle.linker_elf.specs.declared.riscv64.relocations.RiscVRelocation.TheVariants as names
-use Rattle.linker_final.specs.Imports.{IsRow, riscv_row, riscv_form, RelocationKindInfo, RiscV}
+use Rattle.linker_final.specs.Imports.{IsRow, riscv_row, riscv_form, RowInfo, RiscV}
 use Rattle.linker_final.specs.Imports.{Operands, BType, CbType, CjType, JType, UiType}
 use Rattle.linker_final.specs.Imports.{RiscVRelocation, AreAddresses, entry_and_addend, plt_address}
 use Rattle.linker_final.specs.Imports.{symbol_address, relocation_in, Addresses, Symbol, Rela}
@@ -58,7 +58,7 @@ abbrev pub Values : Type 0
 Values =
     (addresses : Addresses) (symbols : List Symbol) (before after : List ℕ)
     → AreWrapped addresses symbols before after → (n : ℕ) → n < length before / 24
-    → (row : RelocationKindInfo) → IsRow RiscV (relocation_in before n).r_type (Some row)
+    → (row : RowInfo) → IsRow RiscV (relocation_in before n).r_type (Some row)
     → (result : Result (Option ℤ) ValueError)
     → IsValue RiscV addresses after symbols (relocation_in after n) result
     → (first : Result (Option ℤ) ValueError)

@@ -4,7 +4,7 @@
 use Rattle.std.specs.Prelude.{◌≡◌, ◌≢◌, ℕ, ◌+◌, ◌*◌, ◌<◌, ◌^◌, List, Some, IsSomeAnd, slice_get}
 use Rattle.std.specs.Prelude.{true}
 use Rattle.linker_final.specs.Imports.{IsNameOf, r_type_of, riscv_name, riscv_row, sum_64}
-use Rattle.linker_final.specs.Imports.{RelocationKindInfo, Choice, Operands, RiscVRelocation}
+use Rattle.linker_final.specs.Imports.{RowInfo, Choice, Operands, RiscVRelocation}
 use Rattle.linker_final.specs.Imports.{loaded, Action, register, rs1_of, IsLowOffset, offset_row}
 use Rattle.linker_final.specs.Imports.{AreBefore, AreDeleted, Code, Has, Stands, link, seen}
 use Rattle.linker_final.specs.Imports.{upper_from, put, with_register, Group, Kinds, State}
@@ -72,7 +72,7 @@ LowPartIsAlike l i NewHas =
 
 -- In the context by which rewrites were chosen, the offset of a thread-local symbol is a number of
 -- 12 bits.
-abbrev pub OffsetIsLow : Linked → ℕ → RelocationKindInfo → Type 0
+abbrev pub OffsetIsLow : Linked → ℕ → RowInfo → Type 0
 OffsetIsLow l i row =
     let r = relocation_in l.relocations i in
     (symbol : Symbol) → slice_get l.context.values r.symbol ≡ Some symbol

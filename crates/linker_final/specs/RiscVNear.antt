@@ -3,7 +3,7 @@
 use Rattle.std.specs.Prelude.{◌≡◌, ◌≢◌, ℕ, ◌+◌, ◌≤◌, ◌<◌, ◌^◌, true, List, drop, length, Some}
 use Rattle.std.specs.Prelude.{IsSomeAnd, Option, slice_get}
 use Rattle.linker_base.specs.Rewrite.{rewritten}
-use Rattle.linker_final.specs.Imports.{riscv_row, difference_64, RelocationKindInfo, Operands, put}
+use Rattle.linker_final.specs.Imports.{riscv_row, difference_64, RowInfo, Operands, put}
 use Rattle.linker_final.specs.Imports.{Relocated, AreBefore, AreDeleted, Code, Has, link, seen}
 use Rattle.linker_final.specs.Imports.{upper_from, uses, Action, register, rs1_of, action_at}
 use Rattle.linker_final.specs.Imports.{AreAddresses, symbol_address, Agree, Group, Kinds, State}
@@ -21,7 +21,7 @@ abbrev pub HasHighPart : State → ℕ → ℕ → ℕ → Type 0
 HasHighPart s r value address = moved (register (seen s) r) (lo12 value) ≡ address
 
 -- the relocation of a low part whose high part is an `auipc`: stores have their own
-abbrev pub labelled_row : Action → Option RelocationKindInfo
+abbrev pub labelled_row : Action → Option RowInfo
 labelled_row (stores f) = riscv_row names.R_RISCV_PCREL_LO12_S
 labelled_row (stores_float f) = riscv_row names.R_RISCV_PCREL_LO12_S
 labelled_row action = riscv_row names.R_RISCV_PCREL_LO12_I
@@ -37,7 +37,7 @@ after_base register section o = rewritten (Some (rewrites_word (with_rs1 registe
 -- A low part is a group. Old's base has what the high part leaves, and its relocation has a row and
 -- a number as its value. New's base has its address, and the value is the distance of S + A from
 -- it. What the instruction does with S + A keeps agreement.
-abbrev pub FromBase : (Action → Option RelocationKindInfo) → (Operands → ℕ) → List ℕ → ℕ → ℕ
+abbrev pub FromBase : (Action → Option RowInfo) → (Operands → ℕ) → List ℕ → ℕ → ℕ
     → Action → Type 0
 FromBase row number section o gp action =
     let word = word_at section o in
@@ -55,7 +55,7 @@ FromBase row number section o gp action =
 
 -- of every instruction that `rewrite_global_pointer` takes for a low part, of a `lui` or of an
 -- `auipc`
-abbrev pub PartsFromBase : (Action → Option RelocationKindInfo) → (Operands → ℕ) → Type 0
+abbrev pub PartsFromBase : (Action → Option RowInfo) → (Operands → ℕ) → Type 0
 PartsFromBase row number =
     (section : List ℕ) (o gp : ℕ) → gp < 2 ^ 64 → o + 4 ≤ length section
     → is_low_word (word_at section o) ≡ true

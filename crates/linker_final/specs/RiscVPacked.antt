@@ -2,7 +2,7 @@
 -- Call Relaxation" and "Compressed Tail Call Relaxation").
 use Rattle.std.specs.Prelude.{◌≡◌, ◌⊎◌, ℕ, ◌-◌, ◌%◌, ◌==◌, List, take, drop, if◌then◌else◌}
 use Rattle.std.specs.Prelude.{slice_get, Some, ◌<◌, ◌^◌}
-use Rattle.linker_final.specs.Imports.{IsNameOf, RelocationKindInfo, RiscVRelocation, relocation_in}
+use Rattle.linker_final.specs.Imports.{IsNameOf, RowInfo, RiscVRelocation, relocation_in}
 use Rattle.linker_final.specs.Imports.{riscv_name, riscv_row, Operands, AreBefore, State, offset_at}
 use Rattle.linker_final.specs.Imports.{UiType, register, IsLow12, word_at, rd_of, RiscV64, pair_row}
 use Rattle.linker_final.specs.Imports.{Code, Has, Stands, seen, rs1_of, IsLui, Symbol, RiscV, even}
@@ -22,7 +22,7 @@ use Rattle.linker_runs.specs.declared.relaxation.Site.{Site as site}
 -- ---- calls
 
 -- the row of both relocations of calls
-abbrev pub call_row : RelocationKindInfo
+abbrev pub call_row : RowInfo
 call_row = pair_row PltRelative 64 UiType
 
 abbrev pub IsOfCall : RiscVRelocation → Type 0

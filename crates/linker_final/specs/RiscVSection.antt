@@ -1,7 +1,7 @@
 -- RISC-V: what the rewrites of a section are, and where they begin in a run of old.
 use Rattle.std.specs.Prelude.{◌≡◌, ◌≢◌, ℕ, ◌+◌, ◌<◌, IsSomeAnd, List, Option, Some, slice_get}
 use Rattle.linker_final.specs.Imports.{IsNameOf, riscv_name, riscv_row, difference_64, sum_64}
-use Rattle.linker_final.specs.Imports.{value_of, RelocationKindInfo, RiscV, Choice, Operands}
+use Rattle.linker_final.specs.Imports.{value_of, RowInfo, RiscV, Choice, Operands}
 use Rattle.linker_final.specs.Imports.{RiscVRelocation, Code, Has, Stands, link, Action, IsLow12}
 use Rattle.linker_final.specs.Imports.{IsLowOffset, action_at, offset_row, AreAddresses, Group}
 use Rattle.linker_final.specs.Imports.{Kinds, State, of_link, decision_at, Decision, Kept}
@@ -98,7 +98,7 @@ pub data New (l : Linked) : Type 0 where
 -- At an address is what the rewrite left of the instruction of the relocation at an index, with the
 -- value of operands by a row. Final bytes are that, if later phases leave it alone, packing keeps
 -- it, and the relocation is said to have that value. This is said of what values are made of.
-abbrev pub HasPart : (l : Linked) → New l → Option RelocationKindInfo → ℕ
+abbrev pub HasPart : (l : Linked) → New l → Option RowInfo → ℕ
     → (Addresses → List Symbol → List ℕ → Type 0) → Operands → (ℕ → ℕ) → ℕ → Type 0
 HasPart l anywhere row n IsSaid y code at =
     Has 4 code at row y (instruction_at l.rewritten (offset_of l n))
@@ -111,7 +111,7 @@ HasPart l (packed p joined riscv) row n IsSaid y code at =
     × Stands 4 code at (final_instruction p (offset_of l n))
 
 -- The relocation has the row of a name, and the value of operands is that of its own symbol.
-abbrev pub HasValue : RiscVRelocation → Option RelocationKindInfo → ℕ → Operands → Addresses
+abbrev pub HasValue : RiscVRelocation → Option RowInfo → ℕ → Operands → Addresses
     → List Symbol → List ℕ → Type 0
 HasValue name row n y addresses symbols relocations =
     let r = relocation_in relocations n in
@@ -119,7 +119,7 @@ HasValue name row n y addresses symbols relocations =
     × IsSomeAnd row (λ row.
     value_of row y ≡ value_of row (operands_with RiscV addresses row symbol r 0))
 
-abbrev pub HasOwn : (l : Linked) → New l → RiscVRelocation → Option RelocationKindInfo → ℕ
+abbrev pub HasOwn : (l : Linked) → New l → RiscVRelocation → Option RowInfo → ℕ
     → Operands → (ℕ → ℕ) → ℕ → Type 0
 HasOwn l new name row n y = HasPart l new row n (HasValue name row n y) y
 

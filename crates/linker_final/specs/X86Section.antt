@@ -2,7 +2,7 @@
 -- "Optimize GOTPCRELX Relocations" and "ELF Handling For Thread-Local Storage").
 use Rattle.std.specs.Prelude.{◌≡◌, ℕ, ◌+◌, ◌-◌, ◌^◌, ◌<◌, ◌≤◌, false, ⊤, List, get_or, length, take}
 use Rattle.std.specs.Prelude.{drop, ◌++◌, Option, Some, None, IsSomeAnd, slice_get}
-use Rattle.linker_final.specs.Imports.{IsRow, IsNameOf, difference_64, sum_64, RelocationKindInfo}
+use Rattle.linker_final.specs.Imports.{IsRow, IsNameOf, difference_64, sum_64, RowInfo}
 use Rattle.linker_final.specs.Imports.{Choice, Operands, AreAddresses, Group, Kinds, State, of_link}
 use Rattle.linker_final.specs.Imports.{decision_at, Rewritten, relocation_in, operands_with}
 use Rattle.linker_final.specs.Imports.{Addresses, Symbol, Relaxation, number_of_bytes, X86_64}
@@ -120,7 +120,7 @@ put_back start len others bytes =
 
 -- Operands are by the row of what a relocation of the GOT became, or of an offset from the thread
 -- pointer. Those of a module's block are of any symbol.
-abbrev pub AreBy : Form → Linked → ℕ → ℕ → Symbol → RelocationKindInfo → Type 0
+abbrev pub AreBy : Form → Linked → ℕ → ℕ → Symbol → RowInfo → Type 0
 AreBy (block n) l i r_type symbol row = x86_64_row names.R_X86_64_TLSLD ≡ Some row
 AreBy (in_got held) l i r_type symbol row =
     (slice_get l.symbols (relocation_in l.relocations i).symbol ≡ Some symbol)
@@ -133,7 +133,7 @@ AreBy form l i r_type symbol row =
 -- them, up to 4 after its offset.
 pub record IsObject (l : Linked) (i : ℕ) (name : X86_64Relocation) (r_type : ℕ) (w : Window)
     (symbol : Symbol) (o : Operands) (c : Code) (s : State) : Type 0 where
-  pub row : RelocationKindInfo
+  pub row : RowInfo
   pub by : AreBy w.form l i r_type symbol row
   pub entry : ℕ
   pub are : o ≡ operands_with X86_64 l.addresses row symbol (relocation_in l.relocations i) entry
@@ -189,7 +189,7 @@ rewriting =
 -- object's bytes with the relocation's value, to where it leads in the final ones from the thread
 -- pointer. The symbol isn't an undefined weak one.
 abbrev pub LeadsToTheSame : ℕ → (ℕ → ℕ) → X86_64Relocation → Linked → ℕ
-    → RelocationKindInfo → Type 0
+    → RowInfo → Type 0
 LeadsToTheSame n read name l i row =
     let r = relocation_in l.relocations i in
     (symbol : Symbol)

@@ -1,5 +1,5 @@
 -- Pages and offsets in them, of AArch64.
-use Rattle.linker_laws.proofs.Imports.{◌≡◌, ℕ, ◌+◌, ◌-◌, ◌*◌, ◌/◌, ◌%◌, ◌^◌, ◌<◌, ◌≤◌, Bool, true, refl, sym, ◌∙◌, ap, subst, arith, List, [], ◌∷◌, leb, ℤ, pos, ◌+ℤ◌, ◌*ℤ◌, Option, Some, w64, cast_signed, leb-true, bit_bounds, Signed, mod_below, pow_pos, pow-add, field, window_of, is_sound_layout, low_of, high_of, aarch64_form, aarch64_layout, IsWithin, page, reach_of, value_of, sum_64, difference_64, AArch64Instruction, Adr, Add, AllowedRange, PageMask, AArch64, RelocationKind, RelocationKindInfo, Operands, IsApplied, place_sum, subst_below, AreAddresses, Law, Premise, PremiseHolds, none}
+use Rattle.linker_laws.proofs.Imports.{◌≡◌, ℕ, ◌+◌, ◌-◌, ◌*◌, ◌/◌, ◌%◌, ◌^◌, ◌<◌, ◌≤◌, Bool, true, refl, sym, ◌∙◌, ap, subst, arith, List, [], ◌∷◌, leb, ℤ, pos, ◌+ℤ◌, ◌*ℤ◌, Option, Some, w64, cast_signed, leb-true, bit_bounds, Signed, mod_below, pow_pos, pow-add, field, window_of, is_sound_layout, low_of, high_of, aarch64_form, aarch64_layout, IsWithin, page, reach_of, value_of, sum_64, difference_64, AArch64Instruction, Adr, Add, AllowedRange, PageMask, AArch64, RelocationKind, RowInfo, Operands, IsApplied, place_sum, subst_below, AreAddresses, Law, Premise, PremiseHolds, none}
 use Rattle.std.proofs.Math.Arith.{mod-mul}
 use Rattle.linker_laws.specs.AArch64RelocationLaws.{got_page, page_and_offset}
 use Rattle.linker_laws.proofs.Instructions.{FirstHasNumber, HasNumber, IsNumber, IsSmall, absolute, first_step, row_of, is_read, reads_bits, field_sum, multiple, step_of}
@@ -60,7 +60,7 @@ abbrev pub page_distance : (Operands → ℕ) → Operands → ℕ
 page_distance target o = difference_64 (page (sum_64 (target o) 0)) (page o.place)
 
 -- what checks the value of the high part: the row, or the law's premise
-abbrev pub Checks : RelocationKindInfo → Premise → Type 0
+abbrev pub Checks : RowInfo → Premise → Type 0
 Checks row premise =
     (x : ℕ) (v : ℤ) → IsWithin (reach_of row) v → PremiseHolds premise x v → IsWithin (Some (bit_bounds 33 Signed)) v
 

@@ -1,5 +1,5 @@
 -- Moves of 16 bits of AArch64.
-use Rattle.linker_laws.proofs.Imports.{◌≡◌, ℕ, ◌+◌, ◌-◌, ◌*◌, ◌/◌, ◌%◌, ◌^◌, ◌<◌, ◌≤◌, Bool, true, false, refl, sym, ◌∙◌, ap, subst, arith, List, [], ◌∷◌, ℤ, pos, negsuc, ◌+ℤ◌, ◌-ℤ◌, ◌*ℤ◌, Option, Some, None, suc, unsigned_abs, eqb, ltb, not, true, false, Bool, ◌==◌, ◌&&◌, w32, w64, bit_at, cast_signed, from_le_bytes, int_rem_euclid, and_parts, eqb-true, ints, int_rem_euclid_is, mod_below, pow_pos, pow-add, div-add-mod', field, BitRange, aarch64_form, shift_of, bits_from, AgreesInReach, IsWithin, reach_of, is_movk, stays_movk, value_of, sum_64, Movkz, Movnz, AllowedRange, PageMask, AArch64, RelocationKind, RelocationKindInfo, Operands, taken_is_field, IsApplied, div-mul-add, IsSameModulo, IsSameIn, aarch64_reads, MoveReads, IsAddress, AreAddresses, Law, Premise, PremiseHolds, of_words, none, number_at}
+use Rattle.linker_laws.proofs.Imports.{◌≡◌, ℕ, ◌+◌, ◌-◌, ◌*◌, ◌/◌, ◌%◌, ◌^◌, ◌<◌, ◌≤◌, Bool, true, false, refl, sym, ◌∙◌, ap, subst, arith, List, [], ◌∷◌, ℤ, pos, negsuc, ◌+ℤ◌, ◌-ℤ◌, ◌*ℤ◌, Option, Some, None, suc, unsigned_abs, eqb, ltb, not, true, false, Bool, ◌==◌, ◌&&◌, w32, w64, bit_at, cast_signed, from_le_bytes, int_rem_euclid, and_parts, eqb-true, ints, int_rem_euclid_is, mod_below, pow_pos, pow-add, div-add-mod', field, BitRange, aarch64_form, shift_of, bits_from, AgreesInReach, IsWithin, reach_of, is_movk, stays_movk, value_of, sum_64, Movkz, Movnz, AllowedRange, PageMask, AArch64, RelocationKind, RowInfo, Operands, taken_is_field, IsApplied, div-mul-add, IsSameModulo, IsSameIn, aarch64_reads, MoveReads, IsAddress, AreAddresses, Law, Premise, PremiseHolds, of_words, none, number_at}
 use Rattle.std.proofs.Math.Nat.{mul-add-mod_self_right}
 use Rattle.linker_laws.specs.AArch64RelocationLaws.{movk, movz, movn_or_movz}
 use Rattle.linker_laws.proofs.Applied.{value_is, reads, taken_bits}
@@ -101,7 +101,7 @@ movk_reads kind s mask range a bias thunkable implicit o before after applied n 
 -- ---- sequences
 
 -- The first move has the value's bits from bit s up, by the operands' number.
-pub record IsFirst (row : RelocationKindInfo) (premise : Premise) (s : ℕ) (move : ℕ → ℤ)
+pub record IsFirst (row : RowInfo) (premise : Premise) (s : ℕ) (move : ℕ → ℤ)
     (begin target number : Operands → ℕ) : Type 0 where
   pub leads : IsNumber begin target number
   pub bits : (o : Operands) → AreAddresses o → (before after : List ℕ) (applied : IsApplied row o before after)
@@ -151,7 +151,7 @@ after_32 r n f g small eg ef =
         + (0 + g * 2 ^ 16 + l) % 2 ^ 0 ≡ n % 2 ^ 32
     rest l n f g small eg ef = omega arith
 
-pub moves1 : {begin target number : Operands → ℕ} {row : RelocationKindInfo} {premise : Premise} {move : ℕ → ℤ}
+pub moves1 : {begin target number : Operands → ℕ} {row : RowInfo} {premise : Premise} {move : ℕ → ℤ}
     → IsFirst row premise 0 move begin target number
     → Law (first_step row premise ∷ []) (λ o x. pos (begin o) +ℤ move x) target
 moves1 {begin} {target} {number} {row} {premise} {move} first =
@@ -163,7 +163,7 @@ moves1 {begin} {target} {number} {row} {premise} {move} first =
     reached 0 first.leads (omega arith) o small (bits_from 0 v) v (first.bits o small before after step holds)
     (p.is ∙ ap (λ r. (bits_from 0 v *ℤ pos (2 ^ 0)) +ℤ pos r) none)
 
-pub moves2 : {begin target number : Operands → ℕ} {row : RelocationKindInfo} {premise : Premise} {move : ℕ → ℤ}
+pub moves2 : {begin target number : Operands → ℕ} {row : RowInfo} {premise : Premise} {move : ℕ → ℤ}
     → IsFirst row premise 16 move begin target number
     → (operands2 : Operands → ℕ → Operands)
     → {kind2 : RelocationKind} {mask2 : Option PageMask} {range2 : AllowedRange} {a2 : ℕ}
@@ -188,7 +188,7 @@ moves2 {begin} {target} {number} {row} {premise} {move} first operands2 e2 =
     ∙ movk_parts 0 t p.rest 0 (field n 0 16) (from_le_bytes w32 after2) f
     ∙ ap (λ r. (t *ℤ pos (2 ^ 16)) +ℤ pos r) (first_16 p.rest n (field n 0 16) p.below refl))
 
-pub moves3 : {begin target number : Operands → ℕ} {row : RelocationKindInfo} {premise : Premise} {move : ℕ → ℤ}
+pub moves3 : {begin target number : Operands → ℕ} {row : RowInfo} {premise : Premise} {move : ℕ → ℤ}
     → IsFirst row premise 32 move begin target number
     → (operands2 operands3 : Operands → ℕ → Operands)
     → {kind2 : RelocationKind} {mask2 : Option PageMask} {range2 : AllowedRange} {a2 : ℕ}
@@ -228,7 +228,7 @@ moves3 {begin} {target} {number} {row} {premise} {move} first operands2 operands
 -- ---- four moves
 
 -- The first move of the highest 16 bits has them modulo 2 ^ 16.
-pub record IsHighest (row : RelocationKindInfo) (premise : Premise) (move : ℕ → ℤ)
+pub record IsHighest (row : RowInfo) (premise : Premise) (move : ℕ → ℤ)
     (begin target number : Operands → ℕ) : Type 0 where
   pub leads : IsNumber begin target number
   pub bits : (o : Operands) → AreAddresses o → (before after : List ℕ) (applied : IsApplied row o before after)
@@ -285,7 +285,7 @@ step_16 l f g h n small eh eg ef =
 rest_below : (r k : ℕ) → r % 2 ^ k < 2 ^ k
 rest_below r k = mod_below r (2 ^ k) (pow_pos k)
 
-pub moves4 : {begin target number : Operands → ℕ} {row : RelocationKindInfo} {premise : Premise} {move : ℕ → ℤ}
+pub moves4 : {begin target number : Operands → ℕ} {row : RowInfo} {premise : Premise} {move : ℕ → ℤ}
     → IsHighest row premise move begin target number
     → (operands2 operands3 operands4 : Operands → ℕ → Operands)
     → {kind2 : RelocationKind} {mask2 : Option PageMask} {range2 : AllowedRange} {a2 : ℕ}

@@ -1,5 +1,5 @@
 -- What the machine reads of an instruction to which a relocation was applied.
-use Rattle.linker_laws.proofs.Imports.{false, FitsSigned, ◌≡◌, ℕ, ◌-◌, ◌%◌, ◌^◌, ◌<◌, ◌≤◌, true, refl, sym, ◌∙◌, ap, subst, arith, List, ℤ, pos, Option, Some, None, int_lt, unsigned_abs, Bool, eqb, aarch64_layout, eqb-true, w64, cast_signed, cast_unsigned, int_rem_euclid, of_z-to_z, field, signed, window_of, BitsWritten, BitRange, is_sound_layout, layout_laid, low_of, high_of, always_clear, aarch64_form, bits_from, AgreesInReach, IsWithin, relocation_form, relocation_layout, loongarch_form, ppc64_form, reach_of, InstructionWritten, SizeHolds, bits_taken, IsAligned, ppc64_reads, places_cleared, IsWritten, stays_movk, is_low_jump, RelocationKind, riscv_form, value_of, AArch64Instruction, Movnz, Shift10, D, Ds, RelocationInstruction, AArch64, RiscV, Ppc64, LoongArch64, RelocationKindInfo, BitMasking, UiType, Operands, layout_check, taken_is_field, taken_below, IsApplied, place_sum, Written, IsClear, SizeReads, IsInUnits, MachOLow12, layout_agrees, clear_after, row_reads_in_reach, plain_written as rows_written, taken_in_units}
+use Rattle.linker_laws.proofs.Imports.{false, FitsSigned, ◌≡◌, ℕ, ◌-◌, ◌%◌, ◌^◌, ◌<◌, ◌≤◌, true, refl, sym, ◌∙◌, ap, subst, arith, List, ℤ, pos, Option, Some, None, int_lt, unsigned_abs, Bool, eqb, aarch64_layout, eqb-true, w64, cast_signed, cast_unsigned, int_rem_euclid, of_z-to_z, field, signed, window_of, BitsWritten, BitRange, is_sound_layout, layout_laid, low_of, high_of, always_clear, aarch64_form, bits_from, AgreesInReach, IsWithin, relocation_form, relocation_layout, loongarch_form, ppc64_form, reach_of, InstructionWritten, SizeHolds, bits_taken, IsAligned, ppc64_reads, places_cleared, IsWritten, stays_movk, is_low_jump, RelocationKind, riscv_form, value_of, AArch64Instruction, Movnz, Shift10, D, Ds, AnyForm, AArch64, RiscV, Ppc64, LoongArch64, RowInfo, BitMasking, UiType, Operands, layout_check, taken_is_field, taken_below, IsApplied, place_sum, Written, IsClear, SizeReads, IsInUnits, MachOLow12, layout_agrees, clear_after, row_reads_in_reach, plain_written as rows_written, taken_in_units}
 use Rattle.linker_elf.proofs.Halves.{row_holds}
 use Rattle.linker_elf.proofs.Placed.{reads_as}
 use Rattle.linker_laws.proofs.Sums.{small_cast, cast_low}
@@ -10,7 +10,7 @@ number_or_zero (Some v) = v
 
 -- ---- the value, from the number of the formula
 
-module _ (row : RelocationKindInfo) (o : Operands) (before after : List ℕ)
+module _ (row : RowInfo) (o : Operands) (before after : List ℕ)
     (applied : IsApplied row o before after) (n : ℕ) (below : n < 2 ^ 64)
     (is : cast_signed w64 n ≡ applied.value) where
   pub fits : FitsSigned w64 applied.value
@@ -26,7 +26,7 @@ module _ (row : RelocationKindInfo) (o : Operands) (before after : List ℕ)
       applied.written agrees
 
 -- the value is that of the formula
-pub value_is : (row : RelocationKindInfo) (o : Operands) (before after : List ℕ)
+pub value_is : (row : RowInfo) (o : Operands) (before after : List ℕ)
     (applied : IsApplied row o before after) (v : ℤ) → value_of row o ≡ Some v → v ≡ applied.value
 value_is row o before after applied v e = ap number_or_zero (sym e ∙ applied.value_is)
 
@@ -47,7 +47,7 @@ aligned_low n k v below short is aligned =
     ∙ ap (λ z. int_rem_euclid z (pos (2 ^ k))) is ∙ aligned)
 
 -- A form whose layout is sound is neither that for MOVN and MOVZ nor the one for `jirl`.
-no_movk : (insn : RelocationInstruction) → is_sound_layout (relocation_layout insn) ≡ true
+no_movk : (insn : AnyForm) → is_sound_layout (relocation_layout insn) ≡ true
     → (bits : BitRange) (x : ℕ) → stays_movk insn bits x ≡ false
 no_movk (AArch64 Movnz) sound bits x = cc
 no_movk (AArch64 f) sound bits x = refl
@@ -55,7 +55,7 @@ no_movk (RiscV f) sound bits x = refl
 no_movk (Ppc64 f) sound bits x = refl
 no_movk (LoongArch64 f) sound bits x = refl
 
-no_low_jump : (insn : RelocationInstruction) → is_sound_layout (relocation_layout insn) ≡ true
+no_low_jump : (insn : AnyForm) → is_sound_layout (relocation_layout insn) ≡ true
     → (kind : RelocationKind) (x : ℕ) → is_low_jump insn kind x ≡ false
 no_low_jump (LoongArch64 Shift10) sound kind x = cc
 no_low_jump (LoongArch64 f) sound kind x = refl
@@ -63,7 +63,7 @@ no_low_jump (AArch64 f) sound kind x = refl
 no_low_jump (RiscV f) sound kind x = refl
 no_low_jump (Ppc64 f) sound kind x = refl
 
-pub sound_written : (insn : RelocationInstruction) → is_sound_layout (relocation_layout insn) ≡ true
+pub sound_written : (insn : AnyForm) → is_sound_layout (relocation_layout insn) ≡ true
     → (kind : RelocationKind) (bits : BitRange) (v : ℤ) (before after : List ℕ)
     → IsWritten (BitMasking bits insn) kind v before after → InstructionWritten insn bits v before after
 sound_written insn sound kind bits v before after w =
@@ -72,7 +72,7 @@ sound_written insn sound kind bits v before after w =
     (no_low_jump insn sound kind (window_of (relocation_form insn) before)) w
 
 -- the places that the form only ORs hold 0 once they are cleared
-clear_of : (insn : RelocationInstruction) → is_sound_layout (relocation_layout insn) ≡ true
+clear_of : (insn : AnyForm) → is_sound_layout (relocation_layout insn) ≡ true
     → (bits : BitRange) (before clear : ℕ)
     → BitsWritten (places_cleared insn bits before) 0 before clear
     → IsClear ((relocation_form insn).places clear) clear
@@ -91,17 +91,17 @@ clear_of (LoongArch64 f) sound bits before clear laid =
     always_clear ((loongarch_form f).places clear) clear refl
 
 -- what the machine reads of an instruction: a word of DQ-form without its low 4 bits
-abbrev pub insn_reads : RelocationInstruction → ℕ → ℤ
+abbrev pub insn_reads : AnyForm → ℕ → ℤ
 insn_reads (Ppc64 f) x = ppc64_reads f x
 insn_reads insn x = (relocation_form insn).machine x
 
 -- the instructions of which a write places the bits that it takes
-abbrev pub is_plain : RelocationInstruction → Bool
+abbrev pub is_plain : AnyForm → Bool
 is_plain (Ppc64 Ds) = false
 is_plain insn = true
 
 -- a displacement that may be one of DQ-form begins with bit 0
-abbrev pub begins : RelocationInstruction → ℕ → Bool
+abbrev pub begins : AnyForm → ℕ → Bool
 begins (Ppc64 Ds) start = eqb start 0
 begins insn start = true
 
@@ -113,7 +113,7 @@ aarch64_plain : (f : AArch64Instruction) → is_sound_layout (aarch64_layout f) 
 aarch64_plain Movnz sound bits v before after w = cc
 aarch64_plain f sound bits v before after w = w.written
 
-plain_written : (insn : RelocationInstruction) → is_sound_layout (relocation_layout insn) ≡ true
+plain_written : (insn : AnyForm) → is_sound_layout (relocation_layout insn) ≡ true
     → is_plain insn ≡ true → (bits : BitRange) (v : ℤ) (before after : List ℕ)
     → (w : InstructionWritten insn bits v before after)
     → Written (relocation_form insn) (bits_taken bits v) (int_lt v (pos 0)) w.clear
@@ -126,14 +126,14 @@ plain_written (Ppc64 Ds) sound plain bits v before after w = cc
 plain_written (Ppc64 f) sound plain bits v before after w = w.written
 
 -- The machine reads what the form reads of a window in which f was written.
-record Read (insn : RelocationInstruction) (f : ℕ) (neg : Bool) (after : ℕ) : Type 0 where
+record Read (insn : AnyForm) (f : ℕ) (neg : Bool) (after : ℕ) : Type 0 where
   pub old : ℕ
   pub window : ℕ
   pub written : Written (relocation_form insn) f neg old window
   pub clear : IsClear ((relocation_form insn).places old) old
   pub reads : insn_reads insn after ≡ (relocation_form insn).machine window
 
-read_of : (insn : RelocationInstruction) → is_sound_layout (relocation_layout insn) ≡ true
+read_of : (insn : AnyForm) → is_sound_layout (relocation_layout insn) ≡ true
     → (bits : BitRange) (v : ℤ) (before after : List ℕ) → FitsSigned w64 v
     → bits.start < bits.end → bits.end ≤ 64 → begins insn bits.start ≡ true
     → IsInUnits (BitMasking bits insn) v before
@@ -185,7 +185,7 @@ read_of (LoongArch64 f) sound bits v before after small some inside from units w
       reads = refl;
     }
 
-module _ (insn : RelocationInstruction) (sound : is_sound_layout (relocation_layout insn) ≡ true)
+module _ (insn : AnyForm) (sound : is_sound_layout (relocation_layout insn) ≡ true)
     (bits : BitRange) (v : ℤ) (before after : List ℕ)
     (written : InstructionWritten insn bits v before after) (inside : bits.end ≤ 64) where
   -- what stands at the places

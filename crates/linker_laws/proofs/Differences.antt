@@ -1,5 +1,5 @@
 -- What two relocations of one place leave there.
-use Rattle.linker_laws.proofs.Imports.{◌≡◌, ℕ, zero, suc, ◌+◌, ◌-◌, ◌*◌, ◌%◌, ◌^◌, ◌<◌, ◌≤◌, Bool, refl, sym, ◌∙◌, ap, arith, List, inl, inr, pos, negsuc, ◌+ℤ◌, ◌-ℤ◌, Option, Some, unsigned_abs, w64, cast_signed, cast_unsigned, int_rem_euclid, cases_lt, ints, to_z_pos, field, number_of_bytes, value_of, sum_64, difference_64, AllowedRange, PageMask, RelocationKindInfo, Operands, rem_rem, cast_negative, IsApplied, AbsoluteSet, AbsoluteSetWord6, AbsoluteAddition, AbsoluteAdditionWord6, AbsoluteSubtraction, AbsoluteSubtractionWord6, mod_mod, IsAddress, symbol_address}
+use Rattle.linker_laws.proofs.Imports.{◌≡◌, ℕ, zero, suc, ◌+◌, ◌-◌, ◌*◌, ◌%◌, ◌^◌, ◌<◌, ◌≤◌, Bool, refl, sym, ◌∙◌, ap, arith, List, inl, inr, pos, negsuc, ◌+ℤ◌, ◌-ℤ◌, Option, Some, unsigned_abs, w64, cast_signed, cast_unsigned, int_rem_euclid, cases_lt, ints, to_z_pos, field, number_of_bytes, value_of, sum_64, difference_64, AllowedRange, PageMask, RowInfo, Operands, rem_rem, cast_negative, IsApplied, AbsoluteSet, AbsoluteSetWord6, AbsoluteAddition, AbsoluteAdditionWord6, AbsoluteSubtraction, AbsoluteSubtractionWord6, mod_mod, IsAddress, symbol_address}
 use Rattle.linker_laws.specs.Differences.{AddsDistance, AddsDistance6, SetsDistance, SetsDistance6}
 use Rattle.linker_laws.proofs.Fields.{bytes_of, held}
 use Rattle.linker_laws.proofs.Instructions.{absolute}
@@ -35,7 +35,7 @@ difference_rem old n k below short =
     ∙ ap pos (mod_mod (old + (2 ^ 64 - n)) 64 k short)
 
 -- the value is S + A
-abbrev pub HasAddress : RelocationKindInfo → Type 0
+abbrev pub HasAddress : RowInfo → Type 0
 HasAddress row =
     (o : Operands) → value_of row o ≡ Some (cast_signed w64 (absolute symbol_address o))
 

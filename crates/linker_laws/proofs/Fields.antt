@@ -1,5 +1,5 @@
 -- The law of a field of whole bytes.
-use Rattle.linker_laws.proofs.Imports.{◌≡◌, ℕ, zero, suc, ◌+◌, ◌*◌, ◌%◌, ◌^◌, ◌<◌, Bool, true, sym, ◌∙◌, ap, subst, arith, List, [], ◌∷◌, ℤ, pos, ◌+ℤ◌, ◌*ℤ◌, Option, Some, unsigned_abs, w64, cast_signed, int_rem_euclid, bits_from, IsWithin, reach_of, number_of_bytes, SizeNumber, value_of, AllowedRange, PageMask, RelocationKind, RelocationKindInfo, ByteSize, Operands, rem_below, row_number, IsApplied, Sign, number_of, whole_number, number_agrees, reaches, from_zero, AreAddresses, Law, none, of_values}
+use Rattle.linker_laws.proofs.Imports.{◌≡◌, ℕ, zero, suc, ◌+◌, ◌*◌, ◌%◌, ◌^◌, ◌<◌, Bool, true, sym, ◌∙◌, ap, subst, arith, List, [], ◌∷◌, ℤ, pos, ◌+ℤ◌, ◌*ℤ◌, Option, Some, unsigned_abs, w64, cast_signed, int_rem_euclid, bits_from, IsWithin, reach_of, number_of_bytes, SizeNumber, value_of, AllowedRange, PageMask, RelocationKind, RowInfo, ByteSize, Operands, rem_below, row_number, IsApplied, Sign, number_of, whole_number, number_agrees, reaches, from_zero, AreAddresses, Law, none, of_values}
 use Rattle.std.proofs.Math.Nat.{mod-eq_of_lt}
 use Rattle.linker_laws.proofs.Applied.{fits, value_is}
 use Rattle.linker_laws.proofs.Instructions.{IsNumber, first_step}
@@ -7,7 +7,7 @@ use Rattle.linker_laws.proofs.Sums.{goes, cast_low, cast_is, once}
 
 -- n whole bytes
 abbrev pub bytes_of : RelocationKind → ℕ → Option PageMask → AllowedRange → ℕ → Option ℕ → Bool
-    → Bool → RelocationKindInfo
+    → Bool → RowInfo
 bytes_of kind n mask range a bias thunkable implicit =
     record {
       kind = kind;

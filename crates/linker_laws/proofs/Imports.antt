@@ -36,17 +36,17 @@ pub use Rattle.linker_elf.specs.declared.aarch64.forms.AArch64Instruction.{AArch
 pub use Rattle.linker_elf.specs.declared.aarch64.forms.AArch64Instruction.TheVariants.{Add, Adr, JumpCall, LdSt, LdrRegister, MachOLow12, Movkz, Movnz}
 pub use Rattle.linker_elf.specs.declared.elf.AllowedRange.{AllowedRange}
 pub use Rattle.linker_elf.specs.declared.elf.PageMask.{PageMask}
-pub use Rattle.linker_elf.specs.declared.elf.RelocationInstruction.{RelocationInstruction}
-pub use Rattle.linker_elf.specs.declared.elf.RelocationInstruction.TheVariants.{AArch64, LoongArch64, Ppc64, RiscV}
+pub use Rattle.linker_elf.specs.declared.elf.AnyForm.{AnyForm}
+pub use Rattle.linker_elf.specs.declared.elf.AnyForm.TheVariants.{AArch64, LoongArch64, Ppc64, RiscV}
 pub use Rattle.linker_elf.specs.declared.elf.RelocationKind.{RelocationKind}
 pub use Rattle.linker_elf.specs.declared.elf.RelocationKind.TheVariants.{Absolute, AbsoluteAddition, AbsoluteAdditionWord6, AbsoluteLowPart, AbsoluteSet, AbsoluteSetWord6, AbsoluteSubtraction, AbsoluteSubtractionWord6, GotRelative, GotTpOff, PltRelative, Relative, TlsDesc, TpOff}
-pub use Rattle.linker_elf.specs.declared.elf.RelocationKindInfo.{RelocationKindInfo}
-pub use Rattle.linker_elf.specs.declared.elf.RelocationSize.TheVariants.{BitMasking, ByteSize}
+pub use Rattle.linker_elf.specs.declared.elf.RowInfo.{RowInfo}
+pub use Rattle.linker_elf.specs.declared.elf.RowSize.TheVariants.{BitMasking, ByteSize}
 pub use Rattle.linker_elf.specs.declared.elf.Sign.TheVariants.{Signed}
 pub use Rattle.linker_elf.specs.declared.elf.value.Operands.{Operands}
 pub use Rattle.linker_elf.specs.declared.loongarch64.forms.LoongArch64Instruction.TheVariants.{Branch26, Call36, Shift10, Shift5}
-pub use Rattle.linker_elf.specs.declared.ppc64.forms.Ppc64Instruction.{Ppc64Instruction}
-pub use Rattle.linker_elf.specs.declared.ppc64.forms.Ppc64Instruction.TheVariants.{Branch24, D, DUnsigned, Ds, Prefixed}
+pub use Rattle.linker_elf.specs.declared.ppc64.forms.Ppc64Form.{Ppc64Form}
+pub use Rattle.linker_elf.specs.declared.ppc64.forms.Ppc64Form.TheVariants.{Branch24, D, DUnsigned, Ds, Prefixed}
 pub use Rattle.linker_elf.specs.declared.ppc64.relocations.Ppc64Relocation.{Ppc64Relocation}
 pub use Rattle.linker_elf.specs.declared.riscv64.forms.RiscVInstruction.{RiscVInstruction}
 pub use Rattle.linker_elf.specs.declared.riscv64.forms.RiscVInstruction.TheVariants.{CjType, CluiType, IType, JType, SType, UType, UiType}

@@ -1,5 +1,5 @@
 -- The law of one instruction, over all rows of one field.
-use Rattle.linker_laws.proofs.Imports.{◌≡◌, ℕ, ◌-◌, ◌%◌, ◌^◌, ◌<◌, ◌≤◌, ◌&&◌, Bool, true, sym, ◌∙◌, ap, subst, arith, List, [], ◌∷◌, ℤ, pos, ◌+ℤ◌, ◌*ℤ◌, Option, Some, ltb, leb, eqb, ◌||◌, inl, inr, w64, cast_signed, cast_unsigned, and_parts, or_cases, ltb-true, leb-true, eqb-true, field, window_of, BitRange, is_sound_layout, low_of, high_of, bits_from, IsWithin, relocation_form, relocation_layout, reach_of, IsAligned, value_of, sum_64, difference_64, AllowedRange, PageMask, RelocationInstruction, RelocationKind, RelocationKindInfo, BitMasking, Operands, layout_check, IsApplied, place_sum, IsAddress, AreAddresses, Law, Premise, Step, none, symbol_address, plt_address, entry_and_addend, entry_address, place, got_base, tls_base, size_and_addend}
+use Rattle.linker_laws.proofs.Imports.{◌≡◌, ℕ, ◌-◌, ◌%◌, ◌^◌, ◌<◌, ◌≤◌, ◌&&◌, Bool, true, sym, ◌∙◌, ap, subst, arith, List, [], ◌∷◌, ℤ, pos, ◌+ℤ◌, ◌*ℤ◌, Option, Some, ltb, leb, eqb, ◌||◌, inl, inr, w64, cast_signed, cast_unsigned, and_parts, or_cases, ltb-true, leb-true, eqb-true, field, window_of, BitRange, is_sound_layout, low_of, high_of, bits_from, IsWithin, relocation_form, relocation_layout, reach_of, IsAligned, value_of, sum_64, difference_64, AllowedRange, PageMask, AnyForm, RelocationKind, RowInfo, BitMasking, Operands, layout_check, IsApplied, place_sum, IsAddress, AreAddresses, Law, Premise, Step, none, symbol_address, plt_address, entry_and_addend, entry_address, place, got_base, tls_base, size_and_addend}
 use Rattle.linker_laws.specs.Schemes.{zero}
 use Rattle.linker_laws.proofs.Applied.{insn_reads, is_plain, begins, fits, value_is, reads_within, aligned_low, stands, taken_bits, sound_written}
 use Rattle.linker_laws.proofs.Sums.{Leads, difference_leads, itself_leads, sum_below, difference_below, multiple_part}
@@ -36,8 +36,8 @@ absolute_number s small =
 -- ---- rows of one field
 
 -- bits from `start` up, below `end`, of values that are checked
-abbrev pub row_of : RelocationKind → ℕ → ℕ → RelocationInstruction → Option PageMask → AllowedRange
-    → ℕ → Option ℕ → Bool → Bool → RelocationKindInfo
+abbrev pub row_of : RelocationKind → ℕ → ℕ → AnyForm → Option PageMask → AllowedRange
+    → ℕ → Option ℕ → Bool → Bool → RowInfo
 row_of kind start end insn mask range a bias thunkable implicit =
     record {
       kind = kind;
@@ -51,25 +51,25 @@ row_of kind start end insn mask range a bias thunkable implicit =
     }
 
 -- The machine reads the values within bounds, which are multiples of 2 to the range's start.
-pub record IsRead (insn : RelocationInstruction) (start end : ℕ) (b : ℤ × ℤ) (a : ℕ) : Type 0 where
+pub record IsRead (insn : AnyForm) (start end : ℕ) (b : ℤ × ℤ) (a : ℕ) : Type 0 where
   pub sound : is_sound_layout (relocation_layout insn) ≡ true
   pub check : layout_check (relocation_layout insn) start end (Some b) a ≡ true
   pub some : start < end
   pub inside : end ≤ 64
   pub from : begins insn start ≡ true
 
-abbrev pub is_read : RelocationInstruction → ℕ → ℕ → ℤ × ℤ → ℕ → Bool
+abbrev pub is_read : AnyForm → ℕ → ℕ → ℤ × ℤ → ℕ → Bool
 is_read insn start end b a =
     is_sound_layout (relocation_layout insn)
     && (layout_check (relocation_layout insn) start end (Some b) a
     && (begins insn start && (ltb start end && leb end 64)))
 
 -- the same in units of 2 to the range's start
-abbrev pub is_added : RelocationInstruction → ℕ → ℕ → ℤ × ℤ → ℕ → Bool
+abbrev pub is_added : AnyForm → ℕ → ℕ → ℤ × ℤ → ℕ → Bool
 is_added insn start end b a =
     is_read insn start end b a && (ltb start 64 && (eqb start 0 || eqb a (2 ^ start)))
 
-pub read_parts : (insn : RelocationInstruction) (start end : ℕ) (b : ℤ × ℤ) (a : ℕ)
+pub read_parts : (insn : AnyForm) (start end : ℕ) (b : ℤ × ℤ) (a : ℕ)
     → is_read insn start end b a ≡ true → IsRead insn start end b a
 read_parts insn start end b a h =
     let one = and_parts (is_sound_layout (relocation_layout insn))
@@ -87,7 +87,7 @@ read_parts insn start end b a h =
       from = first.0;
     }
 
-module _ (kind : RelocationKind) (start end : ℕ) (insn : RelocationInstruction)
+module _ (kind : RelocationKind) (start end : ℕ) (insn : AnyForm)
     (mask : Option PageMask) (range : AllowedRange) (a : ℕ) (bias : Option ℕ)
     (thunkable implicit : Bool) (o : Operands) (before after : List ℕ)
     (applied : IsApplied (row_of kind start end insn mask range a bias thunkable implicit) o
@@ -283,25 +283,25 @@ same_distance n o small few = same o.symbol (cast_unsigned w64 o.addend) o.place
     same s a p small = omega arith
 
 -- a relocation of a sequence, and the one whose place is the sequence's
-abbrev pub step_of : RelocationKindInfo → (Operands → ℕ → Operands) → Premise → Step
+abbrev pub step_of : RowInfo → (Operands → ℕ → Operands) → Premise → Step
 step_of row operands premise = record { row = Some row; operands = operands; premise = premise }
 
-abbrev pub first_step : RelocationKindInfo → Premise → Step
+abbrev pub first_step : RowInfo → Premise → Step
 first_step row premise = record { row = Some row; operands = λ o at. o; premise = premise }
 
 -- the value of a relocation is that of a formula's number
-abbrev pub HasNumber : RelocationKindInfo → (Operands → ℕ → Operands) → (Operands → ℕ) → Type 0
+abbrev pub HasNumber : RowInfo → (Operands → ℕ → Operands) → (Operands → ℕ) → Type 0
 HasNumber row operands number =
     (o : Operands) → AreAddresses o → (at : ℕ)
     → value_of row (operands o at) ≡ Some (cast_signed w64 (number o))
 
-abbrev pub FirstHasNumber : RelocationKindInfo → (Operands → ℕ) → Type 0
+abbrev pub FirstHasNumber : RowInfo → (Operands → ℕ) → Type 0
 FirstHasNumber row number =
     (o : Operands) → AreAddresses o → value_of row o ≡ Some (cast_signed w64 (number o))
 
 -- an instruction that adds its number
 pub adds : {begin target number : Operands → ℕ} → IsNumber begin target number
-    → {kind : RelocationKind} {start end : ℕ} {insn : RelocationInstruction}
+    → {kind : RelocationKind} {start end : ℕ} {insn : AnyForm}
     {mask : Option PageMask} {range : AllowedRange} {a : ℕ} {bias : Option ℕ}
     {thunkable implicit : Bool} {b : ℤ × ℤ}
     → reach_of (row_of kind start end insn mask range a bias thunkable implicit) ≡ Some b

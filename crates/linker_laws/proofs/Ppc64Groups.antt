@@ -1,5 +1,5 @@
 -- PowerPC64's groups.
-use Rattle.linker_laws.proofs.Imports.{◌≡◌, ◌≢◌, ℕ, suc, ◌+◌, ◌-◌, ◌*◌, ◌^◌, ◌<◌, ◌≤◌, Bool, true, false, refl, sym, ◌∙◌, ap, subst, subst₂, arith, List, drop, take, ◌/◌, Some, pos, ◌+ℤ◌, ◌*ℤ◌, inl, inr, not, eqb, true≢false, IsTrue, ◌==◌, if◌then◌else◌, nat_lt, is_some, and_parts, cond-true, cond-false, cases_lt, eq-eqb, eqb-true, lt-ltb, le-ltb, ne_eqb, eqb_tells, ints, field, ppc64_form, sum_64, Operands, Ppc64Instruction, Branch24, D, Ds, Prefixed, Ppc64Relocation, addi_of_thread, is_addi, is_call, is_ld, is_pla, is_pld, addis_of_thread, opcode_of, ra_of, registers_of, rt_of, RewriteKind, go_to, put, with_register, loaded, moved, AreAddresses, symbol_address, State, Agree, AreOf, Group, Kind, Kinds, anything, half, of_link, run, same}
+use Rattle.linker_laws.proofs.Imports.{◌≡◌, ◌≢◌, ℕ, suc, ◌+◌, ◌-◌, ◌*◌, ◌^◌, ◌<◌, ◌≤◌, Bool, true, false, refl, sym, ◌∙◌, ap, subst, subst₂, arith, List, drop, take, ◌/◌, Some, pos, ◌+ℤ◌, ◌*ℤ◌, inl, inr, not, eqb, true≢false, IsTrue, ◌==◌, if◌then◌else◌, nat_lt, is_some, and_parts, cond-true, cond-false, cases_lt, eq-eqb, eqb-true, lt-ltb, le-ltb, ne_eqb, eqb_tells, ints, field, ppc64_form, sum_64, Operands, Ppc64Form, Branch24, D, Ds, Prefixed, Ppc64Relocation, addi_of_thread, is_addi, is_call, is_ld, is_pla, is_pld, addis_of_thread, opcode_of, ra_of, registers_of, rt_of, RewriteKind, go_to, put, with_register, loaded, moved, AreAddresses, symbol_address, State, Agree, AreOf, Group, Kind, Kinds, anything, half, of_link, run, same}
 use Rattle.linker_elf.specs.declared.ppc64.relocations.Ppc64Relocation.TheVariants as names
 use Rattle.linker_laws.specs.Ppc64Groups as groups
 use Rattle.linker_laws.specs.Ppc64Groups.{AreHalves, Code, Has, Leaves, Processor, Returns, Stands, Takes, Uses, called, executed, execute, high_part, instruction_at, is_prefix, left, link, machine, seen, used}
@@ -372,7 +372,7 @@ sum_keeps c k s t test word address agree =
     (agree_put (link c) k s t r same address address (sum_64 s.pc 4) (sum_64 t.pc 4) agree (sum_below s.pc 4)
     (ap (λ p. sum_64 p 4) agree.pc) refl)
 
-over_base : (r : ℕ) (kind : RewriteKind) (low whole : Ppc64Relocation) (form : Ppc64Instruction)
+over_base : (r : ℕ) (kind : RewriteKind) (low whole : Ppc64Relocation) (form : Ppc64Form)
     (address : Operands → ℕ → ℕ) (how : Use) → OverSteps r kind low whole form address how
     → (insn over : List ℕ) → IsRewritten kind insn over → groups.OverBase r low whole form address how insn over
 over_base r kind low whole form address how steps insn over made c o k s small is stays leads old new =

@@ -1,5 +1,5 @@
 -- Halves of PowerPC64.
-use Rattle.linker_laws.proofs.Imports.{◌-◌, ◌≡◌, ℕ, ◌+◌, ◌%◌, ◌^◌, ◌<◌, Bool, true, refl, sym, ◌∙◌, ap, subst, arith, List, [], ◌∷◌, ℤ, pos, ◌+ℤ◌, ◌*ℤ◌, Option, Some, w64, cast_signed, field, signed, window_of, replaced, consecutive_bits_sum, IsWithin, ppc64_form, reach_of, ppc64_reads, value_of, sum_64, difference_64, AllowedRange, PageMask, Ppc64Instruction, D, Ds, Ppc64, RelocationKind, Operands, IsApplied, place_sum, AreAddresses, Law, none, without_low}
+use Rattle.linker_laws.proofs.Imports.{◌-◌, ◌≡◌, ℕ, ◌+◌, ◌%◌, ◌^◌, ◌<◌, Bool, true, refl, sym, ◌∙◌, ap, subst, arith, List, [], ◌∷◌, ℤ, pos, ◌+ℤ◌, ◌*ℤ◌, Option, Some, w64, cast_signed, field, signed, window_of, replaced, consecutive_bits_sum, IsWithin, ppc64_form, reach_of, ppc64_reads, value_of, sum_64, difference_64, AllowedRange, PageMask, Ppc64Form, D, Ds, Ppc64, RelocationKind, Operands, IsApplied, place_sum, AreAddresses, Law, none, without_low}
 use Rattle.linker_laws.specs.Ppc64RelocationLaws.{adjusted, unadjusted}
 use Rattle.linker_laws.proofs.Applied.{fits, value_is, taken_bits, ds_stands}
 use Rattle.linker_laws.proofs.Instructions.{HasNumber, IsNumber, IsSmall, first_step, row_of, step_of, is_read, reads_bits, field_sum, multiple}
@@ -9,7 +9,7 @@ use Rattle.linker_laws.proofs.Sums.{high_sum, halves_sum, signed_16, sum_below, 
 -- ---- low halves
 
 -- The machine reads the low 16 bits of the number in two's complement.
-abbrev pub ReadsLow : Ppc64Instruction → ℕ → Type 0
+abbrev pub ReadsLow : Ppc64Form → ℕ → Type 0
 ReadsLow f a =
     (kind : RelocationKind) (mask : Option PageMask) (range : AllowedRange) (bias : Option ℕ)
     (thunkable implicit : Bool) (o : Operands) (before after : List ℕ)
@@ -50,7 +50,7 @@ adjusted_low n m low reads is =
     ∙ ap pos (let same : (n % 2 ^ 16 + 0x8000) % 2 ^ 16 ≡ m % 2 ^ 16 = omega arith in same)
 
 pub adjusted_halves : {begin target number rounded : Operands → ℕ} → IsNumber begin target number
-    → IsRounded 0x8000 number rounded → {f : Ppc64Instruction} {a' : ℕ} → ReadsLow f a'
+    → IsRounded 0x8000 number rounded → {f : Ppc64Form} {a' : ℕ} → ReadsLow f a'
     → (operands : Operands → ℕ → Operands) {kind : RelocationKind} {mask : Option PageMask} {range : AllowedRange} {a : ℕ}
     {bias : Option ℕ} {thunkable implicit : Bool} {b : ℤ × ℤ}
     {kind' : RelocationKind} {mask' : Option PageMask} {range' : AllowedRange}

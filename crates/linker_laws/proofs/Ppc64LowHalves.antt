@@ -1,5 +1,5 @@
 -- PowerPC64: instructions with a low half over the base of the high half, each in two runs.
-use Rattle.linker_laws.proofs.Imports.{◌≡◌, ℕ, ◌+◌, ◌%◌, ◌^◌, ◌<◌, refl, sym, true, ◌∙◌, ap, arith, List, ℤ, pos, ◌+ℤ◌, ◌*ℤ◌, Some, ◌==◌, not, and_parts, eqb-true, ints, field, ppc64_form, ppc64_reads, sum_64, difference_64, Operands, Ppc64Instruction, D, Ds, Ppc64Relocation, opcode_of, rt_of, ra_of, is_addi, is_ds_access, RewriteKind, over_base, is_vector_access, AreAddresses, symbol_address, IsAddress, moved}
+use Rattle.linker_laws.proofs.Imports.{◌≡◌, ℕ, ◌+◌, ◌%◌, ◌^◌, ◌<◌, refl, sym, true, ◌∙◌, ap, arith, List, ℤ, pos, ◌+ℤ◌, ◌*ℤ◌, Some, ◌==◌, not, and_parts, eqb-true, ints, field, ppc64_form, ppc64_reads, sum_64, difference_64, Operands, Ppc64Form, D, Ds, Ppc64Relocation, opcode_of, rt_of, ra_of, is_addi, is_ds_access, RewriteKind, over_base, is_vector_access, AreAddresses, symbol_address, IsAddress, moved}
 use Rattle.linker_elf.specs.declared.ppc64.relocations.Ppc64Relocation.TheVariants as names
 use Rattle.linker_utils.specs.declared.ppc64.rewrites.RewriteKind.TheVariants as kinds
 use Rattle.linker_laws.specs.Ppc64RelocationLaws as relocation_laws
@@ -36,7 +36,7 @@ over_base_low : (r x word : ℕ) → word ≡ over_base r x → field word 0 2 �
 over_base_low r x word is = omega arith
 
 -- what is known of a base register, a rewrite to it, and the relocations before and after
-record IsOver (r : ℕ) (kind : RewriteKind) (low whole : Ppc64Relocation) (form : Ppc64Instruction)
+record IsOver (r : ℕ) (kind : RewriteKind) (low whole : Ppc64Relocation) (form : Ppc64Form)
     (address : Operands → ℕ → ℕ) : Type 0 where
   pub small : r < 32
   pub is_base : IsBase r
@@ -52,7 +52,7 @@ KeepsLow name =
     → field (word_of after) 0 2 ≡ field (word_of before) 0 2
 
 -- The steps of instructions by a low half over any register, and of those over r.
-pub record OverSteps (r : ℕ) (kind : RewriteKind) (low whole : Ppc64Relocation) (form : Ppc64Instruction)
+pub record OverSteps (r : ℕ) (kind : RewriteKind) (low whole : Ppc64Relocation) (form : Ppc64Form)
     (address : Operands → ℕ → ℕ) (how : laws.Use) : Type 0 where
   pub old : (f : Formats) (o : Operands) (s : State) (insn insn_of : List ℕ) (target at : ℕ)
       → how.test (word_of insn) ≡ true → laws.Leads low form o (s.registers (ra_of (word_of insn))) target

@@ -1,5 +1,5 @@
 -- Numbers of 64 bits of PowerPC64 by parts of 16 bits.
-use Rattle.linker_laws.proofs.Imports.{◌≡◌, ℕ, ◌+◌, ◌-◌, ◌*◌, ◌/◌, ◌%◌, ◌^◌, ◌<◌, Bool, refl, sym, ◌∙◌, ap, subst, arith, List, [], ◌∷◌, pos, Option, Some, w64, cast_signed, mod_below, pow_pos, field, window_of, replaced, consecutive_bits_sum, ppc64_form, ppc64_reads, value_of, AllowedRange, PageMask, Ppc64Instruction, D, Ppc64, RelocationKind, Operands, IsApplied, sum_64, place_sum, DUnsigned, Law, none}
+use Rattle.linker_laws.proofs.Imports.{◌≡◌, ℕ, ◌+◌, ◌-◌, ◌*◌, ◌/◌, ◌%◌, ◌^◌, ◌<◌, Bool, refl, sym, ◌∙◌, ap, subst, arith, List, [], ◌∷◌, pos, Option, Some, w64, cast_signed, mod_below, pow_pos, field, window_of, replaced, consecutive_bits_sum, ppc64_form, ppc64_reads, value_of, AllowedRange, PageMask, Ppc64Form, D, Ppc64, RelocationKind, Operands, IsApplied, sum_64, place_sum, DUnsigned, Law, none}
 use Rattle.linker_laws.specs.Ppc64RelocationLaws.{adjusted_quarters, unadjusted_quarters, upper_parts}
 use Rattle.linker_laws.proofs.Ppc64Halves.{ReadsLow, adjusted_low, d_field}
 use Rattle.linker_laws.proofs.Rounded.{IsRounded}
@@ -106,7 +106,7 @@ quarters {begin} {target} {number} leads operands2 operands3 operands4 e e2 e3 e
     (window_of (ppc64_form DUnsigned) after3) numbers.below x y z) (l ∙ omega arith))
 
 pub quarters_adjusted : {begin target number rounded : Operands → ℕ} → IsNumber begin target number
-    → IsRounded 0x8000 number rounded → {f : Ppc64Instruction} {a4 : ℕ} → ReadsLow f a4
+    → IsRounded 0x8000 number rounded → {f : Ppc64Form} {a4 : ℕ} → ReadsLow f a4
     → (operands2 operands3 operands4 : Operands → ℕ → Operands) {kind : RelocationKind} {mask : Option PageMask} {range : AllowedRange} {a : ℕ}
     {bias : Option ℕ} {thunkable implicit : Bool}
     {kind2 : RelocationKind} {mask2 : Option PageMask} {range2 : AllowedRange} {a2 : ℕ}

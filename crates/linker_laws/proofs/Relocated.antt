@@ -1,5 +1,5 @@
 -- Relocations of a program that is given: by computation, what they write is what their rows say.
-use Rattle.linker_laws.proofs.Imports.{◌≡◌, ◌≢◌, ℕ, zero, suc, ◌+◌, ◌-◌, ◌^◌, ◌<◌, ◌≤◌, Bool, true, false, refl, sym, ◌∙◌, Option, None, int_lt, length, ℤ, subst, arith, drop, Some, ◌*◌, List, [], ◌∷◌, pos, true≢false, eqb-true, inl, inr, ltb-true, leb, leb-true, leb-false, and_parts, cond-false, ◌==◌, ◌&&◌, ◌||◌, ◌⊎◌, bit_at, eq-eqb, All-nil, All-cons, BitsWritten, ImmediateBit, bit_for, is_placed, placed_bit, window_of, IsApplied, IsWithin, reach_of, relocation_form, InstructionWritten, bits_taken, places_cleared, with_bit_31_if, value_of, AllowedRange, BitRange, PageMask, RelocationInstruction, RelocationKind, RelocationKindInfo, Operands, byte_len, HoldsBits, IsAccepted, IsEncoded, IsMultiple, IsReached, bits_at, insn_at, is_32_bit_move, is_supported, number_placed, value_at, window_len, le_yes, AreAddresses}
+use Rattle.linker_laws.proofs.Imports.{◌≡◌, ◌≢◌, ℕ, zero, suc, ◌+◌, ◌-◌, ◌^◌, ◌<◌, ◌≤◌, Bool, true, false, refl, sym, ◌∙◌, Option, None, int_lt, length, ℤ, subst, arith, drop, Some, ◌*◌, List, [], ◌∷◌, pos, true≢false, eqb-true, inl, inr, ltb-true, leb, leb-true, leb-false, and_parts, cond-false, ◌==◌, ◌&&◌, ◌||◌, ◌⊎◌, bit_at, eq-eqb, All-nil, All-cons, BitsWritten, ImmediateBit, bit_for, is_placed, placed_bit, window_of, IsApplied, IsWithin, reach_of, relocation_form, InstructionWritten, bits_taken, places_cleared, with_bit_31_if, value_of, AllowedRange, BitRange, PageMask, AnyForm, RelocationKind, RowInfo, Operands, byte_len, HoldsBits, IsAccepted, IsEncoded, IsMultiple, IsReached, bits_at, insn_at, is_32_bit_move, is_supported, number_placed, value_at, window_len, le_yes, AreAddresses}
 use Rattle.std.specs.Prelude.{All, nat_le, nat_lt}
 use Rattle.std.proofs.lemmas.Nat.Bits.{bit_at_above}
 use Rattle.std.proofs.lemmas.Float.{T_from_true}
@@ -94,7 +94,7 @@ bits_by n ps v before after e =
     (leb-true (suc before) (2 ^ n) (and_parts (leb (suc before) (2 ^ n)) _ small).0)
     (leb-true (suc after) (2 ^ n) (and_parts (leb (suc before) (2 ^ n)) _ small).1)
 
-abbrev is_written_by : RelocationInstruction → BitRange → ℤ → ℕ → List ℕ → List ℕ → Bool
+abbrev is_written_by : AnyForm → BitRange → ℤ → ℕ → List ℕ → List ℕ → Bool
 is_written_by insn bits v clear before after =
     let form = relocation_form insn in
     let word = window_of form before in
@@ -104,7 +104,7 @@ is_written_by insn bits v clear before after =
     (form.number negative (number_placed insn word (bits_taken bits v))) (form.base negative clear)
     (with_bit_31_if (is_32_bit_move insn word) (window_of form after))
 
-written_by : (insn : RelocationInstruction) (bits : BitRange) (v : ℤ) (clear : ℕ)
+written_by : (insn : AnyForm) (bits : BitRange) (v : ℤ) (clear : ℕ)
     (before after : List ℕ) → is_written_by insn bits v clear before after ≡ true
     → drop (byte_len (relocation_form insn).window) after
     ≡ drop (byte_len (relocation_form insn).window) before
@@ -122,7 +122,7 @@ written_by insn bits v clear before after e rest =
 
 -- ---- relocations that are applied
 
-pub relocated : {kind : RelocationKind} {start end : ℕ} {insn : RelocationInstruction}
+pub relocated : {kind : RelocationKind} {start end : ℕ} {insn : AnyForm}
     {mask : Option PageMask} {range : AllowedRange} {a : ℕ} {bias : Option ℕ}
     {thunkable implicit : Bool} → (o : Operands) (before after : List ℕ) (v : ℤ) (clear : ℕ)
     → let row = row_of kind start end insn mask range a bias thunkable implicit in
@@ -158,11 +158,11 @@ within_by (Some b) v e =
     (le_yes b.0 v (and_parts (le_z b.0 v) _ e).0, lt_z_yes (T_from_true (lt_z v b.1) (and_parts (le_z b.0 v) _ e).1))
 
 -- the tests that say so of a given value
-abbrev pub is_accepted : RelocationKindInfo → ℤ → List ℕ → Bool
+abbrev pub is_accepted : RowInfo → ℤ → List ℕ → Bool
 is_accepted row v bytes =
     is_supported row && (leb (window_len row) (length bytes) && is_within (reach_of row) v)
 
-pub accepted_by : (row : RelocationKindInfo) (v : ℤ) (bytes : List ℕ) → IsMultiple row v bytes
+pub accepted_by : (row : RowInfo) (v : ℤ) (bytes : List ℕ) → IsMultiple row v bytes
     → is_accepted row v bytes ≡ true → HoldsBits row.size v bytes → IsEncoded row.size v
     → IsAccepted row v bytes
 accepted_by row v bytes aligned e holds encoded =
@@ -176,7 +176,7 @@ accepted_by row v bytes aligned e holds encoded =
     }
 
 -- the same by fewer steps, where the numbers are given
-pub applied : {kind : RelocationKind} {start end : ℕ} {insn : RelocationInstruction}
+pub applied : {kind : RelocationKind} {start end : ℕ} {insn : AnyForm}
     {mask : Option PageMask} {range : AllowedRange} {a : ℕ} {bias : Option ℕ}
     {thunkable implicit : Bool} {o : Operands} {before after : List ℕ} (v : ℤ) (clear : ℕ)
     → let row = row_of kind start end insn mask range a bias thunkable implicit in

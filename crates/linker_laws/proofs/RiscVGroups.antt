@@ -1,5 +1,5 @@
 -- RISC-V's groups.
-use Rattle.linker_laws.proofs.Imports.{Bool, add-one, zero, ◌≡◌, ◌≢◌, ℕ, suc, ◌+◌, ◌-◌, ◌*◌, ◌%◌, ◌^◌, ◌<◌, ◌≤◌, true, false, refl, sym, ◌∙◌, ap, ap₂, subst, arith, List, [], ◌∷◌, length, take, drop, Some, le_refl, w64, pos, ◌+ℤ◌, ◌-ℤ◌, ℤ, inl, inr, ◌==◌, if◌then◌else◌, nat_lt, option_map, IsSomeAnd, IsTrue, w16, w32, cast_signed, from_le_bytes, int_rem_euclid, cond-true, cond-false, cases_lt, lt-ltb, le-ltb, ne_eqb, ints, field, signed, rewritten, low_12_bounds, IsWithin, riscv_form, riscv_places, pair_row, riscv_row, difference_64, sum_64, RelocationKind, Absolute, TpOff, PltRelative, RelocationKindInfo, Operands, UType, IType, SType, CluiType, CjType, JType, UiType, IsCallPair, funct3_of, word_of_front, rewrites_word, with_rs1, IsApplied, Option, sum, ⊤, place_sum, GotRelative, GotTpOff, Relative, TlsDesc, go_to, put, with_register, AreBytes, loaded, moved, wrapped, AreAddresses, entry_and_addend, plt_address, symbol_address, State, Program, Agree, AreOf, Group, Kind, Kinds, anything, of_link, run, same, suc-add}
+use Rattle.linker_laws.proofs.Imports.{Bool, add-one, zero, ◌≡◌, ◌≢◌, ℕ, suc, ◌+◌, ◌-◌, ◌*◌, ◌%◌, ◌^◌, ◌<◌, ◌≤◌, true, false, refl, sym, ◌∙◌, ap, ap₂, subst, arith, List, [], ◌∷◌, length, take, drop, Some, le_refl, w64, pos, ◌+ℤ◌, ◌-ℤ◌, ℤ, inl, inr, ◌==◌, if◌then◌else◌, nat_lt, option_map, IsSomeAnd, IsTrue, w16, w32, cast_signed, from_le_bytes, int_rem_euclid, cond-true, cond-false, cases_lt, lt-ltb, le-ltb, ne_eqb, ints, field, signed, rewritten, low_12_bounds, IsWithin, riscv_form, riscv_places, pair_row, riscv_row, difference_64, sum_64, RelocationKind, Absolute, TpOff, PltRelative, RowInfo, Operands, UType, IType, SType, CluiType, CjType, JType, UiType, IsCallPair, funct3_of, word_of_front, rewrites_word, with_rs1, IsApplied, Option, sum, ⊤, place_sum, GotRelative, GotTpOff, Relative, TlsDesc, go_to, put, with_register, AreBytes, loaded, moved, wrapped, AreAddresses, entry_and_addend, plt_address, symbol_address, State, Program, Agree, AreOf, Group, Kind, Kinds, anything, of_link, run, same, suc-add}
 use Rattle.linker_elf.specs.declared.elf.RelocationKind.TheVariants.{RelativeRiscVLow12}
 use Rattle.linker_elf.specs.declared.riscv64.relocations.RiscVRelocation.TheVariants as names
 use Rattle.linker_laws.specs.RiscVGroups as groups
@@ -309,7 +309,7 @@ low_group c a x y k k' s word m b rs1 rd0 rs20 i i' bytes bytes' at here here' l
     (keeps t agree))
 
 -- the relocation of a low part, by its kind
-abbrev pub row_of : RelocationKind → Action → Option RelocationKindInfo
+abbrev pub row_of : RelocationKind → Action → Option RowInfo
 row_of kind (stores f) = Some (pair_row kind 32 SType)
 row_of kind (stores_float f) = Some (pair_row kind 32 SType)
 row_of kind a = Some (pair_row kind 32 IType)
@@ -333,7 +333,7 @@ module _ (kind kind' : RelocationKind) (number number' : Operands → ℕ) (of :
   of_action a is w e f =
       is_action w a (ap (λ n. action_of n (funct3_of w)) e ∙ ap (action_of (opcode_of (word_of low))) f ∙ is)
 
-  abbrev IsGroup : Action → Option RelocationKindInfo → Option RelocationKindInfo → Type 0
+  abbrev IsGroup : Action → Option RowInfo → Option RowInfo → Type 0
   IsGroup a row row' =
       (c : Code) (x y : Operands) (k k' : Kinds) (s : State) (m : ℕ)
       → AreBefore c 4 4 (record x { place = s.pc }) y s → Has 4 c.old s.pc row x low → Has 4 c.new y.place row' y made
@@ -412,7 +412,7 @@ module _ (kind kind' : RelocationKind) (number number' : Operands → ℕ) (of :
 
 -- Both numbers are one of 12 bits, and old's base has what new's has.
 low_parts_of : (kind : RelocationKind) (number : Operands → ℕ) → IsFormulaOf kind number
-    → (row : Action → Option RelocationKindInfo) → ((a : Action) → row a ≡ row_of kind a)
+    → (row : Action → Option RowInfo) → ((a : Action) → row a ≡ row_of kind a)
     → (rewrite : RewriteKind) (b : ℕ) → b < 32 → IsBased rewrite b → (base : State → ℕ)
     → (IsKnown : Kinds → Type 0)
     → ((c : Code) (k : Kinds) (s t : State) → IsKnown k → Agree (link c) k s t → register (seen t) b ≡ base s)

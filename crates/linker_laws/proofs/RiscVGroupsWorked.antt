@@ -1,5 +1,5 @@
 -- The worked program of RISC-V.
-use Rattle.linker_laws.proofs.Imports.{◌≡◌, ℕ, ◌+◌, ◌-◌, ◌^◌, ◌<◌, ◌≤◌, Bool, true, false, refl, sym, ◌∙◌, ap, subst, arith, List, [], ◌∷◌, length, Option, lit<, lit≤, pos, Some, inr, IsSomeAnd, nat_lt, min, cond-false, cond-true, ltb-true, ints, IsApplied, riscv_row, difference_64, sum_64, RelocationKindInfo, Operands, ◌%◌, unsigned_abs, place_sum, put, with_register, moved as plus, Agree, Group, Kinds, Other, State, anything, ends, group, of_link, other, run, same}
+use Rattle.linker_laws.proofs.Imports.{◌≡◌, ℕ, ◌+◌, ◌-◌, ◌^◌, ◌<◌, ◌≤◌, Bool, true, false, refl, sym, ◌∙◌, ap, subst, arith, List, [], ◌∷◌, length, Option, lit<, lit≤, pos, Some, inr, IsSomeAnd, nat_lt, min, cond-false, cond-true, ltb-true, ints, IsApplied, riscv_row, difference_64, sum_64, RowInfo, Operands, ◌%◌, unsigned_abs, place_sum, put, with_register, moved as plus, Agree, Group, Kinds, Other, State, anything, ends, group, of_link, other, run, same}
 use Rattle.linker_elf.specs.declared.riscv64.relocations.RiscVRelocation.TheVariants as names
 use Rattle.linker_laws.specs.RiscVGroups.{Groups, Has, Stands, continued, instruction_at, link, machine, HasRoom, left, of_place, seen, uses, with_stored}
 use Rattle.linker_laws.specs.RiscVGroups.AreUsed.{as_stored, as_sum}
@@ -14,7 +14,7 @@ use Rattle.linker_laws.proofs.RiscVGroups.{wrote}
 
 -- ---- bytes
 
-has : (n : ℕ) (bytes_of : ℕ → ℕ) (at : ℕ) (row : Option RelocationKindInfo) (o : Operands) (before after : List ℕ)
+has : (n : ℕ) (bytes_of : ℕ → ℕ) (at : ℕ) (row : Option RowInfo) (o : Operands) (before after : List ℕ)
     → IsSomeAnd row (λ row. IsApplied row o before after) → length after ≡ length before
     → all_small before ≡ true → all_small after ≡ true → Stands n bytes_of at after → Has n bytes_of at row o before
 has n bytes_of at row o before after applied len small small' stands =

@@ -1,5 +1,5 @@
 -- What relocated fields come to, as numbers modulo 2 ^ 64.
-use Rattle.linker_laws.proofs.Imports.{◌≡◌, ℕ, ◌+◌, ◌-◌, ◌*◌, ◌%◌, ◌^◌, refl, sym, ◌∙◌, ap, arith, List, ℤ, pos, ◌+ℤ◌, ◌*ℤ◌, inl, inr, unsigned_abs, Some, true, w64, cast_signed, int_rem_euclid, ints, signed, unsigned, twos_complement, signed_cases, number_of_bytes, reach_of, sum_64, value_of, RelocationKind, RelocationKindInfo, Operands, IsApplied, cast_rem, reaches, IsAddress, AreAddresses, symbol_address, entry_and_addend}
+use Rattle.linker_laws.proofs.Imports.{◌≡◌, ℕ, ◌+◌, ◌-◌, ◌*◌, ◌%◌, ◌^◌, refl, sym, ◌∙◌, ap, arith, List, ℤ, pos, ◌+ℤ◌, ◌*ℤ◌, inl, inr, unsigned_abs, Some, true, w64, cast_signed, int_rem_euclid, ints, signed, unsigned, twos_complement, signed_cases, number_of_bytes, reach_of, sum_64, value_of, RelocationKind, RowInfo, Operands, IsApplied, cast_rem, reaches, IsAddress, AreAddresses, symbol_address, entry_and_addend}
 use Rattle.linker_elf.specs.Rows.{bytes_row, signed_row, unsigned_row}
 use Rattle.linker_elf.specs.declared.elf.RelocationKind.TheVariants as values
 use Rattle.linker_laws.proofs.Fields.{IsValue, field_adds, whole_field_adds}
@@ -69,44 +69,44 @@ from_zero f = omega arith
 
 -- the rows of GOTPCRELX, GOTTPOFF, TLSGD, TLSLD, GOTPC32_TLSDESC, PC32, TPOFF32, DTPOFF32, TPOFF64,
 -- DTPOFF64, 32S and 32
-abbrev pub got_row : RelocationKindInfo
+abbrev pub got_row : RowInfo
 got_row = signed_row 32 (bytes_row values.GotRelative 4)
 
-abbrev pub tls_got_row : RelocationKindInfo
+abbrev pub tls_got_row : RowInfo
 tls_got_row = signed_row 32 (bytes_row values.GotTpOff 4)
 
-abbrev pub tls_pair_row : RelocationKindInfo
+abbrev pub tls_pair_row : RowInfo
 tls_pair_row = signed_row 32 (bytes_row values.TlsGd 4)
 
-abbrev pub tls_module_row : RelocationKindInfo
+abbrev pub tls_module_row : RowInfo
 tls_module_row = signed_row 32 (bytes_row values.TlsLd 4)
 
-abbrev pub descriptor_row : RelocationKindInfo
+abbrev pub descriptor_row : RowInfo
 descriptor_row = signed_row 32 (bytes_row values.TlsDesc 4)
 
-abbrev pub place_row : RelocationKindInfo
+abbrev pub place_row : RowInfo
 place_row = signed_row 32 (bytes_row values.Relative 4)
 
-abbrev pub thread_row : RelocationKindInfo
+abbrev pub thread_row : RowInfo
 thread_row = signed_row 32 (bytes_row values.TpOff 4)
 
-abbrev pub block_row : RelocationKindInfo
+abbrev pub block_row : RowInfo
 block_row = signed_row 32 (bytes_row values.DtpOff 4)
 
-abbrev pub long_thread_row : RelocationKindInfo
+abbrev pub long_thread_row : RowInfo
 long_thread_row = bytes_row values.TpOff 8
 
-abbrev pub long_block_row : RelocationKindInfo
+abbrev pub long_block_row : RowInfo
 long_block_row = bytes_row values.DtpOff 8
 
-abbrev pub signed_immediate : RelocationKindInfo
+abbrev pub signed_immediate : RowInfo
 signed_immediate = signed_row 32 (bytes_row values.Absolute 4)
 
-abbrev pub unsigned_immediate : RelocationKindInfo
+abbrev pub unsigned_immediate : RowInfo
 unsigned_immediate = unsigned_row 32 (bytes_row values.Absolute 4)
 
 module _ (o : Operands) (addresses : AreAddresses o) (before after : List ℕ) where
-  abbrev Leads : RelocationKindInfo → ℕ → ℕ → Type 0
+  abbrev Leads : RowInfo → ℕ → ℕ → Type 0
   Leads row begin target =
       IsApplied row o before after → sum_64 begin (extended (number_of_bytes 4 after)) ≡ target
 
@@ -147,7 +147,7 @@ module _ (o : Operands) (addresses : AreAddresses o) (before after : List ℕ) w
   pub signed_field : Leads signed_immediate 0 (symbol_address o)
   signed_field = leads symbol_itself values.Absolute (λ v old. refl) refl refl (λ o. refl)
 
-  abbrev LongLeads : RelocationKindInfo → Type 0
+  abbrev LongLeads : RowInfo → Type 0
   LongLeads row = IsApplied row o before after → sum_64 o.tls_base (number_of_bytes 8 after) ≡ symbol_address o
 
   pub long_thread_field : LongLeads long_thread_row

@@ -1,5 +1,5 @@
 -- The worked program of x86-64.
-use Rattle.linker_laws.proofs.Imports.{◌≡◌, ℕ, ◌+◌, ◌-◌, ◌*◌, ◌^◌, ◌<◌, Bool, true, false, refl, sym, ◌∙◌, ◌≤◌, ap, ap₂, subst, arith, List, [], ◌∷◌, ◌++◌, take, drop, ℤ, Some, lit<, lit≤, pos, negsuc, inl, inr, ltb-true, ltb-false, ◌&&◌, ◌||◌, ◌==◌, IsSomeAnd, nat_le, nat_lt, if◌then◌else◌, cond-false, cond-true, eqb-true, le-leb, lt-ltb, IsWritten, RelocationKindInfo, difference_64, value_of, Operands, neg_ℤ, HoldsBits, IsEncoded, IsMultiple, AreAddresses, IsKept, put, with_register, Agree, AreOf, Group, Kinds, State, anything, ends, group, half, of_link, same}
+use Rattle.linker_laws.proofs.Imports.{◌≡◌, ℕ, ◌+◌, ◌-◌, ◌*◌, ◌^◌, ◌<◌, Bool, true, false, refl, sym, ◌∙◌, ◌≤◌, ap, ap₂, subst, arith, List, [], ◌∷◌, ◌++◌, take, drop, ℤ, Some, lit<, lit≤, pos, negsuc, inl, inr, ltb-true, ltb-false, ◌&&◌, ◌||◌, ◌==◌, IsSomeAnd, nat_le, nat_lt, if◌then◌else◌, cond-false, cond-true, eqb-true, le-leb, lt-ltb, IsWritten, RowInfo, difference_64, value_of, Operands, neg_ℤ, HoldsBits, IsEncoded, IsMultiple, AreAddresses, IsKept, put, with_register, Agree, AreOf, Group, Kinds, State, anything, ends, group, half, of_link, same}
 use Rattle.std.specs.Option.{unwrap_or}
 use Rattle.linker_laws.proofs.Relocated.{accepted_by, all_small, are_bytes, is_accepted, small}
 use Rattle.linker_laws.specs.X86Groups.{Groups, IsKnownAfter, KeepsRegisters, bytes_at, called, does, link, machine}
@@ -47,7 +47,7 @@ before section operands bytes offset addresses addend ip =
     }
 
 -- a field with the value of its relocation
-there : {row : RelocationKindInfo} {operands : Operands} {o : ℕ} {section after : List ℕ}
+there : {row : RowInfo} {operands : Operands} {o : ℕ} {section after : List ℕ}
     (rest : List ℕ) (v : ℤ) → value_of row operands ≡ Some v → is_accepted row v (drop o section) ≡ true
     → IsMultiple row v (drop o section) → HoldsBits row.size v (drop o section) → IsEncoded row.size v
     → IsWritten row.size row.kind v (drop o section) rest → after ≡ take o section ++ rest

@@ -1,5 +1,5 @@
 -- Operations on a number from the GOT, and on an immediate.
-use Rattle.linker_laws.proofs.Imports.{◌≡◌, ℕ, suc, ◌+◌, ◌-◌, ◌*◌, ◌%◌, ◌^◌, ◌<◌, List, [], ◌∷◌, ◌++◌, drop, take, refl, sym, ◌∙◌, ap, arith, Some, subst, inl, inr, IsTrue, true, pos, length, eqb, cond, get_or, drop-cons, w64, cast_unsigned, All-drop, rewritten, IsRewritable, Rewrite, RelocationKindInfo, Original, number_of_bytes, sum_64, difference_64, absolute, operand, prefixed_operand, original, rip_operand, with_rex, rex, with_rex2, rex2, is_one_at, Operands, IsApplied, plain, AreAddresses}
+use Rattle.linker_laws.proofs.Imports.{◌≡◌, ℕ, suc, ◌+◌, ◌-◌, ◌*◌, ◌%◌, ◌^◌, ◌<◌, List, [], ◌∷◌, ◌++◌, drop, take, refl, sym, ◌∙◌, ap, arith, Some, subst, inl, inr, IsTrue, true, pos, length, eqb, cond, get_or, drop-cons, w64, cast_unsigned, All-drop, rewritten, IsRewritable, Rewrite, RowInfo, Original, number_of_bytes, sum_64, difference_64, absolute, operand, prefixed_operand, original, rip_operand, with_rex, rex, with_rex2, rex2, is_one_at, Operands, IsApplied, plain, AreAddresses}
 use Rattle.linker_utils.specs.X86Rewrites as x86
 use Rattle.linker_laws.proofs.Sums.{difference_below, sum_zero}
 use Rattle.linker_laws.specs.X86Groups.{is_arithmetic, sets_flags}
@@ -226,7 +226,7 @@ module _ {opcode opcode' k number : ℕ} {op : Operation}
     (replaced : IsReplaced opcode opcode' k number op) (section old new : List ℕ) (o : ℕ)
     (operands : Operands) (s : State) where
   -- what holds of an instruction and its rewrite, by the relocations before and after
-  abbrev Law : ℕ → List Original → Rewrite → (row row' : RelocationKindInfo) → ℕ → Type 0
+  abbrev Law : ℕ → List Original → Rewrite → (row row' : RowInfo) → ℕ → Type 0
   Law n patterns r row row' held =
       IsBefore n section o operands s → IsTrue (is_one_at patterns section o)
       → IsRewritable r section o × IsTrue (is_one_at patterns section o)

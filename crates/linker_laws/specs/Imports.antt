@@ -19,15 +19,15 @@ pub use Rattle.linker_elf.specs.declared.aarch64.forms.AArch64Instruction.TheVar
 pub use Rattle.linker_elf.specs.declared.aarch64.forms.AArch64Instruction.TheVariants.{JumpCall}
 pub use Rattle.linker_elf.specs.declared.aarch64.forms.AArch64Instruction.TheVariants.{LdSt, Movnz}
 pub use Rattle.linker_elf.specs.declared.aarch64.relocations.AArch64Relocation.{AArch64Relocation}
-pub use Rattle.linker_elf.specs.declared.elf.RelocationKindInfo.{RelocationKindInfo}
+pub use Rattle.linker_elf.specs.declared.elf.RowInfo.{RowInfo}
 pub use Rattle.linker_elf.specs.declared.elf.Sign.TheVariants.{Signed}
 pub use Rattle.linker_elf.specs.declared.elf.value.Operands.{Operands}
 pub use Rattle.linker_elf.specs.declared.loongarch64.forms.LoongArch64Instruction.TheVariants.{Branch26}
 pub use Rattle.linker_elf.specs.declared.loongarch64.forms.LoongArch64Instruction.TheVariants.{Shift5}
 pub use Rattle.linker_elf.specs.declared.loongarch64.relocations.LoongArch64Relocation.{LoongArch64Relocation}
-pub use Rattle.linker_elf.specs.declared.ppc64.forms.Ppc64Instruction.{Ppc64Instruction}
-pub use Rattle.linker_elf.specs.declared.ppc64.forms.Ppc64Instruction.TheVariants.{Branch24, D, Ds}
-pub use Rattle.linker_elf.specs.declared.ppc64.forms.Ppc64Instruction.TheVariants.{Prefixed}
+pub use Rattle.linker_elf.specs.declared.ppc64.forms.Ppc64Form.{Ppc64Form}
+pub use Rattle.linker_elf.specs.declared.ppc64.forms.Ppc64Form.TheVariants.{Branch24, D, Ds}
+pub use Rattle.linker_elf.specs.declared.ppc64.forms.Ppc64Form.TheVariants.{Prefixed}
 pub use Rattle.linker_elf.specs.declared.ppc64.relocations.Ppc64Relocation.{Ppc64Relocation}
 pub use Rattle.linker_elf.specs.declared.riscv64.forms.RiscVInstruction.TheVariants.{CjType}
 pub use Rattle.linker_elf.specs.declared.riscv64.forms.RiscVInstruction.TheVariants.{CluiType}

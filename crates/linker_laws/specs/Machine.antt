@@ -3,7 +3,7 @@
 use Rattle.std.specs.Prelude.{ℕ, zero, suc, ◌+◌, ◌*◌, ◌^◌, ◌<◌, ℤ, pos, ◌+ℤ◌, nat_lt, List, length}
 use Rattle.std.specs.Prelude.{◌≡◌, take, Option, IsSomeAnd, All, if◌then◌else◌, unsigned_abs}
 use Rattle.std.specs.Int.{int_rem_euclid, w32, w64, cast_unsigned, from_le_bytes}
-use Rattle.linker_laws.specs.Imports.{field, signed, sum_64, difference_64, RelocationKindInfo}
+use Rattle.linker_laws.specs.Imports.{field, signed, sum_64, difference_64, RowInfo}
 use Rattle.linker_laws.specs.Imports.{Operands, IsApplied, Rewrite}
 
 -- ---- numbers
@@ -52,7 +52,7 @@ abbrev pub AreBytes : List ℕ → Type 0
 AreBytes code = All (λ byte. byte < 2 ^ 8) code
 
 -- The code is what was there, with the relocation's value written where it begins.
-pub record Relocated (row : Option RelocationKindInfo) (o : Operands) (before code : List ℕ)
+pub record Relocated (row : Option RowInfo) (o : Operands) (before code : List ℕ)
     : Type 0 where
   pub applied : IsSomeAnd row (λ row. IsApplied row o before code)
   pub len : length code ≡ length before

@@ -3,7 +3,7 @@
 use Rattle.std.specs.Prelude.{◌≡◌, ℕ, zero, suc, ◌+◌, ◌-◌, ◌*◌, ◌^◌, ◌<◌, ◌==◌, ◌&&◌, nat_lt, Bool}
 use Rattle.std.specs.Prelude.{if◌then◌else◌, List, drop, Option, Some, None, IsTrue, ⊤}
 use Rattle.std.specs.Prelude.{true}
-use Rattle.linker_laws.specs.Imports.{ppc64_form, sum_64, Operands, Ppc64Instruction, Branch24, D}
+use Rattle.linker_laws.specs.Imports.{ppc64_form, sum_64, Operands, Ppc64Form, Branch24, D}
 use Rattle.linker_laws.specs.Imports.{Ds, Ppc64Relocation, access_of, opcode_of, ppc64_rewrite}
 use Rattle.linker_laws.specs.Imports.{ra_of, rt_of}
 use Rattle.linker_elf.specs.declared.ppc64.relocations.Ppc64Relocation.TheVariants as names
@@ -131,7 +131,7 @@ abbrev pub high_part : List ℕ → State → ℕ
 high_part addis s = shifted_sum (word_of addis) (seen s)
 
 -- From a number low halves lead to an address, by what a base register has.
-abbrev pub Low : Ppc64Relocation → Ppc64Instruction → (Operands → ℕ → ℕ) → Operands → ℕ → ℕ
+abbrev pub Low : Ppc64Relocation → Ppc64Form → (Operands → ℕ → ℕ) → Operands → ℕ → ℕ
     → Type 0
 Low name form address o number base = Leads name form o number (address o base)
 
@@ -254,7 +254,7 @@ Uses c how word address k s =
     → Group (of_link (link c)) 1 k s k' (after s)
 
 -- An instruction over a register that has a high half becomes the same over the base register.
-abbrev pub OverBase : ℕ → (low whole : Ppc64Relocation) → Ppc64Instruction
+abbrev pub OverBase : ℕ → (low whole : Ppc64Relocation) → Ppc64Form
     → (Operands → ℕ → ℕ) → Use → AreGroup
 OverBase register low whole form address how insn over =
     (c : Code) (o : Operands) (k : Kinds) (s : State) → AreAddresses o

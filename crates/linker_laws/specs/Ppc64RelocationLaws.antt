@@ -1,9 +1,9 @@
 -- PowerPC64: what relocated instructions compute (64-bit ELF V2 ABI for Power, "Relocation Types";
 -- Power ISA, version 3.1, book I).
 use Rattle.std.specs.Prelude.{ℕ, [], ◌∷◌, ℤ, pos, ◌+ℤ◌, ◌*ℤ◌, ◌+◌, ◌*◌, ◌^◌}
-use Rattle.linker_laws.specs.Imports.{field, ppc64_form, ppc64_row, ppc64_reads, Ppc64Instruction}
+use Rattle.linker_laws.specs.Imports.{field, ppc64_form, ppc64_row, ppc64_reads, Ppc64Form}
 use Rattle.linker_laws.specs.Imports.{D, Ds, Branch24, Prefixed, Operands, Ppc64Relocation}
-use Rattle.linker_elf.specs.declared.ppc64.forms.Ppc64Instruction.TheVariants.{Branch14}
+use Rattle.linker_elf.specs.declared.ppc64.forms.Ppc64Form.TheVariants.{Branch14}
 use Rattle.linker_elf.specs.declared.ppc64.relocations.Ppc64Relocation.TheVariants as names
 use Rattle.linker_laws.specs.Schemes.{HoldsDistance, without_low, here, anywhere, moved_on, Law}
 use Rattle.linker_laws.specs.Schemes.{Adds, symbol_address, plt_address, entry_address, zero, place}
@@ -13,11 +13,11 @@ use Rattle.linker_laws.specs.Schemes.{got_base, tls_base}
 
 -- `addis` adds its immediate times 2 ^ 16 to a register, and an instruction with the low half, in
 -- two's complement, adds that. The register holds what the formula subtracts, or 0.
-abbrev pub adjusted : (Operands → ℕ) → Ppc64Instruction → Operands → ℕ → ℕ → ℤ
+abbrev pub adjusted : (Operands → ℕ) → Ppc64Form → Operands → ℕ → ℕ → ℤ
 adjusted begin low o x y =
     (pos (begin o) +ℤ ((ppc64_form D).machine x *ℤ pos (2 ^ 16))) +ℤ ppc64_reads low y
 
-abbrev pub Adjusted : (Operands → ℕ) → Ppc64Relocation → Ppc64Relocation → Ppc64Instruction
+abbrev pub Adjusted : (Operands → ℕ) → Ppc64Relocation → Ppc64Relocation → Ppc64Form
     → (Operands → ℕ) → Type 0
 Adjusted begin high low f target =
     Law (here (ppc64_row high) ∷ anywhere (ppc64_row low) ∷ []) (adjusted begin f) target
@@ -105,11 +105,11 @@ Quarters begin highest higher high low target =
     (unadjusted_quarters begin) target
 
 -- with an instruction that adds the low half in two's complement
-abbrev pub adjusted_quarters : (Operands → ℕ) → Ppc64Instruction → Operands → ℕ → ℕ → ℕ → ℕ → ℤ
+abbrev pub adjusted_quarters : (Operands → ℕ) → Ppc64Form → Operands → ℕ → ℕ → ℕ → ℕ → ℤ
 adjusted_quarters begin f o x y z u = pos (begin o + upper_parts x y z) +ℤ ppc64_reads f u
 
 abbrev pub AdjustedQuarters : (Operands → ℕ) → Ppc64Relocation → Ppc64Relocation → Ppc64Relocation
-    → Ppc64Relocation → Ppc64Instruction → (Operands → ℕ) → Type 0
+    → Ppc64Relocation → Ppc64Form → (Operands → ℕ) → Type 0
 AdjustedQuarters begin highest higher high low f target =
     Law
     (here (ppc64_row highest) ∷ anywhere (ppc64_row higher) ∷ anywhere (ppc64_row high)
@@ -139,7 +139,7 @@ FarAddresses =
 
 -- ---- one instruction
 
-abbrev pub Single : Ppc64Relocation → (Operands → ℕ) → Ppc64Instruction → (Operands → ℕ) → Type 0
+abbrev pub Single : Ppc64Relocation → (Operands → ℕ) → Ppc64Form → (Operands → ℕ) → Type 0
 Single name begin f target = Adds (here (ppc64_row name)) begin (ppc64_reads f) 1 target
 
 abbrev pub Branches : Type 0

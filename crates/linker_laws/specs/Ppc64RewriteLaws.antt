@@ -5,7 +5,7 @@ use Rattle.std.specs.Int.{w64, from_le_bytes}
 use Rattle.linker_utils.specs.Ppc64Rewrites.{is_d_access, is_ds_access, is_vector_access}
 use Rattle.linker_laws.specs.Imports.{ppc64_row, ppc64_reads, ppc64_rewrite, opcode_of, rt_of}
 use Rattle.linker_laws.specs.Imports.{ra_of, access_of, field, sum_64, difference_64, Operands}
-use Rattle.linker_laws.specs.Imports.{Ppc64Instruction, D, Ds, Ppc64Relocation, IsApplied}
+use Rattle.linker_laws.specs.Imports.{Ppc64Form, D, Ds, Ppc64Relocation, IsApplied}
 use Rattle.linker_elf.specs.declared.ppc64.relocations.Ppc64Relocation.TheVariants as names
 use Rattle.linker_utils.specs.declared.ppc64.rewrites.RewriteKind.{RewriteKind}
 pub use Rattle.linker_laws.specs.Machine.{word_of}
@@ -55,7 +55,7 @@ abbrev pub four_on : Operands → Operands
 four_on o = record o { place = sum_64 o.place 4; symbol = sum_64 o.symbol 4 }
 
 -- Instructions with the low half of an address lead from a number to a target, wherever they are.
-abbrev pub Leads : Ppc64Relocation → Ppc64Instruction → Operands → ℕ → ℕ → Type 0
+abbrev pub Leads : Ppc64Relocation → Ppc64Form → Operands → ℕ → ℕ → Type 0
 Leads low form o number target =
     (there : ℕ) (insn over : List ℕ) → IsRelocated low (at_place there o) insn over
     → moved number (ppc64_reads form (word_of over)) ≡ target

@@ -6,7 +6,7 @@ use Rattle.std.specs.Prelude.{Option, Some, None, IsSomeAnd, ⊤, ◌⊎◌}
 use Rattle.std.specs.Int.{w16, w64, cast_signed, from_le_bytes}
 use Rattle.linker_laws.specs.Imports.{low_12_bounds, IsWithin, riscv_form, clui_row}
 use Rattle.linker_laws.specs.Imports.{riscv_relocation, riscv_row, difference_64, sum_64}
-use Rattle.linker_laws.specs.Imports.{RelocationKindInfo, Operands, UType, RiscVRelocation, rd_of}
+use Rattle.linker_laws.specs.Imports.{RowInfo, Operands, UType, RiscVRelocation, rd_of}
 use Rattle.linker_laws.specs.Imports.{a0}
 use Rattle.linker_elf.specs.declared.riscv64.relocations.RiscVRelocation.TheVariants as names
 use Rattle.linker_laws.specs.Changes.{ChangesOpen, OthersAgree, put, with_register}
@@ -94,7 +94,7 @@ abbrev pub Stands : ℕ → (ℕ → ℕ) → ℕ → List ℕ → Type 0
 Stands n code at instruction = bytes_at n code at ≡ take n instruction
 
 -- They do with a relocation applied.
-pub record Has (n : ℕ) (code : ℕ → ℕ) (at : ℕ) (row : Option RelocationKindInfo) (o : Operands)
+pub record Has (n : ℕ) (code : ℕ → ℕ) (at : ℕ) (row : Option RowInfo) (o : Operands)
     (instruction : List ℕ) : Type 0 where
   pub relocated : List ℕ
   pub applied : Relocated row o instruction relocated
@@ -178,7 +178,7 @@ uses action word sum s = left s (used 4 action (rd_of word) (rs2_of word) sum (s
 
 -- An instruction adds the low part of a number to a base. Old's base has the number of another one,
 -- and new has something in its place. What it loads, stores or writes is of the kinds after it.
-abbrev pub LowPartBy : (Action → Option RelocationKindInfo) → (Operands → ℕ) → (State → ℕ)
+abbrev pub LowPartBy : (Action → Option RowInfo) → (Operands → ℕ) → (State → ℕ)
     → (Kinds → Type 0) → (Operands → Code → Type 0) → List ℕ → Action → Type 0
 LowPartBy row number base IsKnown NewHas low action =
     (c : Code) (x y : Operands) (k k' : Kinds) (s : State) → AreBefore c 4 4 x y s
@@ -190,13 +190,13 @@ LowPartBy row number base IsKnown NewHas low action =
     → Group (of_link (link c)) 1 k s k' (after s)
 
 -- the rewrite makes the other register the base
-abbrev pub LowPartOf : RewriteKind → (Action → Option RelocationKindInfo) → (Operands → ℕ)
+abbrev pub LowPartOf : RewriteKind → (Action → Option RowInfo) → (Operands → ℕ)
     → (State → ℕ) → (Kinds → Type 0) → List ℕ → Action → Type 0
 LowPartOf kind row number base IsKnown low action =
     LowPartBy row number base IsKnown
     (λ y c. Has 4 c.new y.place (row action) y (after_rewrite kind low 0)) low action
 
-abbrev pub LowPart : RewriteKind → (Action → Option RelocationKindInfo) → (Operands → ℕ)
+abbrev pub LowPart : RewriteKind → (Action → Option RowInfo) → (Operands → ℕ)
     → (State → ℕ) → (Kinds → Type 0) → Type 0
 LowPart kind row number base IsKnown =
     (low : List ℕ) → riscv_matches kind low 0

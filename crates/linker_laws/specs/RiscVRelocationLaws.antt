@@ -3,7 +3,7 @@
 use Rattle.std.specs.Prelude.{ℕ, [], ◌∷◌, ℤ, pos, ◌+ℤ◌, ◌-ℤ◌, ◌-◌, ◌%◌, Option, Some}
 use Rattle.std.specs.Int.{int_rem_euclid}
 use Rattle.linker_laws.specs.Imports.{riscv_form, riscv_relocation, riscv_row, clui_row}
-use Rattle.linker_laws.specs.Imports.{RelocationKindInfo, UType, IType, SType, JType, CjType}
+use Rattle.linker_laws.specs.Imports.{RowInfo, UType, IType, SType, JType, CjType}
 use Rattle.linker_laws.specs.Imports.{CluiType, Operands, RiscVRelocation}
 use Rattle.linker_elf.specs.declared.riscv64.forms.RiscVInstruction.{RiscVInstruction}
 use Rattle.linker_elf.specs.declared.riscv64.forms.RiscVInstruction.TheVariants.{BType, CbType}
@@ -24,7 +24,7 @@ upper_and_low begin upper low o x y =
     pos (begin o) +ℤ ((riscv_form upper).machine x +ℤ (riscv_form low).machine y)
 
 -- an upper part, and the low part of a load or an `addi` and that of a store
-abbrev pub Pairs : (Operands → ℕ) → RiscVInstruction → Option RelocationKindInfo → Step → Step
+abbrev pub Pairs : (Operands → ℕ) → RiscVInstruction → Option RowInfo → Step → Step
     → (Operands → ℕ) → Type 0
 Pairs begin upper high load store target =
     Law (here high ∷ load ∷ []) (upper_and_low begin upper IType) target

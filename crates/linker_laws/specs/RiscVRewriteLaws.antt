@@ -2,7 +2,7 @@
 use Rattle.std.specs.Prelude.{◌≡◌, ℕ, List, Option, Some, ◌≢◌}
 use Rattle.std.specs.Int.{w64, cast_signed}
 use Rattle.linker_laws.specs.Imports.{rewritten, low_12_bounds, IsWithin, a0, funct3_of, rd_of}
-use Rattle.linker_laws.specs.Imports.{riscv_row, RelocationKindInfo, Operands}
+use Rattle.linker_laws.specs.Imports.{riscv_row, RowInfo, Operands}
 use Rattle.linker_elf.specs.Choices.{symbol_and_addend}
 use Rattle.linker_utils.specs.RiscVRewrites.{riscv_rewrite, IsAuipc, IsLd, IsAddiToA0}
 use Rattle.linker_utils.specs.RiscVRewrites.{IsCallOfDescriptor}
@@ -32,7 +32,7 @@ HaveOneTarget x y = symbol_address x ≡ symbol_address y
 -- ---- low parts (psABI, "Zero-page Relaxation")
 
 -- the relocation of a low part: stores have their own
-abbrev pub low_row : Action → Option RelocationKindInfo
+abbrev pub low_row : Action → Option RowInfo
 low_row (stores f) = riscv_row names.R_RISCV_LO12_S
 low_row (stores_float f) = riscv_row names.R_RISCV_LO12_S
 low_row action = riscv_row names.R_RISCV_LO12_I
@@ -53,7 +53,7 @@ abbrev pub IsLowOffset : Operands → Type 0
 IsLowOffset x = IsWithin (Some low_12_bounds) (cast_signed w64 (thread_offset x))
 
 -- the relocation of a low part
-abbrev pub offset_row : Action → Option RelocationKindInfo
+abbrev pub offset_row : Action → Option RowInfo
 offset_row (stores f) = riscv_row names.R_RISCV_TPREL_LO12_S
 offset_row (stores_float f) = riscv_row names.R_RISCV_TPREL_LO12_S
 offset_row action = riscv_row names.R_RISCV_TPREL_LO12_I

@@ -4,9 +4,9 @@ use Rattle.std.specs.Prelude.{◌+ℤ◌, ◌*ℤ◌, ◌+◌, ◌*◌, ◌%◌,
 use Rattle.std.specs.Int.{w64, cast_unsigned, int_rem_euclid}
 use Rattle.linker_base.specs.Form.{window_of}
 use Rattle.linker_laws.specs.Imports.{IsApplied, IsWithin, number_of_bytes, sum_64, difference_64}
-use Rattle.linker_laws.specs.Imports.{RelocationKindInfo, Operands, bit_bounds, relocation_form}
-use Rattle.linker_elf.specs.declared.elf.RelocationSize.{RelocationSize}
-use Rattle.linker_elf.specs.declared.elf.RelocationSize.TheVariants.{ByteSize, BitMasking}
+use Rattle.linker_laws.specs.Imports.{RowInfo, Operands, bit_bounds, relocation_form}
+use Rattle.linker_elf.specs.declared.elf.RowSize.{RowSize}
+use Rattle.linker_elf.specs.declared.elf.RowSize.TheVariants.{ByteSize, BitMasking}
 use Rattle.linker_elf.specs.declared.elf.Sign.{Sign}
 
 -- the addresses among operands are numbers of 64 bits
@@ -84,21 +84,21 @@ PremiseHolds (of_words test) before v = IsTrue (test before)
 
 -- One relocation of a sequence of instructions.
 pub record Step : Type 0 where
-  pub row : Option RelocationKindInfo
+  pub row : Option RowInfo
   -- its operands, by those of the sequence and the address of its own instruction
   pub operands : Operands → ℕ → Operands
   pub premise : Premise
 
 -- the relocation whose place is the sequence's, and one that has the same operands
-abbrev pub here : Option RelocationKindInfo → Step
+abbrev pub here : Option RowInfo → Step
 here row = record { row = row; operands = λ o at. o; premise = none }
 
 -- one of an instruction that may stand anywhere
-abbrev pub anywhere : Option RelocationKindInfo → Step
+abbrev pub anywhere : Option RowInfo → Step
 anywhere row = record { row = row; operands = λ o at. record o { place = at }; premise = none }
 
 -- one of an instruction n bytes after the first
-abbrev pub next : ℕ → Option RelocationKindInfo → Step
+abbrev pub next : ℕ → Option RowInfo → Step
 next n row =
     record {
       row = row;
@@ -107,7 +107,7 @@ next n row =
     }
 
 -- one n bytes after the first, with as many more in its addend, so that S + A is more too
-abbrev pub moved_on : ℕ → Option RelocationKindInfo → Step
+abbrev pub moved_on : ℕ → Option RowInfo → Step
 moved_on n row =
     record (here row) {
       operands = λ o at. record o { place = sum_64 o.place n; symbol = sum_64 o.symbol n };
@@ -118,7 +118,7 @@ abbrev pub of_bits : ℕ → Sign → Step → Step
 of_bits n sign step = record step { premise = of_values (bit_bounds n sign) }
 
 -- the little-endian number of a relocation's bytes: an instruction's word, or a field
-abbrev pub number_at : RelocationSize → List ℕ → ℕ
+abbrev pub number_at : RowSize → List ℕ → ℕ
 number_at (ByteSize n) bytes = number_of_bytes n bytes
 number_at (BitMasking bits insn) bytes = window_of (relocation_form insn) bytes
 
@@ -158,7 +158,7 @@ without_low k rounding begin target o =
 
 -- What n bytes hold is the distance from where the formula begins to the target, modulo
 -- 2 ^ (8 * n).
-abbrev pub HoldsDistance : ℕ → Option RelocationKindInfo → (Operands → ℕ) → (Operands → ℕ) → Type 0
+abbrev pub HoldsDistance : ℕ → Option RowInfo → (Operands → ℕ) → (Operands → ℕ) → Type 0
 HoldsDistance n row begin target =
     IsSomeAnd row (λ row.
     (o : Operands) → AreAddresses o → (before after : List ℕ) → IsApplied row o before after

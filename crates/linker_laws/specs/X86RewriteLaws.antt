@@ -1,12 +1,12 @@
 -- x86-64: the bytes of code, as rewrites and relocations leave them.
 use Rattle.std.specs.Prelude.{◌≡◌, ℕ, ◌^◌, ◌<◌, ◌++◌, IsSomeAnd, List, take, drop, neg_ℤ, pos}
-use Rattle.linker_laws.specs.Imports.{difference_64, x86_64_row, RelocationKindInfo, Operands}
+use Rattle.linker_laws.specs.Imports.{difference_64, x86_64_row, RowInfo, Operands}
 use Rattle.linker_laws.specs.Imports.{X86_64Relocation, IsApplied, All}
 use Rattle.linker_laws.specs.Schemes.{AreAddresses}
 use Rattle.linker_laws.specs.X86Machine.{State}
 
 -- A relocation at an offset of a section is applied.
-pub record IsRelocatedBy (row : RelocationKindInfo) (operands : Operands) (o : ℕ)
+pub record IsRelocatedBy (row : RowInfo) (operands : Operands) (o : ℕ)
     (before after : List ℕ) : Type 0 where
   -- the bytes from the offset on
   pub rest : List ℕ

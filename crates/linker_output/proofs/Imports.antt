@@ -11,13 +11,13 @@ pub use Rattle.linker_elf.specs.RiscVRelocations.{riscv_name, riscv_relocation}
 pub use Rattle.linker_elf.specs.Value.{difference_64, sum_64, value_of}
 pub use Rattle.linker_elf.specs.X86Relocations.{x86_64_name, x86_64_row}
 pub use Rattle.linker_elf.specs.declared.elf.RelocationKind.TheVariants.{Relative, RelativeRiscVLow12}
-pub use Rattle.linker_elf.specs.declared.elf.RelocationKindInfo.{RelocationKindInfo}
+pub use Rattle.linker_elf.specs.declared.elf.RowInfo.{RowInfo}
 pub use Rattle.linker_elf.specs.declared.elf.architecture.Architecture.{Architecture}
 pub use Rattle.linker_elf.specs.declared.elf.architecture.Architecture.TheVariants.{AArch64, LoongArch64, Ppc64, RiscV, X86_64}
 pub use Rattle.linker_elf.specs.declared.elf.relocate.RelocateError.{RelocateError}
 pub use Rattle.linker_elf.specs.declared.elf.relocate.RelocateError.TheVariants.{OutOfReach}
 pub use Rattle.linker_elf.specs.declared.elf.value.Operands.{Operands}
-pub use Rattle.linker_elf.specs.declared.ppc64.forms.Ppc64Instruction.TheVariants.{D, Ds}
+pub use Rattle.linker_elf.specs.declared.ppc64.forms.Ppc64Form.TheVariants.{D, Ds}
 pub use Rattle.linker_elf.specs.declared.riscv64.forms.RiscVInstruction.TheVariants.{IType, UType}
 pub use Rattle.linker_laws.proofs.AArch64Pairs.{loads}
 pub use Rattle.linker_laws.proofs.AArch64Steps.{set}

@@ -2,7 +2,7 @@
 use Rattle.std.proofs.Common.{◌≡◌, ℕ, ◌-◌, ◌%◌, ◌^◌, ◌<◌, Bool, true, false, refl, sym, ◌∙◌, ap, subst, arith, List, [], ◌∷◌, ◌++◌, eqb, cond, Some, None, take, drop, length, pos, ◌+ℤ◌, ◌*ℤ◌}
 use Rattle.linker_output.proofs.Imports.{IsSomeAnd, ◌||◌, eq-eqb, cond-true, drop-drop, field, ppc64_form, ppc64_name, ppc64_row, sum_64, Ppc64, D, Ds, loaded, moved, Formats, go_on, TocAddresses, IsAddress, symbol_address, reads_ds, same_parts, HasParts, d_after, ds_after, sum_leads, step_addis, step_ld, times_one, address_is, opcode_of, rt_of, ra_of, sum_zero}
 use Rattle.std.proofs.Math.Seq.{take-append_seam}
-use Rattle.linker_elf.specs.declared.ppc64.forms.Ppc64Instruction.TheVariants.{Prefixed}
+use Rattle.linker_elf.specs.declared.ppc64.forms.Ppc64Form.TheVariants.{Prefixed}
 use Rattle.linker_elf.specs.declared.ppc64.relocations.Ppc64Relocation.TheVariants as r
 use Rattle.linker_laws.specs.Ppc64Machine.{State, step_prefixed}
 use Rattle.linker_laws.specs.Ppc64RelocationLaws.{Prefixes}

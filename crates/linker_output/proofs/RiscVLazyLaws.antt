@@ -1,6 +1,6 @@
 -- RISC-V's lazy PLT.
 use Rattle.std.proofs.Common.{◌≡◌, ℕ, ◌-◌, ◌/◌, ◌%◌, ◌^◌, ◌<◌, refl, sym, ◌∙◌, ap, subst, arith, ℤ, Some, false, ◌==◌, List, [], ◌∷◌, ◌++◌, take, Option, pos, negsuc, ◌+ℤ◌}
-use Rattle.linker_output.proofs.Imports.{◌||◌, IsSomeAnd, or_parts, riscv_form, riscv_name, riscv_relocation, sum_64, difference_64, Relative, RelativeRiscVLow12, Operands, UType, IType, RelocationKindInfo, wrapped, moved, loaded, Hart, register, auipc, sums, jumps, executed, of_word, load_number, upper_word, load_word, whole_number, moved_twice, address_is, other, unwritten, RiscV, three_words, sum_zero}
+use Rattle.linker_output.proofs.Imports.{◌||◌, IsSomeAnd, or_parts, riscv_form, riscv_name, riscv_relocation, sum_64, difference_64, Relative, RelativeRiscVLow12, Operands, UType, IType, RowInfo, wrapped, moved, loaded, Hart, register, auipc, sums, jumps, executed, of_word, load_number, upper_word, load_word, whole_number, moved_twice, address_is, other, unwritten, RiscV, three_words, sum_zero}
 use Rattle.linker_base.specs.Form.{place_sum}
 use Rattle.linker_elf.specs.Applied.{IsApplied}
 use Rattle.linker_elf.specs.declared.riscv64.relocations.RiscVRelocation.TheVariants as r
@@ -127,7 +127,7 @@ leads_to relative entry inside below pc at before high before' low a b =
     ∙ address_is _ _ (relative.0 o addresses o.place before high a tt o.place before' low b tt)
     ∙ no_addend entry.word below
 
-abbrev row_of : RiscVRelocation → Option RelocationKindInfo
+abbrev row_of : RiscVRelocation → Option RowInfo
 row_of name = (riscv_relocation name).row
 
 pub enters : RelativeAddresses → (entry : LazyEntry) → entry.address < 2 ^ 64 → entry.word < 2 ^ 64

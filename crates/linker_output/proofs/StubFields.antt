@@ -1,7 +1,7 @@
 -- What the code of stubs is made of, as it is written.
 use Rattle.std.proofs.Common.{ℕ, ℤ, ◌≡◌, ◌+◌, ◌-◌, ◌++◌, ◌∙◌, List, [], Option, Some, refl, sym, ap, subst, arith, inl, inr, length, take, drop}
 use Rattle.std.specs.Prelude.{Result, Ok, Err, OnOk, IfErr}
-use Rattle.linker_output.proofs.Imports.{take_at, drop_at, drop-drop, append-nil, append_assoc, length-take, length-drop, length-append, IsCause, value_of, RelocationKindInfo, RelocateError, OutOfReach, Operands, IsRow, Architecture}
+use Rattle.linker_output.proofs.Imports.{take_at, drop_at, drop-drop, append-nil, append_assoc, length-take, length-drop, length-append, IsCause, value_of, RowInfo, RelocateError, OutOfReach, Operands, IsRow, Architecture}
 use Rattle.std.proofs.lemmas.List.{take_all, drop_all}
 use Rattle.linker_elf.specs.Elf.{IsAllowed}
 use Rattle.linker_elf.specs.Relocate.{WritesRow, RejectsValue}
@@ -11,13 +11,13 @@ use Rattle.linker_output.specs.declared.stubs.StubField.{StubField}
 
 -- ---- a field
 
-pub not_allowed : (range : AllowedRange) (row : RelocationKindInfo) (found : Option ℤ) (v : ℤ)
+pub not_allowed : (range : AllowedRange) (row : RowInfo) (found : Option ℤ) (v : ℤ)
     (bytes : List ℕ) → found ≡ Some v → ¬ IsAllowed range v
     → IsValueCause range row found bytes OutOfReach
 not_allowed range row found v bytes is not =
     subst (λ f. IsValueCause range row f bytes OutOfReach) (sym is) (inl (not, refl))
 
-rejected : (range : AllowedRange) (row : RelocationKindInfo) (found : Option ℤ) (v : ℤ)
+rejected : (range : AllowedRange) (row : RowInfo) (found : Option ℤ) (v : ℤ)
     (bytes : List ℕ) (error : RelocateError) → found ≡ Some v → IsAllowed range v
     → IsCause row v bytes error → IsValueCause range row found bytes error
 rejected range row found v bytes error is allowed cause =
@@ -30,7 +30,7 @@ from_there m pair len = take_all (8 - m) (drop m pair) (let e = length-drop m pa
 none_after : (m : ℕ) (pair : List ℕ) → length pair ≡ 8 → drop (8 - m) (drop m pair) ≡ []
 none_after m pair len = drop_all (8 - m) (drop m pair) (let e = length-drop m pair in omega arith)
 
-applied_at : (field : StubField) (o : Operands) (pair after : List ℕ) (row : RelocationKindInfo)
+applied_at : (field : StubField) (o : Operands) (pair after : List ℕ) (row : RowInfo)
     (v : ℤ) (m : ℕ) → m ≡ offset_in field → WritesRow row v (drop m pair) (drop m after)
     → value_of row o ≡ Some v → take m after ≡ take m pair → IsAllowed field.range v
     → AppliesAt field o pair after row
@@ -44,7 +44,7 @@ applied_at field o pair after row v m at w is_value kept allowed =
     }
 
 module _ (architecture : Architecture) (field : StubField) (o : Operands) (pair bytes : List ℕ)
-    (row : RelocationKindInfo) (v : ℤ) (m : ℕ) (at : m ≡ offset_in field) (len : length pair ≡ 8)
+    (row : RowInfo) (v : ℤ) (m : ℕ) (at : m ≡ offset_in field) (len : length pair ≡ 8)
     (is_row : IsRow architecture field.relocation (Some row)) (is_value : value_of row o ≡ Some v)
     (allowed : IsAllowed field.range v) where
   after : List ℕ

@@ -1,6 +1,6 @@
 -- The words of a stub's code, and the relocations of its fields.
 use Rattle.std.proofs.Common.{◌≡◌, ℕ, ◌^◌, ◌<◌, refl, ◌∙◌, ap, subst, arith, List, [], ◌∷◌, ◌++◌, length, take, drop, Option, Some, pos}
-use Rattle.linker_output.proofs.Imports.{IsSomeAnd, w64, from_le_bytes, cast_unsigned, drop_at, sum_64, RelocationKindInfo, Operands, AreAddresses}
+use Rattle.linker_output.proofs.Imports.{IsSomeAnd, w64, from_le_bytes, cast_unsigned, drop_at, sum_64, RowInfo, Operands, AreAddresses}
 use Rattle.std.specs.Int.{w32}
 use Rattle.linker_elf.specs.ElfNames.{ElfName, IsNamed, r_type_of}
 use Rattle.linker_output.specs.Stubs.{AppliesAt, StubCode, operands_of}
@@ -53,10 +53,10 @@ module _ (code pair tail : List ℕ) (len : length pair ≡ 8) (is : code ≡ pa
 
 -- ---- relocations by their codes
 
-pub applies : {N : Type 0} (elf : N → ElfName) (row_of : N → Option RelocationKindInfo) (name : N)
+pub applies : {N : Type 0} (elf : N → ElfName) (row_of : N → Option RowInfo) (name : N)
     (field : StubField) (o : Operands) (before after : List ℕ) → IsNamed (elf name)
     → r_type_of (elf name) ≡ field.relocation
-    → (row : RelocationKindInfo) → IsNamedValue elf row_of field.relocation (Some row)
+    → (row : RowInfo) → IsNamedValue elf row_of field.relocation (Some row)
     → AppliesAt field o before after row
     → IsSomeAnd (row_of name) (λ row. AppliesAt field o before after row)
 applies elf row_of name field o before after named same row is applied =

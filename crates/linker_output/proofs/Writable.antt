@@ -1,6 +1,6 @@
 -- What can be written over the first 8 bytes can be written over all, and else for the same cause.
 use Rattle.std.proofs.Common.{◌≡◌, ℕ, ℤ, ◌≤◌, List, length, take, true, sym, arith}
-use Rattle.linker_output.proofs.Imports.{length-take-le, IsAccepted, IsCause, RelocationKindInfo, RelocateError, OutOfReach}
+use Rattle.linker_output.proofs.Imports.{length-take-le, IsAccepted, IsCause, RowInfo, RelocateError, OutOfReach}
 use Rattle.std.proofs.lemmas.List.{take-take}
 use Rattle.std.specs.Prelude.{min}
 use Rattle.linker_elf.specs.Relocate.{size_len, window_len, is_supported}
@@ -9,28 +9,28 @@ use Rattle.linker_section.proofs.Fronts.{HaveSameWindow, same_window, accepted_s
 use Rattle.linker_section.proofs.Local.{small_size}
 use Rattle.linker_elf.proofs.Relocated.{supported_size}
 
-small : (row : RelocationKindInfo) → is_supported row ≡ true → window_len row ≤ 8
+small : (row : RowInfo) → is_supported row ≡ true → window_len row ≤ 8
 small row supported = small_size row.size row.kind (supported_size row supported)
 
-front_window : (row : RelocationKindInfo) (n : ℕ) (bytes : List ℕ) → window_len row ≤ n
+front_window : (row : RowInfo) (n : ℕ) (bytes : List ℕ) → window_len row ≤ n
     → HaveSameWindow row.size (take n bytes) bytes
 front_window row n bytes le =
     same_window row.size (take n bytes) bytes (take-take (size_len row.size) n bytes le)
 
-back_window : (row : RelocationKindInfo) (n : ℕ) (bytes : List ℕ) → window_len row ≤ n
+back_window : (row : RowInfo) (n : ℕ) (bytes : List ℕ) → window_len row ≤ n
     → HaveSameWindow row.size bytes (take n bytes)
 back_window row n bytes le =
     same_window row.size bytes (take n bytes) (sym (take-take (size_len row.size) n bytes le))
 
 -- the first n bytes, which are all of them or at least 8
-pub accepted_of_front : (row : RelocationKindInfo) (v : ℤ) (bytes : List ℕ) (n : ℕ)
+pub accepted_of_front : (row : RowInfo) (v : ℤ) (bytes : List ℕ) (n : ℕ)
     → n ≡ min (length bytes) 8 → IsAccepted row v (take n bytes) → IsAccepted row v bytes
 accepted_of_front row v bytes n is accepted =
     let len : length (take n bytes) ≡ n = length-take-le n bytes (omega arith) in
     let long = accepted.long in
     accepted_same row v (take n bytes) bytes (front_window row n bytes (omega arith)) (omega arith) accepted
 
-pub cause_of_front : (row : RelocationKindInfo) (v : ℤ) (bytes : List ℕ) (n : ℕ)
+pub cause_of_front : (row : RowInfo) (v : ℤ) (bytes : List ℕ) (n : ℕ)
     (error : RelocateError) → n ≡ min (length bytes) 8 → IsCause row v (take n bytes) error
     → IsCause row v bytes error
 cause_of_front row v bytes n Unsupported is cause = cause

@@ -8,7 +8,7 @@ use Rattle.linker_base.specs.Bits.{field}
 use Rattle.linker_elf.specs.Ppc64.{ppc64_form}
 use Rattle.linker_elf.specs.Relocate.{number_of_bytes}
 use Rattle.linker_elf.specs.Value.{sum_64, difference_64}
-use Rattle.linker_elf.specs.declared.ppc64.forms.Ppc64Instruction.TheVariants.{Branch24}
+use Rattle.linker_elf.specs.declared.ppc64.forms.Ppc64Form.TheVariants.{Branch24}
 use Rattle.linker_laws.specs.Machine.{loaded, moved}
 use Rattle.linker_laws.specs.Ppc64Machine.{State, Formats, write, go_on, go_to}
 use Rattle.linker_output.specs.LazyPlt.{IsCode, header_places}

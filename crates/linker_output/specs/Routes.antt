@@ -9,15 +9,15 @@ use Rattle.linker_elf.specs.Ppc64Relocations.{ppc64_name}
 use Rattle.linker_elf.specs.Relocate.{IsAccepted}
 use Rattle.linker_elf.specs.Value.{sum_64}
 use Rattle.linker_elf.specs.declared.aarch64.forms.AArch64Instruction.TheVariants.{JumpCall}
-use Rattle.linker_elf.specs.declared.elf.RelocationInstruction.TheVariants.{AArch64, LoongArch64}
-use Rattle.linker_elf.specs.declared.elf.RelocationInstruction.TheVariants.{Ppc64}
-use Rattle.linker_elf.specs.declared.elf.RelocationKindInfo.{RelocationKindInfo}
-use Rattle.linker_elf.specs.declared.elf.RelocationSize.{RelocationSize}
-use Rattle.linker_elf.specs.declared.elf.RelocationSize.TheVariants.{BitMasking}
+use Rattle.linker_elf.specs.declared.elf.AnyForm.TheVariants.{AArch64, LoongArch64}
+use Rattle.linker_elf.specs.declared.elf.AnyForm.TheVariants.{Ppc64}
+use Rattle.linker_elf.specs.declared.elf.RowInfo.{RowInfo}
+use Rattle.linker_elf.specs.declared.elf.RowSize.{RowSize}
+use Rattle.linker_elf.specs.declared.elf.RowSize.TheVariants.{BitMasking}
 use Rattle.linker_elf.specs.declared.elf.relocate.RelocateError.{RelocateError}
 use Rattle.linker_elf.specs.declared.elf.relocate.RelocateError.TheVariants.{OutOfReach}
 use Rattle.linker_elf.specs.declared.loongarch64.forms.LoongArch64Instruction.TheVariants.{Branch26}
-use Rattle.linker_elf.specs.declared.ppc64.forms.Ppc64Instruction.TheVariants.{Branch24}
+use Rattle.linker_elf.specs.declared.ppc64.forms.Ppc64Form.TheVariants.{Branch24}
 use Rattle.linker_elf.specs.declared.ppc64.relocations.Ppc64Relocation.TheVariants as ppc64
 use Rattle.linker_output.specs.Stubs.{StubCode}
 use Rattle.linker_output.specs.View.{Description}
@@ -45,13 +45,13 @@ use Rattle.linker_elf.specs.declared.elf.architecture.Architecture.TheVariants a
 -- Branches that may go by a stub to a target that they don't reach: of the forms of
 -- `R_AARCH64_CALL26`, `R_LARCH_B26` and `R_PPC64_REL24`. At others a register that a stub changes
 -- may be in use, or they reach as far as a stub.
-abbrev pub has_call_form : RelocationSize → Bool
+abbrev pub has_call_form : RowSize → Bool
 has_call_form (BitMasking bits (AArch64 JumpCall)) = true
 has_call_form (BitMasking bits (LoongArch64 Branch26)) = true
 has_call_form (BitMasking bits (Ppc64 Branch24)) = true
 has_call_form size = false
 
-abbrev pub may_go_by_stub : RelocationKindInfo → Bool
+abbrev pub may_go_by_stub : RowInfo → Bool
 may_go_by_stub row = is_relative row.kind && has_call_form row.size
 
 -- PowerPC64's branches of code that has a TOC pointer, and of code that has none (64-Bit ELF V2
@@ -118,18 +118,18 @@ by_jump None loses has_room target = Err errors.NoStub
 by_jump (Some stub) loses has_room target = by_stub Jump stub.entry loses has_room target
 
 -- why a branch can't be written directly; none if it can
-abbrev pub IsObstacle : RelocationKindInfo → ℤ → ℕ → List ℕ → Option RelocateError → Type 0
+abbrev pub IsObstacle : RowInfo → ℤ → ℕ → List ℕ → Option RelocateError → Type 0
 IsObstacle row v offset section None =
     (offset ≤ length section) × IsAccepted row v (drop offset section)
 IsObstacle row v offset section (Some error) = IsRejected row v offset section error
 
 -- Directly where the branch can be written. By a stub where it doesn't reach its target, and may go
 -- by one. Nothing leads to what nothing defines.
-abbrev pub is_served : RelocationKindInfo → Symbol → Bool
+abbrev pub is_served : RowInfo → Symbol → Bool
 is_served row symbol =
     may_go_by_stub row && (not (symbol.stub == 0) || not symbol.is_undefined_weak)
 
-abbrev pub by_reach : Description → RelocationKindInfo → Symbol → Rela → Option RelocateError
+abbrev pub by_reach : Description → RowInfo → Symbol → Rela → Option RelocateError
     → Result Route RouteError
 by_reach target row symbol r None = Ok Direct
 by_reach target row symbol r (Some OutOfReach) =
@@ -139,7 +139,7 @@ by_reach target row symbol r (Some OutOfReach) =
 by_reach target row symbol r (Some error) = Err (errors.Write error)
 
 -- by a stub also where the callee wouldn't get, or the caller wouldn't keep, the TOC pointer
-abbrev pub route_by : Description → RelocationKindInfo → Symbol → Rela → Bool → Option RelocateError
+abbrev pub route_by : Description → RowInfo → Symbol → Rela → Bool → Option RelocateError
     → Result Route RouteError
 route_by target row symbol r has_room obstacle =
     if loses_toc target.instructions r.r_type symbol
@@ -156,7 +156,7 @@ abbrev pub IsValueOf : Architecture → Addresses → Symbol → Rela
 IsValueOf architecture addresses symbol r result =
     IsValue architecture addresses [] (symbol ∷ []) (record r { symbol = 0 }) result
 
-abbrev pub IsRouteOf : Description → Symbol → Rela → List ℕ → RelocationKindInfo
+abbrev pub IsRouteOf : Description → Symbol → Rela → List ℕ → RowInfo
     → Result (Option ℤ) ValueError → Result Route RouteError → Type 0
 IsRouteOf target symbol r section row (Err error) result = result ≡ Err (errors.Value error)
 IsRouteOf target symbol r section row (Ok None) result = result ≡ Err errors.NotABranch
@@ -166,7 +166,7 @@ IsRouteOf target symbol r section row (Ok (Some v)) result =
     × (result ≡ route_by target row symbol r has_room obstacle)
 
 -- of a relocation with a row, for whose target a stub may serve or not
-abbrev pub IsRouteBy : Bool → Description → Addresses → Symbol → Rela → List ℕ → RelocationKindInfo
+abbrev pub IsRouteBy : Bool → Description → Addresses → Symbol → Rela → List ℕ → RowInfo
     → Result Route RouteError → Type 0
 IsRouteBy false target addresses symbol r section row result = result ≡ Err errors.NotABranch
 IsRouteBy true target addresses symbol r section row result =
@@ -174,7 +174,7 @@ IsRouteBy true target addresses symbol r section row result =
     × IsValueOf target.instructions addresses symbol r value
     × IsRouteOf target symbol r section row value result
 
-abbrev pub IsRouteIn : Description → Addresses → Symbol → Rela → List ℕ → Option RelocationKindInfo
+abbrev pub IsRouteIn : Description → Addresses → Symbol → Rela → List ℕ → Option RowInfo
     → Result Route RouteError → Type 0
 IsRouteIn target addresses symbol r section None result = result ≡ Err errors.NotABranch
 IsRouteIn target addresses symbol r section (Some row) result =
@@ -183,7 +183,7 @@ IsRouteIn target addresses symbol r section (Some row) result =
 abbrev pub IsRoute : Description → Addresses → Symbol → Rela → List ℕ
     → Result Route RouteError → Type 0
 IsRoute target addresses symbol r section result =
-    (row : Option RelocationKindInfo) × IsRow target.instructions r.r_type row
+    (row : Option RowInfo) × IsRow target.instructions r.r_type row
     × IsRouteIn target addresses symbol r section row result
 
 -- ---- routes to the address in a word
@@ -199,7 +199,7 @@ IsWordRouteBy true target r word section result =
     (has_room : Bool) × (IsTrue has_room ↔ HasRoom section r.offset)
     × (result ≡ by_word target r word has_room)
 
-abbrev pub IsWordRouteIn : Description → Rela → ℕ → List ℕ → Option RelocationKindInfo
+abbrev pub IsWordRouteIn : Description → Rela → ℕ → List ℕ → Option RowInfo
     → Result Route RouteError → Type 0
 IsWordRouteIn target r word section None result = result ≡ Err errors.NotABranch
 IsWordRouteIn target r word section (Some row) result =
@@ -207,7 +207,7 @@ IsWordRouteIn target r word section (Some row) result =
 
 abbrev pub IsWordRoute : Description → Rela → ℕ → List ℕ → Result Route RouteError → Type 0
 IsWordRoute target r word section result =
-    (row : Option RelocationKindInfo) × IsRow target.instructions r.r_type row
+    (row : Option RowInfo) × IsRow target.instructions r.r_type row
     × IsWordRouteIn target r word section row result
 
 -- ---- the law of stubs
@@ -216,7 +216,7 @@ IsWordRoute target r word section result =
 -- stub leads to.
 abbrev pub StubsServe : Type 0
 StubsServe =
-    (target : Description) (row : RelocationKindInfo) (symbol : Symbol) (r : Rela) (stub : ℕ)
+    (target : Description) (row : RowInfo) (symbol : Symbol) (r : Rela) (stub : ℕ)
     → stub ≢ 0 → (has_room : Bool) (obstacle : Option RelocateError)
     → route_by target row (record symbol { stub = stub }) r has_room obstacle
     ≡ by_reach target row (record symbol { stub = stub }) r obstacle

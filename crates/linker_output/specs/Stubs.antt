@@ -5,7 +5,7 @@ use Rattle.std.specs.Prelude.{Option, Some, None, true, false}
 use Rattle.linker_elf.specs.Applied.{IsApplied}
 use Rattle.linker_elf.specs.Relocate.{IsCause}
 use Rattle.linker_elf.specs.Value.{sum_64, value_of}
-use Rattle.linker_elf.specs.declared.elf.RelocationKindInfo.{RelocationKindInfo}
+use Rattle.linker_elf.specs.declared.elf.RowInfo.{RowInfo}
 use Rattle.linker_elf.specs.declared.elf.relocate.RelocateError.{RelocateError}
 use Rattle.linker_elf.specs.declared.elf.relocate.RelocateError.TheVariants.{Unsupported}
 use Rattle.linker_elf.specs.declared.elf.relocate.RelocateError.TheVariants.{OutOfReach}
@@ -62,26 +62,26 @@ offset_in field = min field.offset 8
 
 -- the relocation is applied at the field's offset, and what stands before it is left
 pub record AppliesAt (field : StubField) (o : Operands) (before after : List ℕ)
-    (row : RelocationKindInfo) : Type 0 where
+    (row : RowInfo) : Type 0 where
   pub applied : IsApplied row o (drop (offset_in field) before) (drop (offset_in field) after)
   pub kept : take (offset_in field) after ≡ take (offset_in field) before
   pub within : IsAllowed field.range applied.value
 
 abbrev pub WritesField : Architecture → StubField → Operands → List ℕ → List ℕ → Type 0
 WritesField architecture field o before after =
-    (row : RelocationKindInfo) × IsRow architecture field.relocation (Some row)
+    (row : RowInfo) × IsRow architecture field.relocation (Some row)
     × AppliesAt field o before after row
 
 -- why a relocation with a row isn't applied: it has no value, or one that doesn't lead to the
 -- target or is rejected
-abbrev pub IsValueCause : AllowedRange → RelocationKindInfo → Option ℤ → List ℕ → RelocateError
+abbrev pub IsValueCause : AllowedRange → RowInfo → Option ℤ → List ℕ → RelocateError
     → Type 0
 IsValueCause range row None bytes error = error ≡ Unsupported
 IsValueCause range row (Some v) bytes error =
     (¬ IsAllowed range v × (error ≡ OutOfReach))
     ⊎ (IsAllowed range v × IsCause row v bytes error)
 
-abbrev pub IsFieldCause : AllowedRange → Option RelocationKindInfo → Operands → List ℕ
+abbrev pub IsFieldCause : AllowedRange → Option RowInfo → Operands → List ℕ
     → RelocateError → Type 0
 IsFieldCause range None o bytes error = error ≡ Unsupported
 IsFieldCause range (Some row) o bytes error =
@@ -89,7 +89,7 @@ IsFieldCause range (Some row) o bytes error =
 
 abbrev pub RejectsField : Architecture → StubField → Operands → List ℕ → RelocateError → Type 0
 RejectsField architecture field o before error =
-    (row : Option RelocationKindInfo) × IsRow architecture field.relocation row
+    (row : Option RowInfo) × IsRow architecture field.relocation row
     × IsFieldCause field.range row o (drop (offset_in field) before) error
 
 -- ---- both fields

@@ -21,8 +21,8 @@ use linker_section::facts::{Addresses, Symbol};
 use linker_section::relocations::Rela;
 use linker_section::values::{ValueError, value};
 use linker_utils::elf::{
-    AArch64Instruction, Architecture, LoongArch64Instruction, Ppc64Instruction, RelocateError,
-    RelocationInstruction, RelocationKind, RelocationSize, Row,
+    AArch64Instruction, AnyForm, Architecture, LoongArch64Instruction, Ppc64Form, RelocateError,
+    RelocationKind, Row, RowSize,
 };
 use linker_utils::ppc64::Ppc64Relocation;
 
@@ -75,17 +75,17 @@ fn may_go_by_stub(row: &Row) -> bool
 
 /// Whether a field is that of `R_AARCH64_CALL26`, `R_LARCH_B26` or `R_PPC64_REL24`.
 #[inline(always)]
-fn has_call_form(size: RelocationSize) -> bool
+fn has_call_form(size: RowSize) -> bool
     ensures { result ≡ has_call_form size }
 {
-    let RelocationSize::BitMasking { insn, .. } = size else {
+    let RowSize::BitMasking { insn, .. } = size else {
         return false;
     };
     matches!(
         insn,
-        RelocationInstruction::AArch64(AArch64Instruction::JumpCall)
-            | RelocationInstruction::LoongArch64(LoongArch64Instruction::Branch26)
-            | RelocationInstruction::Ppc64(Ppc64Instruction::Branch24)
+        AnyForm::AArch64(AArch64Instruction::JumpCall)
+            | AnyForm::LoongArch64(LoongArch64Instruction::Branch26)
+            | AnyForm::Ppc64(Ppc64Form::Branch24)
     )
 }
 

@@ -1,6 +1,6 @@
 -- The masks of fields have the bits that a write of a row may change.
 use Rattle.std.proofs.Common.{◌≡◌, ℕ, ◌-◌, ◌*◌, ◌^◌, ◌<◌, ◌≤◌, Bool, true, ◌&&◌, List, refl, sym, ap, ◌∙◌, arith, min, ⊎_elim}
-use Rattle.linker_reading.proofs.Imports.{◌==◌, nat_lt, bit_at, agree_below, agree_below_at, cases_lt, lt-ltb, window_of, BitRange, relocation_form, instruction_mask, insn_at, bits_at, RelocationInstruction, AArch64, LoongArch64, Ppc64, RiscV, RelocationKind, AbsoluteSetWord6, AbsoluteAdditionWord6, AbsoluteSubtractionWord6, RelocationKindInfo, RelocationSize, ByteSize, BitMasking}
+use Rattle.linker_reading.proofs.Imports.{◌==◌, nat_lt, bit_at, agree_below, agree_below_at, cases_lt, lt-ltb, window_of, BitRange, relocation_form, instruction_mask, insn_at, bits_at, AnyForm, AArch64, LoongArch64, Ppc64, RiscV, RelocationKind, AbsoluteSetWord6, AbsoluteAdditionWord6, AbsoluteSubtractionWord6, RowInfo, RowSize, ByteSize, BitMasking}
 use Rattle.std.specs.Prelude.{bit_and}
 use Rattle.linker_reading.specs.FieldsOfBytes.{is_instruction_bit, is_size_bit, is_field_bit, is_value_bit}
 use Rattle.linker_reading.specs.Inner.Masks.{bytes_mask, number_mask, size_mask, field_mask}
@@ -11,7 +11,7 @@ use Rattle.linker_reading.proofs.LoongArchFieldBits.{loongarch_agrees}
 
 -- ---- instructions
 
-instruction_agrees : (insn : RelocationInstruction) (bits : BitRange) (x w : ℕ) → w < 64
+instruction_agrees : (insn : AnyForm) (bits : BitRange) (x w : ℕ) → w < 64
     → (bit_at (instruction_mask insn bits x) w == 1) ≡ is_instruction_bit insn bits x w
 instruction_agrees (AArch64 f) bits x w h = aarch64_agrees f bits x w h
 instruction_agrees (RiscV f) bits x w h = riscv_agrees f bits x w h
@@ -56,7 +56,7 @@ number_agrees kind n w h = bytes_agree n w h
 
 -- ---- rows
 
-size_agrees : (size : RelocationSize) (kind : RelocationKind) (bytes : List ℕ) (w : ℕ) → w < 64
+size_agrees : (size : RowSize) (kind : RelocationKind) (bytes : List ℕ) (w : ℕ) → w < 64
     → (bit_at (size_mask size kind bytes) w == 1) ≡ is_size_bit size kind bytes w
 size_agrees (ByteSize n) kind bytes w h = number_agrees kind n w h
 size_agrees (BitMasking bits insn) kind bytes w h =
@@ -64,7 +64,7 @@ size_agrees (BitMasking bits insn) kind bytes w h =
     instruction_agrees (insn_at insn bits word) (bits_at insn kind bits word)
     (window_of (relocation_form (insn_at insn bits word)) bytes) w h
 
-pub field_agrees : (row : RelocationKindInfo) (bytes : List ℕ) (w : ℕ) → w < 64
+pub field_agrees : (row : RowInfo) (bytes : List ℕ) (w : ℕ) → w < 64
     → (bit_at (field_mask row bytes) w == 1) ≡ is_field_bit row bytes w
 field_agrees row bytes w h =
     size_agrees row.size row.kind bytes w h ∙ ap (λ b. b && is_size_bit row.size row.kind bytes w) (sym (lt-ltb w 64 h))

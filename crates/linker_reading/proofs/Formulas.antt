@@ -1,6 +1,6 @@
 -- The value of a relocation is its address, biased and cut to its page, less its base.
 use Rattle.std.proofs.Common.{◌≡◌, ℕ, ◌+◌, ◌-◌, ◌%◌, ◌^◌, ◌<◌, ◌≤◌, refl, sym, ◌∙◌, ap, arith, Bool, true, false, Option, Some, None, ℤ, ◌↔◌, if◌then◌else◌, eqb}
-use Rattle.linker_reading.proofs.Imports.{w64, cast_unsigned, mod_below, le-ltb, not, ◌&&◌, nat_lt, field, sum_64, difference_64, page_if, bias_number, RelocationKind, RelocationKindInfo, RelocationSize, ByteSize, BitMasking}
+use Rattle.linker_reading.proofs.Imports.{w64, cast_unsigned, mod_below, le-ltb, not, ◌&&◌, nat_lt, field, sum_64, difference_64, page_if, bias_number, RelocationKind, RowInfo, RowSize, ByteSize, BitMasking}
 use Rattle.std.specs.Int.{cast_signed}
 use Rattle.std.proofs.lemmas.Int.{of_z-to_z}
 use Rattle.linker_elf.specs.Value.{formula, value_of, read_signed, masks_place, masks_got}
@@ -17,15 +17,15 @@ use Rattle.linker_reading.specs.declared.solving.Terms.{Terms}
 use Rattle.linker_elf.proofs.Entries.{page_if_below}
 
 -- the address, biased, or its page
-abbrev pub target : Terms → RelocationKindInfo → Operands → ℕ
+abbrev pub target : Terms → RowInfo → Operands → ℕ
 target t row o =
     page_if (is_paged t.reference row.mask)
     (sum_64 (address t.reference row.size o) (bias_number row.bias))
 
-abbrev pub number : Terms → RelocationKindInfo → Operands → ℕ
+abbrev pub number : Terms → RowInfo → Operands → ℕ
 number t row o = difference_64 (target t row o) (base t.origin row o)
 
-target_below : (t : Terms) (row : RelocationKindInfo) (o : Operands) → target t row o < 2 ^ 64
+target_below : (t : Terms) (row : RowInfo) (o : Operands) → target t row o < 2 ^ 64
 target_below t row o =
     page_if_below (is_paged t.reference row.mask)
     (sum_64 (address t.reference row.size o) (bias_number row.bias))
@@ -35,7 +35,7 @@ target_below t row o =
 itself : (x : ℕ) → x < 2 ^ 64 → Some x ≡ Some (difference_64 x 0)
 itself x small = ap Some (let same : x ≡ (x + (2 ^ 64 - 0)) % 2 ^ 64 = omega arith in same)
 
-known_terms : (row : RelocationKindInfo) (o : Operands) (known t : Terms) (x : Option ℕ)
+known_terms : (row : RowInfo) (o : Operands) (known t : Terms) (x : Option ℕ)
     → Some known ≡ Some t → x ≡ Some (number known row o) → x ≡ Some (number t row o)
 known_terms row o known t x h e =
     let same : known ≡ t = cc in e ∙ ap (λ u. Some (number u row o)) same
@@ -49,7 +49,7 @@ entry_zero = record { reference = GotEntry; origin = Zero }
 abbrev symbol_place : Terms
 symbol_place = record { reference = Symbol; origin = Place }
 
-of_kind : (kind : RelocationKind) (row : RelocationKindInfo) (o : Operands) (t : Terms)
+of_kind : (kind : RelocationKind) (row : RowInfo) (o : Operands) (t : Terms)
     → (formula kinds.Relative row o ≡ Some (number symbol_place row o))
     → terms_of_kind kind ≡ Some t → formula kind row o ≡ Some (number t row o)
 of_kind kinds.Absolute row o t r h =
@@ -123,26 +123,26 @@ same_terms : (b : Bool) (x : Option Terms) (t : Terms) → (if b then None else 
 same_terms true x t h = cc
 same_terms false x t h = h
 
-relative : (size : RelocationSize) (kind : RelocationKind) (row : RelocationKindInfo) (o : Operands) (t : Terms)
+relative : (size : RowSize) (kind : RelocationKind) (row : RowInfo) (o : Operands) (t : Terms)
     → row.size ≡ size → terms_of kind size ≡ Some t
     → formula kinds.Relative row o ≡ Some (number symbol_place row o)
 relative (ByteSize n) kind row o t e h =
     rw (e, no_terms (eqb n 0) (terms_of_kind kind) t h) refl
 relative (BitMasking bits insn) kind row o t e h = rw e refl
 
-kind_terms : (size : RelocationSize) (kind : RelocationKind) (t : Terms)
+kind_terms : (size : RowSize) (kind : RelocationKind) (t : Terms)
     → terms_of kind size ≡ Some t → terms_of_kind kind ≡ Some t
 kind_terms (ByteSize n) kind t h = same_terms (eqb n 0) (terms_of_kind kind) t h
 kind_terms (BitMasking bits insn) kind t h = h
 
-pub formula_is : (row : RelocationKindInfo) (o : Operands) (t : Terms)
+pub formula_is : (row : RowInfo) (o : Operands) (t : Terms)
     → terms_of row.kind row.size ≡ Some t → formula row.kind row o ≡ Some (number t row o)
 formula_is row o t h =
     of_kind row.kind row o t (relative row.size row.kind row o t refl h)
     (kind_terms row.size row.kind t h)
 
 -- the value's number
-pub value_number : (row : RelocationKindInfo) (o : Operands) (t : Terms) (v : ℤ)
+pub value_number : (row : RowInfo) (o : Operands) (t : Terms) (v : ℤ)
     → terms_of row.kind row.size ≡ Some t → value_of row o ≡ Some v
     → cast_unsigned w64 v ≡ number t row o
 value_number row o t v h e =
@@ -175,7 +175,7 @@ moved true a bias b r s e h =
     less : (p b r : ℕ) → sum_64 p (difference_64 r b) ≡ sum_64 (difference_64 p b) r
     less p b r = omega arith
 
-same_base : (origin : Origin) (row : RelocationKindInfo) (a b : Operands) → HaveSameBase a b
+same_base : (origin : Origin) (row : RowInfo) (a b : Operands) → HaveSameBase a b
     → base origin row a ≡ base origin row b
 same_base Zero row a b h = refl
 same_base Place row a b h = ap (page_if (masks_place row.mask)) h.place
@@ -183,12 +183,12 @@ same_base Got row a b h = ap (page_if (masks_got row.mask)) h.got_base
 same_base Tls row a b h = h.tls_base
 
 -- the rounding of the address
-abbrev pub rounding_after : Terms → RelocationKindInfo → ℕ → Operands → ℕ
+abbrev pub rounding_after : Terms → RowInfo → ℕ → Operands → ℕ
 rounding_after t row r o =
     sum_64 (bias_number row.bias)
     (page_if (is_paged t.reference row.mask) (difference_64 r (base t.origin row o)))
 
-pub solves : (row : RelocationKindInfo) (f : FieldValue) (operands : Operands) (t : Terms)
+pub solves : (row : RowInfo) (f : FieldValue) (operands : Operands) (t : Terms)
     (s : FieldValue) → terms_of row.kind row.size ≡ Some t
     → (is_paged t.reference row.mask ≡ true → 12 ≤ f.known.start)
     → ((n : ℕ) → FieldHolds s n

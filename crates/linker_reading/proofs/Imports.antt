@@ -26,18 +26,18 @@ pub use Rattle.linker_elf.specs.Rows.{Bounds}
 pub use Rattle.linker_elf.specs.Value.{bias_number, difference_64, page_if, sum_64}
 pub use Rattle.linker_elf.specs.declared.aarch64.forms.AArch64Instruction.{AArch64Instruction}
 pub use Rattle.linker_elf.specs.declared.aarch64.forms.AArch64Instruction.TheVariants.{Movkz, Movnz}
-pub use Rattle.linker_elf.specs.declared.elf.RelocationInstruction.{RelocationInstruction}
-pub use Rattle.linker_elf.specs.declared.elf.RelocationInstruction.TheVariants.{AArch64, LoongArch64, Ppc64, RiscV}
+pub use Rattle.linker_elf.specs.declared.elf.AnyForm.{AnyForm}
+pub use Rattle.linker_elf.specs.declared.elf.AnyForm.TheVariants.{AArch64, LoongArch64, Ppc64, RiscV}
 pub use Rattle.linker_elf.specs.declared.elf.RelocationKind.{RelocationKind}
 pub use Rattle.linker_elf.specs.declared.elf.RelocationKind.TheVariants.{AbsoluteAdditionWord6, AbsoluteSetWord6, AbsoluteSubtractionWord6}
-pub use Rattle.linker_elf.specs.declared.elf.RelocationKindInfo.{RelocationKindInfo}
-pub use Rattle.linker_elf.specs.declared.elf.RelocationSize.{RelocationSize}
-pub use Rattle.linker_elf.specs.declared.elf.RelocationSize.TheVariants.{BitMasking, ByteSize}
+pub use Rattle.linker_elf.specs.declared.elf.RowInfo.{RowInfo}
+pub use Rattle.linker_elf.specs.declared.elf.RowSize.{RowSize}
+pub use Rattle.linker_elf.specs.declared.elf.RowSize.TheVariants.{BitMasking, ByteSize}
 pub use Rattle.linker_elf.specs.declared.elf.choice.Choice.{Choice}
 pub use Rattle.linker_elf.specs.declared.loongarch64.forms.LoongArch64Instruction.{LoongArch64Instruction}
 pub use Rattle.linker_elf.specs.declared.loongarch64.forms.LoongArch64Instruction.TheVariants.{Call36, Shift10, Shift5}
-pub use Rattle.linker_elf.specs.declared.ppc64.forms.Ppc64Instruction.{Ppc64Instruction}
-pub use Rattle.linker_elf.specs.declared.ppc64.forms.Ppc64Instruction.TheVariants.{D, Ds}
+pub use Rattle.linker_elf.specs.declared.ppc64.forms.Ppc64Form.{Ppc64Form}
+pub use Rattle.linker_elf.specs.declared.ppc64.forms.Ppc64Form.TheVariants.{D, Ds}
 pub use Rattle.linker_elf.specs.declared.riscv64.forms.RiscVInstruction.{RiscVInstruction}
 pub use Rattle.linker_elf.specs.declared.riscv64.forms.RiscVInstruction.TheVariants.{CluiType, UType}
 pub use Rattle.std.proofs.Math.Nat.{mod-add-mod, mod-eq_of_lt}

@@ -1,7 +1,7 @@
 -- The masks of fields of PowerPC64 have the bits that a write of a row may change.
 use Rattle.std.proofs.Common.{◌≡◌, ℕ, ◌<◌, Bool, true, false, not, ◌&&◌, refl}
-use Rattle.linker_reading.proofs.Imports.{◌==◌, nat_lt, if◌then◌else◌, bit_at, is_placed, BitRange, relocation_form, instruction_mask, is_dq_form, Ppc64, Ppc64Instruction}
-use Rattle.linker_elf.specs.declared.ppc64.forms.Ppc64Instruction.TheVariants as ppc64
+use Rattle.linker_reading.proofs.Imports.{◌==◌, nat_lt, if◌then◌else◌, bit_at, is_placed, BitRange, relocation_form, instruction_mask, is_dq_form, Ppc64, Ppc64Form}
+use Rattle.linker_elf.specs.declared.ppc64.forms.Ppc64Form.TheVariants as ppc64
 use Rattle.linker_reading.specs.FieldsOfBytes.{is_instruction_bit}
 use Rattle.linker_reading.proofs.Masks.{agrees}
 
@@ -11,7 +11,7 @@ ds_agrees : (b : Bool) (x w : ℕ) → w < 64
 ds_agrees true x w h = agrees 0xfff0 (λ k. is_placed ((relocation_form (Ppc64 ppc64.Ds)).places 0) k && not (true && nat_lt k 4)) refl w h
 ds_agrees false x w h = agrees 0xfffc (λ k. is_placed ((relocation_form (Ppc64 ppc64.Ds)).places 0) k && not (false && nat_lt k 4)) refl w h
 
-pub ppc64_agrees : (f : Ppc64Instruction) (bits : BitRange) (x w : ℕ) → w < 64
+pub ppc64_agrees : (f : Ppc64Form) (bits : BitRange) (x w : ℕ) → w < 64
     → (bit_at (instruction_mask (Ppc64 f) bits x) w == 1) ≡ is_instruction_bit (Ppc64 f) bits x w
 ppc64_agrees ppc64.D bits x w h = agrees 0xffff (is_instruction_bit (Ppc64 ppc64.D) bits 0) refl w h
 ppc64_agrees ppc64.Ds bits x w h = ds_agrees (is_dq_form x) x w h

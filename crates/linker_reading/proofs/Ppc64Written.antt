@@ -1,6 +1,6 @@
 -- What is read of an instruction of PowerPC64 after a write; and what a write keeps of it.
 use Rattle.std.proofs.Common.{FitsSigned, ◌≡◌, ℕ, ◌+◌, ◌%◌, ◌^◌, ◌<◌, ◌≤◌, refl, sym, ◌∙◌, ap, arith, Bool, true, false, ◌&&◌, List, ℤ, pos, int_lt, if◌then◌else◌, ◌≡◌, ◌≤◌, ◌<◌, ℕ, zero, suc, ◌+◌, ◌%◌, ◌^◌, Bool, true, false, not, ◌&&◌, List, [], refl, sym, ap, ◌∙◌, ⊎_elim, arith, ℤ, ◌≡◌, ◌≤◌, ◌<◌, ℕ, zero, suc, ◌+◌, ◌%◌, ◌^◌, Bool, true, false, ◌&&◌, List, refl, sym, ap, ◌∙◌, ⊎_elim, arith, ℤ, pos}
-use Rattle.linker_reading.proofs.Imports.{w64, cast_unsigned, bit_at, eqb-true, cases_lt, le-ltb, Written, window_of, replaced, BitRange, always_clear, ppc64_form, InstructionWritten, bits_taken, ppc64_reads, IsInUnits, Bounds, Ppc64, BitMasking, Ppc64Instruction, D, Ds, taken_below, nat_lt, if◌then◌else◌, bit_at, w64, cast_unsigned, cases_lt, le-ltb, eqb-true, replaced, BitsWritten, Written, is_placed, bit_at_mod, bits_taken, is_dq_form, Ds, nat_lt, if◌then◌else◌, int_lt, bit_at, byte_len, w64, cases_lt, window_of, bit_at_mod, InstructionWritten, bits_taken, Ppc64, BitMasking, D}
+use Rattle.linker_reading.proofs.Imports.{w64, cast_unsigned, bit_at, eqb-true, cases_lt, le-ltb, Written, window_of, replaced, BitRange, always_clear, ppc64_form, InstructionWritten, bits_taken, ppc64_reads, IsInUnits, Bounds, Ppc64, BitMasking, Ppc64Form, D, Ds, taken_below, nat_lt, if◌then◌else◌, bit_at, w64, cast_unsigned, cases_lt, le-ltb, eqb-true, replaced, BitsWritten, Written, is_placed, bit_at_mod, bits_taken, is_dq_form, Ds, nat_lt, if◌then◌else◌, int_lt, bit_at, byte_len, w64, cases_lt, window_of, bit_at_mod, InstructionWritten, bits_taken, Ppc64, BitMasking, D}
 use Rattle.linker_elf.proofs.Placed.{reads_as}
 use Rattle.linker_elf.proofs.Taken.{taken_in_units}
 use Rattle.linker_reading.specs.Fields.{IsOfValue}
@@ -13,7 +13,7 @@ use Rattle.linker_reading.proofs.WrittenBits.{outside}
 
 -- ---- what is read
 
-pub ppc64_read : (f : Ppc64Instruction) (bits : BitRange) (reached : Bounds) (v : ℤ)
+pub ppc64_read : (f : Ppc64Form) (bits : BitRange) (reached : Bounds) (v : ℤ)
     (before after : List ℕ) → FitsSigned w64 v → bits.start < bits.end → bits.end ≤ 64
     → holds_bits (Ppc64 f) bits ≡ true → IsInUnits (BitMasking bits (Ppc64 f)) v before
     → InstructionWritten (Ppc64 f) bits v before after
@@ -70,7 +70,7 @@ ds_outside true taken x clear y w neg h ignored clears laid =
     by_low (suc (suc (suc zero))) l e = laid.placed 1 (record { value = 2; insn_bit = 2; added = 0; mark = replaced }) (omega arith) ∙ low_bit_kept taken x 3 h l
     by_low (suc (suc (suc (suc w)))) l e = absurd (omega arith)
 
-pub ppc64_outside : (f : Ppc64Instruction) (bits : BitRange) (taken x clear y w : ℕ) (neg : Bool) → taken < 2 ^ 64
+pub ppc64_outside : (f : Ppc64Form) (bits : BitRange) (taken x clear y w : ℕ) (neg : Bool) → taken < 2 ^ 64
     → is_instruction_bit (Ppc64 f) bits x w ≡ false → BitsWritten [] 0 x clear
     → Written (ppc64_form f) (number_placed (Ppc64 f) x taken) neg clear y → bit_at y w ≡ bit_at x w
 ppc64_outside Ds bits taken x clear y w neg h ignored clears laid = ds_outside (is_dq_form x) taken x clear y w neg h ignored clears laid
@@ -79,6 +79,6 @@ ppc64_outside f bits taken x clear y w neg h ignored clears laid =
 
 -- ---- its length
 
-pub ppc64_short : (f : Ppc64Instruction) → byte_len (ppc64_form f).window ≤ 8
+pub ppc64_short : (f : Ppc64Form) → byte_len (ppc64_form f).window ≤ 8
 ppc64_short D = omega arith
 ppc64_short f = omega arith

@@ -1,6 +1,6 @@
 -- What is read has some bits of 64, and no others.
 use Rattle.std.proofs.Common.{◌≡◌, ℕ, ◌+◌, ◌-◌, ◌*◌, ◌/◌, ◌%◌, ◌^◌, ◌<◌, ◌≤◌, refl, subst, arith, Bool, true, false, ltb, ◌&&◌, ℤ, Some, None, List, if◌then◌else◌, eqb, not, inl, inr}
-use Rattle.linker_reading.proofs.Imports.{and_from, and_parts, ltb-true, lt-ltb, le-ltb, cases_lt, mod_below, pow_pos, w64, cast_unsigned, window_of, BitRange, relocation_form, immediate_of, number_of_bytes, stays_movk, insn_at, is_low_jump, Bounds, sum_64, difference_64, AArch64Instruction, Movkz, Movnz, RelocationInstruction, RiscV, Ppc64, LoongArch64, AArch64, RelocationKind, RelocationSize, ByteSize, BitMasking}
+use Rattle.linker_reading.proofs.Imports.{and_from, and_parts, ltb-true, lt-ltb, le-ltb, cases_lt, mod_below, pow_pos, w64, cast_unsigned, window_of, BitRange, relocation_form, immediate_of, number_of_bytes, stays_movk, insn_at, is_low_jump, Bounds, sum_64, difference_64, AArch64Instruction, Movkz, Movnz, AnyForm, RiscV, Ppc64, LoongArch64, AArch64, RelocationKind, RowSize, ByteSize, BitMasking}
 use Rattle.linker_elf.specs.declared.elf.RelocationKind.TheVariants as kinds
 use Rattle.linker_reading.proofs.Ranges.{upper_below, moved_below}
 use Rattle.linker_reading.specs.Fields.{IsProper}
@@ -51,7 +51,7 @@ held_aarch64 Movnz bits reached order inside some =
 held_aarch64 f bits reached order inside some =
     within_held (immediate_of (AArch64 f)) bits inside some
 
-pub bits_are_held : (insn : RelocationInstruction) (bits : BitRange) (reached : Bounds)
+pub bits_are_held : (insn : AnyForm) (bits : BitRange) (reached : Bounds)
     → holds_some insn bits (bits_held insn bits reached) ≡ true
     → AreHeld bits.start (bits_held insn bits reached)
 bits_are_held insn bits reached h =
@@ -63,7 +63,7 @@ bits_are_held insn bits reached h =
     by_insn insn (ltb-true bits.start bits.end a.0) (omega arith)
     (ltb-true known.start known.end (and_parts (ltb known.start known.end) (holds_bits insn bits) b.1).0)
   where
-    by_insn : (g : RelocationInstruction) → bits.start < bits.end → bits.end ≤ 64
+    by_insn : (g : AnyForm) → bits.start < bits.end → bits.end ≤ 64
         → (bits_held g bits reached).start < (bits_held g bits reached).end
         → AreHeld bits.start (bits_held g bits reached)
     by_insn (AArch64 f) order inside some = held_aarch64 f bits reached order inside some
@@ -74,7 +74,7 @@ bits_are_held insn bits reached h =
     by_insn (LoongArch64 f) order inside some =
         within_held (immediate_of (LoongArch64 f)) bits inside some
 
-proper_bits : (insn : RelocationInstruction) (start : ℕ) (known : BitRange) (x : ℕ)
+proper_bits : (insn : AnyForm) (start : ℕ) (known : BitRange) (x : ℕ)
     → AreHeld start known → IsProper (bits_read insn start known x)
 proper_bits insn start known x h =
     let from = h.from in
@@ -90,7 +90,7 @@ proper_bits insn start known x h =
     }
 
 -- a MOVK has 16 bits
-pub held_at : (insn : RelocationInstruction) (bits : BitRange) (reached : Bounds) (x : ℕ)
+pub held_at : (insn : AnyForm) (bits : BitRange) (reached : Bounds) (x : ℕ)
     → holds_some insn bits (bits_held insn bits reached) ≡ true
     → holds_some (insn_at insn bits x) bits (bits_held (insn_at insn bits x) bits reached) ≡ true
 held_at (AArch64 Movnz) bits reached x h = by_movk (stays_movk (AArch64 Movnz) bits x)
@@ -136,7 +136,7 @@ some_of_bytes kind n some few = (omega arith, omega arith)
 
 -- ---- fields
 
-pub proper_field : (kind : RelocationKind) (size : RelocationSize) (reached : Bounds)
+pub proper_field : (kind : RelocationKind) (size : RowSize) (reached : Bounds)
     (bytes : List ℕ) → holds_field kind size reached ≡ true
     → IsProper (field_read kind size reached bytes)
 proper_field kind (ByteSize n) reached bytes h =

@@ -1,13 +1,13 @@
 -- Windows that differ in a field only, by its mask and by its row.
 use Rattle.std.proofs.Common.{◌≡◌, ◌↔◌, ℕ, ◌+◌, ◌-◌, ◌*◌, ◌<◌, ◌≤◌, Bool, true, false, ◌&&◌, ◌||◌, List, [], length, drop, refl, sym, ap, ◌∙◌, ⊎_elim, arith}
-use Rattle.linker_reading.proofs.Imports.{◌==◌, nat_lt, nat_le, slice_index, bit_at, cases_lt, lt-ltb, le-ltb, RelocationKindInfo, bit_at-zero}
+use Rattle.linker_reading.proofs.Imports.{◌==◌, nat_lt, nat_le, slice_index, bit_at, cases_lt, lt-ltb, le-ltb, RowInfo, bit_at-zero}
 use Rattle.linker_elf.specs.Relocate.{window_len}
 use Rattle.linker_reading.specs.FieldsOfBytes.{is_field_bit, is_size_bit, is_in, is_in_one, is_in_row, kept_index, IsSameBut, AreSameBut, AreSameButFor}
 use Rattle.linker_reading.specs.declared.recognise.fields.FieldBits.{FieldBits}
 use Rattle.linker_reading.proofs.X86WrittenChoices.{no_gap}
 
 -- a mask has a row's bits, of bytes that begin with its window
-abbrev pub HasBitsOf : RelocationKindInfo → List ℕ → ℕ → Type 0
+abbrev pub HasBitsOf : RowInfo → List ℕ → ℕ → Type 0
 HasBitsOf row bytes mask = (w : ℕ) → w < 64 → (bit_at mask w == 1) ≡ is_field_bit row bytes w
 
 first_false : (a : Bool) {b : Bool} → b ≡ false → (a && b) ≡ false
@@ -18,7 +18,7 @@ zero_has_none : (w : ℕ) → (bit_at 0 w == 1) ≡ false
 zero_has_none w = ap (λ n. n == 1) (bit_at-zero w)
 
 -- a test that holds below 64 only
-below_64 : (mask : ℕ) (row : RelocationKindInfo) (bytes : List ℕ) → HasBitsOf row bytes mask → (w : ℕ)
+below_64 : (mask : ℕ) (row : RowInfo) (bytes : List ℕ) → HasBitsOf row bytes mask → (w : ℕ)
     → (nat_lt w 64 && (bit_at mask w == 1)) ≡ is_field_bit row bytes w
 below_64 mask row bytes has w =
     ⊎_elim
@@ -26,7 +26,7 @@ below_64 mask row bytes has w =
     (λ h. ap (λ b. b && (bit_at mask w == 1)) (le-ltb w 64 h) ∙ ap (λ b. b && is_size_bit row.size row.kind bytes w) (sym (le-ltb w 64 h)))
     (cases_lt w 64)
 
-pub in_row : (field : FieldBits) (row : RelocationKindInfo) (bytes : List ℕ) (at : ℕ) → field.offset ≡ at → HasBitsOf row (drop at bytes) field.bits
+pub in_row : (field : FieldBits) (row : RowInfo) (bytes : List ℕ) (at : ℕ) → field.offset ≡ at → HasBitsOf row (drop at bytes) field.bits
     → (i j : ℕ) → is_in field i j ≡ is_in_row row at bytes i j
 in_row field row bytes at e has i j =
     ap (λ n. nat_le n i && (nat_lt (8 * (i - n) + j) 64 && (bit_at field.bits (8 * (i - n) + j) == 1))) e
@@ -59,7 +59,7 @@ of_whole : (Q : ℕ → ℕ → Bool) (a b : List ℕ)
 of_whole Q a b same i h j k ignored =
     ap (λ n. bit_at (slice_index a n) j) (no_gap i) ∙ same i h j k (sym (none_else Q i j) ∙ ignored)
 
-pub same_but_row : (row : RelocationKindInfo) (a b : List ℕ) (field : FieldBits) → length a ≡ length b → window_len row ≤ length a
+pub same_but_row : (row : RowInfo) (a b : List ℕ) (field : FieldBits) → length a ≡ length b → window_len row ≤ length a
     → field.offset ≡ 0 → HasBitsOf row a field.bits → AreSameBut (is_in field) [] 0 0 a b ↔ AreSameButFor row a b
 same_but_row row a b field lengths room at has =
     let tests : (i j : ℕ) → is_in field i j ≡ is_in_row row 0 a i j = in_row field row a 0 at has in (

@@ -1,6 +1,6 @@
 -- What is read after a write has the bits of the value that was written.
 use Rattle.std.proofs.Common.{FitsSigned, ◌≡◌, ℕ, ◌+◌, ◌-◌, ◌*◌, ◌/◌, ◌%◌, ◌^◌, ◌<◌, ◌≤◌, refl, sym, ◌∙◌, ap, subst, arith, Bool, true, false, ◌&&◌, ltb, List, ℤ, pos, unsigned_abs, if◌then◌else◌, ◌+ℤ◌}
-use Rattle.linker_reading.proofs.Imports.{w64, cast_unsigned, int_rem_euclid, and_parts, ltb-true, window_of, BitRange, mod_mod, aarch64_form, IsWithin, relocation_form, loongarch_form, InstructionWritten, IsAligned, stays_movk, is_low_jump, insn_at, low_part, IsInUnits, HoldsBits, IsWritten, SizeNumber, number_of_bytes, takes_size, Bounds, Movkz, Movnz, RelocationInstruction, RiscV, Ppc64, LoongArch64, AArch64, RelocationKind, RelocationKindInfo, RelocationSize, ByteSize, BitMasking, Shift10}
+use Rattle.linker_reading.proofs.Imports.{w64, cast_unsigned, int_rem_euclid, and_parts, ltb-true, window_of, BitRange, mod_mod, aarch64_form, IsWithin, relocation_form, loongarch_form, InstructionWritten, IsAligned, stays_movk, is_low_jump, insn_at, low_part, IsInUnits, HoldsBits, IsWritten, SizeNumber, number_of_bytes, takes_size, Bounds, Movkz, Movnz, AnyForm, RiscV, Ppc64, LoongArch64, AArch64, RelocationKind, RowInfo, RowSize, ByteSize, BitMasking, Shift10}
 use Rattle.linker_elf.specs.Relocate.{IsInWords, whole_number, is_supported}
 use Rattle.linker_elf.proofs.Relocated.{plain_written, movk_written, jump_written}
 use Rattle.linker_elf.specs.declared.elf.RelocationKind.TheVariants as kinds
@@ -62,7 +62,7 @@ bytes_value n number v fits most same =
 -- ---- rows
 
 -- Nowhere else a MOVK or a `jirl` stands after a write.
-place_kept : (insn : RelocationInstruction) (kind : RelocationKind) (bits : BitRange) (v : ℤ)
+place_kept : (insn : AnyForm) (kind : RelocationKind) (bits : BitRange) (v : ℤ)
     (before after : List ℕ)
     → stays_movk insn bits (window_of (relocation_form insn) before) ≡ false
     → is_low_jump insn kind (window_of (relocation_form insn) before) ≡ false
@@ -80,7 +80,7 @@ place_kept (LoongArch64 Shift10) kind bits v before after move jump w =
     (refl, low_jump_kept kind bits v before after w ∙ jump)
 place_kept (LoongArch64 f) kind bits v before after move jump w = (refl, refl)
 
-plain_field : (insn : RelocationInstruction) (kind : RelocationKind) (bits : BitRange)
+plain_field : (insn : AnyForm) (kind : RelocationKind) (bits : BitRange)
     (reached : Bounds) (v : ℤ) (after : List ℕ)
     → stays_movk insn bits (window_of (relocation_form insn) after) ≡ false
     → is_low_jump insn kind (window_of (relocation_form insn) after) ≡ false
@@ -97,7 +97,7 @@ plain_field insn kind bits reached v after move jump is =
     (window_of (relocation_form (if m then AArch64 Movkz else insn)) after)) v) (sym move) is)
 
 -- where MOVK stays
-movk_field : (insn : RelocationInstruction) (kind : RelocationKind) (bits : BitRange)
+movk_field : (insn : AnyForm) (kind : RelocationKind) (bits : BitRange)
     (reached : Bounds) (v : ℤ) (before after : List ℕ) → FitsSigned w64 v → bits.start < bits.end
     → bits.end ≤ 64 → IsWithin reached v
     → stays_movk insn bits (window_of (relocation_form insn) before) ≡ true
@@ -119,7 +119,7 @@ movk_field (Ppc64 f) kind bits reached v before after fits order inside within m
 movk_field (LoongArch64 f) kind bits reached v before after fits order inside within move w = cc
 
 -- where a `jirl` has the low part
-jump_field : (insn : RelocationInstruction) (kind : RelocationKind) (bits : BitRange)
+jump_field : (insn : AnyForm) (kind : RelocationKind) (bits : BitRange)
     (reached : Bounds) (v : ℤ) (before after : List ℕ) → FitsSigned w64 v
     → is_low_jump insn kind (window_of (relocation_form insn) before) ≡ true
     → IsAligned 4 v → IsWritten (BitMasking bits insn) kind v before after
@@ -137,7 +137,7 @@ jump_field (AArch64 f) kind bits reached v before after fits jump aligned w = cc
 jump_field (RiscV f) kind bits reached v before after fits jump aligned w = cc
 jump_field (Ppc64 f) kind bits reached v before after fits jump aligned w = cc
 
-pub field_written : (kind : RelocationKind) (size : RelocationSize) (reached : Bounds) (v : ℤ)
+pub field_written : (kind : RelocationKind) (size : RowSize) (reached : Bounds) (v : ℤ)
     (before after : List ℕ) → FitsSigned w64 v → holds_field kind size reached ≡ true
     → IsWithin reached v → HoldsBits size v before → IsInUnits size v before
     → IsInWords size kind v before
@@ -164,7 +164,7 @@ field_written kind (BitMasking bits insn) reached v before after fits holds with
     (is_low_jump insn kind (window_of (relocation_form insn) before)) refl refl
     (ltb-true bits.start bits.end a.0) (omega arith) c.1
   where
-    by_insn : (g : RelocationInstruction) (bits : BitRange) → bits.start < bits.end → bits.end ≤ 64
+    by_insn : (g : AnyForm) (bits : BitRange) → bits.start < bits.end → bits.end ≤ 64
         → holds_bits g bits ≡ true → HoldsBits (BitMasking bits g) v before
         → IsInUnits (BitMasking bits g) v before → InstructionWritten g bits v before after
         → IsOfValue (bits_read g bits.start (bits_held g bits reached)
@@ -194,7 +194,7 @@ field_written kind (BitMasking bits insn) reached v before after fits holds with
         jump_field insn kind bits reached v before after fits jump (words jump) w
 
 -- a row that can be written has an alignment
-pub some_alignment : (row : RelocationKindInfo) → is_supported row ≡ true → 0 < row.alignment
+pub some_alignment : (row : RowInfo) → is_supported row ≡ true → 0 < row.alignment
 some_alignment row h =
     let parts = and_parts (takes_size row.kind row.size && ltb 0 row.alignment)
     (ltb row.alignment (2 ^ 63)) h in

@@ -1,6 +1,6 @@
 -- What is read of an immediate after a write has the bits of the value that was written.
 use Rattle.std.proofs.Common.{FitsSigned, ◌≡◌, ℕ, ◌+◌, ◌-◌, ◌/◌, ◌%◌, ◌^◌, ◌<◌, ◌≤◌, sym, ◌∙◌, ap, arith, Bool, true, ◌&&◌, leb, ℤ, pos, negsuc, unsigned_abs, ◌+ℤ◌, ◌*ℤ◌, ◌≤ℤ◌, ◌<ℤ◌, neg_ℤ}
-use Rattle.linker_reading.proofs.Imports.{w64, cast_unsigned, int_rem_euclid, and_parts, ints, field, Written, IsClear, BitRange, mod_mod, is_sound_layout, low_of, high_of, bits_from, relocation_form, immediate_of, bits_taken, sum_64, RelocationInstruction, taken_below, taken_is_field}
+use Rattle.linker_reading.proofs.Imports.{w64, cast_unsigned, int_rem_euclid, and_parts, ints, field, Written, IsClear, BitRange, mod_mod, is_sound_layout, low_of, high_of, bits_from, relocation_form, immediate_of, bits_taken, sum_64, AnyForm, taken_below, taken_is_field}
 use Rattle.std.proofs.lemmas.Bool.{leb-true}
 use Rattle.linker_base.specs.Form.{IsSameModulo}
 use Rattle.linker_elf.specs.Elf.{relocation_layout}
@@ -13,7 +13,7 @@ use Rattle.linker_reading.specs.Reading.{bits_within}
 -- ---- forms of one field
 
 -- the immediate is that of the form
-abbrev is_laid_out : RelocationInstruction → Bool
+abbrev is_laid_out : AnyForm → Bool
 is_laid_out insn =
     leb (low_of (relocation_layout insn)) (immediate_of insn).start
     && (leb (immediate_of insn).end (high_of (relocation_layout insn))
@@ -25,7 +25,7 @@ unrounded n s e small =
     ap (λ y. field y s e) (let same : (n + 0) % 2 ^ 64 ≡ n = omega arith in same)
 
 -- an instruction in whose form the value's bits of the range were written
-pub plain_read : (insn : RelocationInstruction) → is_sound_layout (relocation_layout insn) ≡ true
+pub plain_read : (insn : AnyForm) → is_sound_layout (relocation_layout insn) ≡ true
     → is_laid_out insn ≡ true
     → (bits : BitRange) (v : ℤ) (neg : Bool) (old window number : ℕ) → FitsSigned w64 v
     → bits.start < bits.end → bits.end ≤ 64

@@ -1,6 +1,6 @@
 -- What a write leaves is what is recognised, without the deleted bytes.
 use Rattle.std.proofs.Common.{◌≡◌, ◌≤◌, ◌<◌, ℕ, ◌+◌, ◌-◌, Bool, ◌||◌, List, ◌++◌, length, take, drop, Option, Some, None, sym, ap, subst, ◌∙◌, ⊎_elim, arith, length-append, length-drop}
-use Rattle.linker_reading.proofs.Imports.{slice_index, if◌then◌else◌, bit_at, cases_lt, lt-ltb, le-ltb, get_or_append_left, get_or-append_right, get_or-take, get_or-drop, length-take-le, rewritten, offset_after, RelocationKindInfo}
+use Rattle.linker_reading.proofs.Imports.{slice_index, if◌then◌else◌, bit_at, cases_lt, lt-ltb, le-ltb, get_or_append_left, get_or-append_right, get_or-take, get_or-drop, length-take-le, rewritten, offset_after, RowInfo}
 use Rattle.linker_utils.specs.Relaxations.{relaxation_rewrite, relaxation_deleted}
 use Rattle.linker_reading.specs.FieldsOfBytes.{is_in_field, is_in_one, kept_index, AreSameBut}
 use Rattle.linker_reading.specs.Recognised.{Recogniser, DifferOnlyInFields, deleted_start, deleted_count}
@@ -45,7 +45,7 @@ same_without Q others start count a b inside same i h j k ignored =
     (ap (λ n. Q n j || is_in_one others n j) (no_gap at) ∙ ignored)
     ∙ ap (λ x. bit_at x j) (sym (kept_byte start count b i inside))
 
-left_without : (row : Option RelocationKindInfo) (deleted : Option DeletedBytes) (section whole : List ℕ) (at o : ℕ) (others : List FieldBits)
+left_without : (row : Option RowInfo) (deleted : Option DeletedBytes) (section whole : List ℕ) (at o : ℕ) (others : List FieldBits)
     → deleted_start deleted o + deleted_count deleted ≤ length section → DifferOnlyInFields section at row None o others whole
     → DifferOnlyInFields section at row deleted o others (without_deleted deleted o whole)
 left_without row deleted section whole at o others inside left =
@@ -66,6 +66,6 @@ written_choice_is_left it c row original o v written others e can inside room by
     let left = written_is_left row section written at o others inside (row_changes_field row v (drop at section) written bytes writes) in
     record {
       rewritable = can;
-      left = subst (λ (found : Option RelocationKindInfo). DifferOnlyInFields section at found deleted o others (without_deleted deleted o (take at section ++ written))) (sym e)
+      left = subst (λ (found : Option RowInfo). DifferOnlyInFields section at found deleted o others (without_deleted deleted o (take at section ++ written))) (sym e)
           (left_without (Some row) deleted section (take at section ++ written) at o others room left);
     }

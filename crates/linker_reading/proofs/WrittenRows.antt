@@ -1,6 +1,6 @@
 -- A write of a row's value to bytes changes bits of its field only.
 use Rattle.std.proofs.Common.{◌≡◌, ◌≤◌, ◌<◌, ℕ, zero, suc, ◌+◌, ◌-◌, ◌*◌, ◌/◌, ◌%◌, ◌^◌, Bool, true, false, ◌&&◌, List, ◌++◌, length, take, drop, replicate, get_or, refl, sym, ap, subst, ◌∙◌, ⊎_elim, arith, ℤ, pos, negsuc}
-use Rattle.linker_reading.proofs.Imports.{nat_lt, nat_le, slice_index, if◌then◌else◌, int_lt, unsigned_abs, bit_at, byte_len, w64, to_le_bytes, int_rem_euclid, cases_lt, lt-ltb, le-leb, and_parts, ltb-true, both_ways, and_from, get_or-drop, get_or_append_left, get_or-append_right, get_or-take, length-take-le, bit_at_cat_high, window_of, BitRange, bit_at_mod, bit_at_shr, aarch64_form, relocation_form, loongarch_form, ppc64_form, riscv_form, insn_at, bits_at, is_low_jump, IsWritten, InstructionWritten, size_len, bits_taken, takes_size, SizeNumber, number_of_bytes, number_written, low_bytes, RelocationInstruction, AArch64, RiscV, Ppc64, LoongArch64, RelocationKind, AbsoluteSetWord6, AbsoluteAdditionWord6, AbsoluteSubtractionWord6, RelocationKindInfo, RelocationSize, ByteSize, BitMasking, subst_below}
+use Rattle.linker_reading.proofs.Imports.{nat_lt, nat_le, slice_index, if◌then◌else◌, int_lt, unsigned_abs, bit_at, byte_len, w64, to_le_bytes, int_rem_euclid, cases_lt, lt-ltb, le-leb, and_parts, ltb-true, both_ways, and_from, get_or-drop, get_or_append_left, get_or-append_right, get_or-take, length-take-le, bit_at_cat_high, window_of, BitRange, bit_at_mod, bit_at_shr, aarch64_form, relocation_form, loongarch_form, ppc64_form, riscv_form, insn_at, bits_at, is_low_jump, IsWritten, InstructionWritten, size_len, bits_taken, takes_size, SizeNumber, number_of_bytes, number_written, low_bytes, AnyForm, AArch64, RiscV, Ppc64, LoongArch64, RelocationKind, AbsoluteSetWord6, AbsoluteAdditionWord6, AbsoluteSubtractionWord6, RowInfo, RowSize, ByteSize, BitMasking, subst_below}
 use Rattle.std.specs.Prelude.{◌+ℤ◌, ◌-ℤ◌}
 use Rattle.std.proofs.lemmas.List.{drop_at}
 use Rattle.linker_elf.specs.Relocate.{value_at, WritesRow}
@@ -16,13 +16,13 @@ use Rattle.linker_reading.proofs.WrittenBits.{taken_small}
 
 -- ---- instructions
 
-short_window : (insn : RelocationInstruction) → byte_len (relocation_form insn).window ≤ 8
+short_window : (insn : AnyForm) → byte_len (relocation_form insn).window ≤ 8
 short_window (AArch64 f) = omega (arith, aarch64_word f)
 short_window (RiscV f) = riscv_short f
 short_window (Ppc64 f) = ppc64_short f
 short_window (LoongArch64 f) = loongarch_short f
 
-instruction_outside : (insn : RelocationInstruction) (bits : BitRange) (v : ℤ) (before after : List ℕ) (w : ℕ) → bits.end - bits.start ≤ 64
+instruction_outside : (insn : AnyForm) (bits : BitRange) (v : ℤ) (before after : List ℕ) (w : ℕ) → bits.end - bits.start ≤ 64
     → w < 8 * byte_len (relocation_form insn).window → is_instruction_bit insn bits (window_of (relocation_form insn) before) w ≡ false
     → InstructionWritten insn bits v before after → bit_at (window_of (relocation_form insn) after) w ≡ bit_at (window_of (relocation_form insn) before) w
 instruction_outside (AArch64 f) bits v before after w few h ignored written =
@@ -49,7 +49,7 @@ second true b e f = f
 second false b e f = cc
 
 -- a bit of a byte of the window that is no bit of the instruction's field
-in_window : (insn : RelocationInstruction) (bits : BitRange) (v : ℤ) (before after : List ℕ) (i j : ℕ) → AreBytes before after → bits.end - bits.start ≤ 64
+in_window : (insn : AnyForm) (bits : BitRange) (v : ℤ) (before after : List ℕ) (i j : ℕ) → AreBytes before after → bits.end - bits.start ≤ 64
     → i < byte_len (relocation_form insn).window → j < 8
     → (nat_le 0 i && (nat_lt (8 * (i - 0) + j) 64 && is_instruction_bit insn bits (window_of (relocation_form insn) before) (8 * (i - 0) + j))) ≡ false
     → InstructionWritten insn bits v before after → bit_at (slice_index before i) j ≡ bit_at (slice_index after i) j
@@ -71,7 +71,7 @@ following n before after i h rest =
     ap (λ l. get_or before l 0) at ∙ sym (get_or-drop n before (i - n) 0) ∙ ap (λ l. get_or l (i - n) 0) (sym rest)
     ∙ get_or-drop n after (i - n) 0 ∙ ap (λ l. get_or after l 0) (sym at)
 
-instruction_same : (insn : RelocationInstruction) (bits : BitRange) (v : ℤ) (before after : List ℕ) → AreBytes before after → bits.end - bits.start ≤ 64
+instruction_same : (insn : AnyForm) (bits : BitRange) (v : ℤ) (before after : List ℕ) → AreBytes before after → bits.end - bits.start ≤ 64
     → InstructionWritten insn bits v before after → (i : ℕ)
     → IsSameBut (λ j. nat_le 0 i && (nat_lt (8 * (i - 0) + j) 64 && is_instruction_bit insn bits (window_of (relocation_form insn) before) (8 * (i - 0) + j)))
     (slice_index before i) (slice_index after i)
@@ -182,13 +182,13 @@ whole_kind AbsoluteAdditionWord6 e w = cc
 whole_kind AbsoluteSubtractionWord6 e w = cc
 whole_kind kind e w = refl
 
-module _ (row : RelocationKindInfo) (v : ℤ) (before after : List ℕ) (bytes : AreBytes before after) (writes : WritesRow row v before after) where
-  takes : (size : RelocationSize) → row.size ≡ size → takes_size row.kind size ≡ true
+module _ (row : RowInfo) (v : ℤ) (before after : List ℕ) (bytes : AreBytes before after) (writes : WritesRow row v before after) where
+  takes : (size : RowSize) → row.size ≡ size → takes_size row.kind size ≡ true
   takes size e =
       first_part (takes_size row.kind size) (nat_lt 0 row.alignment) (nat_lt row.alignment (2 ^ 63))
       (subst (λ s. (takes_size row.kind s && nat_lt 0 row.alignment && nat_lt row.alignment (2 ^ 63)) ≡ true) e writes.accepted.supported)
 
-  all_same : (size : RelocationSize) → row.size ≡ size
+  all_same : (size : RowSize) → row.size ≡ size
       → ((i : ℕ) → IsSameBut (λ j. nat_le 0 i && (nat_lt (8 * (i - 0) + j) 64 && is_size_bit size row.kind (drop 0 before) (8 * (i - 0) + j))) (slice_index before i) (slice_index after i))
       → AreSameButFor row before after
   all_same size e same =
@@ -217,7 +217,7 @@ module _ (row : RelocationKindInfo) (v : ℤ) (before after : List ℕ) (bytes :
   few_at true bits below = omega arith
   few_at false bits below = omega arith
 
-  of_size : (size : RelocationSize) → row.size ≡ size → AreSameButFor row before after
+  of_size : (size : RowSize) → row.size ≡ size → AreSameButFor row before after
   of_size (ByteSize n) e = of_bytes n (is_low_six row.kind) e refl
   of_size (BitMasking bits insn) e =
       let parts = and_parts (nat_lt bits.start bits.end && nat_lt bits.end 65) _ (takes (BitMasking bits insn) e) in
@@ -228,5 +228,5 @@ module _ (row : RelocationKindInfo) (v : ℤ) (before after : List ℕ) (bytes :
       (subst (λ s. IsWritten s row.kind v before after) e writes.written))
 
 -- whatever the row is
-pub row_changes_field : (row : RelocationKindInfo) → ChangesField row
+pub row_changes_field : (row : RowInfo) → ChangesField row
 row_changes_field row v before after bytes writes = of_size row v before after bytes writes row.size refl

@@ -1,6 +1,6 @@
 -- A write of whole bytes leaves all others, and what it leaves is what is recognised.
 use Rattle.std.proofs.Common.{◌≡◌, ◌≤◌, ◌<◌, ℕ, ◌+◌, ◌-◌, ◌*◌, ◌^◌, Bool, true, false, ◌&&◌, List, ◌++◌, length, take, drop, get_or, Option, Some, None, refl, sym, ap, subst, ◌∙◌, ⊎_elim, arith, length-append, length-drop}
-use Rattle.linker_reading.proofs.Imports.{nat_lt, nat_le, slice_index, if◌then◌else◌, bit_at, w64, to_le_bytes, cases_lt, lt-ltb, le-ltb, le-leb, ltb-true, and_from, and_parts, both_ways, false≢true, get_or_append_left, get_or-append_right, get_or-take, get_or-drop, length-take-le, IsWritten, takes_size, size_len, low_bytes, number_written, number_of_bytes, RelocationKind, RelocationKindInfo, RelocationSize, ByteSize, BitMasking, rewritten, offset_after, AbsoluteSetWord6, AbsoluteAdditionWord6, AbsoluteSubtractionWord6}
+use Rattle.linker_reading.proofs.Imports.{nat_lt, nat_le, slice_index, if◌then◌else◌, bit_at, w64, to_le_bytes, cases_lt, lt-ltb, le-ltb, le-leb, ltb-true, and_from, and_parts, both_ways, false≢true, get_or_append_left, get_or-append_right, get_or-take, get_or-drop, length-take-le, IsWritten, takes_size, size_len, low_bytes, number_written, number_of_bytes, RelocationKind, RowInfo, RowSize, ByteSize, BitMasking, rewritten, offset_after, AbsoluteSetWord6, AbsoluteAdditionWord6, AbsoluteSubtractionWord6}
 use Rattle.std.proofs.lemmas.Bool.{or_parts}
 use Rattle.linker_elf.specs.X86Relocations.{x86_64_row}
 use Rattle.linker_elf.specs.declared.x86_64.relocations.X86_64Relocation.{X86_64Relocation}
@@ -14,7 +14,7 @@ use Rattle.linker_reading.specs.declared.recognise.fields.FieldBits.{FieldBits}
 -- ---- whole bytes
 
 -- all bits of the bytes are the value's
-abbrev pub IsWhole : RelocationSize → RelocationKind → Type 0
+abbrev pub IsWhole : RowSize → RelocationKind → Type 0
 IsWhole (ByteSize n) kind = (w : ℕ) → is_value_bit kind w ≡ true
 IsWhole (BitMasking bits insn) kind = ⊥
 
@@ -51,7 +51,7 @@ bytes_length : (n number : ℕ) (before after : List ℕ) → n < 9 → n ≤ le
 bytes_length n number before after small room e =
     omega (arith, ap length e, length-append (low_bytes n number) (drop n before), low_length n number small, length-drop n before)
 
-by_size : (row : RelocationKindInfo) (size : RelocationSize) → row.size ≡ size → IsWhole size row.kind → WritesField row
+by_size : (row : RowInfo) (size : RowSize) → row.size ≡ size → IsWhole size row.kind → WritesField row
 by_size row (BitMasking bits insn) e whole v before after writes = absurd whole
 by_size row (ByteSize n) e whole v before after writes =
     let supported : (takes_size row.kind (ByteSize n) && nat_lt 0 row.alignment && nat_lt row.alignment (2 ^ 63)) ≡ true =
@@ -67,7 +67,7 @@ by_size row (ByteSize n) e whole v before after writes =
           (bytes_keep row.kind n (number_written row.kind v (number_of_bytes n before)) before after small whole room written i h);
     }
 
-pub whole_writes_field : (row : RelocationKindInfo) → IsWhole row.size row.kind → WritesField row
+pub whole_writes_field : (row : RowInfo) → IsWhole row.size row.kind → WritesField row
 whole_writes_field row whole = by_size row row.size refl whole
 
 -- ---- bytes after others
@@ -81,7 +81,7 @@ with_others Q others a b same i h j k ignored =
     ap (λ n. bit_at (slice_index a n) j) (no_gap i)
     ∙ same i h j k (sym (ap (λ n. Q n j) (no_gap i)) ∙ (or_parts (Q (kept_index 0 0 i) j) (is_in_one others (kept_index 0 0 i) j) ignored).0)
 
-moved : (row : RelocationKindInfo) (at : ℕ) (bytes : List ℕ) (i j : ℕ) → at ≤ i → is_in_row row at bytes i j ≡ false → is_in_row row 0 (drop at bytes) (i - at) j ≡ false
+moved : (row : RowInfo) (at : ℕ) (bytes : List ℕ) (i j : ℕ) → at ≤ i → is_in_row row at bytes i j ≡ false → is_in_row row 0 (drop at bytes) (i - at) j ≡ false
 moved row at bytes i j from ignored =
     let same : i - at - 0 ≡ i - at = omega arith in
     ap (λ b. b && is_field_bit row (drop at bytes) (8 * (i - at - 0) + j)) (le-leb 0 (i - at) (omega arith))
@@ -89,7 +89,7 @@ moved row at bytes i j from ignored =
     ∙ ap (λ b. b && is_field_bit row (drop at bytes) (8 * (i - at) + j)) (sym (le-leb at i from))
     ∙ ignored
 
-pub written_is_left : (row : RelocationKindInfo) (section written : List ℕ) (at o : ℕ) (others : List FieldBits) → at ≤ length section
+pub written_is_left : (row : RowInfo) (section written : List ℕ) (at o : ℕ) (others : List FieldBits) → at ≤ length section
     → AreSameButFor row (drop at section) written → DifferOnlyInFields section at (Some row) None o others (take at section ++ written)
 written_is_left row section written at o others inside same =
     let front : length (take at section) ≡ at = length-take-le at section inside in
@@ -126,16 +126,16 @@ whole_kind AbsoluteAdditionWord6 e w = absurd (false≢true e)
 whole_kind AbsoluteSubtractionWord6 e w = absurd (false≢true e)
 whole_kind kind e w = refl
 
-is_whole_size : RelocationSize → RelocationKind → Bool
+is_whole_size : RowSize → RelocationKind → Bool
 is_whole_size (ByteSize n) kind = is_whole_kind kind
 is_whole_size (BitMasking bits insn) kind = false
 
-whole_size : (size : RelocationSize) (kind : RelocationKind) → is_whole_size size kind ≡ true → IsWhole size kind
+whole_size : (size : RowSize) (kind : RelocationKind) → is_whole_size size kind ≡ true → IsWhole size kind
 unfolding is_whole_size
 whole_size (ByteSize n) kind e = whole_kind kind e
 whole_size (BitMasking bits insn) kind e = absurd (false≢true e)
 
-is_whole_row : Option RelocationKindInfo → Bool
+is_whole_row : Option RowInfo → Bool
 is_whole_row None = true
 is_whole_row (Some row) = is_whole_size row.size row.kind
 
@@ -144,7 +144,7 @@ unfolding is_whole_row is_whole_size is_whole_kind
 x86_is_whole (r.Other r_type) = refl
 x86_is_whole _ = refl
 
-of_whole_row : (found : Option RelocationKindInfo) (row : RelocationKindInfo) → is_whole_row found ≡ true → found ≡ Some row → IsWhole row.size row.kind
+of_whole_row : (found : Option RowInfo) (row : RowInfo) → is_whole_row found ≡ true → found ≡ Some row → IsWhole row.size row.kind
 unfolding is_whole_row
 of_whole_row found row whole e = whole_size row.size row.kind (sym (ap is_whole_row e) ∙ whole)
 
@@ -155,6 +155,6 @@ x86_written_is_left c row original o v written others e can inside writes =
     (field v (drop (offset_after (x86_64_rewrite c.kind) o) (rewritten (x86_64_rewrite c.kind) original o)) written writes) in
     record {
       rewritable = can;
-      left = subst (λ (found : Option RelocationKindInfo). DifferOnlyInFields (rewritten (x86_64_rewrite c.kind) original o) (offset_after (x86_64_rewrite c.kind) o) found None o others
+      left = subst (λ (found : Option RowInfo). DifferOnlyInFields (rewritten (x86_64_rewrite c.kind) original o) (offset_after (x86_64_rewrite c.kind) o) found None o others
           (take (offset_after (x86_64_rewrite c.kind) o) (rewritten (x86_64_rewrite c.kind) original o) ++ written)) (sym e) left;
     }

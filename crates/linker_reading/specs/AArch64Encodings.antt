@@ -7,15 +7,15 @@ use Rattle.linker_base.specs.Bits.{field}
 use Rattle.linker_elf.specs.AArch64.{access_scale, moved_value, shift_of}
 use Rattle.linker_elf.specs.declared.aarch64.forms.AArch64Instruction.{AArch64Instruction}
 use Rattle.linker_elf.specs.declared.aarch64.forms.AArch64Instruction.TheVariants as aarch64
-use Rattle.linker_elf.specs.declared.elf.RelocationInstruction.{RelocationInstruction}
-use Rattle.linker_elf.specs.declared.elf.RelocationInstruction.TheVariants.{AArch64}
+use Rattle.linker_elf.specs.declared.elf.AnyForm.{AnyForm}
+use Rattle.linker_elf.specs.declared.elf.AnyForm.TheVariants.{AArch64}
 use Rattle.linker_reading.specs.Opcodes.{Encoding, of_len}
 use Rattle.linker_reading.specs.Reading.{number_held}
 
-abbrev pub a64 : ℕ → ℕ → List RelocationInstruction → Encoding
+abbrev pub a64 : ℕ → ℕ → List AnyForm → Encoding
 a64 mask bits forms = of_len 4 mask bits forms
 
-abbrev pub load_or_store : List RelocationInstruction
+abbrev pub load_or_store : List AnyForm
 load_or_store = AArch64 aarch64.LdSt ∷ AArch64 aarch64.MachOLow12 ∷ []
 
 abbrev pub aarch64_encodings : List Encoding

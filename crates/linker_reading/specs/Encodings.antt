@@ -6,9 +6,9 @@ use Rattle.std.specs.Int.{w64, byte_len, cast_unsigned, cast_signed}
 use Rattle.linker_base.specs.Form.{window_of}
 use Rattle.linker_elf.specs.Elf.{relocation_form}
 use Rattle.linker_elf.specs.Relocate.{number_of_bytes}
-use Rattle.linker_elf.specs.declared.elf.RelocationInstruction.{RelocationInstruction}
-use Rattle.linker_elf.specs.declared.elf.RelocationInstruction.TheVariants.{RiscV, Ppc64}
-use Rattle.linker_elf.specs.declared.elf.RelocationInstruction.TheVariants.{LoongArch64, AArch64}
+use Rattle.linker_elf.specs.declared.elf.AnyForm.{AnyForm}
+use Rattle.linker_elf.specs.declared.elf.AnyForm.TheVariants.{RiscV, Ppc64}
+use Rattle.linker_elf.specs.declared.elf.AnyForm.TheVariants.{LoongArch64, AArch64}
 use Rattle.linker_reading.specs.AArch64Encodings.{aarch64_encodings, aarch64_number, aarch64_scale}
 use Rattle.linker_reading.specs.LoongArchEncodings.{loongarch_encodings}
 use Rattle.linker_reading.specs.LoongArchEncodings.{loongarch_number, loongarch_scale}
@@ -31,47 +31,47 @@ encodings architectures.Ppc64 = ppc64_encodings
 encodings architectures.X86_64 = []
 
 -- the forms of the instruction that bytes begin with, and of both where it and the next are a pair
-abbrev pub forms_of : Architecture → List ℕ → List RelocationInstruction
+abbrev pub forms_of : Architecture → List ℕ → List AnyForm
 forms_of architecture bytes =
     let len = min (length bytes) 8 in
     first_forms (encodings architecture) len (number_of_bytes len bytes)
 
 -- whose forms these are
-abbrev pub architecture_of : RelocationInstruction → Architecture
+abbrev pub architecture_of : AnyForm → Architecture
 architecture_of (AArch64 f) = architectures.AArch64
 architecture_of (RiscV f) = architectures.RiscV
 architecture_of (Ppc64 f) = architectures.Ppc64
 architecture_of (LoongArch64 f) = architectures.LoongArch64
 
 -- bytes begin with an instruction of the form
-pub record HasForm (insn : RelocationInstruction) (bytes : List ℕ) : Type 0 where
+pub record HasForm (insn : AnyForm) (bytes : List ℕ) : Type 0 where
   pub room : byte_len (relocation_form insn).window ≤ length bytes
   pub listed : IsOneOf insn (forms_of (architecture_of insn) bytes)
 
 -- ---- what the machine makes of the immediate
 
 -- the number in the immediate
-abbrev pub immediate_number : RelocationInstruction → ℕ → ℤ
+abbrev pub immediate_number : AnyForm → ℕ → ℤ
 immediate_number (AArch64 f) x = aarch64_number f x
 immediate_number (RiscV f) x = number_held (RiscV f) x
 immediate_number (Ppc64 f) x = number_held (Ppc64 f) x
 immediate_number (LoongArch64 f) x = loongarch_number f x
 
 -- log2 of what the number counts: bytes of a distance or an offset, or what an addition adds
-abbrev pub scale_of : RelocationInstruction → ℕ → ℕ
+abbrev pub scale_of : AnyForm → ℕ → ℕ
 scale_of (AArch64 f) x = aarch64_scale f x
 scale_of (RiscV f) x = 0
 scale_of (Ppc64 f) x = ppc64_scale f x
 scale_of (LoongArch64 f) x = loongarch_scale f x
 
 -- What the machine makes of the immediate, in two's complement of 64 bits.
-abbrev pub operand_of : RelocationInstruction → ℕ → ℤ
+abbrev pub operand_of : AnyForm → ℕ → ℤ
 operand_of insn x =
     cast_signed w64
     (cast_unsigned w64 (immediate_number insn x) * 2 ^ scale_of insn x % 2 ^ 64)
 
 -- It is read exactly where the bytes begin with an instruction of the form.
-abbrev pub IsOperand : RelocationInstruction → List ℕ → Option ℤ → Type 0
+abbrev pub IsOperand : AnyForm → List ℕ → Option ℤ → Type 0
 IsOperand insn bytes None = HasForm insn bytes → ⊥
 IsOperand insn bytes (Some v) =
     HasForm insn bytes × (v ≡ operand_of insn (window_of (relocation_form insn) bytes))

@@ -12,17 +12,17 @@ use Rattle.linker_elf.specs.LoongArch.{shift10_low}
 use Rattle.linker_elf.specs.Relocate.{is_dq_form, window_len, insn_at, bits_at}
 use Rattle.linker_elf.specs.declared.aarch64.forms.AArch64Instruction.TheVariants.{Movnz}
 use Rattle.linker_elf.specs.declared.loongarch64.forms.LoongArch64Instruction.TheVariants.{Shift10}
-use Rattle.linker_elf.specs.declared.ppc64.forms.Ppc64Instruction.TheVariants.{Ds}
-use Rattle.linker_elf.specs.declared.elf.RelocationInstruction.{RelocationInstruction}
-use Rattle.linker_elf.specs.declared.elf.RelocationInstruction.TheVariants.{AArch64, LoongArch64}
-use Rattle.linker_elf.specs.declared.elf.RelocationInstruction.TheVariants.{Ppc64}
+use Rattle.linker_elf.specs.declared.ppc64.forms.Ppc64Form.TheVariants.{Ds}
+use Rattle.linker_elf.specs.declared.elf.AnyForm.{AnyForm}
+use Rattle.linker_elf.specs.declared.elf.AnyForm.TheVariants.{AArch64, LoongArch64}
+use Rattle.linker_elf.specs.declared.elf.AnyForm.TheVariants.{Ppc64}
 use Rattle.linker_elf.specs.declared.elf.RelocationKind.{RelocationKind}
 use Rattle.linker_elf.specs.declared.elf.RelocationKind.TheVariants.{AbsoluteSetWord6}
 use Rattle.linker_elf.specs.declared.elf.RelocationKind.TheVariants.{AbsoluteAdditionWord6}
 use Rattle.linker_elf.specs.declared.elf.RelocationKind.TheVariants.{AbsoluteSubtractionWord6}
-use Rattle.linker_elf.specs.declared.elf.RelocationKindInfo.{RelocationKindInfo}
-use Rattle.linker_elf.specs.declared.elf.RelocationSize.{RelocationSize}
-use Rattle.linker_elf.specs.declared.elf.RelocationSize.TheVariants.{ByteSize, BitMasking}
+use Rattle.linker_elf.specs.declared.elf.RowInfo.{RowInfo}
+use Rattle.linker_elf.specs.declared.elf.RowSize.{RowSize}
+use Rattle.linker_elf.specs.declared.elf.RowSize.TheVariants.{ByteSize, BitMasking}
 use Rattle.linker_reading.specs.declared.recognise.fields.FieldBits.{FieldBits}
 
 -- ---- the bits that a write of a row may change
@@ -37,7 +37,7 @@ is_value_bit kind w = true
 -- Of an instruction those of its form. `Movnz` also has an opcode, of which bit 31 stays. An
 -- immediate of at most 12 bits in a LoongArch `Shift10` leaves the bits above it, which are only
 -- ORed. A word of DQ-form keeps its lowest four bits.
-abbrev pub is_instruction_bit : RelocationInstruction → BitRange → ℕ → ℕ → Bool
+abbrev pub is_instruction_bit : AnyForm → BitRange → ℕ → ℕ → Bool
 is_instruction_bit (AArch64 Movnz) bits x w =
     is_placed ((relocation_form (AArch64 Movnz)).places x) w || nat_lt 22 w && nat_lt w 31
 is_instruction_bit (LoongArch64 Shift10) bits x w =
@@ -50,14 +50,14 @@ is_instruction_bit insn bits x w = is_placed ((relocation_form insn).places x) w
 
 -- Of the number that the window's bytes make; of at most 8 bytes. Of a MOVK those of that form, and
 -- of a `jirl` at the low part of an address all 16 bits.
-abbrev pub is_size_bit : RelocationSize → RelocationKind → List ℕ → ℕ → Bool
+abbrev pub is_size_bit : RowSize → RelocationKind → List ℕ → ℕ → Bool
 is_size_bit (ByteSize n) kind bytes w = is_value_bit kind w && nat_lt w (8 * n)
 is_size_bit (BitMasking bits insn) kind bytes w =
     let word = window_of (relocation_form insn) bytes in
     is_instruction_bit (insn_at insn bits word) (bits_at insn kind bits word)
     (window_of (relocation_form (insn_at insn bits word)) bytes) w
 
-abbrev pub is_field_bit : RelocationKindInfo → List ℕ → ℕ → Bool
+abbrev pub is_field_bit : RowInfo → List ℕ → ℕ → Bool
 is_field_bit row bytes w = nat_lt w 64 && is_size_bit row.size row.kind bytes w
 
 -- ---- bytes that differ in some bits only
@@ -73,11 +73,11 @@ abbrev pub is_in_one : List FieldBits → ℕ → ℕ → Bool
 is_in_one fields i j = list_any (λ (field : FieldBits). is_in field i j) fields
 
 -- it is a bit of the row's field at an offset of bytes
-abbrev pub is_in_row : RelocationKindInfo → ℕ → List ℕ → ℕ → ℕ → Bool
+abbrev pub is_in_row : RowInfo → ℕ → List ℕ → ℕ → ℕ → Bool
 is_in_row row at bytes i j = nat_le at i && is_field_bit row (drop at bytes) (8 * (i - at) + j)
 
 -- it is one of the field of a relocation that may have no row
-abbrev pub is_in_field : Option RelocationKindInfo → ℕ → List ℕ → ℕ → ℕ → Bool
+abbrev pub is_in_field : Option RowInfo → ℕ → List ℕ → ℕ → ℕ → Bool
 is_in_field None at bytes i j = false
 is_in_field (Some row) at bytes i j = is_in_row row at bytes i j
 
@@ -99,7 +99,7 @@ AreSameBut is_in_field others start count a b =
     (slice_index a (kept_index start count i)) (slice_index b i)
 
 -- Two windows have the same length, in which the row's field lies, and differ in no other bit.
-pub record AreSameButFor (row : RelocationKindInfo) (a b : List ℕ) : Type 0 where
+pub record AreSameButFor (row : RowInfo) (a b : List ℕ) : Type 0 where
   pub lengths : length a ≡ length b
   pub room : window_len row ≤ length a
   pub same : (i : ℕ) → i < length a

@@ -4,14 +4,14 @@
 use Rattle.std.specs.Prelude.{ℕ, ◌==◌, Bool, ◌&&◌, ◌||◌, nat_lt}
 use Rattle.std.specs.Prelude.{if◌then◌else◌, List, [], ◌∷◌, ℤ, pos}
 use Rattle.linker_base.specs.Bits.{field, signed}
-use Rattle.linker_elf.specs.declared.elf.RelocationInstruction.{RelocationInstruction}
-use Rattle.linker_elf.specs.declared.elf.RelocationInstruction.TheVariants.{LoongArch64}
+use Rattle.linker_elf.specs.declared.elf.AnyForm.{AnyForm}
+use Rattle.linker_elf.specs.declared.elf.AnyForm.TheVariants.{LoongArch64}
 use Rattle.linker_elf.specs.declared.loongarch64.forms.LoongArch64Instruction.{LoongArch64Instruction}
 use Rattle.linker_elf.specs.declared.loongarch64.forms.LoongArch64Instruction.TheVariants as loongarch
 use Rattle.linker_reading.specs.Opcodes.{Encoding, of_len, pair_of}
 use Rattle.linker_reading.specs.Reading.{number_held}
 
-abbrev pub la : ℕ → ℕ → List RelocationInstruction → Encoding
+abbrev pub la : ℕ → ℕ → List AnyForm → Encoding
 la mask bits forms = of_len 4 mask bits forms
 
 abbrev pub loongarch_encodings : List Encoding

@@ -2,7 +2,7 @@
 use Rattle.std.specs.Prelude.{ℕ, ◌+◌, ◌*◌, ◌^◌, ◌==◌, Bool, true, ◌&&◌, nat_le}
 use Rattle.std.specs.Prelude.{if◌then◌else◌, List, [], ◌∷◌, bit_and, Option, Some, None}
 use Rattle.linker_base.specs.Bits.{field}
-use Rattle.linker_elf.specs.declared.elf.RelocationInstruction.{RelocationInstruction}
+use Rattle.linker_elf.specs.declared.elf.AnyForm.{AnyForm}
 
 -- An instruction, or two that make one value, of `len` bytes: under the mask, the bits of its
 -- opcode; where two fields of registers begin that have to be the same; and the forms of its
@@ -12,14 +12,14 @@ pub record Encoding : Type 0 where
   pub mask : ℕ
   pub bits : ℕ
   pub registers : Option (ℕ × ℕ)
-  pub forms : List RelocationInstruction
+  pub forms : List AnyForm
 
-abbrev pub of_len : ℕ → ℕ → ℕ → List RelocationInstruction → Encoding
+abbrev pub of_len : ℕ → ℕ → ℕ → List AnyForm → Encoding
 of_len len mask bits forms =
     record { len = len; mask = mask; bits = bits; registers = None; forms = forms }
 
 -- two instructions, by the masks and opcodes of both, whose registers at these bits are the same
-abbrev pub pair_of : ℕ → ℕ → ℕ → ℕ → ℕ × ℕ → List RelocationInstruction → Encoding
+abbrev pub pair_of : ℕ → ℕ → ℕ → ℕ → ℕ × ℕ → List AnyForm → Encoding
 pair_of mask bits next_mask next_bits registers forms =
     record {
       len = 8;
@@ -40,6 +40,6 @@ is_encoded e len x =
     nat_le e.len len && (bit_and x e.mask == e.bits && have_same e.registers x)
 
 -- the forms of the first instruction of a list that is there
-abbrev pub first_forms : List Encoding → ℕ → ℕ → List RelocationInstruction
+abbrev pub first_forms : List Encoding → ℕ → ℕ → List AnyForm
 first_forms [] len x = []
 first_forms (e ∷ es) len x = if is_encoded e len x then e.forms else first_forms es len x

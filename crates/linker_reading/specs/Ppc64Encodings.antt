@@ -4,13 +4,13 @@
 use Rattle.std.specs.Prelude.{ℕ, ◌+◌, ◌*◌, ◌^◌, ◌==◌, if◌then◌else◌, List, [], ◌∷◌}
 use Rattle.std.specs.Int.{bit_at}
 use Rattle.linker_base.specs.Bits.{field}
-use Rattle.linker_elf.specs.declared.elf.RelocationInstruction.{RelocationInstruction}
-use Rattle.linker_elf.specs.declared.elf.RelocationInstruction.TheVariants.{Ppc64}
-use Rattle.linker_elf.specs.declared.ppc64.forms.Ppc64Instruction.{Ppc64Instruction}
-use Rattle.linker_elf.specs.declared.ppc64.forms.Ppc64Instruction.TheVariants as ppc64
+use Rattle.linker_elf.specs.declared.elf.AnyForm.{AnyForm}
+use Rattle.linker_elf.specs.declared.elf.AnyForm.TheVariants.{Ppc64}
+use Rattle.linker_elf.specs.declared.ppc64.forms.Ppc64Form.{Ppc64Form}
+use Rattle.linker_elf.specs.declared.ppc64.forms.Ppc64Form.TheVariants as ppc64
 use Rattle.linker_reading.specs.Opcodes.{Encoding, of_len}
 
-abbrev pub power : ℕ → ℕ → List RelocationInstruction → Encoding
+abbrev pub power : ℕ → ℕ → List AnyForm → Encoding
 power mask bits forms = of_len 4 mask bits forms
 
 -- a prefix of a type, R and d0 aside, and the opcode of the suffix
@@ -69,7 +69,7 @@ ppc64_encodings =
     prefixed els 0xfc000000 0xf8000000 ∷ []
 
 -- log2 of what the number counts: ADDIS; ORIS, XORIS and ANDIS.
-abbrev pub ppc64_scale : Ppc64Instruction → ℕ → ℕ
+abbrev pub ppc64_scale : Ppc64Form → ℕ → ℕ
 ppc64_scale ppc64.D x = if field x 26 32 == 15 then 16 else 0
 ppc64_scale ppc64.DUnsigned x = 16 * bit_at x 26
 ppc64_scale f x = 0

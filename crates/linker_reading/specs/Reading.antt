@@ -17,16 +17,16 @@ use Rattle.linker_elf.specs.Rows.{Bounds}
 use Rattle.linker_elf.specs.Value.{sum_64, difference_64}
 use Rattle.linker_elf.specs.declared.aarch64.forms.AArch64Instruction.TheVariants.{Movnz}
 use Rattle.linker_elf.specs.declared.aarch64.forms.AArch64Instruction.TheVariants.{MachOLow12}
-use Rattle.linker_elf.specs.declared.elf.RelocationInstruction.{RelocationInstruction}
-use Rattle.linker_elf.specs.declared.elf.RelocationInstruction.TheVariants.{RiscV, Ppc64}
-use Rattle.linker_elf.specs.declared.elf.RelocationInstruction.TheVariants.{LoongArch64, AArch64}
+use Rattle.linker_elf.specs.declared.elf.AnyForm.{AnyForm}
+use Rattle.linker_elf.specs.declared.elf.AnyForm.TheVariants.{RiscV, Ppc64}
+use Rattle.linker_elf.specs.declared.elf.AnyForm.TheVariants.{LoongArch64, AArch64}
 use Rattle.linker_elf.specs.declared.elf.RelocationKind.{RelocationKind}
 use Rattle.linker_elf.specs.declared.elf.RelocationKind.TheVariants as kinds
-use Rattle.linker_elf.specs.declared.elf.RelocationKindInfo.{RelocationKindInfo}
-use Rattle.linker_elf.specs.declared.elf.RelocationSize.{RelocationSize}
-use Rattle.linker_elf.specs.declared.elf.RelocationSize.TheVariants.{ByteSize, BitMasking}
+use Rattle.linker_elf.specs.declared.elf.RowInfo.{RowInfo}
+use Rattle.linker_elf.specs.declared.elf.RowSize.{RowSize}
+use Rattle.linker_elf.specs.declared.elf.RowSize.TheVariants.{ByteSize, BitMasking}
 use Rattle.linker_elf.specs.declared.loongarch64.forms.LoongArch64Instruction.TheVariants.{Call30}
-use Rattle.linker_elf.specs.declared.ppc64.forms.Ppc64Instruction.TheVariants.{Ds}
+use Rattle.linker_elf.specs.declared.ppc64.forms.Ppc64Form.TheVariants.{Ds}
 use Rattle.linker_elf.specs.declared.elf.Sign.TheVariants.{Signed}
 use Rattle.linker_elf.specs.declared.riscv64.forms.RiscVInstruction.TheVariants.{UType}
 use Rattle.linker_elf.specs.declared.riscv64.forms.RiscVInstruction.TheVariants.{CluiType}
@@ -47,7 +47,7 @@ holds_value kind = true
 
 -- The instruction holds bits of the value from the range's start up. `lui`, `auipc` and `c.lui`,
 -- whose value is rounded, and a displacement that may be one of DQ-form begin with bit 0.
-abbrev pub holds_bits : RelocationInstruction → BitRange → Bool
+abbrev pub holds_bits : AnyForm → BitRange → Bool
 holds_bits (AArch64 Movnz) bits = bits.end == bits.start + 16
 holds_bits (AArch64 MachOLow12) bits = false
 holds_bits (RiscV UType) bits = bits.start == 0
@@ -60,7 +60,7 @@ holds_bits insn bits = true
 
 -- the number that the machine reads of an instruction, in units of the range's start; what MOVN and
 -- MOVZ hold before their shift
-abbrev pub number_held : RelocationInstruction → ℕ → ℤ
+abbrev pub number_held : AnyForm → ℕ → ℤ
 number_held (AArch64 Movnz) x = movnz.reading x
 number_held (Ppc64 f) x = ppc64_reads f x
 number_held insn x = (relocation_form insn).machine x
@@ -81,19 +81,19 @@ bits_within immediate bits =
     }
 
 -- MOVN and MOVZ also have the sign, if every value is that short.
-abbrev pub bits_held : RelocationInstruction → BitRange → Bounds → BitRange
+abbrev pub bits_held : AnyForm → BitRange → Bounds → BitRange
 bits_held (AArch64 Movnz) bits reached =
     if nat_lt bits.end 49 && are_signed (bits.end + 1) reached
     then record { start = bits.start; end = bits.end + 1 } else bits
 bits_held insn bits reached = bits_within (immediate_of insn) bits
 
 -- what was added to the value: half of what a low part of 12 signed bits reaches
-abbrev pub rounding_of : RelocationInstruction → ℕ
+abbrev pub rounding_of : AnyForm → ℕ
 rounding_of (RiscV UType) = 0x800
 rounding_of (RiscV CluiType) = 0x800
 rounding_of insn = 0
 
-abbrev pub bits_read : RelocationInstruction → ℕ → BitRange → ℕ → FieldValue
+abbrev pub bits_read : AnyForm → ℕ → BitRange → ℕ → FieldValue
 bits_read insn start known x =
     record {
       known = known;
@@ -121,7 +121,7 @@ jump_read x =
     record { known = record { start = 0; end = 12 }; bits = field x 10 20 * 4; rounding = 0 }
 
 -- A MOVK is read as one.
-abbrev pub field_read : RelocationKind → RelocationSize → Bounds → List ℕ → FieldValue
+abbrev pub field_read : RelocationKind → RowSize → Bounds → List ℕ → FieldValue
 field_read kind (ByteSize n) reached bytes =
     bytes_read (bits_of_bytes kind n) (number_of_bytes n bytes)
 field_read kind (BitMasking bits insn) reached bytes =
@@ -133,12 +133,12 @@ field_read kind (BitMasking bits insn) reached bytes =
 
 -- ---- which rows hold their value
 
-abbrev pub holds_some : RelocationInstruction → BitRange → BitRange → Bool
+abbrev pub holds_some : AnyForm → BitRange → BitRange → Bool
 holds_some insn bits known =
     nat_lt bits.start bits.end
     && (nat_lt bits.end 65 && (nat_lt known.start known.end && holds_bits insn bits))
 
-abbrev pub holds_field : RelocationKind → RelocationSize → Bounds → Bool
+abbrev pub holds_field : RelocationKind → RowSize → Bounds → Bool
 holds_field kind (ByteSize n) reached = nat_lt 0 n && (nat_lt n 9 && holds_value kind)
 holds_field kind (BitMasking bits insn) reached =
     holds_some insn bits (bits_held insn bits reached)
@@ -186,12 +186,12 @@ with_alignment alignment f =
 
 -- ---- rows
 
-abbrev pub is_readable : RelocationKindInfo → List ℕ → Bool
+abbrev pub is_readable : RowInfo → List ℕ → Bool
 is_readable row bytes =
     holds_field row.kind row.size (reach_of row) && not (nat_lt (length bytes) (window_len row))
 
 -- what is known of the value of a row from the bytes at its place
-abbrev pub value_read : RelocationKindInfo → List ℕ → Option FieldValue
+abbrev pub value_read : RowInfo → List ℕ → Option FieldValue
 value_read row bytes =
     if is_readable row bytes
     then Some (with_alignment row.alignment
@@ -199,7 +199,7 @@ value_read row bytes =
     else None
 
 -- Whatever value was written, it has the bits that are read.
-abbrev pub IsReadBack : RelocationKindInfo → List ℕ → Option FieldValue → Type 0
+abbrev pub IsReadBack : RowInfo → List ℕ → Option FieldValue → Type 0
 IsReadBack row after read =
     (v : ℤ) (before : List ℕ) → FitsSigned w64 v → WritesRow row v before after
     → IfSome read (λ f. IsOfValue f v)

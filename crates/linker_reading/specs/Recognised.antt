@@ -3,7 +3,7 @@ use Rattle.std.specs.Prelude.{◌≡◌, ◌≢◌, ◌⊎◌, ◌≤◌, ◌<�
 use Rattle.std.specs.Prelude.{Option, Some, None, ⊤, drop, min, slice_get, slice_index_or}
 use Rattle.linker_base.specs.Rewrite.{CanRewrite, rewritten, offset_after}
 use Rattle.linker_elf.specs.Relocate.{window_len}
-use Rattle.linker_elf.specs.declared.elf.RelocationKindInfo.{RelocationKindInfo}
+use Rattle.linker_elf.specs.declared.elf.RowInfo.{RowInfo}
 use Rattle.linker_reading.specs.Reading.{value_read}
 use Rattle.linker_reading.specs.declared.fields.FieldValue.{FieldValue}
 use Rattle.linker_reading.specs.FieldsOfBytes.{is_in_field, AreSameBut}
@@ -30,13 +30,13 @@ deleted_count None = 0
 deleted_count (Some deleted) = deleted.count
 
 -- the window of the row, if there is one, lies in the bytes
-abbrev pub HasField : Option RelocationKindInfo → ℕ → List ℕ → Type 0
+abbrev pub HasField : Option RowInfo → ℕ → List ℕ → Type 0
 HasField None at bytes = ⊤
 HasField (Some row) at bytes = at + window_len row ≤ length bytes
 
 -- From bytes, without those that are deleted, the linked bytes differ only in the field of a row at
 -- an offset and in others.
-pub record DifferOnlyInFields (after : List ℕ) (at : ℕ) (row : Option RelocationKindInfo)
+pub record DifferOnlyInFields (after : List ℕ) (at : ℕ) (row : Option RowInfo)
     (deleted : Option DeletedBytes) (o : ℕ) (others : List FieldBits) (linked : List ℕ)
     : Type 0 where
   pub has_field : HasField row at after
@@ -47,7 +47,7 @@ pub record DifferOnlyInFields (after : List ℕ) (at : ℕ) (row : Option Reloca
       after linked
 
 -- They do so from what a rewrite makes of the original. The row is that of the relocation after it.
-pub record DiffersOnlyInFields (kind : Relaxation) (row : Option RelocationKindInfo) (original : List ℕ)
+pub record DiffersOnlyInFields (kind : Relaxation) (row : Option RowInfo) (original : List ℕ)
     (o : ℕ) (others : List FieldBits) (linked : List ℕ) : Type 0 where
   pub rewritable : CanRewrite (relaxation_rewrite kind) original o
   pub left :
@@ -61,13 +61,13 @@ abbrev pub linked_offset : Option DeletedBytes → ℕ → ℕ → ℕ
 linked_offset deleted o at = at - min (deleted_count deleted) (at - deleted_start deleted o)
 
 -- what is known of a relocation's value from the bytes at an offset; nothing without a row
-abbrev pub value_at : Option RelocationKindInfo → ℕ → List ℕ → Option FieldValue
+abbrev pub value_at : Option RowInfo → ℕ → List ℕ → Option FieldValue
 value_at None at linked = None
 value_at (Some row) at linked = value_read row (drop at linked)
 
 -- The field of the relocation after a rewrite at an offset: where it is in the linked bytes, and
 -- what is known of the value from it.
-pub record IsRead (kind : Relaxation) (row : Option RelocationKindInfo) (o : ℕ)
+pub record IsRead (kind : Relaxation) (row : Option RowInfo) (o : ℕ)
     (linked : List ℕ) (at : ℕ) (value : Option FieldValue) : Type 0 where
   pub at_is :
       at ≡ linked_offset (relaxation_deleted kind) o (offset_after (relaxation_rewrite kind) o)
@@ -84,7 +84,7 @@ pub record Recogniser (K R : Type 0) : Type 1 where
   pub applies : R → List ℕ → ℕ → LinkFacts → Entry K R → Type 0
   -- the rewrite that changes nothing
   pub no_op : K
-  pub row : R → Option RelocationKindInfo
+  pub row : R → Option RowInfo
   -- how ELF names a relocation
   pub elf_name : R → ElfName
   -- a rewrite as one of all architectures'

@@ -1,15 +1,15 @@
 -- Which forms the immediate of an instruction of RISC-V has, by the bits of its opcode (RISC-V
 -- unprivileged ISA, "RV32/64G Instruction Set Listings" and "RVC Instruction Set Listings").
 use Rattle.std.specs.Prelude.{ℕ, List, [], ◌∷◌}
-use Rattle.linker_elf.specs.declared.elf.RelocationInstruction.{RelocationInstruction}
-use Rattle.linker_elf.specs.declared.elf.RelocationInstruction.TheVariants.{RiscV}
+use Rattle.linker_elf.specs.declared.elf.AnyForm.{AnyForm}
+use Rattle.linker_elf.specs.declared.elf.AnyForm.TheVariants.{RiscV}
 use Rattle.linker_elf.specs.declared.riscv64.forms.RiscVInstruction.TheVariants as riscv
 use Rattle.linker_reading.specs.Opcodes.{Encoding, of_len, pair_of}
 
-abbrev pub rv : ℕ → ℕ → List RelocationInstruction → Encoding
+abbrev pub rv : ℕ → ℕ → List AnyForm → Encoding
 rv mask bits forms = of_len 4 mask bits forms
 
-abbrev pub rvc : ℕ → ℕ → List RelocationInstruction → Encoding
+abbrev pub rvc : ℕ → ℕ → List AnyForm → Encoding
 rvc mask bits forms = of_len 2 mask bits forms
 
 -- LUI or AUIPC, and an instruction with an I-immediate after it, whose base is its destination

@@ -8,9 +8,9 @@ use Rattle.linker_elf.specs.Value.{masks_symbol, masks_entry, place_term, got_te
 use Rattle.linker_elf.specs.declared.elf.PageMask.{PageMask}
 use Rattle.linker_elf.specs.declared.elf.RelocationKind.{RelocationKind}
 use Rattle.linker_elf.specs.declared.elf.RelocationKind.TheVariants as kinds
-use Rattle.linker_elf.specs.declared.elf.RelocationKindInfo.{RelocationKindInfo}
-use Rattle.linker_elf.specs.declared.elf.RelocationSize.{RelocationSize}
-use Rattle.linker_elf.specs.declared.elf.RelocationSize.TheVariants.{ByteSize, BitMasking}
+use Rattle.linker_elf.specs.declared.elf.RowInfo.{RowInfo}
+use Rattle.linker_elf.specs.declared.elf.RowSize.{RowSize}
+use Rattle.linker_elf.specs.declared.elf.RowSize.TheVariants.{ByteSize, BitMasking}
 use Rattle.linker_elf.specs.declared.elf.value.Operands.{Operands}
 use Rattle.linker_reading.specs.Fields.{FieldHolds, IsOfValue}
 use Rattle.linker_reading.specs.declared.fields.FieldValue.{FieldValue}
@@ -68,12 +68,12 @@ terms_of_kind kinds.TlsDescLoongArch64 = None
 terms_of_kind kinds.TlsDescCall = None
 
 -- none of a row without bytes, as that of the first of a pair at a ULEB128 number
-abbrev pub terms_of : RelocationKind → RelocationSize → Option Terms
+abbrev pub terms_of : RelocationKind → RowSize → Option Terms
 terms_of kind (ByteSize n) = if n == 0 then None else terms_of_kind kind
 terms_of kind (BitMasking bits insn) = terms_of_kind kind
 
 -- the address, with the addend where the value has it
-abbrev pub address : Reference → RelocationSize → Operands → ℕ
+abbrev pub address : Reference → RowSize → Operands → ℕ
 address Symbol size o = sum_64 o.symbol (cast_unsigned w64 o.addend)
 address GotEntry size o = sum_64 o.got_entry (entry_addend size o.addend)
 address PltEntry size o = sum_64 o.plt_entry (cast_unsigned w64 o.addend)
@@ -85,7 +85,7 @@ is_paged GotEntry mask = masks_entry mask
 is_paged PltEntry mask = false
 
 -- what is taken off it
-abbrev pub base : Origin → RelocationKindInfo → Operands → ℕ
+abbrev pub base : Origin → RowInfo → Operands → ℕ
 base Zero row o = 0
 base Place row o = place_term row o
 base Got row o = got_term row o
@@ -99,7 +99,7 @@ pub record HaveSameBase (a b : Operands) : Type 0 where
 
 -- Of operands with the same place, GOT and TLS base, the address has the bits of s exactly where
 -- the value has those of f.
-abbrev pub Solves : Terms → RelocationKindInfo → FieldValue → Operands → FieldValue → Type 0
+abbrev pub Solves : Terms → RowInfo → FieldValue → Operands → FieldValue → Type 0
 Solves t row f operands s =
     (o : Operands) (v : ℤ) → HaveSameBase operands o → value_of row o ≡ Some v
     → FieldHolds s (address t.reference row.size o) ↔ IsOfValue f v
@@ -110,33 +110,33 @@ has_base Tls o = o.has_tls_base
 has_base origin o = true
 
 -- The bits of a page aren't known from below bit 12.
-abbrev pub is_solvable : Terms → RelocationKindInfo → FieldValue → Operands → Bool
+abbrev pub is_solvable : Terms → RowInfo → FieldValue → Operands → Bool
 is_solvable t row f o =
     has_base t.origin o && not (is_paged t.reference row.mask && nat_lt f.known.start 12)
 
 -- What is added to the address before its bits are taken. It is nothing where bit 0 is known, and
 -- else the bias, and the value's rounding less the base, of which a row of pages takes the page.
-abbrev pub rounding_solved : Terms → RelocationKindInfo → FieldValue → Operands → ℕ
+abbrev pub rounding_solved : Terms → RowInfo → FieldValue → Operands → ℕ
 rounding_solved t row f o =
     if f.known.start == 0 then 0
     else sum_64 (bias_number row.bias)
     (page_if (is_paged t.reference row.mask) (difference_64 f.rounding (base t.origin row o)))
 
 -- s is known of the address, by the same bits as of the value.
-pub record IsSolution (t : Terms) (row : RelocationKindInfo) (f : FieldValue) (o : Operands)
+pub record IsSolution (t : Terms) (row : RowInfo) (f : FieldValue) (o : Operands)
     (s : FieldValue) : Type 0 where
   pub solvable : is_solvable t row f o ≡ true
   pub known : s.known ≡ f.known
   pub rounding : s.rounding ≡ rounding_solved t row f o
   pub solves : Solves t row f o s
 
-abbrev pub IsSolvedBy : Option Terms → RelocationKindInfo → FieldValue → Operands
+abbrev pub IsSolvedBy : Option Terms → RowInfo → FieldValue → Operands
     → Option FieldValue → Type 0
 IsSolvedBy None row f o solution = solution ≡ None
 IsSolvedBy (Some t) row f o None = is_solvable t row f o ≡ false
 IsSolvedBy (Some t) row f o (Some s) = IsSolution t row f o s
 
-abbrev pub IsSolved : RelocationKindInfo → FieldValue → Operands → Option FieldValue → Type 0
+abbrev pub IsSolved : RowInfo → FieldValue → Operands → Option FieldValue → Type 0
 IsSolved row f o solution = IsSolvedBy (terms_of row.kind row.size) row f o solution
 
 -- ---- halves

@@ -7,10 +7,10 @@ use Rattle.linker_base.specs.Rewrite.{CanRewrite, offset_after, addend_after}
 use Rattle.linker_base.specs.declared.rewrite.RewriteWindow.{RewriteWindow}
 use Rattle.linker_elf.specs.ElfNames.{IsNameOf}
 use Rattle.linker_elf.specs.Entries.{is_ppc64_branch}
-use Rattle.linker_elf.specs.declared.elf.RelocationInstruction.TheVariants.{Ppc64}
-use Rattle.linker_elf.specs.declared.elf.RelocationKindInfo.{RelocationKindInfo}
-use Rattle.linker_elf.specs.declared.elf.RelocationSize.{RelocationSize}
-use Rattle.linker_elf.specs.declared.elf.RelocationSize.TheVariants.{BitMasking}
+use Rattle.linker_elf.specs.declared.elf.AnyForm.TheVariants.{Ppc64}
+use Rattle.linker_elf.specs.declared.elf.RowInfo.{RowInfo}
+use Rattle.linker_elf.specs.declared.elf.RowSize.{RowSize}
+use Rattle.linker_elf.specs.declared.elf.RowSize.TheVariants.{BitMasking}
 use Rattle.linker_elf.specs.Value.{difference_64}
 use Rattle.linker_elf.specs.declared.elf.Operands.{Operands}
 use Rattle.linker_elf.specs.declared.elf.choice.Choice.{Choice}
@@ -86,13 +86,13 @@ IsWindowOf architectures.X86_64 = IsWindowBy x86_64
 -- ---- where a field leads
 
 -- branches of PowerPC64, which enter a function of their own output at its local entry point
-abbrev pub is_local_entry : RelocationSize → Bool
+abbrev pub is_local_entry : RowSize → Bool
 is_local_entry (BitMasking bits (Ppc64 insn)) = is_ppc64_branch insn
 is_local_entry size = false
 
 -- What is known of the address that a value of a row comes from, the addend after the rewrite, and
 -- whether a branch of PowerPC64 leads there.
-pub record LeadsTo (row : RelocationKindInfo) (value : FieldValue) (kind : Relaxation)
+pub record LeadsTo (row : RowInfo) (value : FieldValue) (kind : Relaxation)
     (original : List ℕ) (o : ℕ) (operands : Operands) (d : Destination) : Type 0 where
   pub matches : relaxation_matches kind original o
   pub reference : of_some (λ t. t.reference) (terms_of row.kind row.size) ≡ Some d.reference
@@ -101,7 +101,7 @@ pub record LeadsTo (row : RelocationKindInfo) (value : FieldValue) (kind : Relax
   pub local : d.is_local_entry ≡ is_local_entry row.size
 
 -- There is no destination without a row, without a value, or where none is so.
-abbrev pub IsDestination : Option RelocationKindInfo → Option FieldValue → Relaxation → List ℕ → ℕ
+abbrev pub IsDestination : Option RowInfo → Option FieldValue → Relaxation → List ℕ → ℕ
     → Operands → Option Destination → Type 0
 IsDestination None value kind original o operands d = d ≡ None
 IsDestination (Some row) None kind original o operands d = d ≡ None

@@ -3,7 +3,7 @@ use Rattle.std.specs.Prelude.{◌≡◌, ◌<◌, ◌≤◌, ◌+◌, ◌^◌, �
 use Rattle.std.specs.Prelude.{drop, ℤ, Option, Some}
 use Rattle.linker_base.specs.Rewrite.{CanRewrite, rewritten, offset_after}
 use Rattle.linker_elf.specs.Relocate.{WritesRow}
-use Rattle.linker_elf.specs.declared.elf.RelocationKindInfo.{RelocationKindInfo}
+use Rattle.linker_elf.specs.declared.elf.RowInfo.{RowInfo}
 use Rattle.linker_reading.specs.FieldsOfBytes.{AreSameButFor}
 use Rattle.linker_reading.specs.Recognised.{Recogniser, DiffersOnlyInFields, deleted_start}
 use Rattle.linker_reading.specs.Recognised.{deleted_count}
@@ -19,7 +19,7 @@ pub record AreBytes (before after : List ℕ) : Type 0 where
   pub lengths : length after ≡ length before
 
 -- a write to bytes changes bits of the row's field only
-abbrev pub ChangesField : RelocationKindInfo → Type 0
+abbrev pub ChangesField : RowInfo → Type 0
 ChangesField row =
     (v : ℤ) (before after : List ℕ) → AreBytes before after → WritesRow row v before after
     → AreSameButFor row before after
@@ -35,7 +35,7 @@ without_deleted deleted o bytes =
 -- stay, whatever else is ignored.
 abbrev pub WrittenIsLeft : {K R : Type 0} → Recogniser K R → Type 0
 WrittenIsLeft {K} {R} it =
-    (c : Choice K R) (row : RelocationKindInfo) (original : List ℕ) (o : ℕ) (v : ℤ)
+    (c : Choice K R) (row : RowInfo) (original : List ℕ) (o : ℕ) (v : ℤ)
     (written : List ℕ) (others : List FieldBits)
     → let rewrite = relaxation_rewrite (it.relaxation c.kind) in
     let deleted = relaxation_deleted (it.relaxation c.kind) in

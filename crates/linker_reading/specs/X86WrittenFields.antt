@@ -3,7 +3,7 @@ use Rattle.std.specs.Prelude.{◌≡◌, ◌≤◌, ℕ, List, ◌++◌, length,
 use Rattle.linker_base.specs.Rewrite.{CanRewrite, rewritten, offset_after}
 use Rattle.linker_elf.specs.Relocate.{WritesRow}
 use Rattle.linker_elf.specs.X86Relocations.{x86_64_row}
-use Rattle.linker_elf.specs.declared.elf.RelocationKindInfo.{RelocationKindInfo}
+use Rattle.linker_elf.specs.declared.elf.RowInfo.{RowInfo}
 use Rattle.linker_elf.specs.declared.elf.choice.Choice.{Choice}
 use Rattle.linker_elf.specs.declared.x86_64.relocations.X86_64Relocation.{X86_64Relocation}
 use Rattle.linker_reading.specs.FieldsOfBytes.{AreSameButFor}
@@ -14,7 +14,7 @@ use Rattle.linker_utils.specs.X86Rewrites.{x86_64_rewrite}
 use Rattle.linker_utils.specs.declared.x86_64.rewrites.RewriteKind.{RewriteKind}
 
 -- a write changes bits of the row's field only
-abbrev pub WritesField : RelocationKindInfo → Type 0
+abbrev pub WritesField : RowInfo → Type 0
 WritesField row =
     (v : ℤ) (before after : List ℕ) → WritesRow row v before after → AreSameButFor row before after
 
@@ -22,7 +22,7 @@ WritesField row =
 -- at the offset after it, the choice leaves these bytes, whatever else is ignored.
 abbrev pub X86WrittenIsLeft : Type 0
 X86WrittenIsLeft =
-    (c : Choice RewriteKind X86_64Relocation) (row : RelocationKindInfo) (original : List ℕ)
+    (c : Choice RewriteKind X86_64Relocation) (row : RowInfo) (original : List ℕ)
     (o : ℕ) (v : ℤ) (written : List ℕ) (others : List FieldBits)
     → x86_64_row c.relocation ≡ Some row
     → CanRewrite (x86_64_rewrite c.kind) original o

@@ -19,8 +19,7 @@ use crate::reading::{number_held, number_of_bytes};
 use linker_base::bit_misc::BitExtraction;
 use linker_base::utils::u32_from_slice;
 use linker_elf::elf::{
-    AArch64Instruction, InstructionForm, LoongArch64Instruction, Ppc64Instruction,
-    RelocationInstruction,
+    AArch64Instruction, AnyForm, InstructionForm, LoongArch64Instruction, Ppc64Form,
 };
 use linker_utils::elf::Architecture;
 
@@ -48,7 +47,7 @@ struct Encoding {
     /// Which registers have to be the same.
     base: Base,
     /// The forms.
-    forms: &'static [RelocationInstruction],
+    forms: &'static [AnyForm],
 }
 
 /// An encoding of n bytes of an architecture.
@@ -59,7 +58,7 @@ macro_rules! encoding {
             mask: $mask,
             bits: $bits,
             base: Base::Any,
-            forms: &[$(RelocationInstruction::$architecture($form)),*],
+            forms: &[$(AnyForm::$architecture($form)),*],
         }
     };
 }
@@ -99,11 +98,7 @@ impl Encoding {
 }
 
 /// The forms of the first encoding that is in a number of n bytes.
-fn first_forms(
-    encodings: &'static [Encoding],
-    len: usize,
-    number: u64,
-) -> &'static [RelocationInstruction]
+fn first_forms(encodings: &'static [Encoding], len: usize, number: u64) -> &'static [AnyForm]
     ensures { result.now ≡ first_forms (encodings_of encodings.now) len number }
 {
     for encoding in encodings {
@@ -127,15 +122,15 @@ fn first_forms(
 ///
 /// ```
 /// use linker_reading::operands::{forms_of, operand};
-/// use linker_utils::elf::{Architecture, Ppc64Instruction, RelocationInstruction};
+/// use linker_utils::elf::{Architecture, Ppc64Form, AnyForm};
 ///
 /// // `b .-4`
 /// let word = 0x4bff_fffcu32.to_le_bytes();
 /// let forms = forms_of(Architecture::Ppc64, &word);
-/// assert_eq!(forms, [RelocationInstruction::Ppc64(Ppc64Instruction::Branch24)]);
+/// assert_eq!(forms, [AnyForm::Ppc64(Ppc64Form::Branch24)]);
 /// assert_eq!(operand(forms[0], &word), Some(-4));
 /// ```
-pub fn forms_of(architecture: Architecture, bytes: &[u8]) -> &'static [RelocationInstruction]
+pub fn forms_of(architecture: Architecture, bytes: &[u8]) -> &'static [AnyForm]
     ensures { result.now ≡ forms_of architecture bytes.now }
 {
     let len = bytes.len().min(8);
@@ -143,19 +138,19 @@ pub fn forms_of(architecture: Architecture, bytes: &[u8]) -> &'static [Relocatio
 }
 
 /// Whose forms these are.
-fn architecture_of(form: RelocationInstruction) -> Architecture
+fn architecture_of(form: AnyForm) -> Architecture
     ensures { result ≡ architecture_of form }
 {
     match form {
-        RelocationInstruction::AArch64(_) => Architecture::AArch64,
-        RelocationInstruction::RiscV(_) => Architecture::RiscV,
-        RelocationInstruction::Ppc64(_) => Architecture::Ppc64,
-        RelocationInstruction::LoongArch64(_) => Architecture::LoongArch64,
+        AnyForm::AArch64(_) => Architecture::AArch64,
+        AnyForm::RiscV(_) => Architecture::RiscV,
+        AnyForm::Ppc64(_) => Architecture::Ppc64,
+        AnyForm::LoongArch64(_) => Architecture::LoongArch64,
     }
 }
 
 /// Whether bytes begin with an instruction of a form.
-fn has_form(form: RelocationInstruction, bytes: &[u8]) -> bool
+fn has_form(form: AnyForm, bytes: &[u8]) -> bool
     ensures { IsTrue result ↔ HasForm form bytes.now }
 {
     if bytes.len() < form.window() {
@@ -165,7 +160,7 @@ fn has_form(form: RelocationInstruction, bytes: &[u8]) -> bool
 }
 
 /// Whether a form is one of some.
-fn is_one_of(form: RelocationInstruction, forms: &'static [RelocationInstruction]) -> bool
+fn is_one_of(form: AnyForm, forms: &'static [AnyForm]) -> bool
     ensures { IsTrue result ↔ IsOneOf form forms.now }
 {
     for other in forms {
@@ -177,16 +172,16 @@ fn is_one_of(form: RelocationInstruction, forms: &'static [RelocationInstruction
 }
 
 /// The number in an immediate, modulo 2^64.
-fn immediate_number(form: RelocationInstruction, bytes: &[u8]) -> u64
+fn immediate_number(form: AnyForm, bytes: &[u8]) -> u64
     requires { byte_len (relocation_form form).window ≤ length bytes.now }
     ensures { result ≡ cast_unsigned w64
         (immediate_number form (window_of (relocation_form form) bytes.now)) }
 {
     match form {
-        RelocationInstruction::AArch64(AArch64Instruction::Movnz) => {
+        AnyForm::AArch64(AArch64Instruction::Movnz) => {
             aarch64::moved_number(u32_from_slice(bytes) as u64)
         }
-        RelocationInstruction::LoongArch64(LoongArch64Instruction::Shift10) => {
+        AnyForm::LoongArch64(LoongArch64Instruction::Shift10) => {
             loongarch64::shift10_number(u32_from_slice(bytes) as u64)
         }
         _ => number_held(form, bytes),
@@ -194,21 +189,19 @@ fn immediate_number(form: RelocationInstruction, bytes: &[u8]) -> u64
 }
 
 /// Log2 of what an immediate counts.
-fn scale_of(form: RelocationInstruction, bytes: &[u8]) -> u64
+fn scale_of(form: AnyForm, bytes: &[u8]) -> u64
     requires { byte_len (relocation_form form).window ≤ length bytes.now }
     ensures value { result ≡ scale_of form (window_of (relocation_form form) bytes.now) }
     ensures small { result < 64 }
 {
     match form {
-        RelocationInstruction::AArch64(form) => aarch64::scale(form, u32_from_slice(bytes) as u64),
-        RelocationInstruction::RiscV(_) => 0,
-        RelocationInstruction::Ppc64(Ppc64Instruction::Prefixed) => 0,
-        RelocationInstruction::Ppc64(form) => ppc64::scale(form, u32_from_slice(bytes) as u64),
-        RelocationInstruction::LoongArch64(LoongArch64Instruction::Call30) => 0,
-        RelocationInstruction::LoongArch64(LoongArch64Instruction::Call36) => 2,
-        RelocationInstruction::LoongArch64(form) => {
-            loongarch64::scale(form, u32_from_slice(bytes) as u64)
-        }
+        AnyForm::AArch64(form) => aarch64::scale(form, u32_from_slice(bytes) as u64),
+        AnyForm::RiscV(_) => 0,
+        AnyForm::Ppc64(Ppc64Form::Prefixed) => 0,
+        AnyForm::Ppc64(form) => ppc64::scale(form, u32_from_slice(bytes) as u64),
+        AnyForm::LoongArch64(LoongArch64Instruction::Call30) => 0,
+        AnyForm::LoongArch64(LoongArch64Instruction::Call36) => 2,
+        AnyForm::LoongArch64(form) => { loongarch64::scale(form, u32_from_slice(bytes) as u64) }
     }
 }
 
@@ -237,7 +230,7 @@ fn scale_of(form: RelocationInstruction, bytes: &[u8]) -> u64
 /// let forms = forms_of(Architecture::RiscV, &word);
 /// assert_eq!(operand(forms[0], &word), Some(0x1234_5000));
 /// ```
-pub fn operand(form: RelocationInstruction, bytes: &[u8]) -> Option<i64>
+pub fn operand(form: AnyForm, bytes: &[u8]) -> Option<i64>
     ensures { IsOperand form bytes.now result }
 {
     if !has_form(form, bytes) {

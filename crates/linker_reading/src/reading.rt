@@ -25,9 +25,8 @@ use crate::fields::{FieldValue, bits_of, power_of_two};
 use linker_base::bit_misc::{BitExtraction, BitRange};
 use linker_base::utils::u32_from_slice;
 use linker_elf::elf::{
-    AArch64Instruction, AllowedRange, LoongArch64Instruction, Ppc64Instruction,
-    RelocationInstruction, RelocationKind, RelocationKindInfo, RelocationSize, RiscVInstruction,
-    Row, Sign,
+    AArch64Instruction, AllowedRange, AnyForm, LoongArch64Instruction, Ppc64Form, RelocationKind,
+    RiscVInstruction, Row, RowInfo, RowSize, Sign,
 };
 
 /// Whether bytes hold the value, or its low bits, and not a sum of it and what stood there.
@@ -48,33 +47,31 @@ fn holds_value(kind: RelocationKind) -> bool
 
 /// Whether an instruction holds bits of a value from the range's start up.
 #[inline(always)]
-fn holds_bits(insn: RelocationInstruction, bits: BitRange) -> bool
+fn holds_bits(insn: AnyForm, bits: BitRange) -> bool
     ensures { result ≡ holds_bits insn bits }
 {
     match insn {
-        RelocationInstruction::AArch64(AArch64Instruction::Movnz) => {
-            bits.end as u32 == bits.start as u32 + 16
-        }
-        RelocationInstruction::AArch64(AArch64Instruction::MachOLow12)
-        | RelocationInstruction::LoongArch64(LoongArch64Instruction::Call30) => false,
-        RelocationInstruction::RiscV(RiscVInstruction::UType | RiscVInstruction::CluiType)
-        | RelocationInstruction::Ppc64(Ppc64Instruction::Ds) => bits.start == 0,
+        AnyForm::AArch64(AArch64Instruction::Movnz) => { bits.end as u32 == bits.start as u32 + 16 }
+        AnyForm::AArch64(AArch64Instruction::MachOLow12)
+        | AnyForm::LoongArch64(LoongArch64Instruction::Call30) => false,
+        AnyForm::RiscV(RiscVInstruction::UType | RiscVInstruction::CluiType)
+        | AnyForm::Ppc64(Ppc64Form::Ds) => bits.start == 0,
         _ => true,
     }
 }
 
 /// What the machine reads of an instruction, in units of the first bit of its range, modulo 2^64.
 #[inline(always)]
-pub(crate) fn number_held(insn: RelocationInstruction, bytes: &[u8]) -> u64
+pub(crate) fn number_held(insn: AnyForm, bytes: &[u8]) -> u64
     requires { byte_len (relocation_form insn).window ≤ length bytes.now }
     ensures { result ≡ cast_unsigned w64 (number_held insn
         (window_of (relocation_form insn) bytes.now)) }
 {
     match insn {
-        RelocationInstruction::AArch64(insn) => aarch64::number(insn, bytes),
-        RelocationInstruction::RiscV(insn) => riscv64::number(insn, bytes),
-        RelocationInstruction::Ppc64(insn) => ppc64::number(insn, bytes),
-        RelocationInstruction::LoongArch64(insn) => loongarch64::number(insn, bytes),
+        AnyForm::AArch64(insn) => aarch64::number(insn, bytes),
+        AnyForm::RiscV(insn) => riscv64::number(insn, bytes),
+        AnyForm::Ppc64(insn) => ppc64::number(insn, bytes),
+        AnyForm::LoongArch64(insn) => loongarch64::number(insn, bytes),
     }
 }
 
@@ -113,13 +110,13 @@ fn bits_within(immediate: BitRange, bits: BitRange) -> BitRange
 
 /// Which bits of the value, rounded, an instruction holds.
 #[inline(always)]
-fn bits_held(insn: RelocationInstruction, bits: BitRange, reach: AllowedRange) -> BitRange
+fn bits_held(insn: AnyForm, bits: BitRange, reach: AllowedRange) -> BitRange
     requires end { bits.end ≤ 64 }
     requires start { bits.start ≤ 64 }
     ensures { result ≡ bits_held insn bits reach.bounds }
 {
     match insn {
-        RelocationInstruction::AArch64(AArch64Instruction::Movnz) => {
+        AnyForm::AArch64(AArch64Instruction::Movnz) => {
             if bits.end < 49 && are_signed(bits.end as u32 + 1, reach) {
                 BitRange {
                     start: bits.start,
@@ -135,12 +132,12 @@ fn bits_held(insn: RelocationInstruction, bits: BitRange, reach: AllowedRange) -
 
 /// Whether a field holds a value, or some of its bits.
 #[inline(always)]
-fn holds_field(kind: RelocationKind, size: RelocationSize, reach: AllowedRange) -> bool
+fn holds_field(kind: RelocationKind, size: RowSize, reach: AllowedRange) -> bool
     ensures { result ≡ holds_field kind size reach.bounds }
 {
     match size {
-        RelocationSize::ByteSize(len) => 0 < len && len < 9 && holds_value(kind),
-        RelocationSize::BitMasking { range, insn } => {
+        RowSize::ByteSize(len) => 0 < len && len < 9 && holds_value(kind),
+        RowSize::BitMasking { range, insn } => {
             if range.start >= range.end {
                 return false;
             }
@@ -155,11 +152,11 @@ fn holds_field(kind: RelocationKind, size: RelocationSize, reach: AllowedRange) 
 
 /// What is added to a value before an instruction takes its bits.
 #[inline(always)]
-fn rounding_of(insn: RelocationInstruction) -> u64
+fn rounding_of(insn: AnyForm) -> u64
     ensures { result ≡ rounding_of insn }
 {
     match insn {
-        RelocationInstruction::RiscV(RiscVInstruction::UType | RiscVInstruction::CluiType) => 0x800,
+        AnyForm::RiscV(RiscVInstruction::UType | RiscVInstruction::CluiType) => 0x800,
         _ => 0,
     }
 }
@@ -194,12 +191,7 @@ fn jump_read(bytes: &[u8]) -> FieldValue
 
 /// What stands in an instruction of a form.
 #[inline(always)]
-fn instruction_read(
-    insn: RelocationInstruction,
-    range: BitRange,
-    reach: AllowedRange,
-    bytes: &[u8],
-) -> FieldValue
+fn instruction_read(insn: AnyForm, range: BitRange, reach: AllowedRange, bytes: &[u8]) -> FieldValue
     requires room { byte_len (relocation_form insn).window ≤ length bytes.now }
     requires held { holds_some insn range (bits_held insn range reach.bounds) ≡ true }
     ensures { result
@@ -217,13 +209,13 @@ fn instruction_read(
 
 /// What stands in the field.
 #[inline(always)]
-fn field_read(row: &RelocationKindInfo, reach: AllowedRange, bytes: &[u8]) -> FieldValue
+fn field_read(row: &RowInfo, reach: AllowedRange, bytes: &[u8]) -> FieldValue
     requires room { size_len row.now.size ≤ length bytes.now }
     requires held { holds_field row.now.kind row.now.size reach.bounds ≡ true }
     ensures { result ≡ field_read row.now.kind row.now.size reach.bounds bytes.now }
 {
     match row.size {
-        RelocationSize::ByteSize(len) => {
+        RowSize::ByteSize(len) => {
             let count = match row.kind {
                 RelocationKind::AbsoluteSetWord6 => 6,
                 _ => 8 * len,
@@ -237,7 +229,7 @@ fn field_read(row: &RelocationKindInfo, reach: AllowedRange, bytes: &[u8]) -> Fi
                 rounding: 0,
             }
         }
-        RelocationSize::BitMasking { range, insn } => {
+        RowSize::BitMasking { range, insn } => {
             if insn.is_low_jump(row.kind, bytes) {
                 return jump_read(bytes);
             }
@@ -365,12 +357,12 @@ pub fn read(row: &Row, bytes: &[u8]) -> Option<FieldValue>
 {
     // in each arm the compiler knows the architecture, and tests it no more
     match row.info().size {
-        RelocationSize::ByteSize(_) => read_as(row, bytes),
-        RelocationSize::BitMasking { insn, .. } => match insn {
-            RelocationInstruction::AArch64(_) => read_as(row, bytes),
-            RelocationInstruction::RiscV(_) => read_as(row, bytes),
-            RelocationInstruction::Ppc64(_) => read_as(row, bytes),
-            RelocationInstruction::LoongArch64(_) => read_as(row, bytes),
+        RowSize::ByteSize(_) => read_as(row, bytes),
+        RowSize::BitMasking { insn, .. } => match insn {
+            AnyForm::AArch64(_) => read_as(row, bytes),
+            AnyForm::RiscV(_) => read_as(row, bytes),
+            AnyForm::Ppc64(_) => read_as(row, bytes),
+            AnyForm::LoongArch64(_) => read_as(row, bytes),
         },
     }
 }

@@ -8,9 +8,7 @@ ghost use Rattle.linker_reading.specs.Solving.{base, has_base, IsSolved, IsJoine
 
 use crate::fields::{FieldValue, bits_of, power_of_two};
 use linker_base::bit_misc::BitRange;
-use linker_elf::elf::{
-    Bias, Operands, PageMask, RelocationKind, RelocationKindInfo, RelocationSize,
-};
+use linker_elf::elf::{Bias, Operands, PageMask, RelocationKind, RowInfo, RowSize};
 
 /// Which address a relocation's value is computed from.
 #[derive(Clone, Copy)]
@@ -95,11 +93,11 @@ fn terms_of_kind(kind: RelocationKind) -> Option<Terms>
 /// an inverse: those without a value or without bytes, of sizes, of sums and differences with what
 /// stood there, of ULEB128 numbers, and LoongArch's bits 32 to 63 of a distance, which depend on
 /// the low bits of the address too.
-pub fn terms_of(kind: RelocationKind, size: RelocationSize) -> Option<Terms>
+pub fn terms_of(kind: RelocationKind, size: RowSize) -> Option<Terms>
     ensures { result ≡ terms_of kind size }
 {
     match size {
-        RelocationSize::ByteSize(0) => None,
+        RowSize::ByteSize(0) => None,
         _ => terms_of_kind(kind),
     }
 }
@@ -126,7 +124,7 @@ fn has_base(origin: Origin, operands: &Operands) -> bool
 }
 
 /// What a row's formula takes off the address.
-fn base(origin: Origin, row: &RelocationKindInfo, operands: &Operands) -> u64
+fn base(origin: Origin, row: &RowInfo, operands: &Operands) -> u64
     ensures { result ≡ base origin row.now operands.now }
 {
     match origin {
@@ -198,11 +196,7 @@ fn without_rounding(field: FieldValue) -> FieldValue
 ///
 /// `None` of rows without an inverse, as `terms_of` says; of an offset of a TLS symbol where there
 /// is no `tls_base`; and of a row of pages if `field` begins below bit 12.
-pub fn solve(
-    row: &RelocationKindInfo,
-    field: &FieldValue,
-    operands: &Operands,
-) -> Option<FieldValue>
+pub fn solve(row: &RowInfo, field: &FieldValue, operands: &Operands) -> Option<FieldValue>
     requires { IsProper field.now }
     ensures solved { IsSolved row.now field.now operands.now result }
     ensures proper { IfSome result IsProper }

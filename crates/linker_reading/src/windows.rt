@@ -9,7 +9,7 @@ ghost use Rattle.linker_reading.specs.Windows.{IsRecognisable, HasEach, IsLeastW
 ghost use Rattle.linker_reading.specs.Windows.{IsDestination};
 ghost use Rattle.linker_reading.specs.Windows.{is_of_symbol, is_local_entry, local_entry_of};
 ghost use Rattle.linker_reading.specs.Windows.{entry_distance, symbol_of};
-ghost use Rattle.linker_elf.specs.declared.elf.RelocationKindInfo.{RelocationKindInfo};
+ghost use Rattle.linker_elf.specs.declared.elf.RowInfo.{RowInfo};
 ghost use Rattle.linker_elf.specs.Architectures.{IsRow};
 ghost use Rattle.linker_utils.specs.Relaxations.{relaxation_rewrite};
 
@@ -20,9 +20,7 @@ use crate::recognise::{
 use crate::solving::{Reference, solve, terms_of};
 use linker_base::rewrite::RewriteWindow;
 use linker_elf::elf::choice_table::RelocationName;
-use linker_elf::elf::{
-    InstructionRewrite, Ppc64Instruction, RelocationInstruction, RelocationSize, Row,
-};
+use linker_elf::elf::{AnyForm, InstructionRewrite, Ppc64Form, Row, RowSize};
 use linker_utils::architecture::Relaxation;
 use linker_utils::elf::{Architecture, Choice, Operands};
 
@@ -234,15 +232,13 @@ fn entry_distance(is_local: bool, st_other: u8) -> u64
 }
 
 /// Whether a row is that of a branch of PowerPC64.
-fn is_local_entry(size: RelocationSize) -> bool
+fn is_local_entry(size: RowSize) -> bool
     ensures { result ≡ is_local_entry size }
 {
     matches!(
         size,
-        RelocationSize::BitMasking {
-            insn: RelocationInstruction::Ppc64(
-                Ppc64Instruction::Branch14 | Ppc64Instruction::Branch24
-            ),
+        RowSize::BitMasking {
+            insn: AnyForm::Ppc64(Ppc64Form::Branch14 | Ppc64Form::Branch24),
             ..
         }
     )
@@ -298,7 +294,7 @@ pub fn destination_of(
     operands: &Operands,
 ) -> Option<Destination>
     requires { length original.now ≤ 64 }
-    ensures { (row : Option RelocationKindInfo) × IsRow architecture made.now.choice.relocation row
+    ensures { (row : Option RowInfo) × IsRow architecture made.now.choice.relocation row
         × IsDestination row made.now.value made.now.choice.kind original.now offset operands.now
         result }
 {

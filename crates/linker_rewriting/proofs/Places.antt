@@ -1,7 +1,7 @@
 -- Places among the bytes that decisions write or delete.
 use Rattle.std.proofs.Common.{◌≡◌, ◌≢◌, ℕ, ◌+◌, ◌-◌, ◌<◌, ◌≤◌, inl, inr, List, length, subst, arith}
 use Rattle.linker_rewriting.proofs.Imports.{Architecture, Consumed, Decision, Kept, cases_lt, offset_at}
-use Rattle.linker_elf.specs.declared.elf.RelocationKindInfo.{RelocationKindInfo}
+use Rattle.linker_elf.specs.declared.elf.RowInfo.{RowInfo}
 use Rattle.linker_rewriting.proofs.Deciding.{ends_within}
 use Rattle.linker_rewriting.specs.Decisions.{AllCanBeMade, AreApart, IsCovered, decision_at, start_by, end_by, start_at, end_at}
 use Rattle.linker_rewriting.specs.Inner.Places.{IsWindow, AreBounded, AreBelow, AreAbove, IsPlaceBeside}
@@ -67,7 +67,7 @@ pub clear_at : (architecture : Architecture) (bytes section : List ℕ) (decisio
     → ((m : ℕ) → m < at → m ≢ n → IsWindow bytes decisions m
     → end_at bytes decisions m ≤ offset_at bytes n)
     → AreAbove bytes decisions limit at above
-    → (at < limit → (row : RelocationKindInfo) → IsField architecture bytes section n row
+    → (at < limit → (row : RowInfo) → IsField architecture bytes section n row
     → field_end bytes section n row ≤ above)
     → IsCovered architecture bytes section decisions limit n → ⊥
 clear_at architecture bytes section decisions limit n at above passed over ends covered =
@@ -85,7 +85,7 @@ clear_at architecture bytes section decisions limit n at above passed over ends 
     ]
 
 pub covered_at : (architecture : Architecture) (bytes section : List ℕ) (decisions : List Decision)
-    (limit n : ℕ) (place : Place) (row : RelocationKindInfo)
+    (limit n : ℕ) (place : Place) (row : RowInfo)
     → IsPlaceBeside bytes decisions limit n (offset_at bytes n) place → place.at < limit
     → decision_at decisions n ≢ Consumed → IsField architecture bytes section n row
     → place.above < field_end bytes section n row

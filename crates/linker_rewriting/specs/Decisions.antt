@@ -14,7 +14,7 @@ use Rattle.linker_rewriting.specs.Imports.{riscv_name}
 use Rattle.linker_base.specs.Rewrite.{CanRewrite}
 use Rattle.linker_base.specs.RewriteWindow.{window_of_rewrite}
 use Rattle.linker_base.specs.declared.rewrite.RewriteWindow.{RewriteWindow}
-use Rattle.linker_elf.specs.declared.elf.RelocationKindInfo.{RelocationKindInfo}
+use Rattle.linker_elf.specs.declared.elf.RowInfo.{RowInfo}
 use Rattle.linker_rewriting.specs.Agreement.{Agree, IsContradiction}
 use Rattle.linker_rewriting.specs.Candidates.{IsCandidate, deletes_within}
 use Rattle.linker_rewriting.specs.Facts.{RelaxContext, pre_layout}
@@ -285,7 +285,7 @@ deletions_by bytes decisions (suc n) =
 -- with an index below a limit, writes or deletes.
 pub record IsCovered (architecture : Architecture) (bytes section : List ℕ)
     (decisions : List Decision) (limit n : ℕ) : Type 0 where
-  pub row : RelocationKindInfo
+  pub row : RowInfo
   pub is_field : IsField architecture bytes section n row
   pub untaken : decision_at decisions n ≢ Consumed
   pub by : ℕ

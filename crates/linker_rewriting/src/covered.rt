@@ -1,7 +1,7 @@
 //! Relocations that no rewrite takes along, in the bytes that one writes or deletes.
 
 ghost use Rattle.std.specs.Prelude.{◌≡◌, ◌≢◌, ◌<◌, ◌≤◌, ◌/◌, length, map, true, false};
-ghost use Rattle.linker_elf.specs.declared.elf.RelocationKindInfo.{RelocationKindInfo};
+ghost use Rattle.linker_elf.specs.declared.elf.RowInfo.{RowInfo};
 ghost use Rattle.linker_rewriting.specs.Decisions.{AllCanBeMade, AreApart, IsFirstCovered};
 ghost use Rattle.linker_rewriting.specs.Decisions.{decision_at, start_at, end_at};
 ghost use Rattle.linker_rewriting.specs.Inner.Places.{IsBounded, AreBounded, AreBelow, IsPlace};
@@ -168,10 +168,10 @@ fn reaches(
     start: u64,
 ) -> bool
     requires { index < length relocations.now / 24 }
-    ensures no { result ≡ false → (row : RelocationKindInfo)
+    ensures no { result ≡ false → (row : RowInfo)
         → IsField architecture relocations.now section.now index row
         → field_end relocations.now section.now index row ≤ start }
-    ensures yes { result ≡ true → (row : RelocationKindInfo)
+    ensures yes { result ≡ true → (row : RowInfo)
         × IsField architecture relocations.now section.now index row
         × (start < field_end relocations.now section.now index row) }
 {

@@ -1,6 +1,6 @@
 -- The value of a relocation between two places of a run.
 use Rattle.std.proofs.Common.{◌≡◌, ℕ, ◌-◌, ◌^◌, ◌<◌, ◌≤◌, ◌∙◌, List, length, ap, ⊎_elim, arith, ℤ, pos, neg_ℤ, ◌-ℤ◌, ◌≤ℤ◌, ◌<ℤ◌, Some}
-use Rattle.linker_runs.proofs.Imports.{w64, cast_signed, cases_lt, ints, to_z_pos, cast_negative, IsWithin, reach_of, IsInReach, sum_64, difference_64, RelocationKindInfo, holds, IsRejected}
+use Rattle.linker_runs.proofs.Imports.{w64, cast_signed, cases_lt, ints, to_z_pos, cast_negative, IsWithin, reach_of, IsInReach, sum_64, difference_64, RowInfo, holds, IsRejected}
 use Rattle.linker_elf.specs.Agrees.{RowFits}
 use Rattle.linker_elf.specs.Relocate.{IsAccepted, IsInUnits, IsInWords, window_len}
 use Rattle.linker_elf.specs.Value.{value_of}
@@ -23,7 +23,7 @@ module _ (start from to : ℕ) where
       (cases_lt to from)
 
   -- a row that writes this value, in bytes that are long enough
-  module _ (row : RelocationKindInfo) (bytes : List ℕ) (fits : RowFits row) (long : window_len row ≤ length bytes)
+  module _ (row : RowInfo) (bytes : List ℕ) (fits : RowFits row) (long : window_len row ≤ length bytes)
       (units : (v : ℤ) → IsInUnits row.size v bytes) (words : (v : ℤ) → IsInWords row.size row.kind v bytes)
       (small : (v : ℤ) → IsWithin (reach_of row) v → (neg_ℤ (pos (2 ^ 63)) ≤ℤ v) × (v <ℤ pos (2 ^ 63)))
       (value : value_of row (operands_of (sum_64 start from) (sum_64 start to)) ≡ Some (cast_signed w64 number)) where

@@ -17,7 +17,7 @@ pub use Rattle.linker_elf.specs.Reach.{reach_of}
 pub use Rattle.linker_elf.specs.Relocate.{InstructionWritten, IsAligned, IsInReach, bits_taken}
 pub use Rattle.linker_elf.specs.RiscVRelocations.{riscv_row}
 pub use Rattle.linker_elf.specs.Value.{difference_64, sum_64}
-pub use Rattle.linker_elf.specs.declared.elf.RelocationKindInfo.{RelocationKindInfo}
+pub use Rattle.linker_elf.specs.declared.elf.RowInfo.{RowInfo}
 pub use Rattle.linker_elf.specs.declared.elf.Sign.TheVariants.{Signed}
 pub use Rattle.linker_elf.specs.declared.loongarch64.forms.LoongArch64Instruction.TheVariants.{Shift5}
 pub use Rattle.linker_elf.specs.declared.loongarch64.relocations.LoongArch64Relocation.TheVariants.{R_LARCH_B26, R_LARCH_PCREL20_S2}

@@ -3,7 +3,7 @@ use Rattle.std.proofs.Common.{◌≡◌, ℕ, ◌+◌, ◌*◌, ◌^◌, ◌<◌
 use Rattle.linker_runs.proofs.Imports.{IsSomeAnd, ◌*ℤ◌, ◌⊎◌, IsTrue, w32, w64, from_le_bytes, to_le_bytes, agree_below, from_le_bytes-to_le_bytes_4, field, window_of, is_placed, BitRange, IsWithin, bit_bounds, InstructionWritten, bits_taken, Signed, Shift5, sum_64, IsAddress, AreAddresses, whole}
 use Rattle.linker_elf.specs.Relocate.{places_cleared, is_jirl}
 use Rattle.linker_elf.specs.LoongArch.{loongarch_form, reach}
-use Rattle.linker_elf.specs.declared.elf.RelocationInstruction.TheVariants.{LoongArch64}
+use Rattle.linker_elf.specs.declared.elf.AnyForm.TheVariants.{LoongArch64}
 use Rattle.linker_elf.specs.declared.loongarch64.forms.LoongArch64Instruction.{LoongArch64Instruction}
 use Rattle.linker_elf.specs.declared.loongarch64.forms.LoongArch64Instruction.TheVariants.{Branch26}
 use Rattle.linker_laws.specs.LoongArchRelocationLaws.{Branches, Calls, RelativeAddresses, page_and_low}

@@ -2,8 +2,8 @@
 use Rattle.std.proofs.Common.{◌≡◌, ℕ, ◌+◌, ◌-◌, ◌%◌, ◌^◌, ◌<◌, ◌≤◌, ◌∙◌, true, false, List, length, take, drop, refl, ap, sym, subst, inr, ⊎_elim, arith, pos, ◌-ℤ◌, Some}
 use Rattle.linker_runs.proofs.Imports.{w64, cast_signed, cases_lt, false≢true, ints, to_z_pos, length-take, length-drop, cast_negative, IsWithin, bit_bounds, sum_64, difference_64, Signed, Shift5, holds, loongarch_fits}
 use Rattle.linker_elf.specs.LoongArch.{page}
-use Rattle.linker_elf.specs.declared.elf.RelocationInstruction.TheVariants.{LoongArch64 as OfLoongArch}
-use Rattle.linker_elf.specs.declared.elf.RelocationSize.TheVariants.{BitMasking}
+use Rattle.linker_elf.specs.declared.elf.AnyForm.TheVariants.{LoongArch64 as OfLoongArch}
+use Rattle.linker_elf.specs.declared.elf.RowSize.TheVariants.{BitMasking}
 use Rattle.linker_elf.specs.declared.loongarch64.forms.LoongArch64Instruction.TheVariants.{Shift10}
 use Rattle.linker_elf.specs.declared.loongarch64.relocations.LoongArch64Relocation.TheVariants.{R_LARCH_PCALA_HI20, R_LARCH_PCALA_LO12}
 use Rattle.linker_runs.specs.declared.relaxation.Item.{Item}

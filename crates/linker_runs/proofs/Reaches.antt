@@ -1,6 +1,6 @@
 -- Shapes reach what the rows of jumps reach.
 use Rattle.std.proofs.Common.{◌≡◌, ℕ, zero, suc, ◌+◌, ◌-◌, ◌*◌, ◌%◌, ◌<◌, ◌≤◌, ◌↔◌, true, ap, sym, subst, inl, inr, arith, ℤ, pos, negsuc, neg_ℤ, ◌-ℤ◌, [], ◌∷◌, Option, Some, None}
-use Rattle.linker_runs.proofs.Imports.{IsSomeAnd, ints, cases_lt, IsWithin, IsInReach, IsAligned, RelocationKindInfo, reach_of}
+use Rattle.linker_runs.proofs.Imports.{IsSomeAnd, ints, cases_lt, IsWithin, IsInReach, IsAligned, RowInfo, reach_of}
 use Rattle.std.specs.Prelude.{slice_index_or}
 use Rattle.linker_elf.specs.Relocate.{is_supported, IsEncoded}
 use Rattle.linker_runs.specs.declared.relaxation.Shape.{Shape}
@@ -57,7 +57,7 @@ module _ (kept size unit : ℕ) (is : IsUnit unit) where
   ]
 
   -- and the row of an instruction that does
-  module _ (row : RelocationKindInfo) (supported : is_supported row ≡ true) (alignment : row.alignment ≡ unit) (encoded : (v : ℤ) → IsEncoded row.size v)
+  module _ (row : RowInfo) (supported : is_supported row ≡ true) (alignment : row.alignment ≡ unit) (encoded : (v : ℤ) → IsEncoded row.size v)
       (within : (from to : ℕ) → IsAligned unit (pos to -ℤ pos from) → ((to < from + size) × (from ≤ to + size)) ↔ IsWithin (reach_of row) (pos to -ℤ pos from)) where
     pub is_of_row : (from to : ℕ) → (is_reached shape from to ≡ true) ↔ IsInReach row (pos to -ℤ pos from)
     is_of_row from to =
@@ -90,14 +90,14 @@ size_within size from to = (
 )
 
 -- shapes of one short one
-pub one : (shapes : Shapes) (row : Option RelocationKindInfo) → shapes.count ≡ 1 → shapes.longest ≡ 8 → IsSomeAnd row (IsOfRow (short_shape shapes 0)) → AreOfRows shapes (row ∷ [])
+pub one : (shapes : Shapes) (row : Option RowInfo) → shapes.count ≡ 1 → shapes.longest ≡ 8 → IsSomeAnd row (IsOfRow (short_shape shapes 0)) → AreOfRows shapes (row ∷ [])
 one shapes row count longest is = record { count = count; each = each; longest = longest }
   where
     each : (k : ℕ) → k < 1 → IsSomeAnd (slice_index_or (row ∷ []) k None) (IsOfRow (short_shape shapes k))
     each zero below = is
     each (suc k) below = absurd (omega arith)
 
-pub two : (shapes : Shapes) (short long : Option RelocationKindInfo) → shapes.count ≡ 2 → shapes.longest ≡ 8 → IsSomeAnd short (IsOfRow (short_shape shapes 0)) → IsSomeAnd long (IsOfRow (short_shape shapes 1)) → AreOfRows shapes (short ∷ long ∷ [])
+pub two : (shapes : Shapes) (short long : Option RowInfo) → shapes.count ≡ 2 → shapes.longest ≡ 8 → IsSomeAnd short (IsOfRow (short_shape shapes 0)) → IsSomeAnd long (IsOfRow (short_shape shapes 1)) → AreOfRows shapes (short ∷ long ∷ [])
 two shapes short long count longest is is' = record { count = count; each = each; longest = longest }
   where
     each : (k : ℕ) → k < 2 → IsSomeAnd (slice_index_or (short ∷ long ∷ []) k None) (IsOfRow (short_shape shapes k))

@@ -5,7 +5,7 @@ use Rattle.std.specs.Prelude.{Option, None, IsSomeAnd, pos, ◌-ℤ◌}
 use Rattle.linker_elf.specs.LoongArchRelocations.{loongarch_row}
 use Rattle.linker_elf.specs.Relocate.{IsInReach, window_len}
 use Rattle.linker_elf.specs.RiscVRelocations.{riscv_row}
-use Rattle.linker_elf.specs.declared.elf.RelocationKindInfo.{RelocationKindInfo}
+use Rattle.linker_elf.specs.declared.elf.RowInfo.{RowInfo}
 use Rattle.linker_elf.specs.declared.loongarch64.relocations.LoongArch64Relocation.TheVariants as loongarch
 use Rattle.linker_elf.specs.declared.riscv64.relocations.RiscVRelocation.TheVariants as riscv
 use Rattle.linker_runs.specs.declared.relaxation.Shape.{Shape}
@@ -16,14 +16,14 @@ use Rattle.linker_runs.specs.Relaxing.{short_shape, is_reached}
 
 -- A shape has as many bytes as the instruction of a row, and reaches a target exactly where the row
 -- can write the distance.
-pub record IsOfRow (shape : Shape) (row : RelocationKindInfo) : Type 0 where
+pub record IsOfRow (shape : Shape) (row : RowInfo) : Type 0 where
   pub len : shape.kept ≡ window_len row
   pub reach : (from to : ℕ)
       → (is_reached shape from to ≡ true) ↔ IsInReach row (pos to -ℤ pos from)
 
 -- The short shapes are those of the rows, in this order. The longest one is two
 -- instructions of four bytes.
-pub record AreOfRows (shapes : Shapes) (rows : List (Option RelocationKindInfo)) : Type 0 where
+pub record AreOfRows (shapes : Shapes) (rows : List (Option RowInfo)) : Type 0 where
   pub count : shapes.count ≡ length rows
   pub each : (k : ℕ) → k < length rows
       → IsSomeAnd (slice_index_or rows k None) (IsOfRow (short_shape shapes k))

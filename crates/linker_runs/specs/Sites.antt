@@ -1,12 +1,12 @@
 -- Instructions, and the relocations that are applied to them.
 use Rattle.std.specs.Prelude.{ℕ, List, Option, IsSomeAnd, pos, false}
-use Rattle.linker_elf.specs.declared.elf.RelocationKindInfo.{RelocationKindInfo}
+use Rattle.linker_elf.specs.declared.elf.RowInfo.{RowInfo}
 use Rattle.linker_elf.specs.declared.elf.value.Operands.{Operands}
 use Rattle.linker_elf.specs.Applied.{IsApplied, IsRejected}
 
 -- An instruction or two that go nowhere yet, and the relocation that gives them their target.
 pub record Template : Type 0 where
-  pub row : Option RelocationKindInfo
+  pub row : Option RowInfo
   pub bytes : List ℕ
 
 -- the operands of a relocation at a place whose symbol, or the symbol's PLT entry, is at the target

@@ -1,6 +1,6 @@
 -- What is written to a section, byte by byte.
 use Rattle.std.proofs.Common.{◌≡◌, ℕ, ℤ, ◌+◌, ◌-◌, ◌/◌, ◌<◌, ◌≤◌, ◌⊎◌, List, [], ◌∷◌, zero, suc, length, take, drop, get_or, cond, ltb, true, true≢false, refl, sym, ap, subst, ◌∙◌, inl, inr, arith}
-use Rattle.linker_section.proofs.Imports.{cases_eq, cases_lt, cases_Bool, or_left, cond_both, cond-true, cond-false, get_or-take, get_or-drop, length-drop, slice_index, window_len, RelocationKindInfo, Architecture}
+use Rattle.linker_section.proofs.Imports.{cases_eq, cases_lt, cases_Bool, or_left, cond_both, cond-true, cond-false, get_or-take, get_or-drop, length-drop, slice_index, window_len, RowInfo, Architecture}
 use Rattle.linker_section.proofs.Ulebs.{some_uleb}
 use Rattle.linker_section.proofs.Composing.{begun_is_continued_none, begun_ends_none, begun_has_value}
 use Rattle.linker_section.proofs.Local.{IsLocal, one_local, pair_local}
@@ -62,7 +62,7 @@ fewer architecture bytes before n m p most outside i row below is_field =
     outside i row (omega (arith, below, most)) is_field
 
 one_untouched : (architecture : Architecture) (addresses : Addresses) (bytes before middle now : List ℕ)
-    (values : Values) (n : ℕ) (row : RelocationKindInfo) (v : ℤ)
+    (values : Values) (n : ℕ) (row : RowInfo) (v : ℤ)
     → AreUntouched architecture bytes before n middle
     → IsValued architecture addresses bytes values n row v
     → IsWritten row v (offset_at bytes n) middle now
@@ -88,13 +88,13 @@ one_untouched architecture addresses bytes before middle now values n row v so_f
     )
 
 -- no earlier relocation has a byte of the field of one
-abbrev pub IsFirstAt : Architecture → List ℕ → List ℕ → ℕ → RelocationKindInfo → Type 0
+abbrev pub IsFirstAt : Architecture → List ℕ → List ℕ → ℕ → RowInfo → Type 0
 IsFirstAt architecture bytes before n row =
-    (i : ℕ) (other : RelocationKindInfo) → i < n → IsField architecture bytes before i other
+    (i : ℕ) (other : RowInfo) → i < n → IsField architecture bytes before i other
     → Overlap bytes before i other n row → ⊥
 
 pub first_byte : (architecture : Architecture) (bytes before : List ℕ) (n : ℕ)
-    (row : RelocationKindInfo) (p : ℕ) → IsFirstAt architecture bytes before n row
+    (row : RowInfo) (p : ℕ) → IsFirstAt architecture bytes before n row
     → offset_at bytes n ≤ p → p < field_end bytes before n row
     → IsInNoField architecture bytes before n p
 first_byte architecture bytes before n row p first from to i other below is_other =
@@ -108,7 +108,7 @@ first_byte architecture bytes before n row p first from to i other below is_othe
 
 -- as of the first of a pair
 pub pair_first : (architecture : Architecture) (bytes before : List ℕ) (n : ℕ)
-    (row : RelocationKindInfo) → AreApart architecture bytes before (n + 1)
+    (row : RowInfo) → AreApart architecture bytes before (n + 1)
     → IsField architecture bytes before n row → begins_pair row.size row.kind ≡ true
     → IsFirstAt architecture bytes before n row
 pair_first architecture bytes before n row apart is_field begins i other below is_other overlap =
@@ -119,7 +119,7 @@ pair_first architecture bytes before n row apart is_field begins i other below i
 
 -- the bytes that a pair changes are a field of the section before
 pub record IsPairPlace (architecture : Architecture) (bytes before middle now : List ℕ) (n : ℕ)
-    (row : RelocationKindInfo) : Type 0 where
+    (row : RowInfo) : Type 0 where
   pub is_field : IsField architecture bytes before n row
   pub len_is : field_len row (drop (offset_at bytes n) before)
       ≡ uleb_len (take 10 (drop (offset_at bytes n) middle))

@@ -1,6 +1,6 @@
 -- Fields that are gone through by ascending offsets are apart, if each is clear of the last one.
 use Rattle.std.proofs.Common.{◌≡◌, ℕ, ◌+◌, ◌-◌, ◌/◌, ◌<◌, ◌≤◌, ◌⊎◌, ◌&&◌, eqb, leb, sym, ap, subst, ◌∙◌, inl, inr, arith, true, false, true≢false, List, length, Some}
-use Rattle.linker_section.proofs.Imports.{or_cases, or_parts, and_parts, eqb-true, eq-eqb, leb-true, cases_eq, window_len, RelocationKindInfo, IsRow, IfSome, is_some, Option, Architecture, never}
+use Rattle.linker_section.proofs.Imports.{or_cases, or_parts, and_parts, eqb-true, eq-eqb, leb-true, cases_eq, window_len, RowInfo, IsRow, IfSome, is_some, Option, Architecture, never}
 use Rattle.std.proofs.lemmas.Bool.{leb-false, and_from, both_ways}
 use Rattle.linker_section.proofs.Composing.{continues_on, second_is_none, first_is_none, begun_continues_none, begun_is_continued_none, begun_ends_none}
 use Rattle.linker_section.proofs.Rows.{one_info}
@@ -49,7 +49,7 @@ not_clear field last order clear =
 -- ---- one more field
 
 own_continued : (architecture : Architecture) (bytes section : List ℕ) (k : ℕ)
-    (row : RelocationKindInfo) (field : Field) → HasField architecture bytes section k row field
+    (row : RowInfo) (field : Field) → HasField architecture bytes section k row field
     → IsContinued row field
 own_continued architecture bytes section k row field h kind is =
     let own : continues row.kind kind ≡ true = subst (λ x. continues x kind ≡ true) (sym h.kind_is) is in
@@ -57,10 +57,10 @@ own_continued architecture bytes section k row field h kind is =
 
 -- what is after an earlier field is after the new one, or they compose
 earlier_composes : (architecture : Architecture) (bytes section : List ℕ) (IsSeen : ℕ → Type 0)
-    (last : Field) (k : ℕ) (row : RelocationKindInfo) (field : Field)
+    (last : Field) (k : ℕ) (row : RowInfo) (field : Field)
     → AreClaimed architecture bytes section IsSeen last
     → HasField architecture bytes section k row field → last.offset ≤ field.offset
-    → is_clear_of field last ≡ true → (i : ℕ) (other : RelocationKindInfo) → IsSeen i
+    → is_clear_of field last ≡ true → (i : ℕ) (other : RowInfo) → IsSeen i
     → IsField architecture bytes section i other
     → (field_end bytes section i other ≤ field.offset)
     ⊎ ((offset_at bytes i ≡ field.offset)
@@ -94,7 +94,7 @@ pub record OneMore (IsSeen IsSeenNow : ℕ → Type 0) (k : ℕ) : Type 0 where
   pub now : IsSeenNow k
 
 pub apart_more : (architecture : Architecture) (bytes section : List ℕ)
-    (IsSeen IsSeenNow : ℕ → Type 0) (last : Field) (k : ℕ) (row : RelocationKindInfo)
+    (IsSeen IsSeenNow : ℕ → Type 0) (last : Field) (k : ℕ) (row : RowInfo)
     (field : Field) → OneMore IsSeen IsSeenNow k
     → ((i : ℕ) → IsSeen i → offset_at bytes i ≡ offset_at bytes k → i ≤ k)
     → ApartIn architecture bytes section IsSeen → AreClaimed architecture bytes section IsSeen last
@@ -125,7 +125,7 @@ apart_more architecture bytes section IsSeen IsSeenNow last k row field more lat
     ]
 
 pub claimed_more : (architecture : Architecture) (bytes section : List ℕ)
-    (IsSeen IsSeenNow : ℕ → Type 0) (last : Field) (k : ℕ) (row : RelocationKindInfo)
+    (IsSeen IsSeenNow : ℕ → Type 0) (last : Field) (k : ℕ) (row : RowInfo)
     (field : Field) → OneMore IsSeen IsSeenNow k
     → AreClaimed architecture bytes section IsSeen last
     → HasField architecture bytes section k row field → last.offset ≤ field.offset
@@ -162,7 +162,7 @@ claimed_more architecture bytes section IsSeen IsSeenNow last k row field more c
 -- ---- a field that isn't clear
 
 pub overlapped : (architecture : Architecture) (bytes section : List ℕ) (IsSeen : ℕ → Type 0)
-    (last : Field) (k : ℕ) (row : RelocationKindInfo) (field : Field)
+    (last : Field) (k : ℕ) (row : RowInfo) (field : Field)
     → AreClaimed architecture bytes section IsSeen last
     → IsField architecture bytes section k row → offset_at bytes k ≡ field.offset
     → row.kind ≡ field.kind → (is_of_pair row ≡ false → window_len row ≡ field.len)
@@ -212,7 +212,7 @@ last_kept architecture bytes section IsSeen IsSeenNow last kept at =
 -- ---- the second of a pair, at the first's field
 
 pub apart_pair : (architecture : Architecture) (bytes section : List ℕ)
-    (IsSeen IsSeenNow : ℕ → Type 0) (k : ℕ) (row other : RelocationKindInfo)
+    (IsSeen IsSeenNow : ℕ → Type 0) (k : ℕ) (row other : RowInfo)
     → OneMore IsSeen IsSeenNow (k + 1) → IsSeen k → ApartIn architecture bytes section IsSeen
     → IsField architecture bytes section k row → begins_pair row.size row.kind ≡ true
     → IsField architecture bytes section (k + 1) other
@@ -267,7 +267,7 @@ apart_pair architecture bytes section IsSeen IsSeenNow k row other more seen apa
     ]
 
 pub claimed_pair : (architecture : Architecture) (bytes section : List ℕ)
-    (IsSeen IsSeenNow : ℕ → Type 0) (k : ℕ) (row other : RelocationKindInfo) (field : Field)
+    (IsSeen IsSeenNow : ℕ → Type 0) (k : ℕ) (row other : RowInfo) (field : Field)
     → OneMore IsSeen IsSeenNow (k + 1) → AreClaimed architecture bytes section IsSeen field
     → HasField architecture bytes section k row field → begins_pair row.size row.kind ≡ true
     → offset_at bytes (k + 1) ≡ offset_at bytes k
@@ -309,7 +309,7 @@ from_in architecture bytes section k apart i j row other below under is_field is
 abbrev pub HaveNone : Architecture → List ℕ → List ℕ → (ℕ → Type 0) → (ℕ → Type 0) → Type 0
 HaveNone architecture bytes section IsSeen IsSeenNow =
     (i : ℕ) → IsSeenNow i
-    → IsSeen i ⊎ ((row : RelocationKindInfo) → IsField architecture bytes section i row → ⊥)
+    → IsSeen i ⊎ ((row : RowInfo) → IsField architecture bytes section i row → ⊥)
 
 pub apart_without : (architecture : Architecture) (bytes section : List ℕ)
     (IsSeen IsSeenNow : ℕ → Type 0) → HaveNone architecture bytes section IsSeen IsSeenNow
@@ -338,7 +338,7 @@ claimed_without architecture bytes section IsSeen IsSeenNow last none kept claim
     }
 
 none_below : (architecture : Architecture) (bytes section : List ℕ) (k : ℕ)
-    → ((row : RelocationKindInfo) → IsField architecture bytes section k row → ⊥)
+    → ((row : RowInfo) → IsField architecture bytes section k row → ⊥)
     → HaveNone architecture bytes section (λ i. i < k) (λ i. i < k + 1)
 none_below architecture bytes section k none i under =
     elim (cases_eq i k) [
@@ -347,7 +347,7 @@ none_below architecture bytes section k none i under =
     ]
 
 pub apart_mark : (architecture : Architecture) (bytes section : List ℕ) (k : ℕ)
-    → ((row : RelocationKindInfo) → IsField architecture bytes section k row → ⊥)
+    → ((row : RowInfo) → IsField architecture bytes section k row → ⊥)
     → AreApart architecture bytes section k → AreApart architecture bytes section (k + 1)
 apart_mark architecture bytes section k none apart =
     from_in architecture bytes section (k + 1)
@@ -355,7 +355,7 @@ apart_mark architecture bytes section k none apart =
     (to_in architecture bytes section k apart))
 
 pub claimed_mark : (architecture : Architecture) (bytes section : List ℕ) (k : ℕ) (last : Field)
-    → ((row : RelocationKindInfo) → IsField architecture bytes section k row → ⊥)
+    → ((row : RowInfo) → IsField architecture bytes section k row → ⊥)
     → AreClaimed architecture bytes section (λ i. i < k) last
     → AreClaimed architecture bytes section (λ i. i < k + 1) last
 claimed_mark architecture bytes section k last none claimed =
@@ -381,7 +381,7 @@ pair_below k =
 -- ---- two fields
 
 pub pair_begins : (architecture : Architecture) (bytes : List ℕ) (i j : ℕ)
-    (row other : RelocationKindInfo) → offset_at bytes i ≡ offset_at bytes j → j ≡ i + 1
+    (row other : RowInfo) → offset_at bytes i ≡ offset_at bytes j → j ≡ i + 1
     → j < length bytes / 24 → begins_pair row.size row.kind ≡ true
     → ends_pair other.size other.kind ≡ true
     → IsRow architecture (relocation_in bytes i).r_type (Some row)
@@ -400,7 +400,7 @@ pair_begins architecture bytes i j row other offset next under begins ends is_ro
 
 -- a collision
 pub ordered_overlapped : (architecture : Architecture) (bytes section : List ℕ) (i j : ℕ)
-    (row other : RelocationKindInfo) (first second : Field) → i < j → j < length bytes / 24
+    (row other : RowInfo) (first second : Field) → i < j → j < length bytes / 24
     → HasField architecture bytes section i row first
     → HasField architecture bytes section j other second → first.offset ≤ second.offset
     → is_clear_of second first ≡ false
@@ -430,7 +430,7 @@ ordered_overlapped architecture bytes section i j row other first second below u
     }
 
 pub after_overlapped : (architecture : Architecture) (bytes section : List ℕ) (i j : ℕ)
-    (row other : RelocationKindInfo) (first second : Field) → i < j
+    (row other : RowInfo) (first second : Field) → i < j
     → HasField architecture bytes section i row first
     → HasField architecture bytes section j other second → second.offset < first.offset
     → is_clear_of first second ≡ false → IsOverlapped architecture bytes section j

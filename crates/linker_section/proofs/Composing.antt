@@ -1,6 +1,6 @@
 -- Which kinds compose, and which rows are of a pair at a ULEB128 number.
 use Rattle.std.proofs.Common.{◌≡◌, ◌||◌, refl, sym, ◌∙◌, true, false, true≢false}
-use Rattle.linker_section.proofs.Imports.{RelocationKind, RelocationSize, ByteSize, BitMasking, never}
+use Rattle.linker_section.proofs.Imports.{RelocationKind, RowSize, ByteSize, BitMasking, never}
 use Rattle.linker_elf.specs.declared.elf.RelocationKind.TheVariants as kinds
 use Rattle.linker_section.specs.Fields.{begins_pair, ends_pair, changes_number, changes_bits, continues}
 use Rattle.linker_section.specs.Values.{has_value}
@@ -29,7 +29,7 @@ continues_on _ second third a b = never a
 
 -- ---- rows of pairs
 
-changed_is_none : (kind : RelocationKind) (size : RelocationSize) → changes_number kind ≡ true
+changed_is_none : (kind : RelocationKind) (size : RowSize) → changes_number kind ≡ true
     → (begins_pair size kind || ends_pair size kind) ≡ false
 changed_is_none kinds.AbsoluteAddition (ByteSize n) is = refl
 changed_is_none kinds.AbsoluteAddition (BitMasking bits insn) is = refl
@@ -37,7 +37,7 @@ changed_is_none kinds.AbsoluteSubtraction (ByteSize n) is = refl
 changed_is_none kinds.AbsoluteSubtraction (BitMasking bits insn) is = refl
 changed_is_none _ size is = never is
 
-bits_is_none : (kind : RelocationKind) (size : RelocationSize) → changes_bits kind ≡ true
+bits_is_none : (kind : RelocationKind) (size : RowSize) → changes_bits kind ≡ true
     → (begins_pair size kind || ends_pair size kind) ≡ false
 bits_is_none kinds.AbsoluteAdditionWord6 (ByteSize n) is = refl
 bits_is_none kinds.AbsoluteAdditionWord6 (BitMasking bits insn) is = refl
@@ -45,7 +45,7 @@ bits_is_none kinds.AbsoluteSubtractionWord6 (ByteSize n) is = refl
 bits_is_none kinds.AbsoluteSubtractionWord6 (BitMasking bits insn) is = refl
 bits_is_none _ size is = never is
 
-pub second_is_none : (first kind : RelocationKind) (size : RelocationSize) → continues first kind ≡ true
+pub second_is_none : (first kind : RelocationKind) (size : RowSize) → continues first kind ≡ true
     → (begins_pair size kind || ends_pair size kind) ≡ false
 second_is_none kinds.AbsoluteSet kind size is = changed_is_none kind size is
 second_is_none kinds.AbsoluteAddition kind size is = changed_is_none kind size is
@@ -55,7 +55,7 @@ second_is_none kinds.AbsoluteAdditionWord6 kind size is = bits_is_none kind size
 second_is_none kinds.AbsoluteSubtractionWord6 kind size is = bits_is_none kind size is
 second_is_none _ kind size is = never is
 
-pub first_is_none : (kind next : RelocationKind) (size : RelocationSize) → continues kind next ≡ true
+pub first_is_none : (kind next : RelocationKind) (size : RowSize) → continues kind next ≡ true
     → (begins_pair size kind || ends_pair size kind) ≡ false
 first_is_none kinds.AbsoluteSet next (ByteSize n) is = refl
 first_is_none kinds.AbsoluteSet next (BitMasking bits insn) is = refl
@@ -72,13 +72,13 @@ first_is_none kinds.AbsoluteSubtractionWord6 next (BitMasking bits insn) is = re
 first_is_none _ next size is = never is
 
 -- the first of a pair: nothing continues with it, and it ends none
-pub begun_continues_none : (size : RelocationSize) (kind next : RelocationKind)
+pub begun_continues_none : (size : RowSize) (kind next : RelocationKind)
     → begins_pair size kind ≡ true → continues kind next ≡ false
 begun_continues_none (ByteSize n) kinds.Relative next is = refl
 begun_continues_none (ByteSize n) _ next is = never is
 begun_continues_none (BitMasking bits insn) _ next is = never is
 
-pub begun_ends_none : (size : RelocationSize) (kind : RelocationKind)
+pub begun_ends_none : (size : RowSize) (kind : RelocationKind)
     → begins_pair size kind ≡ true → ends_pair size kind ≡ false
 begun_ends_none (ByteSize n) kinds.Relative is = refl
 begun_ends_none (ByteSize n) _ is = never is
@@ -93,27 +93,27 @@ continues_relative kinds.AbsoluteAdditionWord6 = refl
 continues_relative kinds.AbsoluteSubtractionWord6 = refl
 continues_relative _ = refl
 
-pub begun_is_continued_none : (size : RelocationSize) (kind first : RelocationKind)
+pub begun_is_continued_none : (size : RowSize) (kind first : RelocationKind)
     → begins_pair size kind ≡ true → continues first kind ≡ false
 begun_is_continued_none (ByteSize n) kinds.Relative first is = continues_relative first
 begun_is_continued_none (ByteSize n) _ first is = never is
 begun_is_continued_none (BitMasking bits insn) _ first is = never is
 
-pub ended_begins_none : (size : RelocationSize) (kind : RelocationKind)
+pub ended_begins_none : (size : RowSize) (kind : RelocationKind)
     → ends_pair size kind ≡ true → begins_pair size kind ≡ false
 ended_begins_none (ByteSize n) kinds.PairSubtractionULEB128RiscV is = refl
 ended_begins_none (ByteSize n) kinds.PairSubtractionULEB128LoongArch is = refl
 ended_begins_none (ByteSize n) _ is = never is
 ended_begins_none (BitMasking bits insn) _ is = never is
 
-pub ended_has_value : (size : RelocationSize) (kind : RelocationKind)
+pub ended_has_value : (size : RowSize) (kind : RelocationKind)
     → ends_pair size kind ≡ true → has_value kind ≡ true
 ended_has_value (ByteSize n) kinds.PairSubtractionULEB128RiscV is = refl
 ended_has_value (ByteSize n) kinds.PairSubtractionULEB128LoongArch is = refl
 ended_has_value (ByteSize n) _ is = never is
 ended_has_value (BitMasking bits insn) _ is = never is
 
-pub unvalued_begins_none : (size : RelocationSize) (kind : RelocationKind)
+pub unvalued_begins_none : (size : RowSize) (kind : RelocationKind)
     → has_value kind ≡ false → begins_pair size kind ≡ false
 unvalued_begins_none (ByteSize n) kinds.None is = refl
 unvalued_begins_none (BitMasking bits insn) kinds.None is = refl
@@ -123,7 +123,7 @@ unvalued_begins_none (ByteSize n) kinds.TlsDescCall is = refl
 unvalued_begins_none (BitMasking bits insn) kinds.TlsDescCall is = refl
 unvalued_begins_none size _ is = absurd (true≢false is)
 
-pub unvalued_ends_none : (size : RelocationSize) (kind : RelocationKind)
+pub unvalued_ends_none : (size : RowSize) (kind : RelocationKind)
     → has_value kind ≡ false → ends_pair size kind ≡ false
 unvalued_ends_none (ByteSize n) kinds.None is = refl
 unvalued_ends_none (BitMasking bits insn) kinds.None is = refl
@@ -133,7 +133,7 @@ unvalued_ends_none (ByteSize n) kinds.TlsDescCall is = refl
 unvalued_ends_none (BitMasking bits insn) kinds.TlsDescCall is = refl
 unvalued_ends_none size _ is = absurd (true≢false is)
 
-pub begun_has_value : (size : RelocationSize) (kind : RelocationKind)
+pub begun_has_value : (size : RowSize) (kind : RelocationKind)
     → begins_pair size kind ≡ true → has_value kind ≡ true
 begun_has_value (ByteSize n) kinds.Relative is = refl
 begun_has_value (ByteSize n) _ is = never is

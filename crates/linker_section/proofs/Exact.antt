@@ -1,6 +1,6 @@
 -- A section that can be written has no fault: each relocation has one value.
 use Rattle.std.proofs.Common.{◌≡◌, ℕ, ℤ, ◌+◌, ◌/◌, ◌<◌, ◌≤◌, ◌⊎◌, ◌^◌, List, length, drop, Bool, true, false, true≢false, ltb, refl, sym, ap, subst, ◌∙◌, inl, inr, arith, Option, Some, None, Ok, Err, Result}
-use Rattle.linker_section.proofs.Imports.{cases_eq, cases_lt, cases_Bool, and_parts, or_left, cond-true, cond-false, le-ltb, lt-ltb, slice_get, slice_index, ◌||◌, Uleb, IsUlebCause, BitRange, Uleb128Error, Ended, TooLarge, DoesNotFit, IsCause, IsAccepted, size_len, RiscV, RelocationKind, RelocationKindInfo, RelocationSize, BitMasking, RelocateError, Unsupported, TooShort, Misaligned, OutOfReach, UType, IsRow, Architecture}
+use Rattle.linker_section.proofs.Imports.{cases_eq, cases_lt, cases_Bool, and_parts, or_left, cond-true, cond-false, le-ltb, lt-ltb, slice_get, slice_index, ◌||◌, Uleb, IsUlebCause, BitRange, Uleb128Error, Ended, TooLarge, DoesNotFit, IsCause, IsAccepted, size_len, RiscV, RelocationKind, RowInfo, RowSize, BitMasking, RelocateError, Unsupported, TooShort, Misaligned, OutOfReach, UType, IsRow, Architecture}
 use Rattle.linker_elf.specs.declared.elf.RelocationKind.TheVariants as kinds
 use Rattle.linker_section.proofs.Composing.{begun_ends_none}
 use Rattle.linker_section.proofs.Fronts.{some_window}
@@ -25,11 +25,11 @@ use Rattle.linker_section.specs.declared.values.ValueError.{ValueError}
 
 -- ---- one high part
 
-record IsAuipcSize (size : RelocationSize) : Type 0 where
+record IsAuipcSize (size : RowSize) : Type 0 where
   pub bits : BitRange
   pub is : size ≡ BitMasking bits (RiscV UType)
 
-auipc_size : (size : RelocationSize) → is_auipc size ≡ true → IsAuipcSize size
+auipc_size : (size : RowSize) → is_auipc size ≡ true → IsAuipcSize size
 auipc_size (BitMasking bits (RiscV UType)) is = record { bits = bits; is = refl }
 auipc_size _ is = absurd (true≢false (sym is))
 
@@ -58,13 +58,13 @@ there_is bytes i r is =
 
 -- a high part is of an instruction with a field
 record IsHighField (architecture : Architecture) (bytes section : List ℕ) (i : ℕ)
-    (row : RelocationKindInfo) : Type 0 where
+    (row : RowInfo) : Type 0 where
   pub is_field : IsField architecture bytes section i row
   pub alone : is_composing row.kind ≡ false
   pub no_pair : is_of_pair row ≡ false
 
 high_field : (architecture : Architecture) (bytes section : List ℕ) (low : RelocationKind) (at : ℕ)
-    (r : Rela) (row : RelocationKindInfo) (high : IsHighPart architecture bytes low at r row)
+    (r : Rela) (row : RowInfo) (high : IsHighPart architecture bytes low at r row)
     → IsHighField architecture bytes section high.index row
 high_field architecture bytes section low at r row high =
     let i = high.index in
@@ -81,7 +81,7 @@ high_field architecture bytes section low at r row high =
       no_pair = no_pair;
     }
 
-high_composes_none : {bytes : List ℕ} {i j : ℕ} {row other : RelocationKindInfo} {A : Type 0}
+high_composes_none : {bytes : List ℕ} {i j : ℕ} {row other : RowInfo} {A : Type 0}
     → is_composing row.kind ≡ false → is_of_pair row ≡ false → Composes bytes i row j other → A
 high_composes_none {bytes} {i} {j} {row} {other} alone no_pair composes =
     elim composes [
@@ -99,7 +99,7 @@ is_ok (Ok x) = true
 is_ok (Err error) = false
 
 module _ (architecture : Architecture) (bytes section : List ℕ) (apart : AreApart architecture bytes section (length bytes / 24)) where
-  high_apart : (low : RelocationKind) (at : ℕ) (r s : Rela) (row other : RelocationKindInfo)
+  high_apart : (low : RelocationKind) (at : ℕ) (r s : Rela) (row other : RowInfo)
       (x : IsHighPart architecture bytes low at r row) (y : IsHighPart architecture bytes low at s other)
       → x.index < y.index → ⊥
   high_apart low at r s row other x y less =
@@ -113,12 +113,12 @@ module _ (architecture : Architecture) (bytes section : List ℕ) (apart : AreAp
       high_composes_none f.alone f.no_pair
       (apart x.index y.index row other less b.within f.is_field g.is_field ((omega (arith, same, gs)), (omega (arith, same, fs))))
 
-  pub record IsOneHigh (r s : Rela) (row other : RelocationKindInfo) (i j : ℕ) : Type 0 where
+  pub record IsOneHigh (r s : Rela) (row other : RowInfo) (i j : ℕ) : Type 0 where
     pub relocation_is : r ≡ s
     pub row_is : row ≡ other
     pub index_is : i ≡ j
 
-  pub one_high : (low : RelocationKind) (at : ℕ) (r s : Rela) (row other : RelocationKindInfo)
+  pub one_high : (low : RelocationKind) (at : ℕ) (r s : Rela) (row other : RowInfo)
       (x : IsHighPart architecture bytes low at r row) (y : IsHighPart architecture bytes low at s other)
       → IsOneHigh r s row other x.index y.index
   one_high low at r s row other x y =
@@ -134,7 +134,7 @@ module _ (architecture : Architecture) (bytes section : List ℕ) (apart : AreAp
         ]
       ]
 
-  pub no_high : (low : RelocationKind) (at : ℕ) (r : Rela) (row : RelocationKindInfo)
+  pub no_high : (low : RelocationKind) (at : ℕ) (r : Rela) (row : RowInfo)
       → IsHighPart architecture bytes low at r row → IsHighPartAt architecture bytes low at None → ⊥
   no_high low at r row x none =
       elim (none x.index r x.is_there) [
@@ -143,7 +143,7 @@ module _ (architecture : Architecture) (bytes section : List ℕ) (apart : AreAp
             true≢false (sym x.is_high ∙ (ap (is_high_part low) (one_row architecture r.r_type (Some row) (other.0) x.row_is (other.1)) ∙ other.2))
       ]
 
-  same_high : (low : RelocationKind) (at : ℕ) (x y : Option (Rela × RelocationKindInfo))
+  same_high : (low : RelocationKind) (at : ℕ) (x y : Option (Rela × RowInfo))
       → IsHighPartAt architecture bytes low at x → IsHighPartAt architecture bytes low at y → x ≡ y
   same_high low at (Some f) (Some g) x y =
       let one = one_high low at (f.0) (g.0) (f.1) (g.1) x y in
@@ -157,28 +157,28 @@ module _ (architecture : Architecture) (bytes section : List ℕ) (apart : AreAp
 -- what is found of the relocation at an index is found once, and isn't an error
 pub record AreUnique (architecture : Architecture) (addresses : Addresses) (bytes : List ℕ)
     (values : Values) : Type 0 where
-  pub same : (i : ℕ) (x y : Option (RelocationKindInfo × ℤ)) → values architecture addresses bytes i (Ok x)
+  pub same : (i : ℕ) (x y : Option (RowInfo × ℤ)) → values architecture addresses bytes i (Ok x)
       → values architecture addresses bytes i (Ok y) → x ≡ y
-  pub no_error : (i : ℕ) (x : Option (RelocationKindInfo × ℤ)) (why : ValueError)
+  pub no_error : (i : ℕ) (x : Option (RowInfo × ℤ)) (why : ValueError)
       → values architecture addresses bytes i (Ok x) → values architecture addresses bytes i (Err why) → ⊥
-  pub is_row : (i : ℕ) (row : RelocationKindInfo) (v : ℤ) → values architecture addresses bytes i (Ok (Some (row, v)))
+  pub is_row : (i : ℕ) (row : RowInfo) (v : ℤ) → values architecture addresses bytes i (Ok (Some (row, v)))
       → IsRow architecture (relocation_in bytes i).r_type (Some row)
 
 module _ (architecture : Architecture) (addresses : Addresses) (bytes : List ℕ) (symbols : List Symbol) (section : List ℕ) (apart : AreApart architecture bytes section (length bytes / 24)) where
-  one_low : (row : RelocationKindInfo) (label : Option Symbol) (x y : Result (Option ℤ) ValueError)
+  one_low : (row : RowInfo) (label : Option Symbol) (x y : Result (Option ℤ) ValueError)
       → IsLowValue architecture addresses bytes symbols row label x
       → IsLowValue architecture addresses bytes symbols row label y → x ≡ y
   one_low row None x y a b = a ∙ sym b
   one_low row (Some label) x y a b =
       a.2 ∙ (ap (low_value architecture addresses symbols row) (same_high architecture bytes section apart row.kind _ (a.0) (b.0) (a.1) (b.1)) ∙ sym (b.2))
 
-  one_by : (labelled : Bool) (row : RelocationKindInfo) (r : Rela) (x y : Result (Option ℤ) ValueError)
+  one_by : (labelled : Bool) (row : RowInfo) (r : Rela) (x y : Result (Option ℤ) ValueError)
       → IsValueBy labelled architecture addresses bytes symbols row r x
       → IsValueBy labelled architecture addresses bytes symbols row r y → x ≡ y
   one_by true row r x y a b = one_low row (slice_get symbols r.symbol) x y a b
   one_by false row r x y a b = a ∙ sym b
 
-  one_in : (r : Rela) (row : Option RelocationKindInfo) (x y : Result (Option ℤ) ValueError)
+  one_in : (r : Rela) (row : Option RowInfo) (x y : Result (Option ℤ) ValueError)
       → IsValueIn architecture addresses bytes symbols r row x
       → IsValueIn architecture addresses bytes symbols r row y → x ≡ y
   one_in r None x y a b = a ∙ sym b
@@ -191,17 +191,17 @@ module _ (architecture : Architecture) (addresses : Addresses) (bytes : List ℕ
       one_in r (a.0) x y (a.2)
       (subst (λ row. IsValueIn architecture addresses bytes symbols r row y) (one_row architecture r.r_type (b.0) (a.0) (b.1) (a.1)) (b.2))
 
-  value_of_has : (r : Rela) (row : RelocationKindInfo) (v : ℤ)
+  value_of_has : (r : Rela) (row : RowInfo) (v : ℤ)
       → HasValue architecture addresses bytes symbols r row v
       → IsValue architecture addresses bytes symbols r (Ok (Some v))
   value_of_has r row v has = (Some row, has.is_row, has.is_value)
 
-  found_value : (r : Rela) (found : Option (RelocationKindInfo × ℤ)) → IsRowValue architecture addresses bytes symbols r (Ok found)
+  found_value : (r : Rela) (found : Option (RowInfo × ℤ)) → IsRowValue architecture addresses bytes symbols r (Ok found)
       → (x : Option ℤ) × IsValue architecture addresses bytes symbols r (Ok x)
   found_value r None is = (None, mark_none architecture addresses bytes symbols r is)
   found_value r (Some f) is = (Some (f.1), value_of_has r (f.0) (f.1) is)
 
-  none_has : (r : Rela) (row : RelocationKindInfo) (v : ℤ) → IsValue architecture addresses bytes symbols r (Ok None)
+  none_has : (r : Rela) (row : RowInfo) (v : ℤ) → IsValue architecture addresses bytes symbols r (Ok None)
       → HasValue architecture addresses bytes symbols r row v → ⊥
   none_has r row v none has =
       subst IsNone (ap (of_ok None) (one_value r (Ok None) (Ok (Some v)) none (value_of_has r row v has))) tt
@@ -211,7 +211,7 @@ module _ (architecture : Architecture) (addresses : Addresses) (bytes : List ℕ
       IsNone (Some v) = ⊥
 
   -- what is found is a relocation's row and value
-  found_is : (r : Rela) (found : Option (RelocationKindInfo × ℤ)) (row : RelocationKindInfo) (v : ℤ)
+  found_is : (r : Rela) (found : Option (RowInfo × ℤ)) (row : RowInfo) (v : ℤ)
       → IsRowValue architecture addresses bytes symbols r (Ok found)
       → HasValue architecture addresses bytes symbols r row v → found ≡ Some (row, v)
   found_is r None row v is has = absurd (none_has r row v (mark_none architecture addresses bytes symbols r is) has)
@@ -229,7 +229,7 @@ module _ (architecture : Architecture) (addresses : Addresses) (bytes : List ℕ
       IsNone (Some v) = ⊥
 
   -- what is found has a value or is a mark
-  no_valueless : (r : Rela) (found : Option (RelocationKindInfo × ℤ)) (why : ValueError)
+  no_valueless : (r : Rela) (found : Option (RowInfo × ℤ)) (why : ValueError)
       → IsRowValue architecture addresses bytes symbols r (Ok found)
       → IsValueless architecture addresses bytes symbols r why → ⊥
   no_valueless r found why is (no_value fails) =
@@ -244,13 +244,13 @@ module _ (architecture : Architecture) (addresses : Addresses) (bytes : List ℕ
       let same = ap (first_of v) (ap (of_ok None) (one_value r (Ok (Some (f.1))) (Ok (Some v)) (value_of_has r (f.0) (f.1) is) some)) in
       isnt (subst (IsInReach architecture bytes r) same is.in_reach)
 
-  same_found : (r : Rela) (x y : Option (RelocationKindInfo × ℤ)) → IsRowValue architecture addresses bytes symbols r (Ok x)
+  same_found : (r : Rela) (x y : Option (RowInfo × ℤ)) → IsRowValue architecture addresses bytes symbols r (Ok x)
       → IsRowValue architecture addresses bytes symbols r (Ok y) → x ≡ y
   same_found r (Some f) y a b = sym (found_is r y (f.0) (f.1) b a)
   same_found r None (Some g) a b = absurd (none_has r (g.0) (g.1) (mark_none architecture addresses bytes symbols r a) b)
   same_found r None None a b = refl
 
-  row_of_value : (r : Rela) (row : RelocationKindInfo) (v : ℤ) → HasValue architecture addresses bytes symbols r row v
+  row_of_value : (r : Rela) (row : RowInfo) (v : ℤ) → HasValue architecture addresses bytes symbols r row v
       → IsRow architecture r.r_type (Some row)
   row_of_value r row v has = has.is_row
 
@@ -263,7 +263,7 @@ module _ (architecture : Architecture) (addresses : Addresses) (bytes : List ℕ
 
 -- ---- what is accepted isn't rejected
 
-accepted_no_cause : (row : RelocationKindInfo) (v : ℤ) (xs : List ℕ) (error : RelocateError)
+accepted_no_cause : (row : RowInfo) (v : ℤ) (xs : List ℕ) (error : RelocateError)
     → IsAccepted row v xs → IsCause row v xs error → ⊥
 accepted_no_cause row v xs Unsupported is cause = true≢false (sym is.supported ∙ cause)
 accepted_no_cause row v xs TooShort is cause =
@@ -306,17 +306,17 @@ one_pair_number kinds.PairSubtractionULEB128LoongArch there v w n m old rest u a
 one_pair_number _ there v w n m old rest u a b = a ∙ sym b
 
 -- what is found once is one row and one value
-pub record IsOneFound (row other : RelocationKindInfo) (v w : ℤ) : Type 0 where
+pub record IsOneFound (row other : RowInfo) (v w : ℤ) : Type 0 where
   pub row_is : row ≡ other
   pub value_is : v ≡ w
 
-pub one_found : (found : Option (RelocationKindInfo × ℤ)) (row other : RelocationKindInfo) (v w : ℤ)
+pub one_found : (found : Option (RowInfo × ℤ)) (row other : RowInfo) (v w : ℤ)
     → found ≡ Some (row, v) → found ≡ Some (other, w) → IsOneFound row other v w
 one_found found row other v w a b =
     let same = ap (first_of (row, v)) (sym a ∙ b) in
-    record { row_is = ap (λ (p : RelocationKindInfo × ℤ). p.0) same; value_is = ap (λ (p : RelocationKindInfo × ℤ). p.1) same }
+    record { row_is = ap (λ (p : RowInfo × ℤ). p.0) same; value_is = ap (λ (p : RowInfo × ℤ). p.1) same }
 
-begins_no_end : (row other : RelocationKindInfo) → row ≡ other → begins_pair row.size row.kind ≡ true
+begins_no_end : (row other : RowInfo) → row ≡ other → begins_pair row.size row.kind ≡ true
     → ends_pair other.size other.kind ≡ true → ⊥
 begins_no_end row other same begins ends =
     true≢false (sym ends ∙ (ap (λ x. ends_pair x.size x.kind) (sym same) ∙ begun_ends_none row.size row.kind begins))
@@ -324,16 +324,16 @@ begins_no_end row other same begins ends =
 -- ---- no fault
 
 module _ (architecture : Architecture) (addresses : Addresses) (bytes : List ℕ) (values : Values) (section : List ℕ) (unique : AreUnique architecture addresses bytes values) (can : CanBeWrittenBy architecture addresses bytes values section) (error : SectionError) (fault : IsFirstFaultBy architecture addresses bytes values section error) where
-  found_at : (i : ℕ) (row : RelocationKindInfo) (v : ℤ) → i < length bytes / 24
+  found_at : (i : ℕ) (row : RowInfo) (v : ℤ) → i < length bytes / 24
       → values architecture addresses bytes i (Ok (Some (row, v))) → can.found i ≡ Some (row, v)
   found_at i row v within has = unique.same i (can.found i) (Some (row, v)) (can.are_found i within) has
 
-  has_at : (i : ℕ) (row : RelocationKindInfo) (v : ℤ) → i < length bytes / 24 → can.found i ≡ Some (row, v)
+  has_at : (i : ℕ) (row : RowInfo) (v : ℤ) → i < length bytes / 24 → can.found i ≡ Some (row, v)
       → values architecture addresses bytes i (Ok (Some (row, v)))
   has_at i row v within is =
       subst (λ x. values architecture addresses bytes i (Ok x)) is (can.are_found i within)
 
-  row_at : (i : ℕ) (row : RelocationKindInfo) (v : ℤ) → i < length bytes / 24 → can.found i ≡ Some (row, v)
+  row_at : (i : ℕ) (row : RowInfo) (v : ℤ) → i < length bytes / 24 → can.found i ≡ Some (row, v)
       → IsRow architecture (relocation_in bytes i).r_type (Some row)
   row_at i row v within is = unique.is_row i row v (has_at i row v within is)
 

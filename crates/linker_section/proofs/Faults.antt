@@ -1,6 +1,6 @@
 -- The first relocation that can't be written is that by the section before all writes.
 use Rattle.std.proofs.Common.{◌≡◌, ℕ, zero, suc, ℤ, ◌+◌, ◌^◌, ◌<◌, ◌≤◌, ◌⊎◌, List, [], ◌∷◌, length, take, drop, ltb, refl, sym, ap, subst, ◌∙◌, inl, inr, arith}
-use Rattle.linker_section.proofs.Imports.{cases_eq, or_left, cond_both, cond-false, le-ltb, length-drop, take_all, take-append-drop, get_or-take, drop_all, slice_index, AllContinue, IsUlebCause, Uleb128Error, Ended, TooLarge, DoesNotFit, IsCause, RelocationKindInfo, RelocateError, Unsupported, TooShort, Misaligned, OutOfReach, Architecture}
+use Rattle.linker_section.proofs.Imports.{cases_eq, or_left, cond_both, cond-false, le-ltb, length-drop, take_all, take-append-drop, get_or-take, drop_all, slice_index, AllContinue, IsUlebCause, Uleb128Error, Ended, TooLarge, DoesNotFit, IsCause, RowInfo, RelocateError, Unsupported, TooShort, Misaligned, OutOfReach, Architecture}
 use Rattle.linker_section.proofs.All.{untouched, pair_first, same_uleb}
 use Rattle.linker_section.proofs.Composing.{begun_has_value}
 use Rattle.linker_section.proofs.Fielded.{found_of, uses, found_are, are_inside, are_accepted, front_at, same_at}
@@ -21,7 +21,7 @@ use Rattle.linker_section.specs.declared.sections.SectionError.{SectionError}
 -- ---- a value of one relocation
 
 -- what rejects a value depends on the window and on the count of bytes
-cause_same : (row : RelocationKindInfo) (v : ℤ) (xs ys : List ℕ) (error : RelocateError)
+cause_same : (row : RowInfo) (v : ℤ) (xs ys : List ℕ) (error : RelocateError)
     → HaveSameWindow row.size xs ys → length ys ≡ length xs → IsCause row v xs error
     → IsCause row v ys error
 cause_same row v xs ys Unsupported same len cause = cause
@@ -41,7 +41,7 @@ cause_same row v xs ys OutOfReach same len cause =
       λ is. cause.3 (reached_same row v ys xs (window_back row.size xs ys same) is),
     )
 
-rejected_same : (row : RelocationKindInfo) (v : ℤ) (o : ℕ) (now before : List ℕ)
+rejected_same : (row : RowInfo) (v : ℤ) (o : ℕ) (now before : List ℕ)
     (error : RelocateError) → HaveSameWindow row.size (drop o now) (drop o before)
     → length now ≡ length before → IsUnwritable row v o now error
     → IsUnwritable row v o before error

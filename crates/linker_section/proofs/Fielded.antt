@@ -1,6 +1,6 @@
 -- All fields of a section, after all writes.
 use Rattle.std.proofs.Common.{◌≡◌, ℕ, zero, suc, ℤ, pos, ◌+◌, ◌*◌, ◌^◌, ◌/◌, ◌<◌, ◌≤◌, ◌⊎◌, List, [], length, take, drop, true, false, true≢false, eqb, ltb, cond, refl, sym, ap, subst, ◌∙◌, inl, inr, arith, Option, Some, None, Ok}
-use Rattle.linker_section.proofs.Imports.{cases_eq, cases_lt, cases_Bool, or_left, or_right, cond-true, cond-false, eq-eqb, ne_eqb, eqb-true, lt-ltb, le-ltb, drop_at, length-drop, length-take, length-take-le, get_or-take, get_or-drop, get_or_past, slice_index, ◌||◌, Uleb, IsUlebWritten, WritesRow, SizeNumber, number_of_bytes, size_len, window_len, takes_size, RelocationKindInfo, RelocationSize, ByteSize, BitMasking, Architecture, supported_size}
+use Rattle.linker_section.proofs.Imports.{cases_eq, cases_lt, cases_Bool, or_left, or_right, cond-true, cond-false, eq-eqb, ne_eqb, eqb-true, lt-ltb, le-ltb, drop_at, length-drop, length-take, length-take-le, get_or-take, get_or-drop, get_or_past, slice_index, ◌||◌, Uleb, IsUlebWritten, WritesRow, SizeNumber, number_of_bytes, size_len, window_len, takes_size, RowInfo, RowSize, ByteSize, BitMasking, Architecture, supported_size}
 use Rattle.linker_section.proofs.All.{AreUntouched, IsFirstAt, local_byte, pair_place, pair_first, untouched}
 use Rattle.linker_section.proofs.Composing.{begun_has_value, begun_ends_none, first_is_none, second_is_none}
 use Rattle.linker_section.proofs.Fronts.{HaveSameWindow, same_window, accepted_same, some_window, window_back}
@@ -49,7 +49,7 @@ composed_mark found bytes section at number n is =
 
 -- nor does one without a field at the offset
 composed_far : (found : Found) (bytes section : List ℕ) (at : ℕ) (number : ℤ) (n : ℕ)
-    (row : RelocationKindInfo) (v : ℤ) → found n ≡ Some (row, v)
+    (row : RowInfo) (v : ℤ) → found n ≡ Some (row, v)
     → (0 < field_len row (drop (offset_at bytes n) section) → offset_at bytes n ≡ at → ⊥)
     → composed found bytes section at number (n + 1) ≡ composed found bytes section at number n
 composed_far found bytes section at number n row v is far =
@@ -71,7 +71,7 @@ composed_far found bytes section at number n row v is far =
 
 -- one with a field there does
 composed_here : (found : Found) (bytes section : List ℕ) (at : ℕ) (number : ℤ) (n : ℕ)
-    (row : RelocationKindInfo) (v : ℤ) → found n ≡ Some (row, v) → offset_at bytes n ≡ at
+    (row : RowInfo) (v : ℤ) → found n ≡ Some (row, v) → offset_at bytes n ≡ at
     → 0 < field_len row (drop at section)
     → composed found bytes section at number (n + 1)
     ≡ composed_with row.kind v (composed found bytes section at number n)
@@ -102,7 +102,7 @@ none_some {A} {B} {o} {x} a b = absurd (subst IsOne (sym b ∙ a) tt)
     IsOne (Some y) = Unit
 
 -- a field that isn't of a pair has no byte of a pair's
-pair_far : {bytes before : List ℕ} (i : ℕ) (row : RelocationKindInfo) (n : ℕ) (first : RelocationKindInfo)
+pair_far : {bytes before : List ℕ} (i : ℕ) (row : RowInfo) (n : ℕ) (first : RowInfo)
     → IsMet bytes before i row n first → is_of_pair row ≡ false → begins_pair first.size first.kind ≡ true
     → (i ≡ n → row ≡ first)
     → (field_end bytes before i row ≤ offset_at bytes n) ⊎ (field_end bytes before n first ≤ offset_at bytes i)
@@ -125,14 +125,14 @@ pair_far i row n first met alone begins as_one =
 -- ---- a field of which no other relocation has a byte
 
 -- no relocation composes with a row's
-abbrev StandsAlone : RelocationKindInfo → Type 0
+abbrev StandsAlone : RowInfo → Type 0
 StandsAlone row = (is_composing row.kind ≡ false) × (is_of_pair row ≡ false)
 
-alone_joins_none : {bytes before : List ℕ} {i n : ℕ} {row other : RelocationKindInfo} {A : Type 0}
+alone_joins_none : {bytes before : List ℕ} {i n : ℕ} {row other : RowInfo} {A : Type 0}
     → IsJoined bytes before i row n other → is_composing row.kind ≡ false → A
 alone_joins_none joins alone = absurd (true≢false (sym joins.own_composes ∙ alone))
 
-alone_composes_none : {bytes : List ℕ} {i n : ℕ} {row other : RelocationKindInfo} {A : Type 0}
+alone_composes_none : {bytes : List ℕ} {i n : ℕ} {row other : RowInfo} {A : Type 0}
     → StandsAlone row → Composes bytes n other i row → A
 alone_composes_none {bytes} {i} {n} {row} {other} alone composes =
     elim composes [
@@ -142,13 +142,13 @@ alone_composes_none {bytes} {i} {n} {row} {other} alone composes =
     ]
 
 pub alone_first : (architecture : Architecture) (bytes before : List ℕ) (n : ℕ)
-    (row : RelocationKindInfo) → AreApart architecture bytes before (n + 1)
+    (row : RowInfo) → AreApart architecture bytes before (n + 1)
     → IsField architecture bytes before n row → StandsAlone row
     → IsFirstAt architecture bytes before n row
 alone_first architecture bytes before n row apart is_field alone i other below is_other overlap =
     alone_composes_none alone (apart i n other row below (omega arith) is_other is_field overlap)
 
-small_field : (bytes before : List ℕ) (i : ℕ) (row : RelocationKindInfo)
+small_field : (bytes before : List ℕ) (i : ℕ) (row : RowInfo)
     → ((j : ℕ) → slice_index before j < 256)
     → (j : ℕ) → slice_index (field_bytes bytes before i row before) j < 256
 small_field bytes before i row small j =
@@ -189,8 +189,8 @@ module _ (architecture : Architecture) (addresses : Addresses) (bytes : List ℕ
     uses relocated (λ i below. agree i (omega (arith, below)) ∙ cond-false (eqb i n) (Some (row, v)) (found_of relocated i) (not_last i n below)),
   )
   uses (pair {n} {middle} {after} relocated written) agree =
-      let first : Option (RelocationKindInfo × ℤ) = Some (written.pair.row, written.pair.value) in
-      let second : Option (RelocationKindInfo × ℤ) = Some (written.pair.other, written.pair.subtracted) in (
+      let first : Option (RowInfo × ℤ) = Some (written.pair.row, written.pair.value) in
+      let second : Option (RowInfo × ℤ) = Some (written.pair.other, written.pair.subtracted) in (
         agree n (omega arith) ∙ cond-true (eqb n n) first _ (eq-eqb n n refl),
         agree (n + 1) (omega arith) ∙ (cond-false (eqb (n + 1) n) first _ (ne_eqb (n + 1) n (λ same. omega (arith, same)))
             ∙ cond-true (eqb (n + 1) (n + 1)) second (found_of relocated (n + 1)) (eq-eqb (n + 1) (n + 1) refl)),
@@ -230,7 +230,7 @@ module _ (architecture : Architecture) (addresses : Addresses) (bytes : List ℕ
         ]
       ]
 
-  valued_as : (i n : ℕ) (row other : RelocationKindInfo) (v w : ℤ) → i ≡ n → found i ≡ Some (row, v)
+  valued_as : (i n : ℕ) (row other : RowInfo) (v w : ℤ) → i ≡ n → found i ≡ Some (row, v)
       → found n ≡ Some (other, w) → IsValued architecture addresses bytes values n other w
       → IsValued architecture addresses bytes values i row v
   valued_as i n row other v w at is used has =
@@ -240,7 +240,7 @@ module _ (architecture : Architecture) (addresses : Addresses) (bytes : List ℕ
       (subst (λ x. IsValued architecture addresses bytes values n x w) (sym same.row_is) has))
 
   valued_at : {n : ℕ} {now : List ℕ} (relocated : AreRelocated architecture addresses bytes values before n now)
-      → Uses relocated → (i : ℕ) (row : RelocationKindInfo) (v : ℤ) → i < n → found i ≡ Some (row, v)
+      → Uses relocated → (i : ℕ) (row : RowInfo) (v : ℤ) → i < n → found i ≡ Some (row, v)
       → IsValued architecture addresses bytes values i row v
   valued_at none used i row v below is = absurd (omega (arith, below))
   valued_at (mark {n} relocated value inside) used i row v below is =
@@ -290,7 +290,7 @@ module _ (architecture : Architecture) (addresses : Addresses) (bytes : List ℕ
   -- ---- numbers of whole bytes
 
   -- the relocation's own, or another that composes with it
-  joined_holds : (i : ℕ) (row : RelocationKindInfo) (k n : ℕ) (other : RelocationKindInfo) (v : ℤ) (now after : List ℕ)
+  joined_holds : (i : ℕ) (row : RowInfo) (k n : ℕ) (other : RowInfo) (v : ℤ) (now after : List ℕ)
       → row.size ≡ ByteSize (suc k) → other.size ≡ ByteSize (suc k)
       → offset_at bytes n ≡ offset_at bytes i
       → field_len other (drop (offset_at bytes n) before) ≡ field_len row (drop (offset_at bytes i) before)
@@ -317,7 +317,7 @@ module _ (architecture : Architecture) (addresses : Addresses) (bytes : List ℕ
       (holds_next row.kind other.kind k v (composed found bytes before o number n) old (field_bytes bytes before i row now) (field_bytes bytes before i row after) same_bits small so_far written)
 
   held_number : {n : ℕ} {now : List ℕ} (relocated : AreRelocated architecture addresses bytes values before n now)
-      → n ≤ total → Uses relocated → (i : ℕ) (row : RelocationKindInfo) (k : ℕ) → i < total
+      → n ≤ total → Uses relocated → (i : ℕ) (row : RowInfo) (k : ℕ) → i < total
       → IsField architecture bytes before i row → is_of_pair row ≡ false → has_value row.kind ≡ true
       → row.size ≡ ByteSize (suc k)
       → number_of_bytes (suc k) (field_bytes bytes before i row before) < 2 ^ (8 * suc k)
@@ -388,7 +388,7 @@ module _ (architecture : Architecture) (addresses : Addresses) (bytes : List ℕ
   untouched_at {n} most relocated = untouched architecture addresses bytes before values (fewer_apart n n most) relocated
 
   held_alone : {n : ℕ} {now : List ℕ} (relocated : AreRelocated architecture addresses bytes values before n now)
-      → n ≤ total → Uses relocated → (i : ℕ) (row : RelocationKindInfo) (v : ℤ) → i < n
+      → n ≤ total → Uses relocated → (i : ℕ) (row : RowInfo) (v : ℤ) → i < n
       → found i ≡ Some (row, v) → IsField architecture bytes before i row → StandsAlone row
       → WritesRow row v (field_bytes bytes before i row before) (field_bytes bytes before i row now)
   held_alone none most used i row v below is is_field alone = absurd (omega (arith, below))
@@ -444,7 +444,7 @@ module _ (architecture : Architecture) (addresses : Addresses) (bytes : List ℕ
   -- ---- pairs
 
   -- what is written in place of a ULEB128 number, by the section before
-  record IsPairHere (n number : ℕ) (first : RelocationKindInfo) (after : List ℕ) : Type 0 where
+  record IsPairHere (n number : ℕ) (first : RowInfo) (after : List ℕ) : Type 0 where
     pub held : MakePair found bytes n (field_bytes bytes before n first before) number
     pub written : IsUlebWritten (field_bytes bytes before n first before) number (field_bytes bytes before n first after)
     pub fits : PairFits found bytes before n
@@ -517,7 +517,7 @@ module _ (architecture : Architecture) (addresses : Addresses) (bytes : List ℕ
       ∙ ap (λ p. take (field_len pair.other (drop (offset_at bytes (n + 1)) before)) (drop p section)) (sym pair.same_offset)
 
   held_pair : {n : ℕ} {now : List ℕ} (relocated : AreRelocated architecture addresses bytes values before n now)
-      → n ≤ total → Uses relocated → (i : ℕ) (row : RelocationKindInfo) (v : ℤ) → i < n
+      → n ≤ total → Uses relocated → (i : ℕ) (row : RowInfo) (v : ℤ) → i < n
       → found i ≡ Some (row, v) → IsField architecture bytes before i row → is_of_pair row ≡ true
       → OfPair (HoldsPair found bytes (field_bytes bytes before i row before) (field_bytes bytes before i row now)) n i
   held_pair none most used i row v below is is_field paired = absurd (omega (arith, below))
@@ -587,7 +587,7 @@ module _ (architecture : Architecture) (addresses : Addresses) (bytes : List ℕ
 
   -- ---- values that are accepted
 
-  pub front_at : {n : ℕ} {middle : List ℕ} (other : RelocationKindInfo) (v : ℤ) (size : RelocationSize)
+  pub front_at : {n : ℕ} {middle : List ℕ} (other : RowInfo) (v : ℤ) (size : RowSize)
       → other.size ≡ size → n + 1 ≤ total
       → AreRelocated architecture addresses bytes values before n middle
       → IsValued architecture addresses bytes values n other v
@@ -605,7 +605,7 @@ module _ (architecture : Architecture) (addresses : Addresses) (bytes : List ℕ
       (alone_first architecture bytes before n other (fewer_apart n (n + 1) most) is_field
       (instruction_alone architecture _ other bits insn has.is_row is, alone)))
 
-  pub same_at : {n : ℕ} {middle : List ℕ} (other : RelocationKindInfo) (v : ℤ) (size : RelocationSize)
+  pub same_at : {n : ℕ} {middle : List ℕ} (other : RowInfo) (v : ℤ) (size : RowSize)
       → other.size ≡ size → n + 1 ≤ total
       → AreRelocated architecture addresses bytes values before n middle
       → IsValued architecture addresses bytes values n other v
@@ -615,7 +615,7 @@ module _ (architecture : Architecture) (addresses : Addresses) (bytes : List ℕ
       same_window (BitMasking bits insn) (drop (offset_at bytes n) middle) (drop (offset_at bytes n) before)
       (front_at other v (BitMasking bits insn) is most relocated has)
 
-  accepted_more : (n m i : ℕ) (row : RelocationKindInfo) {v : ℤ} → n ≤ m
+  accepted_more : (n m i : ℕ) (row : RowInfo) {v : ℤ} → n ≤ m
       → (is_of_pair row ≡ false → IsAcceptedAt row v (offset_at bytes i) before)
       × (is_of_pair row ≡ true → OfPair (PairFits found bytes before) n i)
       → (is_of_pair row ≡ false → IsAcceptedAt row v (offset_at bytes i) before)
@@ -705,10 +705,10 @@ module _ (architecture : Architecture) (addresses : Addresses) (bytes : List ℕ
 
   value_held : {now : List ℕ} (relocated : AreRelocated architecture addresses bytes values before total now)
       → Uses relocated → ((j : ℕ) → slice_index before j < 256)
-      → (i : ℕ) (row : RelocationKindInfo) (v : ℤ) → i < total
+      → (i : ℕ) (row : RowInfo) (v : ℤ) → i < total
       → found i ≡ Some (row, v) → IsField architecture bytes before i row → has_value row.kind ≡ true
       → is_of_pair row ≡ false → takes_size row.kind row.size ≡ true
-      → (size : RelocationSize) → row.size ≡ size
+      → (size : RowSize) → row.size ≡ size
       → HoldsValue size row v (λ number. composed found bytes before (offset_at bytes i) number total)
       (field_bytes bytes before i row before) (field_bytes bytes before i row now)
   value_held relocated used small i row v below is is_field valued alone supported_size (BitMasking bits insn) size =
@@ -725,7 +725,7 @@ module _ (architecture : Architecture) (addresses : Addresses) (bytes : List ℕ
 
   held : {now : List ℕ} (relocated : AreRelocated architecture addresses bytes values before total now)
       → Uses relocated → ((j : ℕ) → slice_index before j < 256)
-      → (i : ℕ) (row : RelocationKindInfo) (v : ℤ) → i < total → found i ≡ Some (row, v)
+      → (i : ℕ) (row : RowInfo) (v : ℤ) → i < total → found i ≡ Some (row, v)
       → 0 < field_len row (drop (offset_at bytes i) before)
       → IsHeld found bytes before now total i row v
   held relocated used small i row v below is some =

@@ -1,14 +1,14 @@
 -- A write of a row reads and changes the bytes of its field only.
 use Rattle.std.proofs.Common.{◌≡◌, ℕ, ℤ, ◌-◌, ◌*◌, ◌^◌, ◌<◌, ◌≤◌, pos, List, ◌++◌, length, take, drop, Bool, true, sym, ap, subst, ◌∙◌, arith, lit≤}
-use Rattle.linker_section.proofs.Imports.{get_or-take, take-take, take_at, length-take-le, append-nil, Option, replicate, byte_len, byte_worth, from_le_bytes, w64, to_le_bytes, int_rem_euclid, window_of, BitRange, relocation_form, WritesRow, IsAccepted, SizeNumber, number_of_bytes, whole_number, size_len, window_len, takes_size, AArch64Instruction, Movnz, LoongArch64Instruction, Call36, Ppc64Instruction, D, RiscVInstruction, UType, RelocationInstruction, RiscV, Ppc64, LoongArch64, RelocationKind, RelocationKindInfo, RelocationSize, ByteSize, BitMasking, window_at, supported_size}
+use Rattle.linker_section.proofs.Imports.{get_or-take, take-take, take_at, length-take-le, append-nil, Option, replicate, byte_len, byte_worth, from_le_bytes, w64, to_le_bytes, int_rem_euclid, window_of, BitRange, relocation_form, WritesRow, IsAccepted, SizeNumber, number_of_bytes, whole_number, size_len, window_len, takes_size, AArch64Instruction, Movnz, LoongArch64Instruction, Call36, Ppc64Form, D, RiscVInstruction, UType, AnyForm, RiscV, Ppc64, LoongArch64, RelocationKind, RowInfo, RowSize, ByteSize, BitMasking, window_at, supported_size}
 use Rattle.std.specs.Prelude.{int_lt}
 use Rattle.std.specs.Int.{Width}
 use Rattle.linker_base.specs.Form.{Written, BitsWritten, Fits}
 use Rattle.linker_elf.specs.Reach.{reach_of}
 use Rattle.linker_elf.specs.Relocate as relocate
 use Rattle.linker_elf.specs.Relocate.{IsMultiple, IsAligned, IsInUnits, IsInWords, HoldsBits, IsReached, InstructionWritten, SizeReads, SizeHolds, FieldReads, InstructionHolds, number_written, low_bytes, bits_taken, bits_at, value_at, insn_at, is_dq_form, is_low_jump}
-use Rattle.linker_elf.specs.declared.ppc64.forms.Ppc64Instruction.TheVariants.{Ds}
-use Rattle.linker_elf.specs.declared.elf.RelocationInstruction.TheVariants.{AArch64}
+use Rattle.linker_elf.specs.declared.ppc64.forms.Ppc64Form.TheVariants.{Ds}
+use Rattle.linker_elf.specs.declared.elf.AnyForm.TheVariants.{AArch64}
 use Rattle.linker_section.proofs.Local.{small_bytes}
 use Rattle.linker_section.proofs.Ulebs.{sum_same, no_rest}
 
@@ -32,7 +32,7 @@ some_riscv : (f : RiscVInstruction) → 0 < byte_len (relocation_form (RiscV f))
 some_riscv UType = lit≤ tt
 some_riscv _ = lit≤ tt
 
-some_ppc64 : (f : Ppc64Instruction) → 0 < byte_len (relocation_form (Ppc64 f)).window
+some_ppc64 : (f : Ppc64Form) → 0 < byte_len (relocation_form (Ppc64 f)).window
 some_ppc64 D = lit≤ tt
 some_ppc64 _ = lit≤ tt
 
@@ -40,13 +40,13 @@ some_loongarch : (f : LoongArch64Instruction) → 0 < byte_len (relocation_form 
 some_loongarch Call36 = lit≤ tt
 some_loongarch _ = lit≤ tt
 
-pub some_window : (insn : RelocationInstruction) → 0 < byte_len (relocation_form insn).window
+pub some_window : (insn : AnyForm) → 0 < byte_len (relocation_form insn).window
 some_window (AArch64 f) = some_aarch64 f
 some_window (RiscV f) = some_riscv f
 some_window (Ppc64 f) = some_ppc64 f
 some_window (LoongArch64 f) = some_loongarch f
 
-window_front : (insn : RelocationInstruction) (xs : List ℕ)
+window_front : (insn : AnyForm) (xs : List ℕ)
     → window_of (relocation_form insn) (take (byte_len (relocation_form insn).window) xs)
     ≡ window_of (relocation_form insn) xs
 window_front insn xs = number_front (relocation_form insn).window xs (some_window insn)
@@ -54,23 +54,23 @@ window_front insn xs = number_front (relocation_form insn).window xs (some_windo
 -- ---- what is accepted
 
 -- lists begin with the same bytes of an instruction, if a size has one
-abbrev pub HaveSameWindow : RelocationSize → List ℕ → List ℕ → Type 0
+abbrev pub HaveSameWindow : RowSize → List ℕ → List ℕ → Type 0
 HaveSameWindow (ByteSize n) xs ys = Unit
 HaveSameWindow (BitMasking bits insn) xs ys =
     window_of (relocation_form insn) xs ≡ window_of (relocation_form insn) ys
 
-pub same_window : (size : RelocationSize) (xs ys : List ℕ)
+pub same_window : (size : RowSize) (xs ys : List ℕ)
     → take (size_len size) xs ≡ take (size_len size) ys → HaveSameWindow size xs ys
 same_window (ByteSize n) xs ys same = tt
 same_window (BitMasking bits insn) xs ys same =
     sym (window_front insn xs) ∙ (ap (window_of (relocation_form insn)) same ∙ window_front insn ys)
 
-pub window_back : (size : RelocationSize) (xs ys : List ℕ) → HaveSameWindow size xs ys
+pub window_back : (size : RowSize) (xs ys : List ℕ) → HaveSameWindow size xs ys
     → HaveSameWindow size ys xs
 window_back (ByteSize n) xs ys same = tt
 window_back (BitMasking bits insn) xs ys same = sym same
 
-units_same : (size : RelocationSize) (v : ℤ) (xs ys : List ℕ) → HaveSameWindow size xs ys
+units_same : (size : RowSize) (v : ℤ) (xs ys : List ℕ) → HaveSameWindow size xs ys
     → IsInUnits size v xs → IsInUnits size v ys
 units_same (ByteSize n) v xs ys same is = tt
 units_same (BitMasking bits (Ppc64 Ds)) v xs ys same is =
@@ -80,28 +80,28 @@ units_same (BitMasking bits (AArch64 f)) v xs ys same is = tt
 units_same (BitMasking bits (RiscV f)) v xs ys same is = tt
 units_same (BitMasking bits (LoongArch64 f)) v xs ys same is = tt
 
-words_same : (size : RelocationSize) (kind : RelocationKind) (v : ℤ) (xs ys : List ℕ)
+words_same : (size : RowSize) (kind : RelocationKind) (v : ℤ) (xs ys : List ℕ)
     → HaveSameWindow size xs ys → IsInWords size kind v xs → IsInWords size kind v ys
 words_same (ByteSize n) kind v xs ys same is = tt
 words_same (BitMasking bits insn) kind v xs ys same is =
     subst (λ x. is_low_jump insn kind x ≡ true → IsAligned 4 v) same is
 
-bits_same : (size : RelocationSize) (v : ℤ) (xs ys : List ℕ) → HaveSameWindow size xs ys
+bits_same : (size : RowSize) (v : ℤ) (xs ys : List ℕ) → HaveSameWindow size xs ys
     → HoldsBits size v xs → HoldsBits size v ys
 bits_same (ByteSize n) v xs ys same is = tt
 bits_same (BitMasking bits insn) v xs ys same is =
     subst (λ x. Fits (relocation_form insn) (bits_taken bits v) x) same is
 
-pub multiple_same : (row : RelocationKindInfo) (v : ℤ) (xs ys : List ℕ)
+pub multiple_same : (row : RowInfo) (v : ℤ) (xs ys : List ℕ)
     → HaveSameWindow row.size xs ys → IsMultiple row v xs → IsMultiple row v ys
 multiple_same row v xs ys same is =
     (is.0, units_same row.size v xs ys same (is.1), words_same row.size row.kind v xs ys same (is.2))
 
-pub reached_same : (row : RelocationKindInfo) (v : ℤ) (xs ys : List ℕ)
+pub reached_same : (row : RowInfo) (v : ℤ) (xs ys : List ℕ)
     → HaveSameWindow row.size xs ys → IsReached row v xs → IsReached row v ys
 reached_same row v xs ys same is = (is.0, bits_same row.size v xs ys same (is.1), is.2)
 
-pub accepted_same : (row : RelocationKindInfo) (v : ℤ) (xs ys : List ℕ)
+pub accepted_same : (row : RowInfo) (v : ℤ) (xs ys : List ℕ)
     → HaveSameWindow row.size xs ys → window_len row ≤ length ys
     → IsAccepted row v xs → IsAccepted row v ys
 accepted_same row v xs ys same long is =
@@ -114,7 +114,7 @@ accepted_same row v xs ys same long is =
 
 -- ---- what is written
 
-instruction_front : (insn : RelocationInstruction) (bits : BitRange) (v : ℤ) (n : ℕ)
+instruction_front : (insn : AnyForm) (bits : BitRange) (v : ℤ) (n : ℕ)
     (before after : List ℕ) → byte_len (relocation_form insn).window ≡ n
     → InstructionWritten insn bits v before after
     → InstructionWritten insn bits v (take n before) (take n after)
@@ -131,7 +131,7 @@ instruction_front insn bits v n before after len written =
       rest = ap (λ k. drop k (take n after)) len ∙ (no_rest n after ∙ sym (ap (λ k. drop k (take n before)) len ∙ no_rest n before));
     }
 
-written_front : (size : RelocationSize) (kind : RelocationKind) (v : ℤ) (before after : List ℕ)
+written_front : (size : RowSize) (kind : RelocationKind) (v : ℤ) (before after : List ℕ)
     → takes_size kind size ≡ true → relocate.IsWritten size kind v before after
     → relocate.IsWritten size kind v (take (size_len size) before) (take (size_len size) after)
 written_front (ByteSize n) kind v before after supported_size written =
@@ -149,7 +149,7 @@ written_front (BitMasking bits insn) kind v before after supported_size written 
     instruction_front (insn_at insn bits word) (bits_at insn kind bits word) (value_at insn kind v word) n before after
     (ap byte_len (window_at insn bits word)) written)
 
-number_same : (size : RelocationSize) (kind : RelocationKind) (v : ℤ) (before after : List ℕ)
+number_same : (size : RowSize) (kind : RelocationKind) (v : ℤ) (before after : List ℕ)
     → SizeNumber size kind v before after
     → SizeNumber size kind v (take (size_len size) before) (take (size_len size) after)
 number_same (ByteSize n) kind v before after is =
@@ -157,7 +157,7 @@ number_same (ByteSize n) kind v before after is =
     ∙ (is ∙ ap (λ x. int_rem_euclid (whole_number kind v x) (pos (2 ^ (8 * n)))) (sym (number_of_front n before)))
 number_same (BitMasking bits insn) kind v before after is = tt
 
-reads_front : (is_signed : Bool) (size : RelocationSize) (kind : RelocationKind)
+reads_front : (is_signed : Bool) (size : RowSize) (kind : RelocationKind)
     (bounds : Option (ℤ × ℤ)) (v : ℤ) (before after : List ℕ)
     → SizeReads is_signed size kind bounds v before after
     → SizeReads is_signed size kind bounds v (take (size_len size) before) (take (size_len size) after)
@@ -166,13 +166,13 @@ reads_front is_signed (BitMasking bits insn) kind bounds v before after is =
     subst (λ x. FieldReads is_signed insn kind bits bounds v x (window_of (relocation_form insn) (take (byte_len (relocation_form insn).window) after))) (sym (window_front insn before))
     (subst (λ x. FieldReads is_signed insn kind bits bounds v (window_of (relocation_form insn) before) x) (sym (window_front insn after)) is)
 
-holds_front : (size : RelocationSize) (v : ℤ) (after : List ℕ) → SizeHolds size v after
+holds_front : (size : RowSize) (v : ℤ) (after : List ℕ) → SizeHolds size v after
     → SizeHolds size v (take (size_len size) after)
 holds_front (ByteSize n) v after is = tt
 holds_front (BitMasking bits insn) v after is =
     subst (λ x. InstructionHolds insn bits v x) (sym (window_front insn after)) is
 
-pub writes_front : (row : RelocationKindInfo) (v : ℤ) (before after : List ℕ)
+pub writes_front : (row : RowInfo) (v : ℤ) (before after : List ℕ)
     → WritesRow row v before after
     → WritesRow row v (take (window_len row) before) (take (window_len row) after)
 writes_front row v before after w =

@@ -1,6 +1,6 @@
 -- What each field holds after all writes.
 use Rattle.std.proofs.Common.{◌≡◌, ℕ, ℤ, ◌+◌, ◌<◌, ◌≤◌, ◌⊎◌, List, take, drop, true, false, true≢false, sym, ap, subst, ◌∙◌, inl, inr, arith}
-use Rattle.linker_section.proofs.Imports.{cases_eq, cases_lt, or_left, or_right, take-take, drop_at, drop-take, length-drop, length-take-le, get_or-take, get_or-drop, length-take, WritesRow, window_len, RelocationKindInfo, Architecture}
+use Rattle.linker_section.proofs.Imports.{cases_eq, cases_lt, or_left, or_right, take-take, drop_at, drop-take, length-drop, length-take-le, get_or-take, get_or-drop, length-take, WritesRow, window_len, RowInfo, Architecture}
 use Rattle.std.proofs.lemmas.List.{ext_get_or}
 use Rattle.linker_section.proofs.All.{AreUntouched, IsFirstAt, first_byte}
 use Rattle.linker_section.proofs.Composing.{first_is_none, second_is_none}
@@ -18,8 +18,8 @@ use Rattle.linker_section.specs.declared.facts.Addresses.{Addresses}
 -- ---- two fields
 
 -- They have no byte in common, are one, or compose.
-pub data IsMet (bytes before : List ℕ) (i : ℕ) (row : RelocationKindInfo) (j : ℕ)
-    (other : RelocationKindInfo) : Type 0 where
+pub data IsMet (bytes before : List ℕ) (i : ℕ) (row : RowInfo) (j : ℕ)
+    (other : RowInfo) : Type 0 where
   is_ahead : field_end bytes before i row ≤ offset_at bytes j → IsMet bytes before i row j other
   is_after : field_end bytes before j other ≤ offset_at bytes i → IsMet bytes before i row j other
   is_same : i ≡ j → IsMet bytes before i row j other
@@ -27,7 +27,7 @@ pub data IsMet (bytes before : List ℕ) (i : ℕ) (row : RelocationKindInfo) (j
   is_earlier : j < i → Composes bytes j other i row → IsMet bytes before i row j other
 
 pub meet : (architecture : Architecture) (bytes before : List ℕ) (total i : ℕ)
-    (row : RelocationKindInfo) (j : ℕ) (other : RelocationKindInfo)
+    (row : RowInfo) (j : ℕ) (other : RowInfo)
     → AreApart architecture bytes before total → i < total → j < total
     → IsField architecture bytes before i row → IsField architecture bytes before j other
     → IsMet bytes before i row j other
@@ -64,7 +64,7 @@ kept_after o w p v now after local following = ap (take w) (drop_after p v o now
 
 -- of a field of which no earlier relocation has a byte, before it is written
 pub field_untouched : (architecture : Architecture) (bytes before : List ℕ) (n : ℕ)
-    (row : RelocationKindInfo) (now : List ℕ) → AreUntouched architecture bytes before n now
+    (row : RowInfo) (now : List ℕ) → AreUntouched architecture bytes before n now
     → IsFirstAt architecture bytes before n row
     → field_bytes bytes before n row now ≡ field_bytes bytes before n row before
 field_untouched architecture bytes before n row now so_far first =
@@ -82,7 +82,7 @@ field_untouched architecture bytes before n row now so_far first =
     ∙ (sym (get_or-drop o before i 0) ∙ sym (get_or-take w (drop o before) i 0 inside)))))
 
 -- that a row's write makes of them
-pub own_write : (row : RelocationKindInfo) (v : ℤ) (o : ℕ) (now after : List ℕ)
+pub own_write : (row : RowInfo) (v : ℤ) (o : ℕ) (now after : List ℕ)
     → IsWritten row v o now after
     → WritesRow row v (take (window_len row) (drop o now)) (take (window_len row) (drop o after))
 own_write row v o now after w =
@@ -94,8 +94,8 @@ own_write row v o now after w =
 -- ---- one more write
 
 -- another relocation is at the same bytes of a number
-pub record IsJoined (bytes before : List ℕ) (i : ℕ) (row : RelocationKindInfo) (n : ℕ)
-    (other : RelocationKindInfo) : Type 0 where
+pub record IsJoined (bytes before : List ℕ) (i : ℕ) (row : RowInfo) (n : ℕ)
+    (other : RowInfo) : Type 0 where
   pub offset : offset_at bytes n ≡ offset_at bytes i
   pub len : window_len other ≡ window_len row
   pub own_composes : is_composing row.kind ≡ true
@@ -103,8 +103,8 @@ pub record IsJoined (bytes before : List ℕ) (i : ℕ) (row : RelocationKindInf
   pub alike : is_word6 other.kind ≡ is_word6 row.kind
   pub alone : is_of_pair row ≡ false
 
-joined_later : (bytes before : List ℕ) (i : ℕ) (row : RelocationKindInfo) (n : ℕ)
-    (other : RelocationKindInfo) → is_of_pair other ≡ false → Composes bytes i row n other
+joined_later : (bytes before : List ℕ) (i : ℕ) (row : RowInfo) (n : ℕ)
+    (other : RowInfo) → is_of_pair other ≡ false → Composes bytes i row n other
     → IsJoined bytes before i row n other
 joined_later bytes before i row n other alone composes =
     elim composes [
@@ -120,8 +120,8 @@ joined_later bytes before i row n other alone composes =
           absurd (true≢false (sym (or_right (begins_pair other.size other.kind) (ends_pair other.size other.kind) ends) ∙ alone))
     ]
 
-joined_earlier : (bytes before : List ℕ) (i : ℕ) (row : RelocationKindInfo) (n : ℕ)
-    (other : RelocationKindInfo) → is_of_pair other ≡ false → Composes bytes n other i row
+joined_earlier : (bytes before : List ℕ) (i : ℕ) (row : RowInfo) (n : ℕ)
+    (other : RowInfo) → is_of_pair other ≡ false → Composes bytes n other i row
     → IsJoined bytes before i row n other
 joined_earlier bytes before i row n other alone composes =
     elim composes [
@@ -139,8 +139,8 @@ joined_earlier bytes before i row n other alone composes =
 
 -- What a write of a relocation does to the bytes of a field: nothing, or it is the field's own, or
 -- it is that of another which composes with it.
-pub data IsStep (bytes before : List ℕ) (i : ℕ) (row : RelocationKindInfo) (n : ℕ)
-    (other : RelocationKindInfo) (v : ℤ) (now after : List ℕ) : Type 0 where
+pub data IsStep (bytes before : List ℕ) (i : ℕ) (row : RowInfo) (n : ℕ)
+    (other : RowInfo) (v : ℤ) (now after : List ℕ) : Type 0 where
   is_kept : field_bytes bytes before i row after ≡ field_bytes bytes before i row now
       → (0 < field_len other (drop (offset_at bytes n) before) → offset_at bytes n ≡ offset_at bytes i → ⊥)
       → IsStep bytes before i row n other v now after
@@ -154,8 +154,8 @@ pub data IsStep (bytes before : List ℕ) (i : ℕ) (row : RelocationKindInfo) (
       → IsStep bytes before i row n other v now after
 
 pub step : (architecture : Architecture) (addresses : Addresses) (bytes : List ℕ)
-    (values : Values) (before : List ℕ) (total i : ℕ) (row : RelocationKindInfo) (n : ℕ)
-    (other : RelocationKindInfo) (v : ℤ) (now after : List ℕ)
+    (values : Values) (before : List ℕ) (total i : ℕ) (row : RowInfo) (n : ℕ)
+    (other : RowInfo) (v : ℤ) (now after : List ℕ)
     → AreApart architecture bytes before total → i < total → n < total
     → IsField architecture bytes before i row
     → IsValued architecture addresses bytes values n other v
@@ -189,8 +189,8 @@ step architecture addresses bytes values before total i row n other v now after 
     ]
 
 -- a pair elsewhere
-pub pair_kept : (bytes before : List ℕ) (i : ℕ) (row : RelocationKindInfo) (n : ℕ)
-    (other : RelocationKindInfo) (now after : List ℕ)
+pub pair_kept : (bytes before : List ℕ) (i : ℕ) (row : RowInfo) (n : ℕ)
+    (other : RowInfo) (now after : List ℕ)
     → IsLocal (offset_at bytes n) (field_len other (drop (offset_at bytes n) before)) now after
     → (field_end bytes before i row ≤ offset_at bytes n) ⊎ (field_end bytes before n other ≤ offset_at bytes i)
     → field_bytes bytes before i row after ≡ field_bytes bytes before i row now

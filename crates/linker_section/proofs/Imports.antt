@@ -20,12 +20,12 @@ pub use Rattle.linker_elf.specs.X86Relocations.{x86_64_name, x86_64_row}
 pub use Rattle.linker_elf.specs.declared.aarch64.forms.AArch64Instruction.{AArch64Instruction}
 pub use Rattle.linker_elf.specs.declared.aarch64.forms.AArch64Instruction.TheVariants.{Movnz}
 pub use Rattle.linker_elf.specs.declared.aarch64.relocations.AArch64Relocation.{AArch64Relocation}
-pub use Rattle.linker_elf.specs.declared.elf.RelocationInstruction.{RelocationInstruction}
-pub use Rattle.linker_elf.specs.declared.elf.RelocationInstruction.TheVariants.{LoongArch64, Ppc64, RiscV}
+pub use Rattle.linker_elf.specs.declared.elf.AnyForm.{AnyForm}
+pub use Rattle.linker_elf.specs.declared.elf.AnyForm.TheVariants.{LoongArch64, Ppc64, RiscV}
 pub use Rattle.linker_elf.specs.declared.elf.RelocationKind.{RelocationKind}
-pub use Rattle.linker_elf.specs.declared.elf.RelocationKindInfo.{RelocationKindInfo}
-pub use Rattle.linker_elf.specs.declared.elf.RelocationSize.{RelocationSize}
-pub use Rattle.linker_elf.specs.declared.elf.RelocationSize.TheVariants.{BitMasking, ByteSize}
+pub use Rattle.linker_elf.specs.declared.elf.RowInfo.{RowInfo}
+pub use Rattle.linker_elf.specs.declared.elf.RowSize.{RowSize}
+pub use Rattle.linker_elf.specs.declared.elf.RowSize.TheVariants.{BitMasking, ByteSize}
 pub use Rattle.linker_elf.specs.declared.elf.architecture.Architecture.{Architecture}
 pub use Rattle.linker_elf.specs.declared.elf.architecture.Architecture.TheVariants.{AArch64, X86_64}
 pub use Rattle.linker_elf.specs.declared.elf.relocate.RelocateError.{RelocateError}
@@ -34,8 +34,8 @@ pub use Rattle.linker_elf.specs.declared.elf.value.Operands.{Operands}
 pub use Rattle.linker_elf.specs.declared.loongarch64.forms.LoongArch64Instruction.{LoongArch64Instruction}
 pub use Rattle.linker_elf.specs.declared.loongarch64.forms.LoongArch64Instruction.TheVariants.{Call36}
 pub use Rattle.linker_elf.specs.declared.loongarch64.relocations.LoongArch64Relocation.{LoongArch64Relocation}
-pub use Rattle.linker_elf.specs.declared.ppc64.forms.Ppc64Instruction.{Ppc64Instruction}
-pub use Rattle.linker_elf.specs.declared.ppc64.forms.Ppc64Instruction.TheVariants.{D}
+pub use Rattle.linker_elf.specs.declared.ppc64.forms.Ppc64Form.{Ppc64Form}
+pub use Rattle.linker_elf.specs.declared.ppc64.forms.Ppc64Form.TheVariants.{D}
 pub use Rattle.linker_elf.specs.declared.ppc64.relocations.Ppc64Relocation.{Ppc64Relocation}
 pub use Rattle.linker_elf.specs.declared.riscv64.forms.RiscVInstruction.{RiscVInstruction}
 pub use Rattle.linker_elf.specs.declared.riscv64.forms.RiscVInstruction.TheVariants.{UType}

@@ -1,11 +1,11 @@
 -- Whether an instruction is as long as the form of its relocation.
 use Rattle.std.proofs.Common.{◌≡◌, ℕ, ℤ, ◌<◌, List, length, take, drop, Bool, true, false, true≢false, eqb, ◌&&◌, ◌/◌, refl, sym, ap, ◌∙◌, inl, inr, arith}
-use Rattle.linker_section.proofs.Imports.{cases_Bool, cases_lt, get_or-take, length-drop, w64, from_le_bytes, slice_index, not, ◌||◌, size_len, window_len, RiscV, Ppc64, LoongArch64, RelocationKindInfo, RelocationSize, ByteSize, BitMasking, RiscVInstruction, OutOfReach, Architecture}
+use Rattle.linker_section.proofs.Imports.{cases_Bool, cases_lt, get_or-take, length-drop, w64, from_le_bytes, slice_index, not, ◌||◌, size_len, window_len, RiscV, Ppc64, LoongArch64, RowInfo, RowSize, ByteSize, BitMasking, RiscVInstruction, OutOfReach, Architecture}
 use Rattle.std.specs.Prelude.{◌↔◌, IsTrue, ◌%◌, ◌^◌}
 use Rattle.linker_elf.specs.declared.elf.facts.Length.{Length}
 use Rattle.linker_elf.specs.declared.elf.facts.Length.TheVariants as lengths
 use Rattle.linker_elf.specs.declared.loongarch64.forms.LoongArch64Instruction.TheVariants.{Shift10}
-use Rattle.linker_elf.specs.declared.ppc64.forms.Ppc64Instruction.TheVariants.{Prefixed}
+use Rattle.linker_elf.specs.declared.ppc64.forms.Ppc64Form.TheVariants.{Prefixed}
 use Rattle.linker_elf.specs.declared.riscv64.forms.RiscVInstruction.TheVariants.{IType, SType, CbType, CjType, CluiType}
 use Rattle.linker_section.proofs.Fronts.{some_window, HaveSameWindow}
 use Rattle.linker_section.specs.Conditions.{HasLength, HoldsOffset, holds_offset, is_12_bits, is_thread_based, is_tp_off, shows, shows_length}
@@ -17,14 +17,14 @@ use Rattle.linker_section.specs.declared.facts.Addresses.{Addresses}
 
 -- ---- what a test says
 
-pub length_of : (row : RelocationKindInfo) (offset : ℕ) (section : List ℕ) (result : Bool)
+pub length_of : (row : RowInfo) (offset : ℕ) (section : List ℕ) (result : Bool)
     → (IsTrue result ↔ HasLength row offset section) → result ≡ true
     → HasLength row offset section
 length_of row offset section result is holds = is.0 holds
 
 -- what isn't so is another length, in the section
 pub other_length : (architecture : Architecture) (addresses : Addresses) (bytes : List ℕ)
-    (values : Values) (i : ℕ) (now : List ℕ) (row : RelocationKindInfo) (v : ℤ)
+    (values : Values) (i : ℕ) (now : List ℕ) (row : RowInfo) (v : ℤ)
     → IsValued architecture addresses bytes values i row v
     → (HasLength row (offset_at bytes i) now → ⊥)
     → IsOtherLength architecture addresses bytes values i now
@@ -43,7 +43,7 @@ other_length architecture addresses bytes values i now row v has isnt =
 
 -- ---- bytes with the same front
 
-abbrev pub IsSameFront : RelocationSize → List ℕ → List ℕ → Type 0
+abbrev pub IsSameFront : RowSize → List ℕ → List ℕ → Type 0
 IsSameFront (ByteSize n) xs ys = Unit
 IsSameFront (BitMasking bits insn) xs ys =
     take (size_len (BitMasking bits insn)) xs ≡ take (size_len (BitMasking bits insn)) ys
@@ -53,7 +53,7 @@ byte_same : (n j : ℕ) (xs ys : List ℕ) → j < n → take n xs ≡ take n ys
 byte_same n j xs ys below same =
     sym (get_or-take n xs j 0 below) ∙ (ap (λ l. slice_index l j) same ∙ get_or-take n ys j 0 below)
 
-pub shows_same : (size : RelocationSize) (xs ys : List ℕ) → IsSameFront size xs ys
+pub shows_same : (size : RowSize) (xs ys : List ℕ) → IsSameFront size xs ys
     → shows_length size xs ≡ shows_length size ys
 shows_same (ByteSize n) xs ys same = refl
 shows_same (BitMasking bits (RiscV insn)) xs ys same =
@@ -69,7 +69,7 @@ shows_same (BitMasking bits (Ppc64 Prefixed)) xs ys same =
     ap (λ byte. eqb (byte / 4) 1) (byte_same 8 3 xs ys (omega arith) same)
 shows_same (BitMasking bits insn) xs ys same = refl
 
-pub length_same : (row : RelocationKindInfo) (o : ℕ) (now before : List ℕ)
+pub length_same : (row : RowInfo) (o : ℕ) (now before : List ℕ)
     → IsSameFront row.size (drop o now) (drop o before) → length now ≡ length before
     → HasLength row o now → HasLength row o before
 length_same row o now before same len is inside long =
@@ -78,11 +78,11 @@ length_same row o now before same len is inside long =
     ∙ is (omega (arith, inside, len)) (omega (arith, long, d, dn, len))
 
 -- numbers of whole bytes have any length
-pub pair_shows : (row : RelocationKindInfo) (there : List ℕ) → is_of_pair row ≡ true
+pub pair_shows : (row : RowInfo) (there : List ℕ) → is_of_pair row ≡ true
     → shows_length row.size there ≡ true
 pair_shows row there paired = size_shows row.size paired
   where
-    size_shows : (size : RelocationSize) → is_of_pair (record row { size = size }) ≡ true
+    size_shows : (size : RowSize) → is_of_pair (record row { size = size }) ≡ true
         → shows_length size there ≡ true
     size_shows (ByteSize n) is = refl
     size_shows (BitMasking bits insn) is = absurd (true≢false (sym is))
@@ -107,7 +107,7 @@ word_says lengths.Prefixed bytes small = ap (λ n. eqb n 1) (high_bits bytes sma
 
 -- ---- offsets from the thread pointer
 
-thread_same : (size : RelocationSize) (xs ys : List ℕ) → HaveSameWindow size xs ys
+thread_same : (size : RowSize) (xs ys : List ℕ) → HaveSameWindow size xs ys
     → is_thread_based size xs ≡ is_thread_based size ys
 thread_same (BitMasking bits (RiscV IType)) xs ys same = ap (λ word. eqb (word / 2 ^ 15 % 32) 4) same
 thread_same (BitMasking bits (RiscV SType)) xs ys same = ap (λ word. eqb (word / 2 ^ 15 % 32) 4) same
@@ -115,24 +115,24 @@ thread_same (BitMasking bits (LoongArch64 Shift10)) xs ys same =
     ap (λ word. eqb bits.start 0 && eqb (word / 2 ^ 5 % 32) 2) same
 thread_same size xs ys same = refl
 
-pub offset_same : (row : RelocationKindInfo) (v : ℤ) (xs ys : List ℕ) → HaveSameWindow row.size xs ys
+pub offset_same : (row : RowInfo) (v : ℤ) (xs ys : List ℕ) → HaveSameWindow row.size xs ys
     → holds_offset row v xs ≡ holds_offset row v ys
 offset_same row v xs ys same =
     ap (λ based. not (is_tp_off row.kind) || (is_12_bits v || not based)) (thread_same row.size xs ys same)
 
 -- no other value is one
-pub unthreaded_holds : (row : RelocationKindInfo) (v : ℤ) (there : List ℕ)
+pub unthreaded_holds : (row : RowInfo) (v : ℤ) (there : List ℕ)
     → is_tp_off row.kind ≡ false → holds_offset row v there ≡ true
 unthreaded_holds row v there isnt =
     ap (λ b. not b || (is_12_bits v || not (is_thread_based row.size there))) isnt
 
-pub offset_of : (row : RelocationKindInfo) (v : ℤ) (offset : ℕ) (section : List ℕ) (result : Bool)
+pub offset_of : (row : RowInfo) (v : ℤ) (offset : ℕ) (section : List ℕ) (result : Bool)
     → (IsTrue result ↔ HoldsOffset row v offset section) → result ≡ true
     → HoldsOffset row v offset section
 offset_of row v offset section result is holds = is.0 holds
 
 -- what isn't held is out of reach, in the section
-pub offset_beyond : (row : RelocationKindInfo) (v : ℤ) (o : ℕ) (section : List ℕ)
+pub offset_beyond : (row : RowInfo) (v : ℤ) (o : ℕ) (section : List ℕ)
     → (HoldsOffset row v o section → ⊥) → IsUnwritable row v o section OutOfReach
 offset_beyond row v o section isnt =
     elim (cases_lt (length section) o) [

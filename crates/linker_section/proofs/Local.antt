@@ -1,10 +1,10 @@
 -- A write changes the bytes of its field only.
 use Rattle.std.proofs.Common.{◌≡◌, ℕ, ℤ, ◌+◌, ◌≤◌, List, length, take, drop, true, ap, sym, ◌∙◌, arith, lit≤}
-use Rattle.linker_section.proofs.Imports.{and_parts, ltb-true, take_at, drop_at, drop-drop, length-drop, length-take-le, length-append, not, nat_lt, byte_len, w64, to_le_bytes, window_of, relocation_form, WritesRow, takes_size, size_len, window_len, AArch64Instruction, Movnz, RiscVInstruction, UType, Ppc64Instruction, D, LoongArch64Instruction, Call36, RelocationInstruction, RiscV, Ppc64, LoongArch64, RelocationKind, RelocationKindInfo, RelocationSize, ByteSize, BitMasking, Architecture, window_at, supported_size}
+use Rattle.linker_section.proofs.Imports.{and_parts, ltb-true, take_at, drop_at, drop-drop, length-drop, length-take-le, length-append, not, nat_lt, byte_len, w64, to_le_bytes, window_of, relocation_form, WritesRow, takes_size, size_len, window_len, AArch64Instruction, Movnz, RiscVInstruction, UType, Ppc64Form, D, LoongArch64Instruction, Call36, AnyForm, RiscV, Ppc64, LoongArch64, RelocationKind, RowInfo, RowSize, ByteSize, BitMasking, Architecture, window_at, supported_size}
 use Rattle.std.proofs.lemmas.Slice.{drop-append-drop}
 use Rattle.linker_elf.specs.Relocate as relocate
 use Rattle.linker_elf.specs.Relocate.{is_of_uleb128}
-use Rattle.linker_elf.specs.declared.elf.RelocationInstruction.TheVariants.{AArch64}
+use Rattle.linker_elf.specs.declared.elf.AnyForm.TheVariants.{AArch64}
 use Rattle.linker_section.proofs.Ulebs.{uleb_len_is, same_last}
 use Rattle.linker_section.specs.Fields.{uleb_len}
 use Rattle.linker_section.specs.Sections.{IsWritten, IsPairWritten, Values}
@@ -28,7 +28,7 @@ small_riscv : (f : RiscVInstruction) → byte_len (relocation_form (RiscV f)).wi
 small_riscv UType = lit≤ tt
 small_riscv _ = lit≤ tt
 
-small_ppc64 : (f : Ppc64Instruction) → byte_len (relocation_form (Ppc64 f)).window ≤ 8
+small_ppc64 : (f : Ppc64Form) → byte_len (relocation_form (Ppc64 f)).window ≤ 8
 small_ppc64 D = lit≤ tt
 small_ppc64 _ = lit≤ tt
 
@@ -36,7 +36,7 @@ small_loongarch : (f : LoongArch64Instruction) → byte_len (relocation_form (Lo
 small_loongarch Call36 = lit≤ tt
 small_loongarch _ = lit≤ tt
 
-pub small_window : (insn : RelocationInstruction) → byte_len (relocation_form insn).window ≤ 8
+pub small_window : (insn : AnyForm) → byte_len (relocation_form insn).window ≤ 8
 small_window (AArch64 f) = small_aarch64 f
 small_window (RiscV f) = small_riscv f
 small_window (Ppc64 f) = small_ppc64 f
@@ -47,12 +47,12 @@ small_bytes kind n supported_size =
     let parts = and_parts (nat_lt n 9) (not (is_of_uleb128 kind n)) supported_size in
     let l = ltb-true n 9 (parts.0) in omega (arith, l)
 
-pub small_size : (size : RelocationSize) (kind : RelocationKind) → takes_size kind size ≡ true
+pub small_size : (size : RowSize) (kind : RelocationKind) → takes_size kind size ≡ true
     → size_len size ≤ 8
 small_size (ByteSize n) kind supported_size = small_bytes kind n supported_size
 small_size (BitMasking bits insn) kind supported_size = small_window insn
 
-rest_same : (size : RelocationSize) (kind : RelocationKind) (v : ℤ) (before after : List ℕ)
+rest_same : (size : RowSize) (kind : RelocationKind) (v : ℤ) (before after : List ℕ)
     → takes_size kind size ≡ true → relocate.IsWritten size kind v before after
     → drop (size_len size) after ≡ drop (size_len size) before
 rest_same (ByteSize n) kind v before after supported_size written =
@@ -61,12 +61,12 @@ rest_same (ByteSize n) kind v before after supported_size written =
 rest_same (BitMasking bits insn) kind v before after supported_size written =
     rw (← window_at insn bits (window_of (relocation_form insn) before)) written.rest
 
-pub small_row : (row : RelocationKindInfo) (v : ℤ) (before after : List ℕ)
+pub small_row : (row : RowInfo) (v : ℤ) (before after : List ℕ)
     → WritesRow row v before after → window_len row ≤ 8
 small_row row v before after written =
     small_size row.size row.kind (supported_size row written.accepted.supported)
 
-pub one_local : (row : RelocationKindInfo) (v : ℤ) (offset : ℕ) (before after : List ℕ)
+pub one_local : (row : RowInfo) (v : ℤ) (offset : ℕ) (before after : List ℕ)
     → IsWritten row v offset before after → IsLocal offset (window_len row) before after
 one_local row v offset before after w =
     let n = length-take-le offset before w.inside in

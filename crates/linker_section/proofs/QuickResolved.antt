@@ -7,7 +7,7 @@ use Rattle.linker_elf.specs.Facts.{way_of}
 use Rattle.linker_elf.specs.Relocate.{window_len}
 use Rattle.linker_elf.specs.Value.{difference_64, is_offset}
 use Rattle.linker_elf.specs.declared.elf.RelocationKind.TheVariants as kinds
-use Rattle.linker_elf.specs.declared.elf.RelocationKindInfo.{RelocationKindInfo}
+use Rattle.linker_elf.specs.declared.elf.RowInfo.{RowInfo}
 use Rattle.linker_elf.specs.declared.elf.architecture.Architecture.{Architecture}
 use Rattle.linker_elf.specs.declared.elf.facts.Way.{Way}
 use Rattle.linker_elf.specs.declared.elf.facts.Way.TheVariants as ways
@@ -24,7 +24,7 @@ use Rattle.linker_section.specs.declared.facts.Addresses.{Addresses}
 use Rattle.linker_section.specs.declared.quick.HighPart.{HighPart}
 use Rattle.linker_section.specs.declared.resolved.Resolved.{Resolved}
 
-module _ (architecture : Architecture) (addresses : Addresses) (bytes : List ℕ) (lookup : Lookup) (i : ℕ) (row : RelocationKindInfo) (v : ℤ) (known : Resolved) (there : i < length bytes / 24) (is_row : IsRow architecture (relocation_in bytes i).r_type (Some row)) (way : SaysWay architecture row) (same : lookup i (relocation_in bytes i) ≡ Some known) (kept : known.is_left_out ≡ false) (keeps : lacks_resolved_stub architecture (relocation_in bytes i) (Some known) ≡ false) (reached : needs_upper architecture (relocation_in bytes i) v ≡ false) where
+module _ (architecture : Architecture) (addresses : Addresses) (bytes : List ℕ) (lookup : Lookup) (i : ℕ) (row : RowInfo) (v : ℤ) (known : Resolved) (there : i < length bytes / 24) (is_row : IsRow architecture (relocation_in bytes i).r_type (Some row)) (way : SaysWay architecture row) (same : lookup i (relocation_in bytes i) ≡ Some known) (kept : known.is_left_out ≡ false) (keeps : lacks_resolved_stub architecture (relocation_in bytes i) (Some known) ≡ false) (reached : needs_upper architecture (relocation_in bytes i) v ≡ false) where
   -- a relocation with a value of its own is written
   at_once : is_quick row ≡ true
       → IsResolvedBy (names_label row.size row.kind) architecture addresses bytes lookup row (relocation_in bytes i) (Some known) (Ok (Some v))

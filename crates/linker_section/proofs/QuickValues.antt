@@ -1,6 +1,6 @@
 -- Values that are found by the facts of rows.
 use Rattle.std.proofs.Common.{◌≡◌, ℕ, ℤ, ◌<◌, ◌/◌, Bool, true, false, true≢false, not, ◌&&◌, List, length, Option, Some, None, Result, Ok, Err, refl, sym, ap, subst, ◌∙◌}
-use Rattle.linker_section.proofs.Imports.{IfSome, slice_get, if◌then◌else◌, cond-true, ltb-true, lt-ltb, or_left, or_right, window_len, value_of, RelocationKindInfo, Operands, IsRow, Architecture}
+use Rattle.linker_section.proofs.Imports.{IfSome, slice_get, if◌then◌else◌, cond-true, ltb-true, lt-ltb, or_left, or_right, window_len, value_of, RowInfo, Operands, IsRow, Architecture}
 use Rattle.linker_elf.specs.Facts.{way_of}
 use Rattle.linker_elf.specs.Value.{difference_64, is_offset}
 use Rattle.linker_elf.specs.declared.elf.RelocationKind.TheVariants as kinds
@@ -33,7 +33,7 @@ without_stub false x y = refl
 without_stub true x y = refl
 
 -- a symbol without a stub that isn't undefined and weak is reached by its address
-pub own_target : (architecture : Architecture) (addresses : Addresses) (row : RelocationKindInfo)
+pub own_target : (architecture : Architecture) (addresses : Addresses) (row : RowInfo)
     (symbol : Symbol) (place : ℕ) → symbol.stub ≡ 0 → symbol.is_undefined_weak ≡ false
     → target_of architecture addresses row symbol place ≡ address_of row symbol
 own_target architecture addresses row symbol place none strong =
@@ -42,7 +42,7 @@ own_target architecture addresses row symbol place none strong =
 -- ---- a plain relocation
 
 pub plain_some : (architecture : Architecture) (addresses : Addresses) (symbols : List Symbol)
-    (row : RelocationKindInfo) (r : Rela) (operands : Operands) (value : Option ℤ)
+    (row : RowInfo) (r : Rela) (operands : Operands) (value : Option ℤ)
     → operands_of architecture addresses symbols row r ≡ Ok operands
     → value_of row operands ≡ value
     → IfSome value (IsPlainValue architecture addresses symbols row r)
@@ -51,7 +51,7 @@ plain_some architecture addresses symbols row r operands (Some v) found is =
     record { operands = operands; found = found; value_is = is }
 
 pub plain_quick : (architecture : Architecture) (addresses : Addresses) (bytes : List ℕ)
-    (symbols : List Symbol) (r : Rela) (row : RelocationKindInfo) (v : ℤ)
+    (symbols : List Symbol) (r : Rela) (row : RowInfo) (v : ℤ)
     → IsRow architecture r.r_type (Some row) → SaysWay architecture row
     → is_plain row ≡ true → (is_offset_way (way_of row.size row.kind) && not addresses.has_tls) ≡ false
     → lacks_stub architecture symbols r ≡ false
@@ -85,7 +85,7 @@ plain_quick architecture addresses bytes symbols r row v is_row way plain origin
 -- ---- a low part of RISC-V
 
 pub low_quick : (architecture : Architecture) (addresses : Addresses) (bytes : List ℕ)
-    (symbols : List Symbol) (r : Rela) (row : RelocationKindInfo) (v : ℤ)
+    (symbols : List Symbol) (r : Rela) (row : RowInfo) (v : ℤ)
     (high : Option HighPart) → IsRow architecture r.r_type (Some row)
     → SaysWay architecture row → is_low row ≡ true
     → lacks_stub architecture symbols r ≡ false → IfSome high (IsHighValue architecture addresses bytes symbols)
@@ -96,7 +96,7 @@ low_quick architecture addresses bytes symbols r row v high is_row way low keeps
     let part = subst (λ x. IfSome x (IsHighValue architecture addresses bytes symbols)) value.is_part highs in
     let kind = when_true (is_low row) row.kind kinds.RelativeRiscVLow12 way.labelled low in
     let label : names_label row.size row.kind ≡ true = ap (names_label row.size) kind in
-    let found : Option (Rela × RelocationKindInfo) = Some (part.r, part.row) in
+    let found : Option (Rela × RowInfo) = Some (part.r, part.row) in
     let distance = difference_64 value.label.address addresses.section in
     let at : IsHighPartAt architecture bytes row.kind distance found =
     subst (λ k. IsHighPartAt architecture bytes k distance found) (sym kind)
@@ -121,7 +121,7 @@ low_quick architecture addresses bytes symbols r row v high is_row way low keeps
 
 -- the same of the relocation at an index
 pub quick_at : (architecture : Architecture) (addresses : Addresses) (bytes : List ℕ)
-    (symbols : List Symbol) (i : ℕ) (row : RelocationKindInfo) (v : ℤ)
+    (symbols : List Symbol) (i : ℕ) (row : RowInfo) (v : ℤ)
     → IsQuickValue architecture addresses bytes symbols (relocation_in bytes i) row v
     → IsQuickAt architecture addresses bytes (by_index symbols) i row v
 quick_at architecture addresses bytes symbols i row v quick =
@@ -142,7 +142,7 @@ abbrev IsSomeInt : Option ℤ → Type 0
 IsSomeInt None = ⊥
 IsSomeInt (Some v) = Unit
 
-operands_found : (lacks : Bool) (row : RelocationKindInfo) (v : ℤ) (operands : Result Operands ValueError)
+operands_found : (lacks : Bool) (row : RowInfo) (v : ℤ) (operands : Result Operands ValueError)
     → value_by lacks row operands ≡ Ok (Some v)
     → (found : Operands) × (operands ≡ Ok found) × (value_of row found ≡ Some v)
 unfolding value_or_none
@@ -156,7 +156,7 @@ plain_high ways.Plain high = refl
 plain_high way high = absurd (true≢false (sym high))
 
 pub high_is : (architecture : Architecture) (addresses : Addresses) (bytes : List ℕ)
-    (symbols : List Symbol) (i : ℕ) (row : RelocationKindInfo) (offset : ℕ) (v : ℤ)
+    (symbols : List Symbol) (i : ℕ) (row : RowInfo) (offset : ℕ) (v : ℤ)
     → i < length bytes / 24 → offset ≡ offset_at bytes i
     → SaysWay architecture row → is_high row ≡ true
     → IsQuickValue architecture addresses bytes symbols (relocation_in bytes i) row v

@@ -1,6 +1,6 @@
 -- What is known of a section before and after some of its values are written.
 use Rattle.std.proofs.Common.{◌≡◌, ℕ, ℤ, ◌+◌, ◌-◌, ◌*◌, ◌^◌, ◌/◌, ◌<◌, ◌≤◌, List, length, drop, Option, None, inl, inr, Result, Ok, Err, leb, refl, sym, ap, subst, ◌∙◌, arith, eqb, true, false, true≢false}
-use Rattle.linker_section.proofs.Imports.{cases_eq, cond-false, or_left, or_right, ne_eqb, le-leb, drop-drop, length-drop, window_len, RelocationKindInfo, RelocateError, slice_index, Architecture}
+use Rattle.linker_section.proofs.Imports.{cases_eq, cond-false, or_left, or_right, ne_eqb, le-leb, drop-drop, length-drop, window_len, RowInfo, RelocateError, slice_index, Architecture}
 use Rattle.linker_elf.specs.declared.elf.RelocationKind.TheVariants as kinds
 use Rattle.std.specs.Result.{is_err}
 use Rattle.linker_section.proofs.All.{all_relocated}
@@ -93,13 +93,13 @@ below_quickly architecture addresses bytes values before now after memory other 
 
 -- ---- whether a value is written
 
-pub is_written : (row : RelocationKindInfo) (v : ℤ) (offset : ℕ) (before after : List ℕ)
+pub is_written : (row : RowInfo) (v : ℤ) (offset : ℕ) (before after : List ℕ)
     (result : Result Unit RelocateError) → is_err result ≡ false
     → IsWrittenAt row v offset before after result → IsWritten row v offset before after
 is_written row v offset before after (Ok u) is written = written
 is_written row v offset before after (Err error) is written = absurd (true≢false is)
 
-pub not_written : (row : RelocationKindInfo) (v : ℤ) (offset : ℕ) (before after : List ℕ)
+pub not_written : (row : RowInfo) (v : ℤ) (offset : ℕ) (before after : List ℕ)
     (result : Result Unit RelocateError) → is_err result ≡ true
     → IsWrittenAt row v offset before after result → after ≡ before
 not_written row v offset before after (Ok u) is written = absurd (true≢false (sym is))

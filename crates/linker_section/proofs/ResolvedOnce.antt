@@ -2,7 +2,7 @@
 use Rattle.std.proofs.Common.{◌≡◌, ℕ, ℤ, ◌/◌, List, length, Bool, true, false, true≢false, refl, sym, ap, subst, ◌∙◌, Option, Some, None, Ok, Err, Result}
 use Rattle.linker_elf.specs.Architectures.{IsRow}
 use Rattle.linker_elf.specs.Value.{difference_64}
-use Rattle.linker_elf.specs.declared.elf.RelocationKindInfo.{RelocationKindInfo}
+use Rattle.linker_elf.specs.declared.elf.RowInfo.{RowInfo}
 use Rattle.linker_elf.specs.declared.elf.architecture.Architecture.{Architecture}
 use Rattle.linker_section.proofs.Exact.{AreUnique, first_of, is_ok, of_ok, no_high, one_high}
 use Rattle.linker_section.proofs.ResolvedValues.{lookup_outcome}
@@ -20,7 +20,7 @@ use Rattle.linker_section.specs.declared.values.ValueError.{ValueError}
 
 -- ---- what is in an outcome
 
-abbrev of_found : Option (RelocationKindInfo × ℤ) → Outcome → Option (RelocationKindInfo × ℤ)
+abbrev of_found : Option (RowInfo × ℤ) → Outcome → Option (RowInfo × ℤ)
 of_found x (Ok y) = y
 of_found x (Err why) = x
 
@@ -31,7 +31,7 @@ is_found (Err why) = false
 module _ (architecture : Architecture) (addresses : Addresses) (bytes : List ℕ) (lookup : Lookup) (section : List ℕ) (apart : AreApart architecture bytes section (length bytes / 24)) where
   -- ---- one value
 
-  one_low : (row : RelocationKindInfo) (at : ℕ) (x y : Result (Option ℤ) ValueError)
+  one_low : (row : RowInfo) (at : ℕ) (x y : Result (Option ℤ) ValueError)
       → IsLowResolved architecture addresses bytes lookup row at x
       → IsLowResolved architecture addresses bytes lookup row at y → x ≡ y
   one_low row at x y (without none a) (without other b) = a ∙ sym b
@@ -45,20 +45,20 @@ module _ (architecture : Architecture) (addresses : Addresses) (bytes : List ℕ
       ∙ (ap (λ i. low_by row other (resolved_operands architecture addresses other r (lookup i r))) one.index_is
       ∙ (ap (λ z. low_by row other (resolved_operands architecture addresses other z (lookup again.index z))) one.relocation_is ∙ sym b)))
 
-  one_label : (row : RelocationKindInfo) (known : Option Resolved) (x y : Result (Option ℤ) ValueError)
+  one_label : (row : RowInfo) (known : Option Resolved) (x y : Result (Option ℤ) ValueError)
       → IsLabelResolved architecture addresses bytes lookup row known x
       → IsLabelResolved architecture addresses bytes lookup row known y → x ≡ y
   one_label row None x y a b = a ∙ sym b
   one_label row (Some label) x y a b = one_low row (difference_64 label.address addresses.section) x y a b
 
-  one_by : (label : Bool) (row : RelocationKindInfo) (r : Rela) (known : Option Resolved)
+  one_by : (label : Bool) (row : RowInfo) (r : Rela) (known : Option Resolved)
       (x y : Result (Option ℤ) ValueError)
       → IsResolvedBy label architecture addresses bytes lookup row r known x
       → IsResolvedBy label architecture addresses bytes lookup row r known y → x ≡ y
   one_by true row r known x y a b = one_label row known x y a b
   one_by false row r known x y a b = a ∙ sym b
 
-  one_in : (i : ℕ) (row : Option RelocationKindInfo) (x y : Result (Option ℤ) ValueError)
+  one_in : (i : ℕ) (row : Option RowInfo) (x y : Result (Option ℤ) ValueError)
       → IsResolvedIn architecture addresses bytes lookup i row x
       → IsResolvedIn architecture addresses bytes lookup i row y → x ≡ y
   one_in i None x y a b = a ∙ sym b
@@ -67,7 +67,7 @@ module _ (architecture : Architecture) (addresses : Addresses) (bytes : List ℕ
 
   -- ---- what is found once
 
-  some_none : {A : Type 0} (i : ℕ) (row : Option RelocationKindInfo) (v : ℤ)
+  some_none : {A : Type 0} (i : ℕ) (row : Option RowInfo) (v : ℤ)
       → IsResolvedIn architecture addresses bytes lookup i row (Ok (Some v))
       → IsResolvedIn architecture addresses bytes lookup i row (Ok None) → A
   some_none i row v a b =
@@ -77,12 +77,12 @@ module _ (architecture : Architecture) (addresses : Addresses) (bytes : List ℕ
       IsNone None = Unit
       IsNone (Some v) = ⊥
 
-  one_number : (i : ℕ) (row : Option RelocationKindInfo) (v w : ℤ)
+  one_number : (i : ℕ) (row : Option RowInfo) (v w : ℤ)
       → IsResolvedIn architecture addresses bytes lookup i row (Ok (Some v))
       → IsResolvedIn architecture addresses bytes lookup i row (Ok (Some w)) → v ≡ w
   one_number i row v w a b = ap (first_of v) (ap (of_ok None) (one_in i row (Ok (Some v)) (Ok (Some w)) a b))
 
-  found_once : (skipped : Bool) (i : ℕ) (row : Option RelocationKindInfo) (x y : Option (RelocationKindInfo × ℤ))
+  found_once : (skipped : Bool) (i : ℕ) (row : Option RowInfo) (x y : Option (RowInfo × ℤ))
       → IsResolvedUnless skipped architecture addresses bytes lookup i row (Ok x)
       → IsResolvedUnless skipped architecture addresses bytes lookup i row (Ok y) → x ≡ y
   found_once true i row x y a b = ap (of_found x) (a ∙ sym b)
@@ -95,7 +95,7 @@ module _ (architecture : Architecture) (addresses : Addresses) (bytes : List ℕ
 
   -- ---- and isn't an error
 
-  some_error : (i : ℕ) (row : Option RelocationKindInfo) (f : RelocationKindInfo × ℤ) (why : ValueError)
+  some_error : (i : ℕ) (row : Option RowInfo) (f : RowInfo × ℤ) (why : ValueError)
       → IsResolvedValue architecture addresses bytes lookup i row f
       → IsUnresolved architecture addresses bytes lookup i row why → ⊥
   some_error i row f why a (valueless is) =
@@ -105,7 +105,7 @@ module _ (architecture : Architecture) (addresses : Addresses) (bytes : List ℕ
   some_error i row f _ a (too_far v is isnt) =
       isnt (subst (IsInReach architecture bytes (relocation_in bytes i)) (one_number i row (f.1) v a.is_value is) a.in_reach)
 
-  none_error : (i : ℕ) (row : Option RelocationKindInfo) (why : ValueError)
+  none_error : (i : ℕ) (row : Option RowInfo) (why : ValueError)
       → IsResolvedIn architecture addresses bytes lookup i row (Ok None)
       → is_filled architecture addresses (relocation_in bytes i) ≡ true
       → IsUnresolved architecture addresses bytes lookup i row why → ⊥
@@ -115,7 +115,7 @@ module _ (architecture : Architecture) (addresses : Addresses) (bytes : List ℕ
   none_error i row _ a filled (stubless v is lacks) = some_none i row v is a
   none_error i row _ a filled (too_far v is isnt) = some_none i row v is a
 
-  no_error : (skipped : Bool) (i : ℕ) (row : Option RelocationKindInfo) (x : Option (RelocationKindInfo × ℤ))
+  no_error : (skipped : Bool) (i : ℕ) (row : Option RowInfo) (x : Option (RowInfo × ℤ))
       (why : ValueError) → IsResolvedUnless skipped architecture addresses bytes lookup i row (Ok x)
       → IsResolvedUnless skipped architecture addresses bytes lookup i row (Err why) → ⊥
   no_error true i row x why a b = true≢false (sym (ap is_found b))
@@ -131,7 +131,7 @@ module _ (architecture : Architecture) (addresses : Addresses) (bytes : List ℕ
       subst (λ row. IsResolvedUnless (is_skipped row (lookup i (relocation_in bytes i))) architecture addresses bytes lookup i row y)
       (one_row architecture (relocation_in bytes i).r_type (b.0) (a.0) (b.1) (a.1)) (b.2)
 
-  found_row : (i : ℕ) (row : RelocationKindInfo) (v : ℤ)
+  found_row : (i : ℕ) (row : RowInfo) (v : ℤ)
       → by_lookup lookup architecture addresses bytes i (Ok (Some (row, v)))
       → IsRow architecture (relocation_in bytes i).r_type (Some row)
   found_row i row v is =

@@ -4,7 +4,7 @@ use Rattle.std.proofs.lemmas.Bool.{and_parts, cases_Bool, cond-true, cond-false,
 use Rattle.std.specs.Prelude.{◌&&◌, not}
 use Rattle.linker_elf.specs.Architectures.{IsRow}
 use Rattle.linker_elf.specs.Value.{difference_64, is_offset}
-use Rattle.linker_elf.specs.declared.elf.RelocationKindInfo.{RelocationKindInfo}
+use Rattle.linker_elf.specs.declared.elf.RowInfo.{RowInfo}
 use Rattle.linker_elf.specs.declared.elf.architecture.Architecture.{Architecture}
 use Rattle.linker_section.proofs.Rows.{one_row}
 use Rattle.linker_section.proofs.Valued.{IsNoValue, IsSomeValue, by_none, low_by_none, unlabelled, unpaired}
@@ -20,7 +20,7 @@ use Rattle.linker_section.specs.declared.resolved.Resolved.{Resolved}
 
 -- ---- no value
 
-value_none : (architecture : Architecture) (addresses : Addresses) (row : RelocationKindInfo)
+value_none : (architecture : Architecture) (addresses : Addresses) (row : RowInfo)
     (r : Rela) (known : Option Resolved)
     → Ok None ≡ resolved_value architecture addresses row r known → has_value row.kind ≡ false
 value_none architecture addresses row r known is =
@@ -32,7 +32,7 @@ value_none architecture addresses row r known is =
     ]
 
 low_none : (architecture : Architecture) (addresses : Addresses) (bytes : List ℕ) (lookup : Lookup)
-    (row : RelocationKindInfo) (at : ℕ)
+    (row : RowInfo) (at : ℕ)
     → IsLowResolved architecture addresses bytes lookup row at (Ok None)
     → has_value row.kind ≡ false
 low_none architecture addresses bytes lookup row at (without none is) =
@@ -42,7 +42,7 @@ low_none architecture addresses bytes lookup row at (by_high {r} {high} part is)
     (subst (λ x. IsNoValue x) is tt)
 
 label_none : (architecture : Architecture) (addresses : Addresses) (bytes : List ℕ)
-    (lookup : Lookup) (row : RelocationKindInfo) (known : Option Resolved)
+    (lookup : Lookup) (row : RowInfo) (known : Option Resolved)
     → IsLabelResolved architecture addresses bytes lookup row known (Ok None)
     → has_value row.kind ≡ false
 label_none architecture addresses bytes lookup row None is =
@@ -51,7 +51,7 @@ label_none architecture addresses bytes lookup row (Some label) is =
     low_none architecture addresses bytes lookup row (difference_64 label.address addresses.section) is
 
 resolved_none : (label : Bool) (architecture : Architecture) (addresses : Addresses)
-    (bytes : List ℕ) (lookup : Lookup) (row : RelocationKindInfo) (r : Rela)
+    (bytes : List ℕ) (lookup : Lookup) (row : RowInfo) (r : Rela)
     (known : Option Resolved)
     → IsResolvedBy label architecture addresses bytes lookup row r known (Ok None)
     → has_value row.kind ≡ false
@@ -63,7 +63,7 @@ resolved_none false architecture addresses bytes lookup row r known is =
 -- ---- a value
 
 resolved_some : (architecture : Architecture) (addresses : Addresses) (bytes : List ℕ)
-    (lookup : Lookup) (i : ℕ) (row : RelocationKindInfo) (v : ℤ)
+    (lookup : Lookup) (i : ℕ) (row : RowInfo) (v : ℤ)
     → IsResolvedIn architecture addresses bytes lookup i (Some row) (Ok (Some v))
     → has_value row.kind ≡ true
 resolved_some architecture addresses bytes lookup i row v is =
@@ -79,7 +79,7 @@ resolved_some architecture addresses bytes lookup i row v is =
 
 -- ---- what is found
 
-abbrev IsSome : Option RelocationKindInfo → Type 0
+abbrev IsSome : Option RowInfo → Type 0
 IsSome None = ⊥
 IsSome (Some row) = Unit
 
@@ -97,7 +97,7 @@ IsFailed outcome = ⊥
 
 -- the row of a relocation that is written nothing to isn't of a pair
 alone_unless : (skipped : Bool) (architecture : Architecture) (addresses : Addresses)
-    (bytes : List ℕ) (lookup : Lookup) (i : ℕ) (row : RelocationKindInfo)
+    (bytes : List ℕ) (lookup : Lookup) (i : ℕ) (row : RowInfo)
     → skipped ≡ is_skipped (Some row) (lookup i (relocation_in bytes i))
     → IsResolvedUnless skipped architecture addresses bytes lookup i (Some row) (Ok None)
     → is_of_pair row ≡ false
@@ -110,7 +110,7 @@ alone_unless false architecture addresses bytes lookup i row same is =
 
 -- and it has no value, if it isn't left out
 none_unless : (skipped : Bool) (architecture : Architecture) (addresses : Addresses)
-    (bytes : List ℕ) (lookup : Lookup) (i : ℕ) (row : RelocationKindInfo)
+    (bytes : List ℕ) (lookup : Lookup) (i : ℕ) (row : RowInfo)
     → skipped ≡ is_skipped (Some row) (lookup i (relocation_in bytes i))
     → is_left_out (lookup i (relocation_in bytes i)) ≡ false
     → IsResolvedUnless skipped architecture addresses bytes lookup i (Some row) (Ok None)
@@ -122,8 +122,8 @@ none_unless false architecture addresses bytes lookup i row same isnt is =
     (relocation_in bytes i) (lookup i (relocation_in bytes i)) (is.0)
 
 some_unless : (skipped : Bool) (architecture : Architecture) (addresses : Addresses)
-    (bytes : List ℕ) (lookup : Lookup) (i : ℕ) (row : Option RelocationKindInfo)
-    (found : RelocationKindInfo × ℤ)
+    (bytes : List ℕ) (lookup : Lookup) (i : ℕ) (row : Option RowInfo)
+    (found : RowInfo × ℤ)
     → IsResolvedUnless skipped architecture addresses bytes lookup i row (Ok (Some found))
     → (row ≡ Some (found.0)) × (has_value (found.0).kind ≡ true)
 some_unless true architecture addresses bytes lookup i row found is =
@@ -150,7 +150,7 @@ lookup_outcome architecture addresses bytes lookup i (Ok (Some found)) is =
 lookup_outcome architecture addresses bytes lookup i (Ok None) is =
     let r_type = (relocation_in bytes i).r_type in
     let known = lookup i (relocation_in bytes i) in
-    let unless : (row : RelocationKindInfo) → IsRow architecture r_type (Some row)
+    let unless : (row : RowInfo) → IsRow architecture r_type (Some row)
     → IsResolvedUnless (is_skipped (Some row) known) architecture addresses bytes lookup i (Some row) (Ok None) =
     λ row is_row. subst (λ x. IsResolvedUnless (is_skipped x known) architecture addresses bytes lookup i x (Ok None))
     (one_row architecture r_type (is.0) (Some row) (is.1) is_row) (is.2) in

@@ -1,7 +1,7 @@
 -- The facts of each row say what it requires, and what its way requires of it: by computation, name
 -- by name.
 use Rattle.std.proofs.Common.{◌≡◌, ℕ, ℤ, refl, sym, subst, true, false, true≢false, Option, Some, None}
-use Rattle.linker_section.proofs.Imports.{aarch64_name, aarch64_row, ElfName, loongarch_name, loongarch_row, ppc64_name, ppc64_row, riscv_name, riscv_relocation, x86_64_name, x86_64_row, AArch64Relocation, RelocationKindInfo, LoongArch64Relocation, Ppc64Relocation, RiscVRelocation, X86_64Relocation, IsNamedValue, IsRow, Architecture, AArch64, X86_64}
+use Rattle.linker_section.proofs.Imports.{aarch64_name, aarch64_row, ElfName, loongarch_name, loongarch_row, ppc64_name, ppc64_row, riscv_name, riscv_relocation, x86_64_name, x86_64_row, AArch64Relocation, RowInfo, LoongArch64Relocation, Ppc64Relocation, RiscVRelocation, X86_64Relocation, IsNamedValue, IsRow, Architecture, AArch64, X86_64}
 use Rattle.linker_elf.specs.Facts.{facts_of}
 use Rattle.linker_elf.specs.declared.aarch64.relocations.AArch64Relocation.TheVariants as aarch64
 use Rattle.linker_elf.specs.declared.loongarch64.relocations.LoongArch64Relocation.TheVariants as loongarch64
@@ -15,7 +15,7 @@ use Rattle.linker_elf.specs.declared.elf.architecture.Architecture.TheVariants.{
 -- ---- names
 
 -- the facts of a row say what it requires, and its way
-abbrev IsSaid : Architecture → Option RelocationKindInfo → Type 0
+abbrev IsSaid : Architecture → Option RowInfo → Type 0
 IsSaid architecture None = Unit
 IsSaid architecture (Some row) =
     ((addend : ℤ) → requirements_by (facts_of row) addend true ≡ needs_of row addend true)
@@ -145,13 +145,13 @@ x86_64_said name = (
 -- ---- rows
 
 by_names : {Name : Type 0} (architecture : Architecture) (elf : Name → ElfName)
-    (row_of : Name → Option RelocationKindInfo) → ((name : Name) → IsSaid architecture (row_of name))
-    → (r_type : ℕ) (row : RelocationKindInfo) → IsNamedValue elf row_of r_type (Some row)
+    (row_of : Name → Option RowInfo) → ((name : Name) → IsSaid architecture (row_of name))
+    → (r_type : ℕ) (row : RowInfo) → IsNamedValue elf row_of r_type (Some row)
     → IsSaid architecture (Some row)
 by_names architecture elf row_of said r_type row of =
     subst (IsSaid architecture) (sym of.value_is) (said of.name)
 
-said : (architecture : Architecture) (r_type : ℕ) (row : RelocationKindInfo)
+said : (architecture : Architecture) (r_type : ℕ) (row : RowInfo)
     → IsRow architecture r_type (Some row) → IsSaid architecture (Some row)
 said AArch64 = by_names AArch64 aarch64_name aarch64_row aarch64_said
 said RiscV = by_names RiscV riscv_name (λ name. (riscv_relocation name).row) riscv64_said
@@ -159,18 +159,18 @@ said LoongArch64 = by_names LoongArch64 loongarch_name loongarch_row loongarch64
 said Ppc64 = by_names Ppc64 ppc64_name ppc64_row ppc64_said
 said X86_64 = by_names X86_64 x86_64_name x86_64_row x86_64_said
 
-by_tls : (row : RelocationKindInfo)
+by_tls : (row : RowInfo)
     → ((addend : ℤ) → requirements_by (facts_of row) addend true ≡ needs_of row addend true)
     → ((addend : ℤ) → requirements_by (facts_of row) addend false ≡ needs_of row addend false)
     → SaysNeeds row
 by_tls row is isnt addend true = is addend
 by_tls row is isnt addend false = isnt addend
 
-pub says : (architecture : Architecture) (r_type : ℕ) (row : RelocationKindInfo)
+pub says : (architecture : Architecture) (r_type : ℕ) (row : RowInfo)
     → IsRow architecture r_type (Some row) → SaysNeeds row
 says architecture r_type row is_row =
     let is = said architecture r_type row is_row in by_tls row is.0 is.1
 
-pub says_way : (architecture : Architecture) (r_type : ℕ) (row : RelocationKindInfo)
+pub says_way : (architecture : Architecture) (r_type : ℕ) (row : RowInfo)
     → IsRow architecture r_type (Some row) → SaysWay architecture row
 says_way architecture r_type row is_row = (said architecture r_type row is_row).2

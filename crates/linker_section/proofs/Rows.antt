@@ -1,6 +1,6 @@
 -- An `r_type` has one row.
 use Rattle.std.proofs.Common.{◌≡◌, ℕ, refl, sym, ap, ◌∙◌, Option, Some, None, ◌⊎◌, inl, inr}
-use Rattle.linker_section.proofs.Imports.{aarch64_name, aarch64_row, ElfName, loongarch_name, loongarch_row, ppc64_name, ppc64_row, riscv_name, riscv_relocation, x86_64_name, x86_64_row, AArch64Relocation, RelocationKindInfo, LoongArch64Relocation, Ppc64Relocation, RiscVRelocation, X86_64Relocation, IsNamedValue, IsRow, Architecture, AArch64, X86_64}
+use Rattle.linker_section.proofs.Imports.{aarch64_name, aarch64_row, ElfName, loongarch_name, loongarch_row, ppc64_name, ppc64_row, riscv_name, riscv_relocation, x86_64_name, x86_64_row, AArch64Relocation, RowInfo, LoongArch64Relocation, Ppc64Relocation, RiscVRelocation, X86_64Relocation, IsNamedValue, IsRow, Architecture, AArch64, X86_64}
 use Rattle.linker_elf.specs.ElfNames.{named, unnamed, IsNamed}
 use Rattle.linker_elf.specs.declared.aarch64.relocations.AArch64Relocation.TheVariants as aarch64_names
 use Rattle.linker_elf.specs.declared.loongarch64.relocations.LoongArch64Relocation.TheVariants as loongarch64_names
@@ -51,7 +51,7 @@ of_one elf value_of none r_type x y unnamed_is a b =
       ]
     ]
 
-pub one_row : (architecture : Architecture) (r_type : ℕ) (x y : Option RelocationKindInfo)
+pub one_row : (architecture : Architecture) (r_type : ℕ) (x y : Option RowInfo)
     → IsRow architecture r_type x → IsRow architecture r_type y → x ≡ y
 one_row AArch64 r_type x y = of_one aarch64_name aarch64_row None r_type x y aarch64_unnamed
 one_row RiscV r_type x y = of_one riscv_name (λ name. (riscv_relocation name).row) None r_type x y riscv64_unnamed
@@ -59,11 +59,11 @@ one_row LoongArch64 r_type x y = of_one loongarch_name loongarch_row None r_type
 one_row Ppc64 r_type x y = of_one ppc64_name ppc64_row None r_type x y ppc64_unnamed
 one_row X86_64 r_type x y = of_one x86_64_name x86_64_row None r_type x y x86_64_unnamed
 
-of_some : RelocationKindInfo → Option RelocationKindInfo → RelocationKindInfo
+of_some : RowInfo → Option RowInfo → RowInfo
 of_some other (Some row) = row
 of_some other None = other
 
-pub one_info : (architecture : Architecture) (r_type : ℕ) (x y : RelocationKindInfo)
+pub one_info : (architecture : Architecture) (r_type : ℕ) (x y : RowInfo)
     → IsRow architecture r_type (Some x) → IsRow architecture r_type (Some y) → x ≡ y
 unfolding of_some
 one_info architecture r_type x y a b = ap (of_some x) (one_row architecture r_type (Some x) (Some y) a b)

@@ -1,6 +1,6 @@
 -- Two runs of relocations by ascending offsets, gone through by offset.
 use Rattle.std.proofs.Common.{◌≡◌, ℕ, ◌+◌, ◌/◌, ◌<◌, ◌≤◌, List, length, drop, Some, true, false, ap, subst, inl, inr, arith}
-use Rattle.linker_section.proofs.Imports.{cases_eq, cases_lt, cases_Bool, cond-false, window_len, RelocationKindInfo, IsRow, Architecture}
+use Rattle.linker_section.proofs.Imports.{cases_eq, cases_lt, cases_Bool, cond-false, window_len, RowInfo, IsRow, Architecture}
 use Rattle.linker_section.proofs.Claims.{OneMore}
 use Rattle.linker_section.proofs.RowFacts.{says_way}
 use Rattle.linker_section.proofs.Stepping.{len_alone, len_paired}
@@ -14,7 +14,7 @@ use Rattle.std.proofs.lemmas.Bool.{ltb-true}
 
 -- ---- fields are small
 
-pub len_within : (row : RelocationKindInfo) (there : List ℕ) → is_of_pair row ≡ false
+pub len_within : (row : RowInfo) (there : List ℕ) → is_of_pair row ≡ false
     → field_len row there ≤ window_len row
 len_within row there alone =
     elim (cases_Bool (has_value row.kind)) [
@@ -22,7 +22,7 @@ len_within row there alone =
       | inr isnt ↦ let e : field_len row there ≡ 0 = cond-false {A = ℕ} (has_value row.kind) _ 0 isnt in omega (arith, e)
     ]
 
-pair_within : (row : RelocationKindInfo) (there : List ℕ) → is_of_pair row ≡ true
+pair_within : (row : RowInfo) (there : List ℕ) → is_of_pair row ≡ true
     → field_len row there ≤ 10
 pair_within row there paired =
     elim (cases_Bool (has_value row.kind)) [
@@ -51,7 +51,7 @@ pub past_more : (architecture : Architecture) (bytes section : List ℕ)
     → ArePast architecture bytes section IsSeen last
     → ArePast architecture bytes section IsSeenNow (relocation_in bytes k)
 past_more architecture bytes section IsSeen IsSeenNow k last more within small next past =
-    let ends : (i : ℕ) (row : RelocationKindInfo) → IsSeen i → IsField architecture bytes section i row
+    let ends : (i : ℕ) (row : RowInfo) → IsSeen i → IsField architecture bytes section i row
     → field_end bytes section i row ≤ offset_at bytes k =
     λ i row seen is_field. elim (past.before i row seen is_field) [
       | inl before ↦ let o = next.0 in omega (arith, before, o)

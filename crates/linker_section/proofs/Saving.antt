@@ -1,6 +1,6 @@
 -- Bytes that are kept, put back.
 use Rattle.std.proofs.Common.{◌≡◌, ℕ, suc, zero, ◌+◌, ◌-◌, ◌<◌, ◌≤◌, List, ◌++◌, length, take, drop, set, leb, true, false, min, get_or, replicate, ap₂, refl, ap, sym, subst, ◌∙◌, inl, inr, arith, Option, Some}
-use Rattle.linker_section.proofs.Imports.{cond-true, cond-false, cases_lt, le-leb, take_at, drop_at, drop-drop, take-take, take_all, drop_all, take-append-drop, append-nil, length-take-le, length-append, length-drop, take-append-le, get_or-set_other, get_or-drop, get_or_past, get_or_append_left, get_or-append_right, get_or-replicate, length-replicate, w64, to_le_bytes, from_le_bytes, slice_index, sum_64, IsRow, Architecture, RelocationKindInfo}
+use Rattle.linker_section.proofs.Imports.{cond-true, cond-false, cases_lt, le-leb, take_at, drop_at, drop-drop, take-take, take_all, drop_all, take-append-drop, append-nil, length-take-le, length-append, length-drop, take-append-le, get_or-set_other, get_or-drop, get_or_past, get_or_append_left, get_or-append_right, get_or-replicate, length-replicate, w64, to_le_bytes, from_le_bytes, slice_index, sum_64, IsRow, Architecture, RowInfo}
 use Rattle.std.proofs.lemmas.Bool.{lt-leb}
 use Rattle.std.proofs.lemmas.List.{get_or-set_same, length-set}
 use Rattle.std.proofs.lemmas.Nat.{le_bytes_8}
@@ -81,7 +81,7 @@ restores_by architecture bytes memory other (suc n) now before same restores =
 
 -- a word that is kept of one more relocation
 pub restores_more : (architecture : Architecture) (bytes memory : List ℕ) (n word : ℕ)
-    (middle now before : List ℕ) (row : Option RelocationKindInfo) → n < length memory
+    (middle now before : List ℕ) (row : Option RowInfo) → n < length memory
     → IsRow architecture (relocation_in bytes n).r_type row
     → with_word (saved_place row (relocation_in bytes n).offset) word now ≡ middle
     → Restores architecture bytes memory n middle before
@@ -104,7 +104,7 @@ plus_two n = omega arith
 
 -- after a write of a relocation's field
 pub restores_local : (architecture : Architecture) (bytes memory : List ℕ) (n word : ℕ)
-    (now after before : List ℕ) (row : RelocationKindInfo) → n < length memory
+    (now after before : List ℕ) (row : RowInfo) → n < length memory
     → IsRow architecture (relocation_in bytes n).r_type (Some row)
     → ends_pair row.size row.kind ≡ false
     → take (relocation_in bytes n).offset after ≡ take (relocation_in bytes n).offset now
@@ -121,7 +121,7 @@ restores_local architecture bytes memory n word now after before row room is_row
 
 -- after that of a pair
 pub restores_pair : (architecture : Architecture) (bytes memory : List ℕ) (n word next : ℕ)
-    (now after before : List ℕ) (row other : RelocationKindInfo) → n + 1 < length memory
+    (now after before : List ℕ) (row other : RowInfo) → n + 1 < length memory
     → IsRow architecture (relocation_in bytes n).r_type (Some row)
     → ends_pair row.size row.kind ≡ false
     → IsRow architecture (relocation_in bytes (n + 1)).r_type (Some other)

@@ -1,6 +1,6 @@
 -- Rows whose values compose are of whole bytes, and fields have at most ten.
 use Rattle.std.proofs.Common.{◌≡◌, ℕ, ◌≤◌, List, [], ◌∷◌, length, take, drop, Bool, true, false, refl, sym, ap, ◌∙◌, Option, Some, None, not, nat_le, nat_lt, subst, inl, inr, arith, ◌||◌}
-use Rattle.linker_section.proofs.Imports.{cases_Bool, leb-true, not-true, or_cases, length-take, BitRange, RelocationInstruction, aarch64_name, aarch64_row, ElfName, loongarch_name, loongarch_row, ppc64_name, ppc64_row, size_len, window_len, riscv_name, riscv_relocation, x86_64_name, x86_64_row, AArch64Relocation, RelocationKind, RelocationKindInfo, RelocationSize, ByteSize, BitMasking, LoongArch64Relocation, Ppc64Relocation, RiscVRelocation, X86_64Relocation, IsNamedValue, IsRow, Architecture, AArch64, X86_64, never}
+use Rattle.linker_section.proofs.Imports.{cases_Bool, leb-true, not-true, or_cases, length-take, BitRange, AnyForm, aarch64_name, aarch64_row, ElfName, loongarch_name, loongarch_row, ppc64_name, ppc64_row, size_len, window_len, riscv_name, riscv_relocation, x86_64_name, x86_64_row, AArch64Relocation, RelocationKind, RowInfo, RowSize, ByteSize, BitMasking, LoongArch64Relocation, Ppc64Relocation, RiscVRelocation, X86_64Relocation, IsNamedValue, IsRow, Architecture, AArch64, X86_64, never}
 use Rattle.linker_elf.specs.declared.aarch64.relocations.AArch64Relocation.TheVariants as aarch64_names
 use Rattle.linker_elf.specs.declared.elf.RelocationKind.TheVariants as kinds
 use Rattle.linker_elf.specs.declared.loongarch64.relocations.LoongArch64Relocation.TheVariants as loongarch_names
@@ -75,11 +75,11 @@ alike _ second on = never on
 
 -- ---- rows
 
-abbrev is_sized : RelocationSize → RelocationKind → Bool
+abbrev is_sized : RowSize → RelocationKind → Bool
 is_sized (ByteSize n) kind = true
 is_sized (BitMasking bits insn) kind = not (is_composing kind)
 
-abbrev is_sized_row : Option RelocationKindInfo → Bool
+abbrev is_sized_row : Option RowInfo → Bool
 is_sized_row None = true
 is_sized_row (Some row) = is_sized row.size row.kind
 
@@ -104,10 +104,10 @@ sized_x86_64 (x86_64_names.Other r_type) = refl
 sized_x86_64 _ = refl
 
 -- and each `auipc` has a value
-abbrev is_valued : RelocationSize → RelocationKind → Bool
+abbrev is_valued : RowSize → RelocationKind → Bool
 is_valued size kind = not (is_auipc size) || has_value kind
 
-abbrev is_valued_row : Option RelocationKindInfo → Bool
+abbrev is_valued_row : Option RowInfo → Bool
 is_valued_row None = true
 is_valued_row (Some row) = is_valued row.size row.kind
 
@@ -131,13 +131,13 @@ valued_x86_64 : (name : X86_64Relocation) → is_valued_row (x86_64_row name) �
 valued_x86_64 (x86_64_names.Other r_type) = refl
 valued_x86_64 _ = refl
 
-test_of : {Name : Type 0} (elf : Name → ElfName) (row_of : Name → Option RelocationKindInfo)
-    (r_type : ℕ) (row : Option RelocationKindInfo) (test : Option RelocationKindInfo → Bool)
+test_of : {Name : Type 0} (elf : Name → ElfName) (row_of : Name → Option RowInfo)
+    (r_type : ℕ) (row : Option RowInfo) (test : Option RowInfo → Bool)
     → ((name : Name) → test (row_of name) ≡ true) → IsNamedValue elf row_of r_type row
     → test row ≡ true
 test_of elf row_of r_type row test all is = ap test is.value_is ∙ all is.name
 
-sized : (architecture : Architecture) (r_type : ℕ) (row : Option RelocationKindInfo)
+sized : (architecture : Architecture) (r_type : ℕ) (row : Option RowInfo)
     → IsRow architecture r_type row → is_sized_row row ≡ true
 sized AArch64 r_type row is = test_of aarch64_name aarch64_row r_type row is_sized_row sized_aarch64 is
 sized RiscV r_type row is = test_of riscv_name (λ name. (riscv_relocation name).row) r_type row is_sized_row sized_riscv is
@@ -145,7 +145,7 @@ sized LoongArch64 r_type row is = test_of loongarch_name loongarch_row r_type ro
 sized Ppc64 r_type row is = test_of ppc64_name ppc64_row r_type row is_sized_row sized_ppc64 is
 sized X86_64 r_type row is = test_of x86_64_name x86_64_row r_type row is_sized_row sized_x86_64 is
 
-valued : (architecture : Architecture) (r_type : ℕ) (row : Option RelocationKindInfo)
+valued : (architecture : Architecture) (r_type : ℕ) (row : Option RowInfo)
     → IsRow architecture r_type row → is_valued_row row ≡ true
 valued AArch64 r_type row is = test_of aarch64_name aarch64_row r_type row is_valued_row valued_aarch64 is
 valued RiscV r_type row is = test_of riscv_name (λ name. (riscv_relocation name).row) r_type row is_valued_row valued_riscv is
@@ -154,7 +154,7 @@ valued Ppc64 r_type row is = test_of ppc64_name ppc64_row r_type row is_valued_r
 valued X86_64 r_type row is = test_of x86_64_name x86_64_row r_type row is_valued_row valued_x86_64 is
 
 -- and none is longer than 8 bytes
-abbrev is_short_row : Option RelocationKindInfo → Bool
+abbrev is_short_row : Option RowInfo → Bool
 is_short_row None = true
 is_short_row (Some row) = nat_le (window_len row) 8
 
@@ -178,7 +178,7 @@ short_x86_64 : (name : X86_64Relocation) → is_short_row (x86_64_row name) ≡ 
 short_x86_64 (x86_64_names.Other r_type) = refl
 short_x86_64 _ = refl
 
-short : (architecture : Architecture) (r_type : ℕ) (row : Option RelocationKindInfo)
+short : (architecture : Architecture) (r_type : ℕ) (row : Option RowInfo)
     → IsRow architecture r_type row → is_short_row row ≡ true
 short AArch64 r_type row is = test_of aarch64_name aarch64_row r_type row is_short_row short_aarch64 is
 short RiscV r_type row is = test_of riscv_name (λ name. (riscv_relocation name).row) r_type row is_short_row short_riscv is
@@ -197,7 +197,7 @@ uleb_short (byte ∷ rest) =
 
 -- a field has at most ten bytes
 pub field_short : (architecture : Architecture) (bytes section : List ℕ) (i : ℕ)
-    (row : RelocationKindInfo) → IsField architecture bytes section i row
+    (row : RowInfo) → IsField architecture bytes section i row
     → field_len row (drop (offset_at bytes i) section) ≤ 10
 field_short architecture bytes section i row is_field =
     let here = drop (offset_at bytes i) section in
@@ -213,33 +213,33 @@ field_short architecture bytes section i row is_field =
     ]
 
 -- a size of whole bytes, as many as a field of another has
-size_of : (size : RelocationSize) (kind : RelocationKind) (n : ℕ) → is_sized size kind ≡ true
+size_of : (size : RowSize) (kind : RelocationKind) (n : ℕ) → is_sized size kind ≡ true
     → is_composing kind ≡ true → size_len size ≡ n → size ≡ ByteSize n
 size_of (ByteSize m) kind n sized composing len = ap ByteSize len
 size_of (BitMasking bits insn) kind n sized composing len =
     never (sym (ap not composing) ∙ sized)
 
 -- a row of which a value composes is of whole bytes
-pub whole_bytes : (architecture : Architecture) (r_type : ℕ) (row : RelocationKindInfo) (n : ℕ)
+pub whole_bytes : (architecture : Architecture) (r_type : ℕ) (row : RowInfo) (n : ℕ)
     → IsRow architecture r_type (Some row) → is_composing row.kind ≡ true → window_len row ≡ n
     → row.size ≡ ByteSize n
 whole_bytes architecture r_type row n is_row composing len =
     size_of row.size row.kind n (sized architecture r_type (Some row) is_row) composing len
 
 -- and one of an instruction composes with none
-instruction_size : (size : RelocationSize) (kind : RelocationKind) (bits : BitRange)
-    (insn : RelocationInstruction) → size ≡ BitMasking bits insn → is_sized size kind ≡ true
+instruction_size : (size : RowSize) (kind : RelocationKind) (bits : BitRange)
+    (insn : AnyForm) → size ≡ BitMasking bits insn → is_sized size kind ≡ true
     → is_composing kind ≡ false
 instruction_size size kind bits insn same sized =
     not-true (is_composing kind) (subst (λ x. is_sized x kind ≡ true) same sized)
 
-pub instruction_alone : (architecture : Architecture) (r_type : ℕ) (row : RelocationKindInfo)
-    (bits : BitRange) (insn : RelocationInstruction) → IsRow architecture r_type (Some row)
+pub instruction_alone : (architecture : Architecture) (r_type : ℕ) (row : RowInfo)
+    (bits : BitRange) (insn : AnyForm) → IsRow architecture r_type (Some row)
     → row.size ≡ BitMasking bits insn → is_composing row.kind ≡ false
 instruction_alone architecture r_type row bits insn is_row same =
     instruction_size row.size row.kind bits insn same (sized architecture r_type (Some row) is_row)
 
-pub auipc_valued : (architecture : Architecture) (r_type : ℕ) (row : RelocationKindInfo)
+pub auipc_valued : (architecture : Architecture) (r_type : ℕ) (row : RowInfo)
     → IsRow architecture r_type (Some row) → is_auipc row.size ≡ true → has_value row.kind ≡ true
 auipc_valued architecture r_type row is_row auipc =
     elim (or_cases (not (is_auipc row.size)) (has_value row.kind) (valued architecture r_type (Some row) is_row)) [

@@ -1,6 +1,6 @@
 -- Fields that are gone through by sorted indexes.
 use Rattle.std.proofs.Common.{◌≡◌, ℕ, ◌+◌, ◌*◌, ◌/◌, ◌^◌, ◌<◌, ◌≤◌, ◌⊎◌, eqb, ltb, cond, refl, sym, ap, subst, ◌∙◌, inl, inr, arith, true, false, List, length, Some, None}
-use Rattle.linker_section.proofs.Imports.{cases_eq, cases_lt, cond-true, cond-false, eq-eqb, ne_eqb, lt-ltb, slice_index, RelocationKindInfo, Architecture}
+use Rattle.linker_section.proofs.Imports.{cases_eq, cases_lt, cond-true, cond-false, eq-eqb, ne_eqb, lt-ltb, slice_index, RowInfo, Architecture}
 use Rattle.std.proofs.lemmas.List.{get_or_default}
 use Rattle.std.proofs.lemmas.List.Edits.{swapped_from_swap, length-swap}
 use Rattle.std.proofs.lemmas.List.Elements.{All-from_get_or}
@@ -126,7 +126,7 @@ seen_more order count p i is under =
 -- the index at a place is none below the count, or has no field
 pub swept_without : (architecture : Architecture) (bytes section order : List ℕ)
     (count p index : ℕ) (last : Field)
-    → (slice_index order p < count → (row : RelocationKindInfo)
+    → (slice_index order p < count → (row : RowInfo)
     → IsField architecture bytes section (slice_index order p) row → ⊥)
     → AreSwept architecture bytes section order count p index last
     → AreSwept architecture bytes section order count (p + 1) index last
@@ -150,7 +150,7 @@ swept_without architecture bytes section order count p index last none swept =
 
 -- the field there is clear of the last
 pub swept_clear : (architecture : Architecture) (bytes section order : List ℕ)
-    (count p index : ℕ) (last field : Field) (row : RelocationKindInfo) → IsOrder bytes order
+    (count p index : ℕ) (last field : Field) (row : RowInfo) → IsOrder bytes order
     → p < length order → slice_index order p < count
     → HasField architecture bytes section (slice_index order p) row field
     → is_clear_of field last ≡ true → AreSwept architecture bytes section order count p index last
@@ -185,7 +185,7 @@ last_is architecture bytes section order count p index last field after clear sw
 
 -- the relocation there is the second of a pair whose first has the last field
 pub swept_pair : (architecture : Architecture) (bytes section order : List ℕ)
-    (count p index : ℕ) (last : Field) (other : RelocationKindInfo)
+    (count p index : ℕ) (last : Field) (other : RowInfo)
     → slice_index order p ≡ index + 1 → slice_index order p < count
     → BeginsPair architecture bytes index
     → IsField architecture bytes section (slice_index order p) other
@@ -210,7 +210,7 @@ swept_pair architecture bytes section order count p index last other next under 
 
 -- a field that isn't clear of the last overlaps its
 pub swept_overlapped : (architecture : Architecture) (bytes section order : List ℕ)
-    (count p index : ℕ) (last field : Field) (row : RelocationKindInfo) → IsOrder bytes order
+    (count p index : ℕ) (last field : Field) (row : RowInfo) → IsOrder bytes order
     → p < length order → slice_index order p < count
     → HasField architecture bytes section (slice_index order p) row field
     → last.offset ≤ field.offset → is_clear_of field last ≡ false

@@ -1,6 +1,6 @@
 -- What is known of a section after one more relocation.
 use Rattle.std.proofs.Common.{◌≡◌, ◌≢◌, ℕ, ℤ, ◌+◌, ◌-◌, ◌/◌, ◌<◌, ◌≤◌, ◌⊎◌, ◌||◌, eqb, set, not, refl, sym, ap, subst, ◌∙◌, inl, inr, arith, true, false, true≢false, Bool, ◌++◌, List, length, take, drop, Option, Some, None, mod-eq_of_lt, ◌^◌}
-use Rattle.linker_section.proofs.Imports.{or_cases, or_parts, eqb-true, eq-eqb, ne_eqb, cases_eq, cases_Bool, cond-true, cond-false, and_parts, not-true, not-false, length-drop, drop_all, drop-drop, take-append-drop, get_or-set_other, window_len, takes_size, RelocationKind, RelocationKindInfo, RelocationSize, ByteSize, BitMasking, sum_64, slice_index, or_left, or_right, Ok, IfNone, IsRow, Architecture, never, supported_size}
+use Rattle.linker_section.proofs.Imports.{or_cases, or_parts, eqb-true, eq-eqb, ne_eqb, cases_eq, cases_Bool, cond-true, cond-false, and_parts, not-true, not-false, length-drop, drop_all, drop-drop, take-append-drop, get_or-set_other, window_len, takes_size, RelocationKind, RowInfo, RowSize, ByteSize, BitMasking, sum_64, slice_index, or_left, or_right, Ok, IfNone, IsRow, Architecture, never, supported_size}
 use Rattle.std.proofs.lemmas.Bool.{eqb-false}
 use Rattle.linker_elf.specs.declared.elf.RelocationKind.TheVariants as kinds
 use Rattle.linker_section.proofs.Claims.{clear_cases, apart_more, claimed_more, overlapped, apart_pair, claimed_pair, apart_mark, claimed_mark, to_in, from_in, one_below, pair_below}
@@ -27,13 +27,13 @@ use Rattle.std.specs.Prelude.{Err, Result}
 
 -- ---- the length of a field
 
-pub len_alone : (row : RelocationKindInfo) (bytes : List ℕ) → has_value row.kind ≡ true
+pub len_alone : (row : RowInfo) (bytes : List ℕ) → has_value row.kind ≡ true
     → is_of_pair row ≡ false → field_len row bytes ≡ window_len row
 len_alone row bytes has alone =
     cond-true (has_value row.kind) _ 0 has
     ∙ cond-false (is_of_pair row) (uleb_len (take 10 bytes)) (window_len row) alone
 
-pub len_paired : (row : RelocationKindInfo) (bytes : List ℕ) → has_value row.kind ≡ true
+pub len_paired : (row : RowInfo) (bytes : List ℕ) → has_value row.kind ≡ true
     → is_of_pair row ≡ true → field_len row bytes ≡ uleb_len (take 10 bytes)
 len_paired row bytes has paired =
     cond-true (has_value row.kind) _ 0 has
@@ -48,7 +48,7 @@ no_bytes bytes other none same =
       | inr some ↦ absurd (let s = some_uleb bytes (omega (arith, some, same)) in omega (arith, s, none))
     ]
 
-pair_continues_none : (row : RelocationKindInfo) (first : RelocationKind) → is_of_pair row ≡ true
+pair_continues_none : (row : RowInfo) (first : RelocationKind) → is_of_pair row ≡ true
     → continues first row.kind ≡ true → ⊥
 pair_continues_none row first paired on =
     true≢false (sym paired ∙ second_is_none first row.kind row.size on)
@@ -56,7 +56,7 @@ pair_continues_none row first paired on =
 -- ---- the field of a relocation, as it was before all writes
 
 same_len : (architecture : Architecture) (bytes before now : List ℕ) (k : ℕ) (last : Field)
-    (row : RelocationKindInfo) → Ascends architecture bytes before now k last
+    (row : RowInfo) → Ascends architecture bytes before now k last
     → length now ≡ length before → has_value row.kind ≡ true → last.offset ≤ offset_at bytes k
     → clear_in None k (field_of_row row (offset_at bytes k) now) last ≡ true
     → field_len row (drop (offset_at bytes k) now) ≡ field_len row (drop (offset_at bytes k) before)
@@ -85,15 +85,15 @@ same_len architecture bytes before now k last row order same has after clear =
 
 -- it has never field, or its field is clear of the last
 pub data IsClearField (architecture : Architecture) (bytes before : List ℕ) (k : ℕ)
-    (row : RelocationKindInfo) (field last : Field) : Type 0 where
+    (row : RowInfo) (field last : Field) : Type 0 where
   without : field.len ≡ 0
-      → ((other : RelocationKindInfo) → IsField architecture bytes before k other → ⊥)
+      → ((other : RowInfo) → IsField architecture bytes before k other → ⊥)
       → IsClearField architecture bytes before k row field last
   having : 0 < field.len → HasField architecture bytes before k row field
       → is_clear_of field last ≡ true → IsClearField architecture bytes before k row field last
 
 pub clear_field : (architecture : Architecture) (bytes before now : List ℕ) (k : ℕ) (last : Field)
-    (row : RelocationKindInfo) → Ascends architecture bytes before now k last
+    (row : RowInfo) → Ascends architecture bytes before now k last
     → length now ≡ length before → IsRow architecture (relocation_in bytes k).r_type (Some row)
     → has_value row.kind ≡ true → last.offset ≤ offset_at bytes k
     → clear_in None k (field_of_row row (offset_at bytes k) now) last ≡ true
@@ -121,7 +121,7 @@ clear_field architecture bytes before now k last row order same is_row has after
 
 -- a field has a value
 pub field_valued : (architecture : Architecture) (bytes section : List ℕ) (k : ℕ)
-    (row : RelocationKindInfo) → IsField architecture bytes section k row
+    (row : RowInfo) → IsField architecture bytes section k row
     → has_value row.kind ≡ true
 field_valued architecture bytes section k row is_field =
     elim (cases_Bool (has_value row.kind)) [
@@ -134,7 +134,7 @@ field_valued architecture bytes section k row is_field =
 
 -- one that isn't of a pair is as long in any section
 pub alone_field : (architecture : Architecture) (bytes section other : List ℕ) (k : ℕ)
-    (row : RelocationKindInfo) → is_of_pair row ≡ false → IsField architecture bytes section k row
+    (row : RowInfo) → is_of_pair row ≡ false → IsField architecture bytes section k row
     → IsField architecture bytes other k row
 alone_field architecture bytes section other k row alone is_field =
     let has = field_valued architecture bytes section k row is_field in
@@ -151,7 +151,7 @@ next_some field last some =
 -- ---- where relocations ascend
 
 pub apart_after : (architecture : Architecture) (bytes before now : List ℕ) (k : ℕ)
-    (last field : Field) (row : RelocationKindInfo) → Ascends architecture bytes before now k last
+    (last field : Field) (row : RowInfo) → Ascends architecture bytes before now k last
     → last.offset ≤ offset_at bytes k → offset_at bytes k ≡ field.offset
     → IsClearField architecture bytes before k row field last
     → AreApart architecture bytes before (k + 1)
@@ -166,7 +166,7 @@ apart_after architecture bytes before now k last field row order after offset cl
     ]
 
 claimed_after : (architecture : Architecture) (bytes before now : List ℕ) (k : ℕ)
-    (last field : Field) (row : RelocationKindInfo) → Ascends architecture bytes before now k last
+    (last field : Field) (row : RowInfo) → Ascends architecture bytes before now k last
     → last.offset ≤ offset_at bytes k → offset_at bytes k ≡ field.offset
     → IsClearField architecture bytes before k row field last
     → AreClaimed architecture bytes before (λ i. i < k + 1) (next_field field last)
@@ -188,7 +188,7 @@ pub record IsAfter (field last next : Field) : Type 0 where
   pub is_one : (next ≡ last) ⊎ ((next ≡ field) × (0 < field.len))
 
 next_is : (architecture : Architecture) (bytes before : List ℕ) (k : ℕ) (last field : Field)
-    (row : RelocationKindInfo) → last.offset ≤ field.offset
+    (row : RowInfo) → last.offset ≤ field.offset
     → IsClearField architecture bytes before k row field last
     → IsAfter field last (next_field field last)
 next_is architecture bytes before k last field row after clear =
@@ -212,7 +212,7 @@ or_first : (x : Bool) → x ≡ false → (x || false) ≡ false
 or_first x is = ap (λ y. y || false) is
 
 -- a row of a pair is written with the other only
-bytes_alone : (size : RelocationSize) (kind : RelocationKind) → takes_size kind size ≡ true
+bytes_alone : (size : RowSize) (kind : RelocationKind) → takes_size kind size ≡ true
     → (begins_pair size kind || ends_pair size kind) ≡ false
 bytes_alone (ByteSize n) kinds.Relative supported_size =
     or_first (eqb n 0) (not-true (eqb n 0) (and_parts _ (not (eqb n 0)) supported_size).1)
@@ -221,7 +221,7 @@ bytes_alone (ByteSize n) kinds.PairSubtractionULEB128LoongArch supported_size = 
 bytes_alone (ByteSize n) _ supported_size = refl
 bytes_alone (BitMasking bits insn) _ supported_size = refl
 
-pub written_alone : (row : RelocationKindInfo) (v : ℤ) (offset : ℕ) (before after : List ℕ)
+pub written_alone : (row : RowInfo) (v : ℤ) (offset : ℕ) (before after : List ℕ)
     → IsWritten row v offset before after → is_of_pair row ≡ false
 written_alone row v offset before after written =
     bytes_alone row.size row.kind (supported_size row written.written.accepted.supported)
@@ -256,7 +256,7 @@ drop_after o w offset now after local window =
 -- ---- one more relocation
 
 pub ascends_one : (architecture : Architecture) (bytes before now after : List ℕ) (k : ℕ)
-    (last : Field) (row : RelocationKindInfo) (v : ℤ) → Ascends architecture bytes before now k last
+    (last : Field) (row : RowInfo) (v : ℤ) → Ascends architecture bytes before now k last
     → last.offset ≤ offset_at bytes k → length now ≡ length before
     → IsRow architecture (relocation_in bytes k).r_type (Some row) → has_value row.kind ≡ true
     → clear_in None k (field_of_row row (offset_at bytes k) now) last ≡ true
@@ -296,7 +296,7 @@ ascends_one architecture bytes before now after k last row v order below same is
 -- ---- a relocation without a value
 
 pub no_field : (architecture : Architecture) (bytes before : List ℕ) (k : ℕ)
-    (row : RelocationKindInfo) → HasNoValue architecture bytes k
+    (row : RowInfo) → HasNoValue architecture bytes k
     → IsField architecture bytes before k row → ⊥
 no_field architecture bytes before k row none is_field =
     let s = is_field.some in
@@ -306,7 +306,7 @@ no_field architecture bytes before k row none is_field =
 
 ascends_mark : (architecture : Architecture) (bytes before now : List ℕ) (k : ℕ) (last : Field)
     → Ascends architecture bytes before now k last → IsAlone architecture bytes k
-    → ((row : RelocationKindInfo) → IsField architecture bytes before k row → ⊥)
+    → ((row : RowInfo) → IsField architecture bytes before k row → ⊥)
     → Ascends architecture bytes before now (k + 1) last
 ascends_mark architecture bytes before now k last order alone none =
     record {
@@ -322,7 +322,7 @@ ascends_mark architecture bytes before now k last order alone none =
 -- ---- a relocation that is left out, with a field in the section
 
 ascends_left : (architecture : Architecture) (bytes before now : List ℕ) (k : ℕ) (last : Field)
-    (row : RelocationKindInfo) → Ascends architecture bytes before now k last
+    (row : RowInfo) → Ascends architecture bytes before now k last
     → last.offset ≤ offset_at bytes k → length now ≡ length before
     → IsRow architecture (relocation_in bytes k).r_type (Some row) → has_value row.kind ≡ true
     → is_of_pair row ≡ false → offset_at bytes k + window_len row ≤ length now
@@ -370,7 +370,7 @@ pub mark_order : (limit : Option ℕ) (architecture : Architecture) (bytes befor
     (k : ℕ) (last : Field) → IsLimit architecture bytes before limit
     → IsInOrder limit architecture bytes before now k last → k < length bytes / 24
     → IsAlone architecture bytes k
-    → ((row : RelocationKindInfo) → IsField architecture bytes before k row → ⊥)
+    → ((row : RowInfo) → IsField architecture bytes before k row → ⊥)
     → IsInOrder limit architecture bytes before now (k + 1) last
 mark_order None architecture bytes before now k last is_limit order there alone none =
     ascends_mark architecture bytes before now k last order alone none
@@ -398,7 +398,7 @@ not_limit : (k limit : ℕ) → not (eqb k limit) ≡ true → k ≡ limit → �
 not_limit k limit clear = eqb-false k limit (not-true (eqb k limit) clear)
 
 pub apart_next : (limit : Option ℕ) (architecture : Architecture) (bytes before now : List ℕ)
-    (k : ℕ) (last : Field) (row : RelocationKindInfo) → IsLimit architecture bytes before limit
+    (k : ℕ) (last : Field) (row : RowInfo) → IsLimit architecture bytes before limit
     → IsInOrder limit architecture bytes before now k last → k < length bytes / 24
     → IfNone limit (last.offset ≤ offset_at bytes k)
     → length now ≡ length before → IsRow architecture (relocation_in bytes k).r_type (Some row)
@@ -413,7 +413,7 @@ apart_next (Some limit) architecture bytes before now k last row is_limit order 
     fewer_apart architecture bytes before (k + 1) limit (omega (arith, order, isnt)) (is_limit.0)
 
 pub one_order : (limit : Option ℕ) (architecture : Architecture) (bytes before now after : List ℕ)
-    (k : ℕ) (last : Field) (row : RelocationKindInfo) (v : ℤ)
+    (k : ℕ) (last : Field) (row : RowInfo) (v : ℤ)
     → IsLimit architecture bytes before limit
     → IsInOrder limit architecture bytes before now k last → k < length bytes / 24
     → IfNone limit (last.offset ≤ offset_at bytes k)
@@ -428,7 +428,7 @@ one_order (Some limit) architecture bytes before now after k last row v is_limit
     let isnt = not_limit k limit clear in omega (arith, order, isnt)
 
 pub left_order : (limit : Option ℕ) (architecture : Architecture) (bytes before now : List ℕ)
-    (k : ℕ) (last : Field) (row : RelocationKindInfo) → IsLimit architecture bytes before limit
+    (k : ℕ) (last : Field) (row : RowInfo) → IsLimit architecture bytes before limit
     → IsInOrder limit architecture bytes before now k last → k < length bytes / 24
     → IfNone limit (last.offset ≤ offset_at bytes k)
     → length now ≡ length before → IsRow architecture (relocation_in bytes k).r_type (Some row)
@@ -443,7 +443,7 @@ left_order (Some limit) architecture bytes before now k last row is_limit order 
 
 -- the field isn't clear
 some_before : (architecture : Architecture) (bytes before now : List ℕ) (k : ℕ)
-    (row : RelocationKindInfo) → length now ≡ length before → has_value row.kind ≡ true
+    (row : RowInfo) → length now ≡ length before → has_value row.kind ≡ true
     → field_len row (drop (offset_at bytes k) now) ≢ 0
     → 0 < field_len row (drop (offset_at bytes k) before)
 some_before architecture bytes before now k row same has some =
@@ -462,7 +462,7 @@ some_before architecture bytes before now k row same has some =
     ]
 
 pub overlap_now : (limit : Option ℕ) (architecture : Architecture) (bytes before now : List ℕ)
-    (k : ℕ) (last : Field) (row : RelocationKindInfo) → IsLimit architecture bytes before limit
+    (k : ℕ) (last : Field) (row : RowInfo) → IsLimit architecture bytes before limit
     → IsInOrder limit architecture bytes before now k last → k < length bytes / 24
     → IfNone limit (last.offset ≤ offset_at bytes k)
     → length now ≡ length before → IsRow architecture (relocation_in bytes k).r_type (Some row)
@@ -495,8 +495,8 @@ overlap_now (Some limit) architecture bytes before now k last row is_limit order
 
 -- ---- bytes put back
 
-place_alone : (row : Option RelocationKindInfo) (offset : ℕ)
-    → ((other : RelocationKindInfo) → row ≡ Some other → is_of_pair other ≡ false)
+place_alone : (row : Option RowInfo) (offset : ℕ)
+    → ((other : RowInfo) → row ≡ Some other → is_of_pair other ≡ false)
     → saved_place row offset ≡ offset
 place_alone None offset alone = refl
 place_alone (Some row) offset alone =
@@ -505,7 +505,7 @@ place_alone (Some row) offset alone =
 
 -- nothing is written
 pub mark_restores : (architecture : Architecture) (bytes memory before now : List ℕ) (k word : ℕ)
-    (row : Option RelocationKindInfo) → k < length memory
+    (row : Option RowInfo) → k < length memory
     → IsRow architecture (relocation_in bytes k).r_type row → IsAlone architecture bytes k
     → IsSavedAt (offset_at bytes k) now word → Restores architecture bytes memory k now before
     → Restores architecture bytes (set memory k word) (k + 1) now before
@@ -518,7 +518,7 @@ mark_restores architecture bytes memory before now k word row room is_row alone 
     ∙ undone o word now now refl refl refl saved) restores)
 
 pub one_restores : (architecture : Architecture) (bytes memory before now after : List ℕ)
-    (k word : ℕ) (row : RelocationKindInfo) (v : ℤ) → k < length memory
+    (k word : ℕ) (row : RowInfo) (v : ℤ) → k < length memory
     → IsRow architecture (relocation_in bytes k).r_type (Some row)
     → IsWritten row v (offset_at bytes k) now after → IsSavedAt (offset_at bytes k) now word
     → Restores architecture bytes memory k now before
@@ -575,13 +575,13 @@ stop_at limit architecture addresses bytes before now memory values k word last 
 
 -- the second's field is the first's
 pub record SamePlace (architecture : Architecture) (bytes before : List ℕ) (k : ℕ)
-    (row other : RelocationKindInfo) : Type 0 where
+    (row other : RowInfo) : Type 0 where
   pub len_is : field_len other (drop (offset_at bytes (k + 1)) before)
       ≡ field_len row (drop (offset_at bytes k) before)
   pub end_is : field_end bytes before (k + 1) other ≡ field_end bytes before k row
 
 pub same_place : (architecture : Architecture) (bytes before : List ℕ) (k : ℕ)
-    (row other : RelocationKindInfo) → offset_at bytes (k + 1) ≡ offset_at bytes k
+    (row other : RowInfo) → offset_at bytes (k + 1) ≡ offset_at bytes k
     → has_value row.kind ≡ true → begins_pair row.size row.kind ≡ true
     → ends_pair other.size other.kind ≡ true
     → SamePlace architecture bytes before k row other
@@ -595,7 +595,7 @@ same_place architecture bytes before k row other same has begins ends =
     record { len_is = len; end_is = omega (arith, len, same) }
 
 ascends_pair : (architecture : Architecture) (addresses : Addresses) (bytes before now after : List ℕ)
-    (values : Values) (k : ℕ) (last : Field) (row : RelocationKindInfo)
+    (values : Values) (k : ℕ) (last : Field) (row : RowInfo)
     → Ascends architecture bytes before now k last
     → last.offset ≤ offset_at bytes k → length now ≡ length before
     → IsRow architecture (relocation_in bytes k).r_type (Some row) → has_value row.kind ≡ true
@@ -642,7 +642,7 @@ ascends_pair architecture addresses bytes before now after values k last row ord
 
 -- the second isn't the first that overlaps, since its field is the first's
 limit_pair : (architecture : Architecture) (bytes before : List ℕ) (k : ℕ)
-    (row : RelocationKindInfo) → IsRow architecture (relocation_in bytes k).r_type (Some row)
+    (row : RowInfo) → IsRow architecture (relocation_in bytes k).r_type (Some row)
     → has_value row.kind ≡ true → AreApart architecture bytes before (k + 1)
     → BeginsPair architecture bytes k → IsOverlapped architecture bytes before (k + 1) → ⊥
 limit_pair architecture bytes before k row is_row has apart pair at =
@@ -669,7 +669,7 @@ limit_pair architecture bytes before k row is_row has apart pair at =
 
 pub pair_order : (limit : Option ℕ) (architecture : Architecture) (addresses : Addresses)
     (bytes before now after : List ℕ) (values : Values) (k : ℕ) (last : Field)
-    (row : RelocationKindInfo) → IsLimit architecture bytes before limit
+    (row : RowInfo) → IsLimit architecture bytes before limit
     → IsInOrder limit architecture bytes before now k last → k < length bytes / 24
     → IfNone limit (last.offset ≤ offset_at bytes k)
     → length now ≡ length before → IsRow architecture (relocation_in bytes k).r_type (Some row)
@@ -692,7 +692,7 @@ pair_order (Some limit) architecture addresses bytes before now after values k l
 
 pub pair_restores : (architecture : Architecture) (addresses : Addresses)
     (bytes memory before now after : List ℕ) (values : Values) (k word next : ℕ)
-    (row : RelocationKindInfo) → k + 1 < length memory → length now < 2 ^ 63
+    (row : RowInfo) → k + 1 < length memory → length now < 2 ^ 63
     → IsRow architecture (relocation_in bytes k).r_type (Some row)
     → BeginsPair architecture bytes k
     → IsPairWritten architecture addresses bytes values k now after

@@ -1,6 +1,6 @@
 -- Which relocations have a value.
 use Rattle.std.proofs.Common.{◌≡◌, ℕ, ℤ, List, Bool, true, false, true≢false, refl, sym, subst, ◌∙◌, inl, inr, Option, Some, None, Result, Ok, Err}
-use Rattle.linker_section.proofs.Imports.{cases_Bool, cond-true, cond-false, value_of, RelocationKind, RelocationKindInfo, RelocationSize, Operands, slice_get, IsRow, Architecture}
+use Rattle.linker_section.proofs.Imports.{cases_Bool, cond-true, cond-false, value_of, RelocationKind, RowInfo, RowSize, Operands, slice_get, IsRow, Architecture}
 use Rattle.linker_elf.specs.Value.{formula, read_signed}
 use Rattle.linker_elf.specs.declared.elf.RelocationKind.TheVariants as kinds
 use Rattle.linker_section.proofs.Rows.{one_row}
@@ -29,11 +29,11 @@ IsSomeValue (Ok None) = ⊥
 IsSomeValue (Ok (Some v)) = Unit
 IsSomeValue (Err error) = ⊥
 
-abbrev pub IsSomeRow : Option RelocationKindInfo → Type 0
+abbrev pub IsSomeRow : Option RowInfo → Type 0
 IsSomeRow None = ⊥
 IsSomeRow (Some row) = Unit
 
-pub none_is_some : {row : RelocationKindInfo} {A : Type 0} → None ≡ Some row → A
+pub none_is_some : {row : RowInfo} {A : Type 0} → None ≡ Some row → A
 none_is_some same = absurd (subst (λ x. IsSomeRow x) (sym same) tt)
 
 -- ---- no value
@@ -47,14 +47,14 @@ abbrev IsSomeNumber : Option ℕ → Type 0
 IsSomeNumber None = ⊥
 IsSomeNumber (Some n) = Unit
 
-formula_some : (kind : RelocationKind) (row : RelocationKindInfo) (o : Operands)
+formula_some : (kind : RelocationKind) (row : RowInfo) (o : Operands)
     → has_value kind ≡ true → IsSomeNumber (formula kind row o)
 formula_some kinds.None row o has = absurd (true≢false (sym has))
 formula_some kinds.Alignment row o has = absurd (true≢false (sym has))
 formula_some kinds.TlsDescCall row o has = absurd (true≢false (sym has))
 formula_some _ row o has = tt
 
-value_none : (row : RelocationKindInfo) (o : Operands) → IsNoValue (Ok (value_of row o))
+value_none : (row : RowInfo) (o : Operands) → IsNoValue (Ok (value_of row o))
     → has_value row.kind ≡ false
 value_none row o is =
     read_none row.kind (formula row.kind row o)
@@ -63,25 +63,25 @@ value_none row o is =
       | inr has ↦ has
     ]) is
 
-pub by_none : (lacks : Bool) (row : RelocationKindInfo) (operands : Result Operands ValueError)
+pub by_none : (lacks : Bool) (row : RowInfo) (operands : Result Operands ValueError)
     → IsNoValue (value_by lacks row operands) → has_value row.kind ≡ false
 by_none true row (Ok o) is = absurd is
 by_none false row (Ok o) is = value_none row o is
 by_none lacks row (Err error) is = absurd is
 
-pub low_by_none : (row high : RelocationKindInfo) (operands : Result Operands ValueError)
+pub low_by_none : (row high : RowInfo) (operands : Result Operands ValueError)
     → IsNoValue (low_by row high operands) → has_value row.kind ≡ false
 low_by_none row high (Ok o) is = value_none row _ is
 low_by_none row high (Err error) is = absurd is
 
 low_none : (architecture : Architecture) (addresses : Addresses) (symbols : List Symbol)
-    (row : RelocationKindInfo) (high : Option (Rela × RelocationKindInfo))
+    (row : RowInfo) (high : Option (Rela × RowInfo))
     → IsNoValue (low_value architecture addresses symbols row high) → has_value row.kind ≡ false
 low_none architecture addresses symbols row None is = absurd is
 low_none architecture addresses symbols row (Some high) is = low_by_none row (high.1) _ is
 
 is_low_none : (architecture : Architecture) (addresses : Addresses) (bytes : List ℕ)
-    (symbols : List Symbol) (row : RelocationKindInfo) (label : Option Symbol)
+    (symbols : List Symbol) (row : RowInfo) (label : Option Symbol)
     → IsLowValue architecture addresses bytes symbols row label (Ok None)
     → has_value row.kind ≡ false
 is_low_none architecture addresses bytes symbols row None is =
@@ -90,7 +90,7 @@ is_low_none architecture addresses bytes symbols row (Some label) is =
     low_none architecture addresses symbols row (is.0) (subst (λ x. IsNoValue x) (is.2) tt)
 
 own_none : (architecture : Architecture) (addresses : Addresses) (symbols : List Symbol)
-    (row : RelocationKindInfo) (r : Rela) → Ok None ≡ own_value architecture addresses symbols row r
+    (row : RowInfo) (r : Rela) → Ok None ≡ own_value architecture addresses symbols row r
     → has_value row.kind ≡ false
 own_none architecture addresses symbols row r is =
     elim (cases_Bool (has_value row.kind)) [
@@ -100,7 +100,7 @@ own_none architecture addresses symbols row r is =
     ]
 
 by_label_none : (label : Bool) (architecture : Architecture) (addresses : Addresses)
-    (bytes : List ℕ) (symbols : List Symbol) (row : RelocationKindInfo) (r : Rela)
+    (bytes : List ℕ) (symbols : List Symbol) (row : RowInfo) (r : Rela)
     → IsValueBy label architecture addresses bytes symbols row r (Ok None)
     → has_value row.kind ≡ false
 by_label_none true architecture addresses bytes symbols row r is =
@@ -109,7 +109,7 @@ by_label_none false architecture addresses bytes symbols row r is =
     own_none architecture addresses symbols row r is
 
 in_none : (architecture : Architecture) (addresses : Addresses) (bytes : List ℕ)
-    (symbols : List Symbol) (r : Rela) (row : Option RelocationKindInfo) (other : RelocationKindInfo)
+    (symbols : List Symbol) (r : Rela) (row : Option RowInfo) (other : RowInfo)
     → row ≡ Some other → IsValueIn architecture addresses bytes symbols r row (Ok None)
     → has_value other.kind ≡ false
 in_none architecture addresses bytes symbols r row other same is =
@@ -124,7 +124,7 @@ mark_none architecture addresses bytes symbols r is = (is.0, is.1, is.2)
 
 -- a relocation without a value is of a kind without one
 pub no_value : (architecture : Architecture) (addresses : Addresses) (bytes : List ℕ)
-    (symbols : List Symbol) (r : Rela) (other : RelocationKindInfo)
+    (symbols : List Symbol) (r : Rela) (other : RowInfo)
     → IsValue architecture addresses bytes symbols r (Ok None)
     → IsRow architecture r.r_type (Some other) → has_value other.kind ≡ false
 no_value architecture addresses bytes symbols r other is is_other =
@@ -133,14 +133,14 @@ no_value architecture addresses bytes symbols r other is is_other =
 
 pub mark_no_value : (architecture : Architecture) (addresses : Addresses) (bytes : List ℕ)
     (symbols : List Symbol) (r : Rela) → IsMark architecture addresses bytes symbols r
-    → (row : RelocationKindInfo) → IsRow architecture r.r_type (Some row)
+    → (row : RowInfo) → IsRow architecture r.r_type (Some row)
     → has_value row.kind ≡ false
 mark_no_value architecture addresses bytes symbols r mark row is_row =
     no_value architecture addresses bytes symbols r row (mark_none architecture addresses bytes symbols r mark) is_row
 
 -- ---- a value
 
-pub unlabelled : (size : RelocationSize) (kind : RelocationKind) → has_value kind ≡ false
+pub unlabelled : (size : RowSize) (kind : RelocationKind) → has_value kind ≡ false
     → names_label size kind ≡ false
 unlabelled size kinds.None has = refl
 unlabelled size kinds.Alignment has = refl
@@ -148,7 +148,7 @@ unlabelled size kinds.TlsDescCall has = refl
 unlabelled size _ has = absurd (true≢false has)
 
 pub some_value : (architecture : Architecture) (addresses : Addresses) (bytes : List ℕ)
-    (symbols : List Symbol) (r : Rela) (row : RelocationKindInfo) (v : ℤ)
+    (symbols : List Symbol) (r : Rela) (row : RowInfo) (v : ℤ)
     → HasValue architecture addresses bytes symbols r row v → has_value row.kind ≡ true
 some_value architecture addresses bytes symbols r row v has =
     elim (cases_Bool (has_value row.kind)) [
@@ -162,7 +162,7 @@ some_value architecture addresses bytes symbols r row v has =
 
 -- ---- what is found by a table
 
-pub unpaired : (row : RelocationKindInfo) → has_value row.kind ≡ false → is_of_pair row ≡ false
+pub unpaired : (row : RowInfo) → has_value row.kind ≡ false → is_of_pair row ≡ false
 unpaired row none =
     ap (λ b. b || ends_pair row.size row.kind) (unvalued_begins_none row.size row.kind none)
     ∙ unvalued_ends_none row.size row.kind none

@@ -1,11 +1,11 @@
 -- A value that is written to the bytes from an offset on.
 use Rattle.std.proofs.Common.{◌≡◌, ℕ, ℤ, ◌≤◌, ◌∙◌, List, ◌++◌, length, take, drop, ap, arith, inl}
-use Rattle.linker_section.proofs.Imports.{take-append-drop, Ok, OnOk, IfErr, WritesRow, RejectsValue, RelocationKindInfo, RelocateError}
+use Rattle.linker_section.proofs.Imports.{take-append-drop, Ok, OnOk, IfErr, WritesRow, RejectsValue, RowInfo, RelocateError}
 use Rattle.std.specs.Prelude.{Result, Err}
 use Rattle.linker_section.specs.Conditions.{HasLength, HoldsOffset}
 use Rattle.linker_section.specs.Sections.{IsWrittenAt}
 
-pub written_at : (row : RelocationKindInfo) (v : ℤ) (offset : ℕ) (before after rest : List ℕ)
+pub written_at : (row : RowInfo) (v : ℤ) (offset : ℕ) (before after rest : List ℕ)
     (result : Result Unit RelocateError) → offset ≤ length before → HasLength row offset before
     → HoldsOffset row v offset before
     → after ≡ take offset before ++ rest → length after ≡ length before

@@ -10,12 +10,12 @@ use Rattle.std.specs.Ordering.{int_eq}
 use Rattle.linker_elf.specs.Facts.{length_of}
 use Rattle.linker_elf.specs.Relocate.{window_len}
 use Rattle.linker_elf.specs.Value.{sum_64}
-use Rattle.linker_elf.specs.declared.elf.RelocationInstruction.TheVariants.{RiscV, LoongArch64}
+use Rattle.linker_elf.specs.declared.elf.AnyForm.TheVariants.{RiscV, LoongArch64}
 use Rattle.linker_elf.specs.declared.elf.RelocationKind.{RelocationKind}
 use Rattle.linker_elf.specs.declared.elf.RelocationKind.TheVariants.{TpOff}
-use Rattle.linker_elf.specs.declared.elf.RelocationKindInfo.{RelocationKindInfo}
-use Rattle.linker_elf.specs.declared.elf.RelocationSize.{RelocationSize}
-use Rattle.linker_elf.specs.declared.elf.RelocationSize.TheVariants.{BitMasking}
+use Rattle.linker_elf.specs.declared.elf.RowInfo.{RowInfo}
+use Rattle.linker_elf.specs.declared.elf.RowSize.{RowSize}
+use Rattle.linker_elf.specs.declared.elf.RowSize.TheVariants.{BitMasking}
 use Rattle.linker_elf.specs.declared.elf.facts.Length.{Length}
 use Rattle.linker_elf.specs.declared.elf.facts.Length.TheVariants as lengths
 use Rattle.linker_elf.specs.declared.loongarch64.forms.LoongArch64Instruction.TheVariants.{Shift10}
@@ -97,11 +97,11 @@ shows lengths.Four there = slice_index there 0 % 4 == 3
 shows lengths.Prefixed there = slice_index there 3 / 4 == 1
 
 -- so with the length of a row's form
-abbrev pub shows_length : RelocationSize → List ℕ → Bool
+abbrev pub shows_length : RowSize → List ℕ → Bool
 shows_length size there = shows (length_of size) there
 
 -- the bytes at an offset are so, if the field of a row is in the section
-abbrev pub HasLength : RelocationKindInfo → ℕ → List ℕ → Type 0
+abbrev pub HasLength : RowInfo → ℕ → List ℕ → Type 0
 HasLength row offset section =
     offset ≤ length section → window_len row ≤ length (drop offset section)
     → shows_length row.size (drop offset section) ≡ true
@@ -114,7 +114,7 @@ is_tp_off kind = false
 
 -- The base register of an instruction with 12 bits of an offset is the thread pointer: bits 15 to
 -- 19 are 4, x4, on RISC-V, and bits 5 to 9 are 2, $r2, on LoongArch.
-abbrev pub is_thread_based : RelocationSize → List ℕ → Bool
+abbrev pub is_thread_based : RowSize → List ℕ → Bool
 is_thread_based (BitMasking bits (RiscV IType)) there =
     from_le_bytes w32 there / 2 ^ 15 % 32 == 4
 is_thread_based (BitMasking bits (RiscV SType)) there =
@@ -128,12 +128,12 @@ is_12_bits v = int_le (negsuc 2047) v && int_lt v (pos 2048)
 
 -- An instruction whose base is the thread pointer adds the whole offset from it, of which no other
 -- instruction adds a high part: the offset is one of 12 signed bits.
-abbrev pub holds_offset : RelocationKindInfo → ℤ → List ℕ → Bool
+abbrev pub holds_offset : RowInfo → ℤ → List ℕ → Bool
 holds_offset row v there =
     not (is_tp_off row.kind) || (is_12_bits v || not (is_thread_based row.size there))
 
 -- the bytes at an offset are so, if the field of a row is in the section
-abbrev pub HoldsOffset : RelocationKindInfo → ℤ → ℕ → List ℕ → Type 0
+abbrev pub HoldsOffset : RowInfo → ℤ → ℕ → List ℕ → Type 0
 HoldsOffset row v offset section =
     offset ≤ length section → window_len row ≤ length (drop offset section)
     → holds_offset row v (drop offset section) ≡ true

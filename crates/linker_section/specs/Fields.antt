@@ -4,9 +4,9 @@ use Rattle.std.specs.Prelude.{nat_lt, if◌then◌else◌, List, [], ◌∷◌, 
 use Rattle.linker_elf.specs.Relocate.{window_len}
 use Rattle.linker_elf.specs.declared.elf.RelocationKind.{RelocationKind}
 use Rattle.linker_elf.specs.declared.elf.RelocationKind.TheVariants as kinds
-use Rattle.linker_elf.specs.declared.elf.RelocationKindInfo.{RelocationKindInfo}
-use Rattle.linker_elf.specs.declared.elf.RelocationSize.{RelocationSize}
-use Rattle.linker_elf.specs.declared.elf.RelocationSize.TheVariants.{ByteSize}
+use Rattle.linker_elf.specs.declared.elf.RowInfo.{RowInfo}
+use Rattle.linker_elf.specs.declared.elf.RowSize.{RowSize}
+use Rattle.linker_elf.specs.declared.elf.RowSize.TheVariants.{ByteSize}
 use Rattle.linker_section.specs.Relocations.{relocation_in}
 use Rattle.linker_section.specs.Values.{has_value, offset_at}
 use Rattle.linker_elf.specs.Architectures.{IsRow}
@@ -17,17 +17,17 @@ use Rattle.linker_elf.specs.declared.elf.architecture.Architecture.{Architecture
 -- the rows of the first and of the second of a pair: RISC-V's sets the number to a difference of
 -- symbols, LoongArch's adds one to it (RISC-V ELF psABI, "Relocations"; LoongArch ELF psABI,
 -- "Relocation Types")
-abbrev pub begins_pair : RelocationSize → RelocationKind → Bool
+abbrev pub begins_pair : RowSize → RelocationKind → Bool
 begins_pair (ByteSize n) kinds.Relative = n == 0
 begins_pair size kind = false
 
-abbrev pub ends_pair : RelocationSize → RelocationKind → Bool
+abbrev pub ends_pair : RowSize → RelocationKind → Bool
 ends_pair (ByteSize n) kinds.PairSubtractionULEB128RiscV = true
 ends_pair (ByteSize n) kinds.PairSubtractionULEB128LoongArch = true
 ends_pair size kind = false
 
 -- a row of either
-abbrev pub is_of_pair : RelocationKindInfo → Bool
+abbrev pub is_of_pair : RowInfo → Bool
 is_of_pair row = begins_pair row.size row.kind || ends_pair row.size row.kind
 
 -- ---- fields
@@ -39,7 +39,7 @@ uleb_len (byte ∷ rest) = if nat_lt byte 0x80 then 1 else 1 + uleb_len rest
 
 -- How many bytes a relocation of a row writes: those of its row, and at a ULEB128 number as many as
 -- the number has, of at most ten. A relocation without a value has none.
-abbrev pub field_len : RelocationKindInfo → List ℕ → ℕ
+abbrev pub field_len : RowInfo → List ℕ → ℕ
 field_len row bytes =
     if has_value row.kind then
     (if is_of_pair row then uleb_len (take 10 bytes) else window_len row)
@@ -47,12 +47,12 @@ field_len row bytes =
 
 -- the relocation at an index has a row and a field in the section
 pub record IsField (architecture : Architecture) (bytes section : List ℕ) (i : ℕ)
-    (row : RelocationKindInfo) : Type 0 where
+    (row : RowInfo) : Type 0 where
   pub is_row : IsRow architecture (relocation_in bytes i).r_type (Some row)
   pub some : 0 < field_len row (drop (offset_at bytes i) section)
 
 -- where its field ends
-abbrev pub field_end : List ℕ → List ℕ → ℕ → RelocationKindInfo → ℕ
+abbrev pub field_end : List ℕ → List ℕ → ℕ → RowInfo → ℕ
 field_end bytes section i row =
     offset_at bytes i + field_len row (drop (offset_at bytes i) section)
 
@@ -82,8 +82,8 @@ continues first second = false
 
 -- Two relocations at one offset, in this order, compose (gABI, "Relocation"): the second continues
 -- with the number of the first, or they are a pair at a ULEB128 number, next to each other.
-pub data Composes (bytes : List ℕ) (i : ℕ) (row : RelocationKindInfo) (j : ℕ)
-    (other : RelocationKindInfo) : Type 0 where
+pub data Composes (bytes : List ℕ) (i : ℕ) (row : RowInfo) (j : ℕ)
+    (other : RowInfo) : Type 0 where
   of_number : offset_at bytes i ≡ offset_at bytes j → window_len row ≡ window_len other
       → continues row.kind other.kind ≡ true → Composes bytes i row j other
   of_pair : offset_at bytes i ≡ offset_at bytes j → j ≡ i + 1
@@ -93,7 +93,7 @@ pub data Composes (bytes : List ℕ) (i : ℕ) (row : RelocationKindInfo) (j : �
 -- ---- fields that overlap
 
 -- they have a byte in common
-abbrev pub Overlap : List ℕ → List ℕ → ℕ → RelocationKindInfo → ℕ → RelocationKindInfo → Type 0
+abbrev pub Overlap : List ℕ → List ℕ → ℕ → RowInfo → ℕ → RowInfo → Type 0
 Overlap bytes section i row j other =
     (offset_at bytes i < field_end bytes section j other)
     × (offset_at bytes j < field_end bytes section i row)
@@ -103,9 +103,9 @@ pub record IsOverlapped (architecture : Architecture) (bytes section : List ℕ)
     : Type 0 where
   pub earlier : ℕ
   pub order : earlier < j
-  pub row : RelocationKindInfo
+  pub row : RowInfo
   pub is_field : IsField architecture bytes section earlier row
-  pub other : RelocationKindInfo
+  pub other : RowInfo
   pub is_other : IsField architecture bytes section j other
   pub overlap : Overlap bytes section earlier row j other
   pub apart : ¬ Composes bytes earlier row j other
@@ -113,6 +113,6 @@ pub record IsOverlapped (architecture : Architecture) (bytes section : List ℕ)
 -- of the relocations below an index, those compose whose fields overlap
 abbrev pub AreApart : Architecture → List ℕ → List ℕ → ℕ → Type 0
 AreApart architecture bytes section k =
-    (i j : ℕ) (row other : RelocationKindInfo) → i < j → j < k
+    (i j : ℕ) (row other : RowInfo) → i < j → j < k
     → IsField architecture bytes section i row → IsField architecture bytes section j other
     → Overlap bytes section i row j other → Composes bytes i row j other

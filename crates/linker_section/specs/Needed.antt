@@ -4,13 +4,13 @@ use Rattle.std.specs.Prelude.{ℤ, pos, Bool, true, false, not, ◌&&◌, ◌||�
 use Rattle.std.specs.Prelude.{Option, Some, None, if◌then◌else◌}
 use Rattle.linker_elf.specs.Entries.{is_branch}
 use Rattle.linker_elf.specs.Value.{loads_plt_word, names_plt_entry}
-use Rattle.linker_elf.specs.declared.elf.RelocationInstruction.TheVariants.{RiscV, Ppc64}
-use Rattle.linker_elf.specs.declared.elf.RelocationInstruction.TheVariants.{LoongArch64, AArch64}
+use Rattle.linker_elf.specs.declared.elf.AnyForm.TheVariants.{RiscV, Ppc64}
+use Rattle.linker_elf.specs.declared.elf.AnyForm.TheVariants.{LoongArch64, AArch64}
 use Rattle.linker_elf.specs.declared.elf.RelocationKind.{RelocationKind}
 use Rattle.linker_elf.specs.declared.elf.RelocationKind.TheVariants as kinds
-use Rattle.linker_elf.specs.declared.elf.RelocationKindInfo.{RelocationKindInfo}
-use Rattle.linker_elf.specs.declared.elf.RelocationSize.{RelocationSize}
-use Rattle.linker_elf.specs.declared.elf.RelocationSize.TheVariants.{ByteSize, BitMasking}
+use Rattle.linker_elf.specs.declared.elf.RowInfo.{RowInfo}
+use Rattle.linker_elf.specs.declared.elf.RowSize.{RowSize}
+use Rattle.linker_elf.specs.declared.elf.RowSize.TheVariants.{ByteSize, BitMasking}
 use Rattle.linker_elf.specs.declared.aarch64.forms.AArch64Instruction.TheVariants.{TstBr, Bcond}
 use Rattle.linker_elf.specs.declared.riscv64.forms.RiscVInstruction.TheVariants.{IType, SType}
 use Rattle.linker_elf.specs.declared.riscv64.forms.RiscVInstruction.TheVariants.{BType, JType}
@@ -53,47 +53,47 @@ loongarch_class (Some Address) true = Some ModuleOffset
 loongarch_class class is_thread_local = class
 
 -- RISC-V's low parts take the entry of the high part that their symbol labels
-abbrev pub class_in : RelocationSize → RelocationKind → Bool → Option EntryClass
+abbrev pub class_in : RowSize → RelocationKind → Bool → Option EntryClass
 class_in (BitMasking bits (RiscV IType)) kind is_thread_local = None
 class_in (BitMasking bits (RiscV SType)) kind is_thread_local = None
 class_in (BitMasking bits (LoongArch64 insn)) kind is_thread_local =
     loongarch_class (class_of_kind kind) is_thread_local
 class_in size kind is_thread_local = class_of_kind kind
 
-abbrev pub class_of : RelocationSize → RelocationKind → Bool → Option EntryClass
+abbrev pub class_of : RowSize → RelocationKind → Bool → Option EntryClass
 class_of size kind is_thread_local =
     if loads_plt_word size kind then Some Address else class_in size kind is_thread_local
 
 -- the entry is of S + A in the instructions of AArch64 and PowerPC64, else of S; that of the module
 -- is of no symbol
-abbrev pub addend_in : RelocationSize → ℤ → ℤ
+abbrev pub addend_in : RowSize → ℤ → ℤ
 addend_in (BitMasking bits (AArch64 insn)) addend = addend
 addend_in (BitMasking bits (Ppc64 insn)) addend = addend
 addend_in size addend = pos 0
 
-abbrev pub addend_of_entry : RelocationSize → EntryClass → ℤ → ℤ
+abbrev pub addend_of_entry : RowSize → EntryClass → ℤ → ℤ
 addend_of_entry size Module addend = pos 0
 addend_of_entry size class addend = addend_in size addend
 
-abbrev pub entry_with : RelocationSize → ℤ → Option EntryClass → Option Entry
+abbrev pub entry_with : RowSize → ℤ → Option EntryClass → Option Entry
 entry_with size addend None = None
 entry_with size addend (Some class) =
     Some (record { class = class; addend = addend_of_entry size class addend })
 
-abbrev pub entry_of : RelocationKindInfo → ℤ → Bool → Option Entry
+abbrev pub entry_of : RowInfo → ℤ → Bool → Option Entry
 entry_of row addend is_thread_local =
     entry_with row.size addend (class_of row.size row.kind is_thread_local)
 
 -- ---- branches and words
 
-abbrev pub may_use_stub : RelocationSize → RelocationKind → Bool
+abbrev pub may_use_stub : RowSize → RelocationKind → Bool
 may_use_stub size kind =
     is_branch size || (names_plt_entry kind && not (loads_plt_word size kind))
 
 -- Branches that go to the output's own definition, also where another file may replace it, as GNU
 -- ld and mold have it: those of AArch64 for which its psABI has no veneer (ELF for the Arm 64-bit
 -- Architecture, "Call and Jump relocations"), and those of RISC-V whose formula has no L.
-abbrev pub is_bound : RelocationSize → Bool
+abbrev pub is_bound : RowSize → Bool
 is_bound (BitMasking bits (AArch64 TstBr)) = true
 is_bound (BitMasking bits (AArch64 Bcond)) = true
 is_bound (BitMasking bits (RiscV BType)) = true
@@ -103,7 +103,7 @@ is_bound (BitMasking bits (RiscV CjType)) = true
 is_bound size = false
 
 -- S + A in 8 bytes
-abbrev pub is_word : RelocationSize → RelocationKind → Bool
+abbrev pub is_word : RowSize → RelocationKind → Bool
 is_word (ByteSize n) kinds.Absolute = n == 8
 is_word size kind = false
 
@@ -121,7 +121,7 @@ is_address kinds.TlsDescGot = true
 is_address kind = false
 
 -- bits from 12 up are written, those of the page; RISC-V's low parts write bits below 12
-abbrev pub takes_page : RelocationSize → Bool
+abbrev pub takes_page : RowSize → Bool
 takes_page (ByteSize n) = true
 takes_page (BitMasking bits (RiscV IType)) = false
 takes_page (BitMasking bits (RiscV SType)) = false
@@ -129,7 +129,7 @@ takes_page (BitMasking bits insn) = nat_lt 12 bits.end
 
 -- ---- all
 
-abbrev pub needs_of : RelocationKindInfo → ℤ → Bool → Requirements
+abbrev pub needs_of : RowInfo → ℤ → Bool → Requirements
 needs_of row addend is_thread_local =
     record {
       entry = entry_of row addend is_thread_local;
@@ -140,6 +140,6 @@ needs_of row addend is_thread_local =
       depends_on_load = is_address row.kind && takes_page row.size;
     }
 
-abbrev pub needs_in : Option RelocationKindInfo → ℤ → Bool → Option Requirements
+abbrev pub needs_in : Option RowInfo → ℤ → Bool → Option Requirements
 needs_in None addend is_thread_local = None
 needs_in (Some row) addend is_thread_local = Some (needs_of row addend is_thread_local)

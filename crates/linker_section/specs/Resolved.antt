@@ -3,7 +3,7 @@ use Rattle.std.specs.Prelude.{◌≡◌, ℕ, ℤ, pos, ◌==◌, ◌&&◌, Bool
 use Rattle.std.specs.Prelude.{List, slice_get, Option, Some, None, Result, Ok, Err}
 use Rattle.linker_elf.specs.Architectures.{IsRow}
 use Rattle.linker_elf.specs.Value.{difference_64, is_offset}
-use Rattle.linker_elf.specs.declared.elf.RelocationKindInfo.{RelocationKindInfo}
+use Rattle.linker_elf.specs.declared.elf.RowInfo.{RowInfo}
 use Rattle.linker_elf.specs.declared.elf.architecture.Architecture.{Architecture}
 use Rattle.linker_elf.specs.declared.elf.value.Operands.{Operands}
 use Rattle.linker_section.specs.Conditions.{IsInReach, changes_toc, is_filled, keeps_toc}
@@ -55,7 +55,7 @@ abbrev pub resolved_entry : Resolved → Option Entry → Option ℕ
 resolved_entry known None = Some 0
 resolved_entry known (Some entry) = if known.entry == 0 then None else Some known.entry
 
-abbrev pub resolved_operands : Architecture → Addresses → RelocationKindInfo → Rela
+abbrev pub resolved_operands : Architecture → Addresses → RowInfo → Rela
     → Option Resolved → Result Operands ValueError
 resolved_operands architecture addresses row r None = Err NoSymbol
 resolved_operands architecture addresses row r (Some known) =
@@ -69,7 +69,7 @@ is_defined_in None = false
 is_defined_in (Some known) = not known.is_undefined_weak
 
 -- of a relocation that stands alone
-abbrev pub resolved_value : Architecture → Addresses → RelocationKindInfo → Rela → Option Resolved
+abbrev pub resolved_value : Architecture → Addresses → RowInfo → Rela → Option Resolved
     → Result (Option ℤ) ValueError
 resolved_value architecture addresses row r known =
     if has_value row.kind then
@@ -79,24 +79,24 @@ resolved_value architecture addresses row r known =
 
 -- of a low part of RISC-V, by the high part at an offset and what is known of that one's symbol
 pub data IsLowResolved (architecture : Architecture) (addresses : Addresses) (bytes : List ℕ)
-    (lookup : Lookup) (row : RelocationKindInfo) (at : ℕ) (result : Result (Option ℤ) ValueError)
+    (lookup : Lookup) (row : RowInfo) (at : ℕ) (result : Result (Option ℤ) ValueError)
     : Type 0 where
   without : IsHighPartAt architecture bytes row.kind at None → result ≡ Err NoHighPart
       → IsLowResolved architecture addresses bytes lookup row at result
-  by_high : {r : Rela} {high : RelocationKindInfo}
+  by_high : {r : Rela} {high : RowInfo}
       → (part : IsHighPart architecture bytes row.kind at r high)
       → result
       ≡ low_by row high (resolved_operands architecture addresses high r (lookup part.index r))
       → IsLowResolved architecture addresses bytes lookup row at result
 
-abbrev pub IsLabelResolved : Architecture → Addresses → List ℕ → Lookup → RelocationKindInfo
+abbrev pub IsLabelResolved : Architecture → Addresses → List ℕ → Lookup → RowInfo
     → Option Resolved → Result (Option ℤ) ValueError → Type 0
 IsLabelResolved architecture addresses bytes lookup row None result = result ≡ Err NoSymbol
 IsLabelResolved architecture addresses bytes lookup row (Some label) result =
     IsLowResolved architecture addresses bytes lookup row
     (difference_64 label.address addresses.section) result
 
-abbrev pub IsResolvedBy : Bool → Architecture → Addresses → List ℕ → Lookup → RelocationKindInfo
+abbrev pub IsResolvedBy : Bool → Architecture → Addresses → List ℕ → Lookup → RowInfo
     → Rela → Option Resolved → Result (Option ℤ) ValueError → Type 0
 IsResolvedBy true architecture addresses bytes lookup row r known result =
     IsLabelResolved architecture addresses bytes lookup row known result
@@ -105,7 +105,7 @@ IsResolvedBy false architecture addresses bytes lookup row r known result =
 
 -- of the relocation at an index, with its row
 abbrev pub IsResolvedIn : Architecture → Addresses → List ℕ → Lookup → ℕ
-    → Option RelocationKindInfo → Result (Option ℤ) ValueError → Type 0
+    → Option RowInfo → Result (Option ℤ) ValueError → Type 0
 IsResolvedIn architecture addresses bytes lookup i None result = result ≡ Err UnknownType
 IsResolvedIn architecture addresses bytes lookup i (Some row) result =
     IsResolvedBy (names_label row.size row.kind) architecture addresses bytes lookup row
@@ -124,12 +124,12 @@ is_left_out None = false
 is_left_out (Some known) = known.is_left_out
 
 -- Its value isn't written. Of a pair at a ULEB128 number it is.
-abbrev pub is_skipped : Option RelocationKindInfo → Option Resolved → Bool
+abbrev pub is_skipped : Option RowInfo → Option Resolved → Bool
 is_skipped None known = false
 is_skipped (Some row) known = is_left_out known && not (is_of_pair row)
 
 pub record IsResolvedValue (architecture : Architecture) (addresses : Addresses) (bytes : List ℕ)
-    (lookup : Lookup) (i : ℕ) (row : Option RelocationKindInfo) (found : RelocationKindInfo × ℤ)
+    (lookup : Lookup) (i : ℕ) (row : Option RowInfo) (found : RowInfo × ℤ)
     : Type 0 where
   pub is_row : row ≡ Some (found.0)
   pub is_value : IsResolvedIn architecture addresses bytes lookup i row (Ok (Some (found.1)))
@@ -139,7 +139,7 @@ pub record IsResolvedValue (architecture : Architecture) (addresses : Addresses)
 
 -- why there is no value to write
 pub data IsUnresolved (architecture : Architecture) (addresses : Addresses) (bytes : List ℕ)
-    (lookup : Lookup) (i : ℕ) (row : Option RelocationKindInfo) : ValueError → Type 0 where
+    (lookup : Lookup) (i : ℕ) (row : Option RowInfo) : ValueError → Type 0 where
   valueless : {error : ValueError}
       → IsResolvedIn architecture addresses bytes lookup i row (Err error)
       → IsUnresolved architecture addresses bytes lookup i row error
@@ -155,7 +155,7 @@ pub data IsUnresolved (architecture : Architecture) (addresses : Addresses) (byt
       → IsUnresolved architecture addresses bytes lookup i row OutOfReach
 
 abbrev pub IsResolvedUnless : Bool → Architecture → Addresses → List ℕ → Lookup → ℕ
-    → Option RelocationKindInfo → Outcome → Type 0
+    → Option RowInfo → Outcome → Type 0
 IsResolvedUnless true architecture addresses bytes lookup i row outcome = outcome ≡ Ok None
 IsResolvedUnless false architecture addresses bytes lookup i row (Ok (Some found)) =
     IsResolvedValue architecture addresses bytes lookup i row found
@@ -168,6 +168,6 @@ IsResolvedUnless false architecture addresses bytes lookup i row (Err error) =
 -- the values of a section's relocations by a look-up
 abbrev pub by_lookup : Lookup → Values
 by_lookup lookup architecture addresses bytes i outcome =
-    (row : Option RelocationKindInfo) × IsRow architecture (relocation_in bytes i).r_type row
+    (row : Option RowInfo) × IsRow architecture (relocation_in bytes i).r_type row
     × IsResolvedUnless (is_skipped row (lookup i (relocation_in bytes i))) architecture addresses
     bytes lookup i row outcome

@@ -10,7 +10,7 @@ use Rattle.linker_elf.specs.Architectures.{IsRow}
 use Rattle.linker_elf.specs.Reach.{reach_of}
 use Rattle.linker_elf.specs.Rows.{Bounds}
 use Rattle.linker_elf.specs.Value.{sum_64, difference_64}
-use Rattle.linker_elf.specs.declared.elf.RelocationKindInfo.{RelocationKindInfo}
+use Rattle.linker_elf.specs.declared.elf.RowInfo.{RowInfo}
 use Rattle.linker_elf.specs.declared.elf.architecture.Architecture.TheVariants.{RiscV}
 use Rattle.linker_section.specs.Relocations.{relocation_in}
 use Rattle.linker_section.specs.Values.{names_label, own_value}
@@ -53,7 +53,7 @@ least_in (Some bounds) = Some (bounds.0)
 
 -- The least value that a row can hold. None where it takes bits of any value, and of a low part,
 -- whose value is its high part's.
-abbrev pub held_from : RelocationKindInfo → Option ℤ
+abbrev pub held_from : RowInfo → Option ℤ
 held_from row = if names_label row.size row.kind then None else least_in (reach_of row)
 
 -- another addend, by which the value becomes another one
@@ -67,7 +67,7 @@ IsWrappedTo (Some least) r (Ok (Some value)) after =
     (number : ℤ) × IsLeastFrom least value number × (after ≡ with_value r value number)
 IsWrappedTo held r result after = after ≡ r
 
-abbrev pub IsWrappedBy : Addresses → List Symbol → Rela → Option RelocationKindInfo → Rela → Type 0
+abbrev pub IsWrappedBy : Addresses → List Symbol → Rela → Option RowInfo → Rela → Type 0
 IsWrappedBy addresses symbols r None after = after ≡ r
 IsWrappedBy addresses symbols r (Some row) after =
     IsWrappedTo (held_from row) r (own_value RiscV addresses symbols row r) after
@@ -75,7 +75,7 @@ IsWrappedBy addresses symbols r (Some row) after =
 -- a relocation before and after its addend is wrapped
 abbrev pub IsWrapped : Addresses → List Symbol → Rela → Rela → Type 0
 IsWrapped addresses symbols r after =
-    (row : Option RelocationKindInfo) × IsRow RiscV r.r_type row
+    (row : Option RowInfo) × IsRow RiscV r.r_type row
     × IsWrappedBy addresses symbols r row after
 
 -- all of a section's; what is after the last whole one is unchanged

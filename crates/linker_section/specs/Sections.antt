@@ -8,7 +8,7 @@ use Rattle.linker_base.specs.declared.utils.Uleb128Error.{Uleb128Error}
 use Rattle.linker_elf.specs.Relocate.{WritesRow, IsCause, window_len}
 use Rattle.linker_elf.specs.declared.elf.RelocationKind.{RelocationKind}
 use Rattle.linker_elf.specs.declared.elf.RelocationKind.TheVariants.{PairSubtractionULEB128LoongArch}
-use Rattle.linker_elf.specs.declared.elf.RelocationKindInfo.{RelocationKindInfo}
+use Rattle.linker_elf.specs.declared.elf.RowInfo.{RowInfo}
 use Rattle.linker_elf.specs.declared.elf.Uleb128Role.{Uleb128Role}
 use Rattle.linker_elf.specs.declared.elf.Uleb128Role.TheVariants.{Sets, Adds}
 use Rattle.linker_elf.specs.declared.elf.relocate.RelocateError.{RelocateError}
@@ -38,7 +38,7 @@ use Rattle.linker_elf.specs.declared.elf.architecture.Architecture.{Architecture
 
 -- The bytes from the offset on are what a write of the row makes of them, as many as before, and
 -- those before it stay.
-pub record IsWritten (row : RelocationKindInfo) (v : ℤ) (offset : ℕ) (before after : List ℕ)
+pub record IsWritten (row : RowInfo) (v : ℤ) (offset : ℕ) (before after : List ℕ)
     : Type 0 where
   pub inside : offset ≤ length before
   pub rest : List ℕ
@@ -49,24 +49,24 @@ pub record IsWritten (row : RelocationKindInfo) (v : ℤ) (offset : ℕ) (before
   pub written : WritesRow row v (drop offset before) rest
 
 -- the row rejects the value there, or the offset is past the end
-pub record IsRejected (row : RelocationKindInfo) (v : ℤ) (offset : ℕ) (before : List ℕ)
+pub record IsRejected (row : RowInfo) (v : ℤ) (offset : ℕ) (before : List ℕ)
     (error : RelocateError) : Type 0 where
   pub outside : length before < offset → error ≡ TooShort
   pub inside : offset ≤ length before → IsCause row v (drop offset before) error
 
 -- the value is an offset that an instruction with the thread pointer as its base doesn't hold
-pub record IsBeyond (row : RelocationKindInfo) (v : ℤ) (offset : ℕ) (before : List ℕ)
+pub record IsBeyond (row : RowInfo) (v : ℤ) (offset : ℕ) (before : List ℕ)
     (error : RelocateError) : Type 0 where
   pub is_error : error ≡ OutOfReach
   pub inside : offset ≤ length before
   pub long : window_len row ≤ length (drop offset before)
   pub other : holds_offset row v (drop offset before) ≡ false
 
-abbrev pub IsUnwritable : RelocationKindInfo → ℤ → ℕ → List ℕ → RelocateError → Type 0
+abbrev pub IsUnwritable : RowInfo → ℤ → ℕ → List ℕ → RelocateError → Type 0
 IsUnwritable row v offset before error =
     IsRejected row v offset before error ⊎ IsBeyond row v offset before error
 
-abbrev pub IsWrittenAt : RelocationKindInfo → ℤ → ℕ → List ℕ → List ℕ → Result Unit RelocateError
+abbrev pub IsWrittenAt : RowInfo → ℤ → ℕ → List ℕ → List ℕ → Result Unit RelocateError
     → Type 0
 IsWrittenAt row v offset before after (Ok u) = IsWritten row v offset before after
 IsWrittenAt row v offset before after (Err error) =
@@ -76,7 +76,7 @@ IsWrittenAt row v offset before after (Err error) =
 
 -- a relocation among those of its section has a row and a value
 pub record HasValue (architecture : Architecture) (addresses : Addresses) (bytes : List ℕ)
-    (symbols : List Symbol) (r : Rela) (row : RelocationKindInfo) (v : ℤ) : Type 0 where
+    (symbols : List Symbol) (r : Rela) (row : RowInfo) (v : ℤ) : Type 0 where
   pub is_row : IsRow architecture r.r_type (Some row)
   pub is_value : IsValueIn architecture addresses bytes symbols r (Some row) (Ok (Some v))
   pub keeps_toc : lacks_stub architecture symbols r ≡ false
@@ -85,7 +85,7 @@ pub record HasValue (architecture : Architecture) (addresses : Addresses) (bytes
 -- A relocation has no value of its own, and if it is an alignment, it holds.
 abbrev pub IsMark : Architecture → Addresses → List ℕ → List Symbol → Rela → Type 0
 IsMark architecture addresses bytes symbols r =
-    (row : Option RelocationKindInfo) × IsRow architecture r.r_type row
+    (row : Option RowInfo) × IsRow architecture r.r_type row
     × IsValueIn architecture addresses bytes symbols r row (Ok None)
     × (is_filled architecture addresses r ≡ true)
 
@@ -107,7 +107,7 @@ pub data IsValueless (architecture : Architecture) (addresses : Addresses) (byte
 
 -- its row and value, or none of a relocation without a value, or why there is none
 abbrev pub IsRowValue : Architecture → Addresses → List ℕ → List Symbol → Rela
-    → Result (Option (RelocationKindInfo × ℤ)) ValueError → Type 0
+    → Result (Option (RowInfo × ℤ)) ValueError → Type 0
 IsRowValue architecture addresses bytes symbols r (Ok (Some found)) =
     HasValue architecture addresses bytes symbols r (found.0) (found.1)
 IsRowValue architecture addresses bytes symbols r (Ok None) =
@@ -119,7 +119,7 @@ IsRowValue architecture addresses bytes symbols r (Err error) =
 
 -- the same of the relocation at an index
 abbrev pub Outcome : Type 0
-Outcome = Result (Option (RelocationKindInfo × ℤ)) ValueError
+Outcome = Result (Option (RowInfo × ℤ)) ValueError
 
 -- by which the values of a section's relocations are found: for each index what is so
 abbrev pub Values : Type 1
@@ -132,7 +132,7 @@ by_index symbols architecture addresses bytes i outcome =
 
 -- the relocation at an index has a row and a value, and writes it
 pub record IsValued (architecture : Architecture) (addresses : Addresses) (bytes : List ℕ)
-    (values : Values) (i : ℕ) (row : RelocationKindInfo) (v : ℤ) : Type 0 where
+    (values : Values) (i : ℕ) (row : RowInfo) (v : ℤ) : Type 0 where
   pub is_row : IsRow architecture (relocation_in bytes i).r_type (Some row)
   pub valued : has_value row.kind ≡ true
   pub is_value : values architecture addresses bytes i (Ok (Some (row, v)))
@@ -162,11 +162,11 @@ IsNumberWrittenAt number offset before after (Err error) =
 pub record IsPair (architecture : Architecture) (addresses : Addresses) (bytes : List ℕ)
     (values : Values) (first : ℕ) (there : List ℕ) (number : ℕ) : Type 0 where
   pub same_offset : offset_at bytes (first + 1) ≡ offset_at bytes first
-  pub row : RelocationKindInfo
+  pub row : RowInfo
   pub value : ℤ
   pub has_value : IsValued architecture addresses bytes values first row value
   pub begins : begins_pair row.size row.kind ≡ true
-  pub other : RelocationKindInfo
+  pub other : RowInfo
   pub subtracted : ℤ
   pub has_subtracted : IsValued architecture addresses bytes values (first + 1) other subtracted
   pub ends : ends_pair other.size other.kind ≡ true
@@ -195,10 +195,10 @@ pub record IsPairRejected (architecture : Architecture) (addresses : Addresses) 
 pub record BeginsPair (architecture : Architecture) (bytes : List ℕ) (i : ℕ) : Type 0 where
   pub within : i + 1 < length bytes / 24
   pub same_offset : offset_at bytes (i + 1) ≡ offset_at bytes i
-  pub row : RelocationKindInfo
+  pub row : RowInfo
   pub is_row : IsRow architecture (relocation_in bytes i).r_type (Some row)
   pub begins : begins_pair row.size row.kind ≡ true
-  pub other : RelocationKindInfo
+  pub other : RowInfo
   pub is_other : IsRow architecture (relocation_in bytes (i + 1)).r_type (Some other)
   pub ends : ends_pair other.size other.kind ≡ true
 
@@ -207,7 +207,7 @@ pub record BeginsPair (architecture : Architecture) (bytes : List ℕ) (i : ℕ)
 -- the field of the relocation at an index, if it has one, is in the section
 abbrev pub IsInside : Architecture → List ℕ → List ℕ → ℕ → Type 0
 IsInside architecture bytes section i =
-    (row : RelocationKindInfo) → IsField architecture bytes section i row
+    (row : RowInfo) → IsField architecture bytes section i row
     → field_end bytes section i row ≤ length section
 
 -- The values of those below an index are written, one after the other: nothing of a relocation
@@ -220,7 +220,7 @@ pub data AreRelocated (architecture : Architecture) (addresses : Addresses) (byt
       → values architecture addresses bytes n (Ok None)
       → IsInside architecture bytes before n
       → AreRelocated architecture addresses bytes values before (n + 1) middle
-  one : {n : ℕ} {middle after : List ℕ} {row : RelocationKindInfo} {v : ℤ}
+  one : {n : ℕ} {middle after : List ℕ} {row : RowInfo} {v : ℤ}
       → AreRelocated architecture addresses bytes values before n middle
       → IsValued architecture addresses bytes values n row v
       → IsWritten row v (offset_at bytes n) middle after
@@ -235,7 +235,7 @@ pub data AreRelocated (architecture : Architecture) (addresses : Addresses) (byt
 -- no field has the byte
 abbrev pub IsInNoField : Architecture → List ℕ → List ℕ → ℕ → ℕ → Type 0
 IsInNoField architecture bytes section n p =
-    (i : ℕ) (row : RelocationKindInfo) → i < n → IsField architecture bytes section i row
+    (i : ℕ) (row : RowInfo) → i < n → IsField architecture bytes section i row
     → (p < offset_at bytes i) ⊎ (field_end bytes section i row ≤ p)
 
 -- Fields that overlap compose. The values of all relocations are written, one after the other, and
@@ -259,7 +259,7 @@ AreAllRelocated architecture addresses bytes symbols before after =
 -- why the relocation at an index isn't written, where those before it are
 pub record IsNotAccepted (architecture : Architecture) (addresses : Addresses) (bytes : List ℕ)
     (values : Values) (i : ℕ) (now : List ℕ) (error : RelocateError) : Type 0 where
-  pub row : RelocationKindInfo
+  pub row : RowInfo
   pub value : ℤ
   pub has_value : IsValued architecture addresses bytes values i row value
   pub length_shown : HasLength row (offset_at bytes i) now
@@ -270,7 +270,7 @@ pub record IsNotAccepted (architecture : Architecture) (addresses : Addresses) (
 pub record IsLeftPast (architecture : Architecture) (addresses : Addresses) (bytes : List ℕ)
     (values : Values) (i : ℕ) (before : List ℕ) (error : RelocateError) : Type 0 where
   pub is_error : error ≡ TooShort
-  pub row : RelocationKindInfo
+  pub row : RowInfo
   pub is_field : IsField architecture bytes before i row
   pub no_value : values architecture addresses bytes i (Ok None)
   pub past : length before < field_end bytes before i row
@@ -278,7 +278,7 @@ pub record IsLeftPast (architecture : Architecture) (addresses : Addresses) (byt
 -- the instruction there is shorter or longer than its form
 pub record IsOtherLength (architecture : Architecture) (addresses : Addresses) (bytes : List ℕ)
     (values : Values) (i : ℕ) (now : List ℕ) : Type 0 where
-  pub row : RelocationKindInfo
+  pub row : RowInfo
   pub value : ℤ
   pub has_value : IsValued architecture addresses bytes values i row value
   pub inside : offset_at bytes i ≤ length now

@@ -5,12 +5,12 @@ use Rattle.std.specs.Prelude.{Some, None, if◌then◌else◌, slice_get, Result
 use Rattle.std.specs.Ordering.{int_eq}
 use Rattle.linker_elf.specs.Entries.{is_branch, is_of_high_part}
 use Rattle.linker_elf.specs.Value.{sum_64, difference_64, value_of, is_offset, loads_plt_word}
-use Rattle.linker_elf.specs.declared.elf.RelocationInstruction.TheVariants.{RiscV, Ppc64}
+use Rattle.linker_elf.specs.declared.elf.AnyForm.TheVariants.{RiscV, Ppc64}
 use Rattle.linker_elf.specs.declared.elf.RelocationKind.{RelocationKind}
 use Rattle.linker_elf.specs.declared.elf.RelocationKind.TheVariants as kinds
-use Rattle.linker_elf.specs.declared.elf.RelocationKindInfo.{RelocationKindInfo}
-use Rattle.linker_elf.specs.declared.elf.RelocationSize.{RelocationSize}
-use Rattle.linker_elf.specs.declared.elf.RelocationSize.TheVariants.{BitMasking}
+use Rattle.linker_elf.specs.declared.elf.RowInfo.{RowInfo}
+use Rattle.linker_elf.specs.declared.elf.RowSize.{RowSize}
+use Rattle.linker_elf.specs.declared.elf.RowSize.TheVariants.{BitMasking}
 use Rattle.linker_elf.specs.declared.elf.value.Operands.{Operands}
 use Rattle.linker_elf.specs.declared.riscv64.forms.RiscVInstruction.TheVariants.{UType}
 use Rattle.linker_section.specs.Needed.{class_of_kind, entry_of, may_use_stub}
@@ -70,12 +70,12 @@ is_of_got architecture r_type = false
 abbrev pub local_entry : ℕ → ℕ
 local_entry other = if nat_lt (other / 32) 2 then 0 else 2 ^ (other / 32)
 
-abbrev pub is_ppc64_branch : RelocationSize → Bool
+abbrev pub is_ppc64_branch : RowSize → Bool
 is_ppc64_branch (BitMasking bits (Ppc64 insn)) = is_branch (BitMasking bits (Ppc64 insn))
 is_ppc64_branch size = false
 
 -- a symbol's address, and where PowerPC64's branches go: to the local entry point
-abbrev pub address_of : RelocationKindInfo → Symbol → ℕ
+abbrev pub address_of : RowInfo → Symbol → ℕ
 address_of row symbol =
     if is_ppc64_branch row.size then sum_64 symbol.address (local_entry symbol.other)
     else symbol.address
@@ -90,7 +90,7 @@ is_relative kind = false
 -- else is relative to the place is 0 (ELF for the Arm 64-bit Architecture, "Weak References").
 -- Branches of RISC-V and PowerPC64 go to themselves, as linkers make them: their psABIs say
 -- nothing. Elsewhere its address is 0.
-abbrev pub weak_address : Architecture → RelocationKindInfo → ℕ → ℕ
+abbrev pub weak_address : Architecture → RowInfo → ℕ → ℕ
 weak_address architectures.AArch64 row place =
     if is_branch row.size then sum_64 place 4 else (if is_relative row.kind then place else 0)
 weak_address architectures.RiscV row place =
@@ -104,7 +104,7 @@ origin_of addresses kinds.TpOff = addresses.thread_origin
 origin_of addresses kind = addresses.module_origin
 
 -- S; the offset of an undefined weak thread-local symbol is 0
-abbrev pub defined_or_weak : Architecture → Addresses → RelocationKindInfo → Symbol → ℕ → ℕ
+abbrev pub defined_or_weak : Architecture → Addresses → RowInfo → Symbol → ℕ → ℕ
 defined_or_weak architecture addresses row symbol place =
     if symbol.is_undefined_weak then
     (if is_offset row.kind then origin_of addresses row.kind
@@ -112,14 +112,14 @@ defined_or_weak architecture addresses row symbol place =
     else address_of row symbol
 
 -- S, or the stub by which a branch goes
-abbrev pub target_of : Architecture → Addresses → RelocationKindInfo → Symbol → ℕ → ℕ
+abbrev pub target_of : Architecture → Addresses → RowInfo → Symbol → ℕ → ℕ
 target_of architecture addresses row symbol place =
     if may_use_stub row.size row.kind && not (symbol.stub == 0) then symbol.stub
     else defined_or_weak architecture addresses row symbol place
 
 -- ---- all operands
 
-abbrev pub operands_with : Architecture → Addresses → RelocationKindInfo → Symbol → Rela → ℕ
+abbrev pub operands_with : Architecture → Addresses → RowInfo → Symbol → Rela → ℕ
     → Operands
 operands_with architecture addresses row symbol r entry =
     let place : ℕ = sum_64 addresses.section r.offset
@@ -140,20 +140,20 @@ operands_with architecture addresses row symbol r entry =
     }
 
 -- what the formula of a relocation with a row takes, or why there is nothing to take
-abbrev pub operands_by : Architecture → Addresses → RelocationKindInfo → Rela → Symbol → Option ℕ
+abbrev pub operands_by : Architecture → Addresses → RowInfo → Rela → Symbol → Option ℕ
     → Result Operands ValueError
 operands_by architecture addresses row r symbol None = Err NoEntry
 operands_by architecture addresses row r symbol (Some entry) =
     Ok (operands_with architecture addresses row symbol r entry)
 
-abbrev pub operands_in : Architecture → Addresses → RelocationKindInfo → Rela → Option Symbol
+abbrev pub operands_in : Architecture → Addresses → RowInfo → Rela → Option Symbol
     → Result Operands ValueError
 operands_in architecture addresses row r None = Err NoSymbol
 operands_in architecture addresses row r (Some symbol) =
     operands_by architecture addresses row r symbol
     (entry_address addresses symbol (entry_of row r.addend symbol.is_thread_local))
 
-abbrev pub operands_of : Architecture → Addresses → List Symbol → RelocationKindInfo → Rela
+abbrev pub operands_of : Architecture → Addresses → List Symbol → RowInfo → Rela
     → Result Operands ValueError
 operands_of architecture addresses symbols row r =
     operands_in architecture addresses row r (slice_get symbols r.symbol)
@@ -172,18 +172,18 @@ is_defined (Some symbol) = not symbol.is_undefined_weak
 
 -- The formula counts from an origin, and the output has no TLS segment. The offset of an undefined
 -- weak symbol is 0 also then.
-abbrev pub lacks_origin : Addresses → List Symbol → RelocationKindInfo → Rela → Bool
+abbrev pub lacks_origin : Addresses → List Symbol → RowInfo → Rela → Bool
 lacks_origin addresses symbols row r =
     is_offset row.kind && (not addresses.has_tls && is_defined (slice_get symbols r.symbol))
 
-abbrev pub value_by : Bool → RelocationKindInfo → Result Operands ValueError
+abbrev pub value_by : Bool → RowInfo → Result Operands ValueError
     → Result (Option ℤ) ValueError
 value_by lacks row (Err error) = Err error
 value_by true row (Ok operands) = Err NoTlsBase
 value_by false row (Ok operands) = Ok (value_of row operands)
 
 -- the value by the psABI's formula, and none of a relocation without one, whatever its symbol
-abbrev pub own_value : Architecture → Addresses → List Symbol → RelocationKindInfo → Rela
+abbrev pub own_value : Architecture → Addresses → List Symbol → RowInfo → Rela
     → Result (Option ℤ) ValueError
 own_value architecture addresses symbols row r =
     if has_value row.kind then
@@ -195,13 +195,13 @@ own_value architecture addresses symbols row r =
 
 -- The symbol labels a high part (RISC-V ELF psABI, "PC-Relative Symbol Addresses" and "TLS
 -- Descriptors").
-abbrev pub names_label : RelocationSize → RelocationKind → Bool
+abbrev pub names_label : RowSize → RelocationKind → Bool
 names_label size kinds.RelativeRiscVLow12 = true
 names_label size kinds.TlsDesc = is_of_high_part size
 names_label size kind = false
 
 -- an `auipc` of the kinds that low parts of a kind are of
-abbrev pub is_auipc : RelocationSize → Bool
+abbrev pub is_auipc : RowSize → Bool
 is_auipc (BitMasking bits (RiscV UType)) = true
 is_auipc size = false
 
@@ -214,7 +214,7 @@ is_high_kind low kinds.GotTpOff = true
 is_high_kind low kinds.TlsGd = true
 is_high_kind low kind = false
 
-abbrev pub is_high_part : RelocationKind → Option RelocationKindInfo → Bool
+abbrev pub is_high_part : RelocationKind → Option RowInfo → Bool
 is_high_part low None = false
 is_high_part low (Some row) = is_auipc row.size && is_high_kind low row.kind
 
@@ -228,7 +228,7 @@ IsAscending bytes =
 
 -- a relocation that is a high part of low parts of a kind
 pub record IsHighPart (architecture : Architecture) (bytes : List ℕ) (low : RelocationKind) (at : ℕ)
-    (r : Rela) (row : RelocationKindInfo) : Type 0 where
+    (r : Rela) (row : RowInfo) : Type 0 where
   pub index : ℕ
   pub is_there : relocation_at bytes index ≡ Some r
   pub offset_is : r.offset ≡ at
@@ -239,12 +239,12 @@ pub record IsHighPart (architecture : Architecture) (bytes : List ℕ) (low : Re
 abbrev pub IsNoHighPart : Architecture → RelocationKind → ℕ → Rela → Type 0
 IsNoHighPart architecture low at r =
     (r.offset ≢ at)
-    ⊎ ((row : Option RelocationKindInfo) × IsRow architecture r.r_type row
+    ⊎ ((row : Option RowInfo) × IsRow architecture r.r_type row
     × (is_high_part low row ≡ false))
 
 -- the high part at an offset, or none of the relocations is
 abbrev pub IsHighPartAt : Architecture → List ℕ → RelocationKind → ℕ
-    → Option (Rela × RelocationKindInfo) → Type 0
+    → Option (Rela × RowInfo) → Type 0
 IsHighPartAt architecture bytes low at (Some found) =
     IsHighPart architecture bytes low at (found.0) (found.1)
 IsHighPartAt architecture bytes low at None =
@@ -252,33 +252,33 @@ IsHighPartAt architecture bytes low at None =
 
 -- A low part takes the operands of its high part, and where that requires an entry of the GOT, the
 -- entry's address in place of S.
-abbrev pub low_operands : RelocationKindInfo → Operands → Operands
+abbrev pub low_operands : RowInfo → Operands → Operands
 low_operands high operands =
     if is_some (class_of_kind high.kind) then record operands { symbol = operands.got_entry }
     else operands
 
-abbrev pub low_by : RelocationKindInfo → RelocationKindInfo → Result Operands ValueError
+abbrev pub low_by : RowInfo → RowInfo → Result Operands ValueError
     → Result (Option ℤ) ValueError
 low_by row high (Ok operands) = Ok (value_of row (low_operands high operands))
 low_by row high (Err error) = Err error
 
-abbrev pub low_value : Architecture → Addresses → List Symbol → RelocationKindInfo
-    → Option (Rela × RelocationKindInfo) → Result (Option ℤ) ValueError
+abbrev pub low_value : Architecture → Addresses → List Symbol → RowInfo
+    → Option (Rela × RowInfo) → Result (Option ℤ) ValueError
 low_value architecture addresses symbols row None = Err NoHighPart
 low_value architecture addresses symbols row (Some high) =
     low_by row (high.1) (operands_of architecture addresses symbols (high.1) (high.0))
 
-abbrev pub IsLowValue : Architecture → Addresses → List ℕ → List Symbol → RelocationKindInfo
+abbrev pub IsLowValue : Architecture → Addresses → List ℕ → List Symbol → RowInfo
     → Option Symbol → Result (Option ℤ) ValueError → Type 0
 IsLowValue architecture addresses bytes symbols row None result = result ≡ Err NoSymbol
 IsLowValue architecture addresses bytes symbols row (Some label) result =
-    (high : Option (Rela × RelocationKindInfo))
+    (high : Option (Rela × RowInfo))
     × IsHighPartAt architecture bytes row.kind (difference_64 label.address addresses.section) high
     × (result ≡ low_value architecture addresses symbols row high)
 
 -- ---- all values
 
-abbrev pub IsValueBy : Bool → Architecture → Addresses → List ℕ → List Symbol → RelocationKindInfo
+abbrev pub IsValueBy : Bool → Architecture → Addresses → List ℕ → List Symbol → RowInfo
     → Rela → Result (Option ℤ) ValueError → Type 0
 IsValueBy true architecture addresses bytes symbols row r result =
     IsLowValue architecture addresses bytes symbols row (slice_get symbols r.symbol) result
@@ -286,7 +286,7 @@ IsValueBy false architecture addresses bytes symbols row r result =
     result ≡ own_value architecture addresses symbols row r
 
 abbrev pub IsValueIn : Architecture → Addresses → List ℕ → List Symbol → Rela
-    → Option RelocationKindInfo → Result (Option ℤ) ValueError → Type 0
+    → Option RowInfo → Result (Option ℤ) ValueError → Type 0
 IsValueIn architecture addresses bytes symbols r None result = result ≡ Err UnknownType
 IsValueIn architecture addresses bytes symbols r (Some row) result =
     IsValueBy (names_label row.size row.kind) architecture addresses bytes symbols row r result
@@ -295,5 +295,5 @@ IsValueIn architecture addresses bytes symbols r (Some row) result =
 abbrev pub IsValue : Architecture → Addresses → List ℕ → List Symbol → Rela
     → Result (Option ℤ) ValueError → Type 0
 IsValue architecture addresses bytes symbols r result =
-    (row : Option RelocationKindInfo) × IsRow architecture r.r_type row
+    (row : Option RowInfo) × IsRow architecture r.r_type row
     × IsValueIn architecture addresses bytes symbols r row result

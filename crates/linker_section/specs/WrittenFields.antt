@@ -12,9 +12,9 @@ use Rattle.linker_elf.specs.declared.elf.RelocationKind.TheVariants.{AbsoluteAdd
 use Rattle.linker_elf.specs.declared.elf.RelocationKind.TheVariants.{AbsoluteAdditionWord6}
 use Rattle.linker_elf.specs.declared.elf.RelocationKind.TheVariants.{AbsoluteSubtraction}
 use Rattle.linker_elf.specs.declared.elf.RelocationKind.TheVariants.{AbsoluteSubtractionWord6}
-use Rattle.linker_elf.specs.declared.elf.RelocationKindInfo.{RelocationKindInfo}
-use Rattle.linker_elf.specs.declared.elf.RelocationSize.{RelocationSize}
-use Rattle.linker_elf.specs.declared.elf.RelocationSize.TheVariants.{ByteSize, BitMasking}
+use Rattle.linker_elf.specs.declared.elf.RowInfo.{RowInfo}
+use Rattle.linker_elf.specs.declared.elf.RowSize.{RowSize}
+use Rattle.linker_elf.specs.declared.elf.RowSize.TheVariants.{ByteSize, BitMasking}
 use Rattle.linker_section.specs.Conditions.{HasLength, holds_offset}
 use Rattle.linker_section.specs.Fields.{field_end, field_len, begins_pair, ends_pair, is_of_pair}
 use Rattle.linker_section.specs.Fields.{AreApart}
@@ -30,7 +30,7 @@ use Rattle.linker_elf.specs.declared.elf.architecture.Architecture.{Architecture
 
 -- the row and the value of the relocation at an index; none without a value
 abbrev pub Found : Type 0
-Found = ℕ → Option (RelocationKindInfo × ℤ)
+Found = ℕ → Option (RowInfo × ℤ)
 
 -- those of the relocations below an index
 abbrev pub AreFound : Architecture → Addresses → List ℕ → Values → ℕ → Found → Type 0
@@ -49,7 +49,7 @@ composed_with AbsoluteSubtractionWord6 v number = number -ℤ v
 composed_with kind v number = v
 
 -- if it has a field in the bytes there
-abbrev pub composed_by : List ℕ → Option (RelocationKindInfo × ℤ) → ℤ → ℤ
+abbrev pub composed_by : List ℕ → Option (RowInfo × ℤ) → ℤ → ℤ
 composed_by there None number = number
 composed_by there (Some one) number =
     if nat_lt 0 (field_len (one.0) there) then composed_with (one.0).kind (one.1) number
@@ -81,7 +81,7 @@ HoldsNumber kind len value before after =
 
 -- An instruction has the value of its relocation, and the machine reads it. Whole bytes have what
 -- all relocations there compose over the number of the bytes before.
-abbrev pub HoldsValue : RelocationSize → RelocationKindInfo → ℤ → (ℤ → ℤ) → List ℕ → List ℕ
+abbrev pub HoldsValue : RowSize → RowInfo → ℤ → (ℤ → ℤ) → List ℕ → List ℕ
     → Type 0
 HoldsValue (BitMasking bits insn) row v compose before after = WritesRow row v before after
 HoldsValue (ByteSize len) row v compose before after =
@@ -90,11 +90,11 @@ HoldsValue (ByteSize len) row v compose before after =
 -- two relocations are a pair, whose values make a number over the ULEB128 number in bytes
 pub record MakePair (found : Found) (bytes : List ℕ) (first : ℕ) (there : List ℕ) (number : ℕ)
     : Type 0 where
-  pub row : RelocationKindInfo
+  pub row : RowInfo
   pub value : ℤ
   pub is_first : found first ≡ Some (row, value)
   pub begins : begins_pair row.size row.kind ≡ true
-  pub other : RelocationKindInfo
+  pub other : RowInfo
   pub subtracted : ℤ
   pub is_second : found (first + 1) ≡ Some (other, subtracted)
   pub ends : ends_pair other.size other.kind ≡ true
@@ -113,13 +113,13 @@ pub record HoldsPair (found : Found) (bytes before after : List ℕ) (first : �
   pub written : IsUlebWritten before number after
 
 -- the bytes in a section that are the field of a relocation of a row in the section before
-abbrev pub field_bytes : List ℕ → List ℕ → ℕ → RelocationKindInfo → List ℕ → List ℕ
+abbrev pub field_bytes : List ℕ → List ℕ → ℕ → RowInfo → List ℕ → List ℕ
 field_bytes bytes before i row section =
     take (field_len row (drop (offset_at bytes i) before)) (drop (offset_at bytes i) section)
 
 -- what the field of the relocation at an index holds, where all n are written
 pub record IsHeld (found : Found) (bytes before after : List ℕ) (n i : ℕ)
-    (row : RelocationKindInfo) (v : ℤ) : Type 0 where
+    (row : RowInfo) (v : ℤ) : Type 0 where
   pub value : is_of_pair row ≡ false
       → HoldsValue row.size row v
       (λ number. composed found bytes before (offset_at bytes i) number n)
@@ -131,7 +131,7 @@ pub record IsHeld (found : Found) (bytes before after : List ℕ) (n i : ℕ)
 -- ---- values that are accepted
 
 -- a row accepts a value at an offset of a section as it is before all writes
-pub record IsAcceptedAt (row : RelocationKindInfo) (v : ℤ) (offset : ℕ) (section : List ℕ)
+pub record IsAcceptedAt (row : RowInfo) (v : ℤ) (offset : ℕ) (section : List ℕ)
     : Type 0 where
   pub inside : offset ≤ length section
   pub length_shown : HasLength row offset section
@@ -150,7 +150,7 @@ pub record PairFits (found : Found) (bytes section : List ℕ) (first : ℕ) : T
 -- the values below an index are accepted
 abbrev pub AreAccepted : Found → List ℕ → List ℕ → ℕ → Type 0
 AreAccepted found bytes section n =
-    (i : ℕ) (row : RelocationKindInfo) (v : ℤ) → i < n → found i ≡ Some (row, v)
+    (i : ℕ) (row : RowInfo) (v : ℤ) → i < n → found i ≡ Some (row, v)
     → (is_of_pair row ≡ false → IsAcceptedAt row v (offset_at bytes i) section)
     × (is_of_pair row ≡ true → OfPair (PairFits found bytes section) n i)
 
@@ -164,7 +164,7 @@ AreInside architecture bytes found section n =
 -- no field that a value is written to has the byte
 abbrev pub IsUnwritten : Found → List ℕ → List ℕ → ℕ → ℕ → Type 0
 IsUnwritten found bytes section n p =
-    (i : ℕ) (row : RelocationKindInfo) (v : ℤ) → i < n → found i ≡ Some (row, v)
+    (i : ℕ) (row : RowInfo) (v : ℤ) → i < n → found i ≡ Some (row, v)
     → (p < offset_at bytes i) ⊎ (field_end bytes section i row ≤ p)
 
 -- ---- all relocations
@@ -189,7 +189,7 @@ CanBeWritten architecture addresses bytes symbols section =
 pub record AreWrittenBy (architecture : Architecture) (addresses : Addresses) (bytes : List ℕ)
     (values : Values) (before after : List ℕ) : Type 0 where
   pub can : CanBeWrittenBy architecture addresses bytes values before
-  pub fields : (i : ℕ) (row : RelocationKindInfo) (v : ℤ) → i < length bytes / 24
+  pub fields : (i : ℕ) (row : RowInfo) (v : ℤ) → i < length bytes / 24
       → can.found i ≡ Some (row, v) → 0 < field_len row (drop (offset_at bytes i) before)
       → IsHeld can.found bytes before after (length bytes / 24) i row v
   pub others : (p : ℕ) → IsInNoField architecture bytes before (length bytes / 24) p

@@ -16,8 +16,8 @@ use crate::facts::{Addresses, Symbol};
 use crate::relocations::{Rela, first_from, relocation_in, relocations_len};
 use linker_base::utils::u32_from_slice;
 use linker_elf::elf::{
-    Architecture, Length, LoongArch64Instruction, RelocationInstruction, RelocationKind,
-    RelocationSize, RiscVInstruction, Row,
+    AnyForm, Architecture, Length, LoongArch64Instruction, RelocationKind, RiscVInstruction, Row,
+    RowSize,
 };
 use linker_elf::loongarch64::LoongArch64Relocation;
 use linker_elf::ppc64::Ppc64Relocation;
@@ -181,21 +181,21 @@ pub(crate) fn begins_with(architecture: Architecture, row: &Row, word: u64) -> b
 
 /// Whether the base register of an instruction is the thread pointer.
 #[inline(always)]
-fn is_thread_based(size: RelocationSize, there: &[u8]) -> bool
+fn is_thread_based(size: RowSize, there: &[u8]) -> bool
     requires { size_len size ≤ length there.now }
     ensures { result ≡ is_thread_based size there.now }
 {
     match size {
-        RelocationSize::BitMasking { range, insn } => match insn {
-            RelocationInstruction::RiscV(RiscVInstruction::IType | RiscVInstruction::SType) => {
+        RowSize::BitMasking { range, insn } => match insn {
+            AnyForm::RiscV(RiscVInstruction::IType | RiscVInstruction::SType) => {
                 u32_from_slice(there) / (1 << 15) % 32 == 4
             }
-            RelocationInstruction::LoongArch64(LoongArch64Instruction::Shift10) => {
+            AnyForm::LoongArch64(LoongArch64Instruction::Shift10) => {
                 range.start == 0 && u32_from_slice(there) / (1 << 5) % 32 == 2
             }
             _ => false,
         },
-        RelocationSize::ByteSize(_) => false,
+        RowSize::ByteSize(_) => false,
     }
 }
 

@@ -6,31 +6,31 @@ ghost use Rattle.linker_section.specs.Fields.{changes_number, changes_bits, cont
 ghost use Rattle.linker_section.specs.Inner.Claims.{continues_at, is_clear_of, next_field};
 
 use crate::values::has_value;
-use linker_elf::elf::{RelocationKind, RelocationKindInfo, RelocationSize};
+use linker_elf::elf::{RelocationKind, RowInfo, RowSize};
 
 /// Whether a row is that of the first of a pair at a ULEB128 number.
 #[inline(always)]
-pub(crate) fn begins_pair(size: RelocationSize, kind: RelocationKind) -> bool
+pub(crate) fn begins_pair(size: RowSize, kind: RelocationKind) -> bool
     ensures { result ≡ begins_pair size kind }
 {
-    matches!(size, RelocationSize::ByteSize(0)) && matches!(kind, RelocationKind::Relative)
+    matches!(size, RowSize::ByteSize(0)) && matches!(kind, RelocationKind::Relative)
 }
 
 /// Whether a row is that of the second of such a pair.
 #[inline(always)]
-pub(crate) fn ends_pair(size: RelocationSize, kind: RelocationKind) -> bool
+pub(crate) fn ends_pair(size: RowSize, kind: RelocationKind) -> bool
     ensures { result ≡ ends_pair size kind }
 {
     matches!(
         kind,
         RelocationKind::PairSubtractionULEB128RiscV
             | RelocationKind::PairSubtractionULEB128LoongArch
-    ) && matches!(size, RelocationSize::ByteSize(_))
+    ) && matches!(size, RowSize::ByteSize(_))
 }
 
 /// Whether a row is that of either.
 #[inline(always)]
-pub(crate) fn is_of_pair(info: &RelocationKindInfo) -> bool
+pub(crate) fn is_of_pair(info: &RowInfo) -> bool
     ensures { result ≡ is_of_pair info.now }
 {
     begins_pair(info.size, info.kind) || ends_pair(info.size, info.kind)

@@ -1,7 +1,7 @@
 //! What a relocation requires of a linker before addresses are known.
 
 ghost use Rattle.std.specs.Prelude.{◌≡◌, Option};
-ghost use Rattle.linker_elf.specs.declared.elf.RelocationKindInfo.{RelocationKindInfo};
+ghost use Rattle.linker_elf.specs.declared.elf.RowInfo.{RowInfo};
 ghost use Rattle.linker_section.specs.Inner.Facts.{class_by, entry_by, requirements_by};
 ghost use Rattle.linker_section.specs.Needed.{needs_in};
 ghost use Rattle.linker_elf.specs.Architectures.{IsRow};
@@ -132,7 +132,7 @@ pub fn needs(
     addend: i64,
     is_thread_local: bool,
 ) -> Option<Requirements>
-    ensures { (row : Option RelocationKindInfo) × IsRow architecture r_type row
+    ensures { (row : Option RowInfo) × IsRow architecture r_type row
         × (result ≡ needs_in row addend is_thread_local) }
 {
     match architecture.row(r_type) {

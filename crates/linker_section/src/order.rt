@@ -2,7 +2,7 @@
 
 ghost use Rattle.std.specs.Prelude.{◌≡◌, ◌<◌, ◌≤◌, ◌+◌, ◌/◌, ℕ, List, IfSome, IfNone, Some};
 ghost use Rattle.std.specs.Prelude.{true, false, length};
-ghost use Rattle.linker_elf.specs.declared.elf.RelocationKindInfo.{RelocationKindInfo};
+ghost use Rattle.linker_elf.specs.declared.elf.RowInfo.{RowInfo};
 ghost use Rattle.linker_section.specs.Fields.{IsField, AreApart};
 ghost use Rattle.linker_section.specs.Inner.Claims.{HasField};
 ghost use Rattle.linker_section.specs.Inner.Order.{place_of, AreIndexes};
@@ -137,9 +137,9 @@ pub(crate) fn field_in(
     index: usize,
 ) -> Option<Field>
     requires { index < length relocations.now / 24 }
-    ensures found { IfSome result (λ field. (row : RelocationKindInfo)
+    ensures found { IfSome result (λ field. (row : RowInfo)
         × HasField architecture relocations.now section.now index row field) }
-    ensures none { IfNone result ((row : RelocationKindInfo)
+    ensures none { IfNone result ((row : RowInfo)
         → ¬ IsField architecture relocations.now section.now index row) }
 {
     let relocation = relocation_in(relocations, index);

@@ -18,7 +18,7 @@ ghost use Rattle.linker_section.specs.Inner.Steps.{IsPairOutcome, Reached, IsSte
 ghost use Rattle.linker_section.specs.Values.{has_value, offset_at};
 ghost use Rattle.linker_section.specs.WrittenFields.{AreWritten, CanBeWritten, IsFirstFault};
 ghost use Rattle.linker_elf.specs.Architectures.{IsRow};
-ghost use Rattle.linker_elf.specs.declared.elf.RelocationKindInfo.{RelocationKindInfo};
+ghost use Rattle.linker_elf.specs.declared.elf.RowInfo.{RowInfo};
 
 use crate::ascending::{write_ascending_of, write_second_run};
 use crate::conditions::{has_length, has_offset, is_filled, is_in_reach, lacks_stub};
@@ -198,10 +198,10 @@ pub fn field_len(
     index: usize,
 ) -> usize
     requires { index < length relocations.now / 24 }
-    ensures len { (row : RelocationKindInfo)
+    ensures len { (row : RowInfo)
         → IsField architecture relocations.now section.now index row
         → result ≡ field_len row (drop (offset_at relocations.now index) section.now) }
-    ensures some { 0 < result → (row : RelocationKindInfo)
+    ensures some { 0 < result → (row : RowInfo)
         × IsField architecture relocations.now section.now index row }
 {
     match field_in(architecture, relocations, section, index) {
@@ -298,7 +298,7 @@ fn relocate_pair<S: Symbols>(
     requires within { index < length relocations.now / 24 }
     requires pair { BeginsPair architecture relocations.now index }
     requires second { second.now ≡ relocation_in relocations.now (index + 1) }
-    requires value { (row : RelocationKindInfo) × IsValued architecture addresses.now
+    requires value { (row : RowInfo) × IsValued architecture addresses.now
         relocations.now (S.values symbols) index row value }
     ensures { IsPairOutcome architecture addresses.now relocations.now (S.values symbols) index
         section.old section.new result }

@@ -21,8 +21,7 @@ use crate::facts::{Addresses, Symbol};
 use crate::needed::{Entry, EntryClass, entry_by};
 use crate::relocations::{Rela, first_from, offset_at, relocation_in, relocations_len};
 use linker_elf::elf::{
-    Architecture, Operands, RelocationInstruction, RelocationKind, RelocationKindInfo,
-    RelocationSize, RiscVInstruction, Row,
+    AnyForm, Architecture, Operands, RelocationKind, RiscVInstruction, Row, RowInfo, RowSize,
 };
 use linker_elf::x86_64::X86_64Relocation;
 
@@ -128,13 +127,13 @@ pub(crate) fn local_entry(other: u8) -> u64
 
 /// Whether it is a branch of PowerPC64.
 #[inline(always)]
-fn is_ppc64_branch(size: RelocationSize) -> bool
+fn is_ppc64_branch(size: RowSize) -> bool
     ensures { result ≡ is_ppc64_branch size }
 {
     matches!(
         size,
-        RelocationSize::BitMasking {
-            insn: RelocationInstruction::Ppc64(_),
+        RowSize::BitMasking {
+            insn: AnyForm::Ppc64(_),
             ..
         }
     ) && size.is_branch()
@@ -382,13 +381,13 @@ pub(crate) fn own_value(
 
 /// Whether it is a low part of RISC-V.
 #[inline(always)]
-fn is_low_part(size: RelocationSize) -> bool
+fn is_low_part(size: RowSize) -> bool
     ensures { result ≡ is_of_high_part size }
 {
     matches!(
         size,
-        RelocationSize::BitMasking {
-            insn: RelocationInstruction::RiscV(RiscVInstruction::IType | RiscVInstruction::SType),
+        RowSize::BitMasking {
+            insn: AnyForm::RiscV(RiscVInstruction::IType | RiscVInstruction::SType),
             ..
         }
     )
@@ -396,7 +395,7 @@ fn is_low_part(size: RelocationSize) -> bool
 
 /// Whether the symbol labels a high part.
 #[inline(always)]
-pub(crate) fn names_label(size: RelocationSize, kind: RelocationKind) -> bool
+pub(crate) fn names_label(size: RowSize, kind: RelocationKind) -> bool
     ensures { result ≡ names_label size kind }
 {
     match kind {
@@ -408,13 +407,13 @@ pub(crate) fn names_label(size: RelocationSize, kind: RelocationKind) -> bool
 
 /// Whether it is an `auipc` of RISC-V.
 #[inline(always)]
-fn is_auipc(size: RelocationSize) -> bool
+fn is_auipc(size: RowSize) -> bool
     ensures { result ≡ is_auipc size }
 {
     matches!(
         size,
-        RelocationSize::BitMasking {
-            insn: RelocationInstruction::RiscV(RiscVInstruction::UType),
+        RowSize::BitMasking {
+            insn: AnyForm::RiscV(RiscVInstruction::UType),
             ..
         }
     )
@@ -439,7 +438,7 @@ fn is_high_kind(low: RelocationKind, kind: RelocationKind) -> bool
 
 /// Whether a row is that of a high part of low parts of a kind.
 #[inline(always)]
-fn is_high_part(low: RelocationKind, info: &RelocationKindInfo) -> bool
+fn is_high_part(low: RelocationKind, info: &RowInfo) -> bool
     ensures { result ≡ is_high_part low (Some info.now) }
 {
     is_auipc(info.size) && is_high_kind(low, info.kind)

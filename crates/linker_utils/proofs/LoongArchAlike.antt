@@ -2,7 +2,7 @@
 -- place of the first.
 use Rattle.std.proofs.Common.{◌≡◌, ◌↔◌, Option, refl, ◌≤◌, inl, inr, ℕ, ◌+◌, ◌-◌, List, [], ◌∷◌, ap, ◌∙◌, sym, subst, slice_index_or, drop, take, ◌++◌, arith}
 use Rattle.linker_elf.specs.Choices.{facts_on, with_group, operands_before, AllHold, IsFirst, entry, choice, RowReaches, RowIsWithin}
-use Rattle.linker_elf.specs.declared.elf.RelocationKindInfo.{RelocationKindInfo}
+use Rattle.linker_elf.specs.declared.elf.RowInfo.{RowInfo}
 use Rattle.linker_utils.specs.LoongArchRewrites.{LoongArchEntry, LoongArchChoice, LoongArchApplies, IsAfter, IsAmong, by_pcaddi, bound_by_pcaddi, entry_by_pcaddi, bound_by_pages, page_to_initial_exec, to_initial_exec, ReachesEntry, to_local_exec, to_short_local_exec, signed_32, GotPairIsChosenAlike, EntryPairsAreChosenAlike, IsLoongArchChoice, AddressPairIsChosenAlike, InitialExecIsChosenAlike, DescriptorIsChosenAlike, AddressOfDescriptorIsChosenAlike, HasPattern, descriptor_by_pcaddi, left_out, parted, with_call, with_low, ThreadOffsetIsChosenAlike, loongarch_entries, IsPair, IsAddi, IsLd}
 use Rattle.linker_elf.specs.LoongArchRelocations.{loongarch_row}
 use Rattle.linker_elf.specs.declared.elf.choice.LinkFacts.{LinkFacts}
@@ -123,7 +123,7 @@ entry_near : (name : LoongArch64Relocation) → loongarch_row name ≡ loongarch
     → AllHold loongarch_row facts.operands facts (entry_by_pcaddi name 0)
     ↔ AllHold loongarch_row (facts_on n facts).operands (facts_on n facts) (entry_by_pcaddi r.R_LARCH_TLS_GD_PCREL20_S2 n)
 entry_near name same n facts small =
-    let here = λ (row : Option RelocationKindInfo). RowReaches row (operands_before 0 facts.operands) in
+    let here = λ (row : Option RowInfo). RowReaches row (operands_before 0 facts.operands) in
     let reaches = RowReaches (loongarch_row r.R_LARCH_TLS_GD_PCREL20_S2) in
     let e = same_reach n facts small in (
       λ h. (h.0, (h.1.0, ((h.1.1.0.0, subst reaches (sym e) (subst here same h.1.1.0.1)), h.1.1.1))),

@@ -24,7 +24,7 @@ use Rattle.linker_elf.specs.Choices.{without_plt, low_12, in_reach, low_12_bound
 use Rattle.linker_elf.specs.Choices.{bound, addend, within, in_reach_if_known, got_high_part}
 use Rattle.linker_elf.specs.Choices.{label_marked, facts_on, Entry, entry, choice, Applies, IsFirst}
 use Rattle.linker_elf.specs.RiscVRelocations.{riscv_relocation}
-use Rattle.linker_elf.specs.declared.elf.RelocationKindInfo.{RelocationKindInfo}
+use Rattle.linker_elf.specs.declared.elf.RowInfo.{RowInfo}
 use Rattle.linker_elf.specs.declared.elf.choice.Choice.{Choice}
 use Rattle.linker_elf.specs.declared.elf.choice.LinkFacts.{LinkFacts}
 use Rattle.linker_elf.specs.declared.riscv64.relocations.RiscVRelocation.{RiscVRelocation}
@@ -287,7 +287,7 @@ abbrev pub RiscVChoice : Type 0
 RiscVChoice = Choice RewriteKind RiscVRelocation
 
 -- the row of a name
-abbrev pub riscv_row_of : RiscVRelocation → Option RelocationKindInfo
+abbrev pub riscv_row_of : RiscVRelocation → Option RowInfo
 riscv_row_of name = (riscv_relocation name).row
 
 -- ---- conditions

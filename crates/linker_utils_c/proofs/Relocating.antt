@@ -2,14 +2,14 @@
 use Rattle.std.proofs.Common.{ℕ, List, [], ◌∷◌, ◌++◌, refl, sym, ℤ, Result, Ok, Err, OnOk, IfErr}
 use Rattle.linker_elf.specs.Relocate.{WritesRow, RejectsValue}
 use Rattle.linker_elf.specs.declared.elf.architecture.Architecture.{Architecture}
-use Rattle.linker_elf.specs.declared.elf.RelocationKindInfo.{RelocationKindInfo}
+use Rattle.linker_elf.specs.declared.elf.RowInfo.{RowInfo}
 use Rattle.linker_elf.specs.declared.elf.relocate.RelocateError.{RelocateError}
 use Rattle.linker_utils_c.specs.Relocate.{IsOutcome, IsApplied, AreRelocated}
 use Rattle.linker_utils_c.specs.Status.{code}
 use Rattle.linker_utils_c.specs.declared.relocate.Relocation.{Relocation}
 use Rattle.linker_utils_c.specs.declared.status.Status.TheVariants.{Success}
 
-pub outcome_of : (o : Result Unit RelocateError) (row : RelocationKindInfo) (v : ℤ) (before after : List ℕ)
+pub outcome_of : (o : Result Unit RelocateError) (row : RowInfo) (v : ℤ) (before after : List ℕ)
     → OnOk o (WritesRow row v before after)
     → IfErr o (RejectsValue row v before after) → IsOutcome o row v before after
 outcome_of (Ok u) row v before after ok err = ok

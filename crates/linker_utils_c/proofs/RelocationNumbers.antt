@@ -7,13 +7,13 @@ use Rattle.linker_elf.specs.declared.riscv64.forms.RiscVInstruction.{RiscVInstru
 use Rattle.linker_elf.specs.declared.riscv64.forms.RiscVInstruction.TheVariants.{UType}
 use Rattle.linker_elf.specs.declared.loongarch64.forms.LoongArch64Instruction.{LoongArch64Instruction}
 use Rattle.linker_elf.specs.declared.loongarch64.forms.LoongArch64Instruction.TheVariants.{Shift5}
-use Rattle.linker_elf.specs.declared.ppc64.forms.Ppc64Instruction.{Ppc64Instruction}
-use Rattle.linker_elf.specs.declared.ppc64.forms.Ppc64Instruction.TheVariants.{D}
-use Rattle.linker_elf.specs.declared.elf.RelocationInstruction.{RelocationInstruction}
-use Rattle.linker_elf.specs.declared.elf.RelocationInstruction.TheVariants.{AArch64, RiscV, LoongArch64, Ppc64}
-use Rattle.linker_elf.specs.declared.elf.RelocationKindInfo.{RelocationKindInfo}
-use Rattle.linker_elf.specs.declared.elf.RelocationSize.{RelocationSize}
-use Rattle.linker_elf.specs.declared.elf.RelocationSize.TheVariants.{ByteSize, BitMasking}
+use Rattle.linker_elf.specs.declared.ppc64.forms.Ppc64Form.{Ppc64Form}
+use Rattle.linker_elf.specs.declared.ppc64.forms.Ppc64Form.TheVariants.{D}
+use Rattle.linker_elf.specs.declared.elf.AnyForm.{AnyForm}
+use Rattle.linker_elf.specs.declared.elf.AnyForm.TheVariants.{AArch64, RiscV, LoongArch64, Ppc64}
+use Rattle.linker_elf.specs.declared.elf.RowInfo.{RowInfo}
+use Rattle.linker_elf.specs.declared.elf.RowSize.{RowSize}
+use Rattle.linker_elf.specs.declared.elf.RowSize.TheVariants.{ByteSize, BitMasking}
 use Rattle.linker_utils_c.specs.Forms.{named_form}
 use Rattle.linker_utils_c.specs.Relocations.{InNumbers, IsSize, IsRange}
 
@@ -29,25 +29,25 @@ loongarch_named : (f : LoongArch64Instruction) → named_form (form_machine (Loo
 loongarch_named Shift5 = refl
 loongarch_named f = refl
 
-ppc64_named : (f : Ppc64Instruction) → named_form (form_machine (Ppc64 f)) (form_number (Ppc64 f)) ≡ Ok (Ppc64 f)
+ppc64_named : (f : Ppc64Form) → named_form (form_machine (Ppc64 f)) (form_number (Ppc64 f)) ≡ Ok (Ppc64 f)
 ppc64_named D = refl
 ppc64_named f = refl
 
-form_named : (f : RelocationInstruction) → named_form (form_machine f) (form_number f) ≡ Ok f
+form_named : (f : AnyForm) → named_form (form_machine f) (form_number f) ≡ Ok f
 form_named (AArch64 f) = aarch64_named f
 form_named (RiscV f) = riscv_named f
 form_named (LoongArch64 f) = loongarch_named f
 form_named (Ppc64 f) = ppc64_named f
 
-size_is : (row : RelocationKindInfo) (size : RelocationSize) → row.size ≡ size → IsSize size (numbers_of row)
+size_is : (row : RowInfo) (size : RowSize) → row.size ≡ size → IsSize size (numbers_of row)
 size_is row (ByteSize n) is = rw is (refl, refl, refl, refl, refl, refl)
 size_is row (BitMasking bits insn) is = rw is (refl, refl, refl, refl, form_named insn)
 
-range_is : (row : RelocationKindInfo) (bounds : Option (ℤ × ℤ)) → row.range.bounds ≡ bounds → IsRange bounds (numbers_of row)
+range_is : (row : RowInfo) (bounds : Option (ℤ × ℤ)) → row.range.bounds ≡ bounds → IsRange bounds (numbers_of row)
 range_is row None is = rw is (refl, refl, refl)
 range_is row (Some b) is = rw is (refl, refl, refl)
 
-pub are_numbers : (row : RelocationKindInfo) → InNumbers row (numbers_of row)
+pub are_numbers : (row : RowInfo) → InNumbers row (numbers_of row)
 are_numbers row =
     record {
       kind = refl;

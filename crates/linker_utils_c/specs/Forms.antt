@@ -8,7 +8,7 @@ use Rattle.linker_elf.specs.Machines.{architecture_of}
 use Rattle.linker_elf.specs.Numbers.{flag_number}
 use Rattle.linker_elf.specs.declared.elf.architecture.Architecture.{Architecture}
 use Rattle.linker_elf.specs.declared.elf.architecture.Architecture.TheVariants.{X86_64}
-use Rattle.linker_elf.specs.declared.elf.RelocationInstruction.{RelocationInstruction}
+use Rattle.linker_elf.specs.declared.elf.AnyForm.{AnyForm}
 use Rattle.linker_utils_c.specs.declared.status.Status.{Status}
 use Rattle.linker_utils_c.specs.declared.status.Status.TheVariants.{Success, UnknownArchitecture}
 use Rattle.linker_utils_c.specs.declared.status.Status.TheVariants.{UnknownForm, TooShort}
@@ -16,21 +16,21 @@ use Rattle.linker_utils_c.specs.declared.status.Status.TheVariants.{DoesNotFit}
 use Rattle.linker_utils_c.specs.Status.{code, HasRoom}
 
 -- a form, or that there is none
-abbrev pub form_or_unknown : Option RelocationInstruction → Result RelocationInstruction Status
+abbrev pub form_or_unknown : Option AnyForm → Result AnyForm Status
 form_or_unknown None = Err UnknownForm
 form_or_unknown (Some form) = Ok form
 
 -- the form of a machine (e_machine) and a number, or which of the two is unknown
-abbrev pub form_among : Option Architecture → ℕ → Result RelocationInstruction Status
+abbrev pub form_among : Option Architecture → ℕ → Result AnyForm Status
 form_among None form = Err UnknownArchitecture
 form_among (Some X86_64) form = Err UnknownArchitecture
 form_among (Some architecture) form = form_or_unknown (form_of_number architecture form)
 
-abbrev pub named_form : ℕ → ℕ → Result RelocationInstruction Status
+abbrev pub named_form : ℕ → ℕ → Result AnyForm Status
 named_form machine form = form_among (architecture_of machine) form
 
 -- what was found: the form, or the number of the status that says what is unknown
-abbrev pub IsFormFound : Result RelocationInstruction Status → Result RelocationInstruction ℕ
+abbrev pub IsFormFound : Result AnyForm Status → Result AnyForm ℕ
     → Type 0
 IsFormFound named found = MatchResult found (λ form. named ≡ Ok form)
     (λ number. (status : Status) × (named ≡ Err status) × (number ≡ code status))

@@ -3,9 +3,9 @@
 use Rattle.std.specs.Prelude.{◌≡◌, ℕ, ℤ, List, length, nat_lt, Bool, true, false, Option, None}
 use Rattle.std.specs.Prelude.{Some}
 use Rattle.linker_elf.specs.Relocate.{window_len}
-use Rattle.linker_elf.specs.declared.elf.RelocationKindInfo.{RelocationKindInfo}
+use Rattle.linker_elf.specs.declared.elf.RowInfo.{RowInfo}
 use Rattle.linker_elf.specs.declared.elf.value.Operands.{Operands}
-use Rattle.linker_elf.specs.declared.elf.RelocationInstruction.{RelocationInstruction}
+use Rattle.linker_elf.specs.declared.elf.AnyForm.{AnyForm}
 use Rattle.linker_reading.specs.Encodings.{IsOperand}
 use Rattle.linker_reading.specs.Fields.{IsProper}
 use Rattle.linker_reading.specs.Reading.{value_read}
@@ -28,7 +28,7 @@ abbrev pub IsNumber : Option ℤ → ℤ → ℤ → ℕ → Type 0
 IsNumber None old new status = (status ≡ code DoesNotMatch) × (new ≡ old)
 IsNumber (Some v) old new status = (status ≡ code Success) × (new ≡ v)
 
-pub record IsOperandReturned (form : RelocationInstruction) (bytes : List ℕ) (old new : ℤ)
+pub record IsOperandReturned (form : AnyForm) (bytes : List ℕ) (old new : ℤ)
     (status : ℕ) : Type 0 where
   pub operand : Option ℤ
   pub is_operand : IsOperand form bytes operand
@@ -54,7 +54,7 @@ IsRead None true old new status = (status ≡ code TooShort) × (new ≡ old)
 IsRead None false old new status = (status ≡ code HoldsNoValue) × (new ≡ old)
 
 -- by the relocation's row, if it has one
-abbrev pub IsValueRead : Option RelocationKindInfo → List ℕ → FieldValueNumbers
+abbrev pub IsValueRead : Option RowInfo → List ℕ → FieldValueNumbers
     → FieldValueNumbers → ℕ → Type 0
 IsValueRead None bytes old new status = (status ≡ code UnknownRelocation) × (new ≡ old)
 IsValueRead (Some row) bytes old new status =
@@ -78,21 +78,21 @@ IsAddress (Some t) None before reference old new status =
 IsAddress (Some t) (Some f) before reference old new status =
     (status ≡ code Success) × (reference ≡ reference_number t.reference) × (field_of new ≡ f)
 
-pub record IsSolvedBy (row : RelocationKindInfo) (f : FieldValue) (o : Operands)
+pub record IsSolvedBy (row : RowInfo) (f : FieldValue) (o : Operands)
     (before reference : ℕ) (old new : FieldValueNumbers) (status : ℕ) : Type 0 where
   pub solution : Option FieldValue
   pub solved : IsSolved row f o solution
   pub returned : IsAddress (terms_of row.kind row.size) solution before reference old new status
 
 -- What is known of the value has to be proper.
-pub record IsRowSolved (row : RelocationKindInfo) (f : FieldValue) (o : Operands)
+pub record IsRowSolved (row : RowInfo) (f : FieldValue) (o : Operands)
     (before reference : ℕ) (old new : FieldValueNumbers) (status : ℕ) : Type 0 where
   pub improper : ¬ IsProper f
       → (status ≡ code BadFieldValue) × (reference ≡ before) × (new ≡ old)
   pub proper : IsProper f → IsSolvedBy row f o before reference old new status
 
 -- by the relocation's row, if it has one
-abbrev pub IsValueSolved : Option RelocationKindInfo → FieldValue → Operands → ℕ → ℕ
+abbrev pub IsValueSolved : Option RowInfo → FieldValue → Operands → ℕ → ℕ
     → FieldValueNumbers → FieldValueNumbers → ℕ → Type 0
 IsValueSolved None f o before reference old new status =
     (status ≡ code UnknownRelocation) × (reference ≡ before) × (new ≡ old)

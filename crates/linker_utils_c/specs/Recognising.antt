@@ -4,7 +4,7 @@ use Rattle.std.specs.Prelude.{slice_index_or, Bool, Option, None, Some, IsTrue}
 use Rattle.std.specs.Int.{bit_at}
 use Rattle.linker_base.specs.declared.rewrite.RewriteWindow.{RewriteWindow}
 use Rattle.linker_elf.specs.Relocate.{window_len}
-use Rattle.linker_elf.specs.declared.elf.RelocationKindInfo.{RelocationKindInfo}
+use Rattle.linker_elf.specs.declared.elf.RowInfo.{RowInfo}
 use Rattle.linker_reading.specs.declared.fields.FieldValue.{FieldValue}
 use Rattle.linker_reading.specs.FieldsOfBytes.{is_field_bit, AreSameButFor}
 use Rattle.linker_reading.specs.FoundByType.{AreFound, IsFoundChosen}
@@ -32,18 +32,18 @@ use Rattle.linker_utils_c.specs.declared.status.Status.TheVariants.{LeavesOtherB
 -- ---- the bits of a field
 
 -- the bits that a write of the row may change, if the bytes have its window
-pub record AreFieldBits (row : RelocationKindInfo) (bytes : List ℕ) (old bits status : ℕ)
+pub record AreFieldBits (row : RowInfo) (bytes : List ℕ) (old bits status : ℕ)
     : Type 0 where
   pub short : length bytes < window_len row → (status ≡ code TooShort) × (bits ≡ old)
   pub long : window_len row ≤ length bytes → (status ≡ code Success)
       × ((w : ℕ) → w < 64 → (bit_at bits w == 1) ≡ is_field_bit row bytes w)
 
-abbrev pub AreBitsOf : Option RelocationKindInfo → List ℕ → ℕ → ℕ → ℕ → Type 0
+abbrev pub AreBitsOf : Option RowInfo → List ℕ → ℕ → ℕ → ℕ → Type 0
 AreBitsOf None bytes old bits status = (status ≡ code UnknownRelocation) × (bits ≡ old)
 AreBitsOf (Some row) bytes old bits status = AreFieldBits row bytes old bits status
 
 -- whether two windows differ in the field of a row only
-abbrev pub IsSameness : List ℕ → List ℕ → RelocationKindInfo → Bool → Type 0
+abbrev pub IsSameness : List ℕ → List ℕ → RowInfo → Bool → Type 0
 IsSameness a b row same = IsTrue same ↔ AreSameButFor row a b
 
 -- ---- what was found, in numbers
@@ -141,7 +141,7 @@ abbrev pub IsDestinationOf : Architecture → Option Relaxation → RecognisedNu
 IsDestinationOf architecture None made original o operands st_other old new status =
     (status ≡ code UnknownRewrite) × (new ≡ old)
 IsDestinationOf architecture (Some kind) made original o operands st_other old new status =
-    (row : Option RelocationKindInfo) × IsRow architecture made.choice.relocation row
+    (row : Option RowInfo) × IsRow architecture made.choice.relocation row
     × (d : Option Destination)
     × IsDestination row (Some (field_of made.value)) kind original o operands d
     × IsDestinationPut d st_other old new status

@@ -12,7 +12,7 @@ use Rattle.linker_elf.specs.Uleb128.{IsPairOutcome}
 use Rattle.linker_elf.specs.declared.elf.architecture.Architecture.{Architecture}
 use Rattle.linker_elf.specs.declared.elf.architecture.Uleb128PairError.{Uleb128PairError}
 use Rattle.linker_elf.specs.declared.elf.architecture.Uleb128PairError.TheVariants as pair_errors
-use Rattle.linker_elf.specs.declared.elf.RelocationKindInfo.{RelocationKindInfo}
+use Rattle.linker_elf.specs.declared.elf.RowInfo.{RowInfo}
 use Rattle.linker_elf.specs.declared.elf.Uleb128Role.{Uleb128Role}
 use Rattle.linker_elf.specs.declared.elf.Uleb128Role.TheVariants as roles
 use Rattle.linker_elf.specs.declared.elf.relocate.RelocateError.{RelocateError}
@@ -43,7 +43,7 @@ IsValue (Err error) status old new = (status ≡ code (value_status error)) × (
 IsValue (Ok v) status old new = (status ≡ code Success) × (new ≡ v)
 
 -- the status and the value by the relocation's row, if it has one
-abbrev pub IsValueOf : Option RelocationKindInfo → Operands → ℕ → ℤ → ℤ → Type 0
+abbrev pub IsValueOf : Option RowInfo → Operands → ℕ → ℤ → ℤ → Type 0
 IsValueOf None given status old new = (status ≡ code UnknownRelocation) × (new ≡ old)
 IsValueOf (Some row) given status old new = IsValue (value_given row given) status old new
 
@@ -55,7 +55,7 @@ AreBounds None reach = (reach.has_range ≡ 0) × (reach.min ≡ pos 0) × (reac
 AreBounds (Some bounds) reach =
     (reach.has_range ≡ 1) × (reach.min ≡ bounds.0) × (reach.max ≡ bounds.1)
 
-abbrev pub IsReachOf : Option RelocationKindInfo → ℕ → Reach → Reach → Type 0
+abbrev pub IsReachOf : Option RowInfo → ℕ → Reach → Reach → Type 0
 IsReachOf None status old new = (status ≡ code UnknownRelocation) × (new ≡ old)
 IsReachOf (Some row) status old new = (status ≡ code Success) × AreBounds (reach_of row) new
 
@@ -70,24 +70,24 @@ write_status (Err errors.Misaligned) = Misaligned
 write_status (Err errors.OutOfReach) = OutOfReach
 
 -- the bytes after a write, or why there is none
-abbrev pub IsOutcome : Result Unit RelocateError → RelocationKindInfo → ℤ → List ℕ → List ℕ → Type 0
+abbrev pub IsOutcome : Result Unit RelocateError → RowInfo → ℤ → List ℕ → List ℕ → Type 0
 IsOutcome (Ok u) row v before after = WritesRow row v before after
 IsOutcome (Err error) row v before after = RejectsValue row v before after error
 
-pub record IsRelocatedBy (row : RelocationKindInfo) (v : ℤ) (before after : List ℕ)
+pub record IsRelocatedBy (row : RowInfo) (v : ℤ) (before after : List ℕ)
     (status : ℕ) : Type 0 where
   pub outcome : Result Unit RelocateError
   pub says : status ≡ code (write_status outcome)
   pub holds : IsOutcome outcome row v before after
 
-abbrev pub IsRelocatedAs : Option RelocationKindInfo → ℤ → List ℕ → List ℕ → ℕ → Type 0
+abbrev pub IsRelocatedAs : Option RowInfo → ℤ → List ℕ → List ℕ → ℕ → Type 0
 IsRelocatedAs None v before after status = (status ≡ code UnknownRelocation) × (after ≡ before)
 IsRelocatedAs (Some row) v before after status = IsRelocatedBy row v before after status
 
 -- a relocation of a type, by what the type means
 pub record IsRelocated (architecture : Architecture) (r_type : ℕ) (v : ℤ) (before after : List ℕ)
     (status : ℕ) : Type 0 where
-  pub meaning : Option RelocationKindInfo
+  pub meaning : Option RowInfo
   pub means : IsRow architecture r_type meaning
   pub relocated : IsRelocatedAs meaning v before after status
 

@@ -2,9 +2,9 @@
 use Rattle.std.specs.Prelude.{◌≡◌, ◌<◌, ◌≤◌, ◌++◌, ℕ, List, length, drop, Option, None, Some, Ok, ℤ}
 use Rattle.std.specs.Prelude.{pos}
 use Rattle.linker_elf.specs.Numbers.{kind_number, mask_number, flag_number, number_or_zero}
-use Rattle.linker_elf.specs.declared.elf.RelocationKindInfo.{RelocationKindInfo}
-use Rattle.linker_elf.specs.declared.elf.RelocationSize.{RelocationSize}
-use Rattle.linker_elf.specs.declared.elf.RelocationSize.TheVariants.{ByteSize, BitMasking}
+use Rattle.linker_elf.specs.declared.elf.RowInfo.{RowInfo}
+use Rattle.linker_elf.specs.declared.elf.RowSize.{RowSize}
+use Rattle.linker_elf.specs.declared.elf.RowSize.TheVariants.{ByteSize, BitMasking}
 use Rattle.linker_elf.specs.ElfNames.{ElfName, named, unnamed}
 use Rattle.linker_elf.specs.declared.elf.numbers.RelocationNumbers.{RelocationNumbers}
 use Rattle.linker_utils_c.specs.declared.status.Status.TheVariants.{Success, UnknownRelocation}
@@ -13,7 +13,7 @@ use Rattle.linker_utils_c.specs.Forms.{named_form}
 use Rattle.linker_utils_c.specs.Status.{code}
 
 -- where the value goes
-abbrev pub IsSize : RelocationSize → RelocationNumbers → Type 0
+abbrev pub IsSize : RowSize → RelocationNumbers → Type 0
 IsSize (ByteSize n) numbers =
     (numbers.is_bits ≡ 0) × (numbers.byte_size ≡ n) × (numbers.first_bit ≡ 0)
     × (numbers.end_bit ≡ 0)
@@ -30,7 +30,7 @@ IsRange (Some bounds) numbers =
     (numbers.has_range ≡ 1) × (numbers.min ≡ bounds.0) × (numbers.max ≡ bounds.1)
 
 -- what a relocation means, in numbers
-pub record InNumbers (info : RelocationKindInfo) (numbers : RelocationNumbers) : Type 0 where
+pub record InNumbers (info : RowInfo) (numbers : RelocationNumbers) : Type 0 where
   pub kind : numbers.kind ≡ kind_number info.kind
   pub size : IsSize info.size numbers
   pub mask : numbers.mask ≡ mask_number info.mask
@@ -41,7 +41,7 @@ pub record InNumbers (info : RelocationKindInfo) (numbers : RelocationNumbers) :
   pub implicit_addend : numbers.implicit_addend ≡ flag_number info.implicit_addend
 
 -- a meaning is returned in numbers with the status, and nothing is written where there is none
-abbrev pub IsReturned : Option RelocationKindInfo → ℕ → RelocationNumbers
+abbrev pub IsReturned : Option RowInfo → ℕ → RelocationNumbers
     → RelocationNumbers → Type 0
 IsReturned None status before after = (status ≡ code UnknownRelocation) × (after ≡ before)
 IsReturned (Some info) status before after = (status ≡ code Success) × InNumbers info after

@@ -10,9 +10,9 @@ use Rattle.linker_elf.specs.Reach.{reach_of}
 use Rattle.linker_elf.specs.Relocate.{window_len}
 use Rattle.linker_elf.specs.declared.elf.RelocationKind.{RelocationKind}
 use Rattle.linker_elf.specs.declared.elf.RelocationKind.TheVariants as kinds
-use Rattle.linker_elf.specs.declared.elf.RelocationKindInfo.{RelocationKindInfo}
-use Rattle.linker_elf.specs.declared.elf.RelocationSize.{RelocationSize}
-use Rattle.linker_elf.specs.declared.elf.RelocationSize.TheVariants.{ByteSize}
+use Rattle.linker_elf.specs.declared.elf.RowInfo.{RowInfo}
+use Rattle.linker_elf.specs.declared.elf.RowSize.{RowSize}
+use Rattle.linker_elf.specs.declared.elf.RowSize.TheVariants.{ByteSize}
 use Rattle.linker_elf.specs.declared.elf.choice.Choice.{Choice}
 use Rattle.linker_elf.specs.declared.elf.choice.LinkFacts.{LinkFacts}
 use Rattle.linker_elf.specs.declared.elf.relocate.ApplyError.{ApplyError}
@@ -44,7 +44,7 @@ apply_status (Some (Ok u)) = Success
 apply_status (Some (Err (Formula error))) = value_status error
 apply_status (Some (Err (Write error))) = write_status (Err error)
 
-pub record IsAppliedAs (meaning : Option RelocationKindInfo) (o : Operands) (before after : List ℕ)
+pub record IsAppliedAs (meaning : Option RowInfo) (o : Operands) (before after : List ℕ)
     (status : ℕ) : Type 0 where
   pub outcome : Option (Result Unit ApplyError)
   pub says : status ≡ code (apply_status outcome)
@@ -60,7 +60,7 @@ IsChosenIn (Some architecture) r_type section o facts numbers =
     × IsArchitectureChoice architecture r_type section o facts chosen
     × IsChoiceInNumbers architecture chosen numbers
 
-abbrev pub IsChosenOf : Option RelocationKindInfo → ℕ → List ℕ → ℕ → LinkFacts → ℕ → ChoiceNumbers
+abbrev pub IsChosenOf : Option RowInfo → ℕ → List ℕ → ℕ → LinkFacts → ℕ → ChoiceNumbers
     → ChoiceNumbers → Type 0
 IsChosenOf None handle section o facts status old new =
     (status ≡ code UnknownRelocation) × (new ≡ old)
@@ -73,7 +73,7 @@ IsFitIn None r_type section o facts fits = ⊥
 IsFitIn (Some architecture) r_type section o facts fits =
     IsFit architecture r_type section o facts fits
 
-abbrev pub IsFitOf : Option RelocationKindInfo → ℕ → List ℕ → ℕ → LinkFacts → Bool → Type 0
+abbrev pub IsFitOf : Option RowInfo → ℕ → List ℕ → ℕ → LinkFacts → Bool → Type 0
 IsFitOf None handle section o facts fits = fits ≡ false
 IsFitOf (Some row) handle section o facts fits =
     IsFitIn (architecture_in handle) (handle % handle_unit) section o facts fits
@@ -81,7 +81,7 @@ IsFitOf (Some row) handle section o facts fits =
 -- ---- a row in numbers
 
 -- the formula has P; not that of no bytes, of the first of a pair at a ULEB128 number
-abbrev pub is_relative : RelocationKind → RelocationSize → Bool
+abbrev pub is_relative : RelocationKind → RowSize → Bool
 is_relative kinds.Relative (ByteSize n) = not (n == 0)
 is_relative kinds.Relative size = true
 is_relative kinds.RelativeRiscVLow12 size = true
@@ -109,7 +109,7 @@ AreNeeded (Some needs) numbers = numbers ≡ requirements_in needs
 
 -- the row of an architecture's type; what it requires is that of the addend 1, of a symbol that
 -- isn't thread-local
-pub record InRowNumbers (architecture : Architecture) (elf_type : ℕ) (row : RelocationKindInfo)
+pub record InRowNumbers (architecture : Architecture) (elf_type : ℕ) (row : RowInfo)
     (numbers : RowNumbers) : Type 0 where
   pub r_type : numbers.r_type ≡ elf_type
   pub machine : numbers.machine ≡ machine_of architecture
@@ -119,11 +119,11 @@ pub record InRowNumbers (architecture : Architecture) (elf_type : ℕ) (row : Re
   pub reach : AreBounds (reach_of row) numbers.reach
   pub relative : numbers.is_relative ≡ flag_number (is_relative row.kind row.size)
   pub plt : (answer : Bool) × IsPltAnswer row answer × (numbers.may_use_plt ≡ flag_number answer)
-  pub needs : (meaning : Option RelocationKindInfo) × IsRow architecture elf_type meaning
+  pub needs : (meaning : Option RowInfo) × IsRow architecture elf_type meaning
       × AreNeeded (needs_in meaning (pos 1) false) numbers.needs
   pub name : (elf : ElfName) × IsElfName architecture elf_type elf × IsPaddedName elf numbers.name
 
-abbrev pub IsRowReturned : Option Architecture → ℕ → Option RelocationKindInfo → ℕ → RowNumbers
+abbrev pub IsRowReturned : Option Architecture → ℕ → Option RowInfo → ℕ → RowNumbers
     → RowNumbers → Type 0
 IsRowReturned None r_type meaning status old new =
     (status ≡ code UnknownRelocation) × (new ≡ old)

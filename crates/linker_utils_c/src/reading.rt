@@ -2,7 +2,7 @@
 //! after it.
 
 ghost use Rattle.std.specs.Prelude.{◌≡◌, Option, Some, MatchOption, MatchResult};
-ghost use Rattle.linker_elf.specs.declared.elf.RelocationKindInfo.{RelocationKindInfo};
+ghost use Rattle.linker_elf.specs.declared.elf.RowInfo.{RowInfo};
 ghost use Rattle.linker_elf.specs.Architectures.{IsRow};
 ghost use Rattle.linker_elf.specs.Machines.{architecture_of};
 ghost use Rattle.linker_utils_c.specs.Reading.{field_of, reference_number, IsValueRead};
@@ -18,7 +18,7 @@ use linker_reading::operands::operand;
 use linker_reading::reading::read;
 use linker_reading::solving::{Reference, Terms, join, solve, terms_of};
 use linker_utils::bit_misc::BitRange;
-use linker_utils::elf::{Architecture, Operands, RelocationInstruction, Row};
+use linker_utils::elf::{AnyForm, Architecture, Operands, Row};
 
 /// The number that the machine makes of the immediate of the instruction that the bytes begin with,
 /// as `operand` of `linker_reading` returns it. The first that applies of `UnknownArchitecture`;
@@ -41,7 +41,7 @@ pub extern "C" fn linker_utils_operand_nonnull(
 }
 
 #[inline(always)]
-fn put_operand(form: RelocationInstruction, bytes: &[u8], number: &mut i64) -> u32
+fn put_operand(form: AnyForm, bytes: &[u8], number: &mut i64) -> u32
     ensures { IsOperandReturned form bytes.now number.old number.new result }
 {
     match operand(form, bytes) {
@@ -108,7 +108,7 @@ pub extern "C" fn linker_utils_read_value_nonnull(
 ) -> u32
     ensures { MatchOption (architecture_of machine)
         ((result ≡ code Status.UnknownArchitecture) × (value.new ≡ value.old))
-        (λ architecture. (meaning : Option RelocationKindInfo) × IsRow architecture r_type meaning
+        (λ architecture. (meaning : Option RowInfo) × IsRow architecture r_type meaning
         × IsValueRead meaning bytes.now value.old value.new result) }
 {
     let Some(architecture) = Architecture::from_machine(machine) else {
@@ -210,7 +210,7 @@ pub extern "C" fn linker_utils_solve(
     ensures { MatchOption (architecture_of machine)
         ((result ≡ code Status.UnknownArchitecture) × (reference.new ≡ reference.old)
         × (address.new ≡ address.old))
-        (λ architecture. (meaning : Option RelocationKindInfo) × IsRow architecture r_type meaning
+        (λ architecture. (meaning : Option RowInfo) × IsRow architecture r_type meaning
         × IsValueSolved meaning (field_of value.now) operands.now reference.old
         reference.new address.old address.new result) }
 {

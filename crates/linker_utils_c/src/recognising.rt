@@ -2,7 +2,7 @@
 
 ghost use Rattle.std.specs.Prelude.{◌≡◌, ◌≤◌, MatchOption, Option, Some, false, length};
 ghost use Rattle.linker_elf.specs.Entries.{IsAnswerOf};
-ghost use Rattle.linker_elf.specs.declared.elf.RelocationKindInfo.{RelocationKindInfo};
+ghost use Rattle.linker_elf.specs.declared.elf.RowInfo.{RowInfo};
 ghost use Rattle.linker_elf.specs.Architectures.{IsRow};
 ghost use Rattle.linker_utils.specs.Relaxations.{rewrite_of_number};
 ghost use Rattle.linker_elf.specs.Machines.{architecture_of};
@@ -39,7 +39,7 @@ pub extern "C" fn linker_utils_field_bits_nonnull(
 ) -> u32
     ensures { MatchOption (architecture_of machine)
         ((result ≡ code Status.UnknownArchitecture) × (bits.new ≡ bits.old))
-        (λ architecture. (meaning : Option RelocationKindInfo) × IsRow architecture r_type meaning
+        (λ architecture. (meaning : Option RowInfo) × IsRow architecture r_type meaning
         × AreBitsOf meaning bytes.now bits.old bits.new result) }
 {
     let Some(architecture) = Architecture::from_machine(machine) else {
@@ -74,7 +74,7 @@ pub extern "C" fn linker_utils_same_but_for_nonnull(
 ) -> bool
     ensures { MatchOption (architecture_of machine)
         (result ≡ false)
-        (λ architecture. (meaning : Option RelocationKindInfo) × IsRow architecture r_type meaning
+        (λ architecture. (meaning : Option RowInfo) × IsRow architecture r_type meaning
         × IsAnswerOf (IsSameness a.now b.now) meaning result) }
 {
     let Some(architecture) = Architecture::from_machine(machine) else {

@@ -2,7 +2,7 @@
 
 ghost use Rattle.std.specs.Prelude.{◌≡◌, MatchOption, Option};
 ghost use Rattle.linker_elf.specs.declared.elf.Uleb128Role.{Uleb128Role};
-ghost use Rattle.linker_elf.specs.declared.elf.RelocationKindInfo.{RelocationKindInfo};
+ghost use Rattle.linker_elf.specs.declared.elf.RowInfo.{RowInfo};
 ghost use Rattle.linker_elf.specs.Reach.{reach_of};
 ghost use Rattle.linker_elf.specs.Architectures.{IsRow, IsRole};
 ghost use Rattle.linker_elf.specs.Machines.{architecture_of};
@@ -58,7 +58,7 @@ pub extern "C" fn linker_utils_value(
 ) -> u32
     ensures { MatchOption (architecture_of machine)
         ((result ≡ code Status.UnknownArchitecture) × (value.new ≡ value.old))
-        (λ architecture. (meaning : Option RelocationKindInfo)
+        (λ architecture. (meaning : Option RowInfo)
         × IsRow architecture r_type meaning
         × IsValueOf meaning operands.now result value.old value.new) }
 {
@@ -119,7 +119,7 @@ pub(crate) fn reach_by(row: Option<Row>, reach: &mut Reach) -> u32
 pub extern "C" fn linker_utils_reach(machine: u16, r_type: u32, reach: &mut Reach) -> u32
     ensures { MatchOption (architecture_of machine)
         ((result ≡ code Status.UnknownArchitecture) × (reach.new ≡ reach.old))
-        (λ architecture. (meaning : Option RelocationKindInfo)
+        (λ architecture. (meaning : Option RowInfo)
         × IsRow architecture r_type meaning × IsReachOf meaning result reach.old reach.new) }
 {
     let Some(architecture) = Architecture::from_machine(machine) else {

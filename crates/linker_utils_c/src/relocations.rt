@@ -2,7 +2,7 @@
 
 ghost use Rattle.std.specs.Prelude.{◌≡◌, ◌≢◌, ◌≤◌, Option, MatchOption, length, false};
 ghost use Rattle.linker_elf.specs.Entries.{IsAnswerOf, IsGotAnswer, IsPltAnswer};
-ghost use Rattle.linker_elf.specs.declared.elf.RelocationKindInfo.{RelocationKindInfo};
+ghost use Rattle.linker_elf.specs.declared.elf.RowInfo.{RowInfo};
 ghost use Rattle.linker_elf.specs.Architectures.{IsRow, IsElfName};
 ghost use Rattle.linker_utils.specs.Relaxations.{IsSkippable};
 ghost use Rattle.linker_elf.specs.Machines.{architecture_of};
@@ -26,7 +26,7 @@ pub extern "C" fn linker_utils_relocation(
 ) -> u32
     ensures { MatchOption (architecture_of machine)
         ((result ≡ code Status.UnknownArchitecture) × (info.new ≡ info.old))
-        (λ architecture. (meaning : Option RelocationKindInfo)
+        (λ architecture. (meaning : Option RowInfo)
         × IsRow architecture r_type meaning × IsReturned meaning result info.old info.new) }
 {
     let Some(architecture) = Architecture::from_machine(machine) else {
@@ -55,7 +55,7 @@ pub extern "C" fn linker_utils_clui_rel_info(info: &mut RelocationNumbers)
 pub extern "C" fn linker_utils_asks_for_got(machine: u16, r_type: u32) -> bool
     ensures { MatchOption (architecture_of machine)
         (result ≡ false)
-        (λ architecture. (meaning : Option RelocationKindInfo)
+        (λ architecture. (meaning : Option RowInfo)
         × IsRow architecture r_type meaning × IsAnswerOf IsGotAnswer meaning result) }
 {
     match Architecture::from_machine(machine) {
@@ -70,7 +70,7 @@ pub extern "C" fn linker_utils_asks_for_got(machine: u16, r_type: u32) -> bool
 pub extern "C" fn linker_utils_may_use_plt(machine: u16, r_type: u32) -> bool
     ensures { MatchOption (architecture_of machine)
         (result ≡ false)
-        (λ architecture. (meaning : Option RelocationKindInfo)
+        (λ architecture. (meaning : Option RowInfo)
         × IsRow architecture r_type meaning × IsAnswerOf IsPltAnswer meaning result) }
 {
     match Architecture::from_machine(machine) {

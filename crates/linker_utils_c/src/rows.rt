@@ -3,7 +3,7 @@
 ghost use Rattle.std.specs.Prelude.{◌≡◌, ◌%◌, MatchOption, Option, pos, false};
 ghost use Rattle.linker_elf.specs.AppliedRows.{IsAppliedIfKnown};
 ghost use Rattle.linker_elf.specs.ElfNames.{ElfName};
-ghost use Rattle.linker_elf.specs.declared.elf.RelocationKindInfo.{RelocationKindInfo};
+ghost use Rattle.linker_elf.specs.declared.elf.RowInfo.{RowInfo};
 ghost use Rattle.linker_section.specs.Needed.{needs_in};
 ghost use Rattle.linker_elf.specs.Architectures.{IsElfName, IsRow};
 ghost use Rattle.linker_elf.specs.Handles.{IsFound, IsRowOf, architecture_in, handle_unit};
@@ -23,7 +23,7 @@ use crate::status::Status;
 use linker_section::needed::needs;
 use linker_utils::architecture::fits;
 use linker_utils::elf::{
-    ApplyError, Architecture, HANDLE_UNIT, Operands, RelocationKind, RelocationSize, Row,
+    ApplyError, Architecture, HANDLE_UNIT, Operands, RelocationKind, Row, RowSize,
 };
 
 /// The row of a handle, if it is one.
@@ -43,7 +43,7 @@ fn row_of(handle: u32) -> Option<Row>
 pub extern "C" fn linker_utils_find(machine: u16, r_type: u32) -> u32
     ensures { MatchOption (architecture_of machine)
         (result ≡ 0)
-        (λ architecture. (meaning : Option RelocationKindInfo)
+        (λ architecture. (meaning : Option RowInfo)
         × IsRow architecture r_type meaning × IsFound architecture r_type meaning result) }
 {
     let Some(architecture) = Architecture::from_machine(machine) else {
@@ -56,7 +56,7 @@ pub extern "C" fn linker_utils_find(machine: u16, r_type: u32) -> u32
 /// `NoEntry`; `NoTlsBase`; `NoValue`.
 #[unsafe(no_mangle)]
 pub extern "C" fn linker_utils_row_value(handle: u32, operands: &Operands, value: &mut i64) -> u32
-    ensures { (meaning : Option RelocationKindInfo) × IsRowOf handle meaning
+    ensures { (meaning : Option RowInfo) × IsRowOf handle meaning
         × IsValueOf meaning operands.now result value.old value.new }
 {
     value_by(row_of(handle), operands, value)
@@ -66,7 +66,7 @@ pub extern "C" fn linker_utils_row_value(handle: u32, operands: &Operands, value
 /// `Unsupported`; `TooShort`; `Misaligned`; `OutOfReach`.
 #[unsafe(no_mangle)]
 pub extern "C" fn linker_utils_row_write_nonnull(handle: u32, value: i64, dest: &mut [u8]) -> u32
-    ensures { (meaning : Option RelocationKindInfo) × IsRowOf handle meaning
+    ensures { (meaning : Option RowInfo) × IsRowOf handle meaning
         × IsRelocatedAs meaning value dest.old dest.new result }
 {
     write_by(row_of(handle), value, dest)
@@ -88,7 +88,7 @@ fn status_applied(outcome: Option<Result<(), ApplyError>>) -> u32
 /// `Architecture::apply` of a handle.
 #[inline(always)]
 fn applied(handle: u32, operands: &Operands, dest: &mut [u8]) -> Option<Result<(), ApplyError>>
-    ensures { (meaning : Option RelocationKindInfo) × IsRowOf handle meaning
+    ensures { (meaning : Option RowInfo) × IsRowOf handle meaning
         × IsAppliedIfKnown meaning operands.now dest.old dest.new result }
 {
     match Architecture::of_handle(handle) {
@@ -107,7 +107,7 @@ pub extern "C" fn linker_utils_row_apply_nonnull(
     operands: &Operands,
     dest: &mut [u8],
 ) -> u32
-    ensures { (meaning : Option RelocationKindInfo) × IsRowOf handle meaning
+    ensures { (meaning : Option RowInfo) × IsRowOf handle meaning
         × IsAppliedAs meaning operands.now dest.old dest.new result }
 {
     status_applied(applied(handle, operands, dest))
@@ -116,7 +116,7 @@ pub extern "C" fn linker_utils_row_apply_nonnull(
 /// The values of a relocation that can be written, by its handle. `UnknownRelocation`.
 #[unsafe(no_mangle)]
 pub extern "C" fn linker_utils_row_reach(handle: u32, reach: &mut Reach) -> u32
-    ensures { (meaning : Option RelocationKindInfo) × IsRowOf handle meaning
+    ensures { (meaning : Option RowInfo) × IsRowOf handle meaning
         × IsReachOf meaning result reach.old reach.new }
 {
     reach_by(row_of(handle), reach)
@@ -130,7 +130,7 @@ pub extern "C" fn linker_utils_row_needs(
     is_thread_local: bool,
     required: &mut RequirementNumbers,
 ) -> u32
-    ensures { (meaning : Option RelocationKindInfo) × IsRowOf handle meaning
+    ensures { (meaning : Option RowInfo) × IsRowOf handle meaning
         × IsNeedsReturned (needs_in meaning addend is_thread_local) result required.old
         required.new }
 {
@@ -153,7 +153,7 @@ pub extern "C" fn linker_utils_row_choose_nonnull(
     facts: &LinkFactNumbers,
     choice: &mut ChoiceNumbers,
 ) -> u32
-    ensures { (meaning : Option RelocationKindInfo) × IsRowOf handle meaning
+    ensures { (meaning : Option RowInfo) × IsRowOf handle meaning
         × IsChosenOf meaning handle section.now offset (facts_of facts.now) result choice.old
         choice.new }
 {
@@ -179,7 +179,7 @@ pub extern "C" fn linker_utils_row_fits_nonnull(
     offset: u64,
     facts: &LinkFactNumbers,
 ) -> bool
-    ensures { (meaning : Option RelocationKindInfo) × IsRowOf handle meaning
+    ensures { (meaning : Option RowInfo) × IsRowOf handle meaning
         × IsFitOf meaning handle section.now offset (facts_of facts.now) result }
 {
     let Some(architecture) = Architecture::of_handle(handle) else {
@@ -220,11 +220,11 @@ pub struct RowNumbers {
 
 /// Whether the formula has the place.
 #[inline(always)]
-fn is_relative(kind: RelocationKind, size: RelocationSize) -> bool
+fn is_relative(kind: RelocationKind, size: RowSize) -> bool
     ensures { result ≡ is_relative kind size }
 {
     match kind {
-        RelocationKind::Relative => !matches!(size, RelocationSize::ByteSize(0)),
+        RelocationKind::Relative => !matches!(size, RowSize::ByteSize(0)),
         RelocationKind::RelativeRiscVLow12
         | RelocationKind::RelativeLoongArchHigh
         | RelocationKind::GotRelative
@@ -253,7 +253,7 @@ fn padded_name(architecture: Architecture, r_type: u32) -> [u8; 40]
 
 /// What a relocation of a type requires with the addend 1, of a symbol that isn't thread-local.
 fn requirements(architecture: Architecture, r_type: u32) -> RequirementNumbers
-    ensures { (meaning : Option RelocationKindInfo) × IsRow architecture r_type meaning
+    ensures { (meaning : Option RowInfo) × IsRow architecture r_type meaning
         × AreNeeded (needs_in meaning (pos 1) false) result }
 {
     match needs(architecture, r_type, 1, false) {
@@ -292,7 +292,7 @@ fn row_numbers(architecture: Architecture, r_type: u32, row: &Row) -> RowNumbers
 /// What a relocation means and requires, by its handle. `UnknownRelocation`.
 #[unsafe(no_mangle)]
 pub extern "C" fn linker_utils_row_of(handle: u32, row: &mut RowNumbers) -> u32
-    ensures { (meaning : Option RelocationKindInfo) × IsRowOf handle meaning
+    ensures { (meaning : Option RowInfo) × IsRowOf handle meaning
         × IsRowReturned (architecture_in handle) (handle % handle_unit) meaning result row.old
         row.new }
 {

@@ -1,7 +1,7 @@
 //! What a section's relocations require, their values, and writing all of them.
 
 ghost use Rattle.std.specs.Prelude.{◌≡◌, Option, MatchOption};
-ghost use Rattle.linker_elf.specs.declared.elf.RelocationKindInfo.{RelocationKindInfo};
+ghost use Rattle.linker_elf.specs.declared.elf.RowInfo.{RowInfo};
 ghost use Rattle.linker_section.specs.Needed.{needs_in};
 ghost use Rattle.linker_section.specs.Relocations.{relocation_at};
 ghost use Rattle.linker_section.specs.declared.needed.EntryClass.{EntryClass};
@@ -109,7 +109,7 @@ pub extern "C" fn linker_utils_needs(
     ensures { MatchOption (architecture_of machine)
         ((result ≡ code Status.UnknownArchitecture) × (required.new ≡ required.old))
         (λ architecture.
-        (row : Option RelocationKindInfo) × IsRow architecture r_type row
+        (row : Option RowInfo) × IsRow architecture r_type row
         × IsNeedsReturned (needs_in row addend is_thread_local) result required.old required.new) }
 {
     let Some(architecture) = Architecture::from_machine(machine) else {

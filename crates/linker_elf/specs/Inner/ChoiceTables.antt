@@ -8,7 +8,7 @@ use Rattle.linker_elf.specs.Choices.{got_high_part, private_base, changed_toc, w
 use Rattle.linker_elf.specs.Choices.{group_fits}
 use Rattle.linker_elf.specs.Choices.{addend, low_12, in_reach, in_reach_if_known}
 use Rattle.linker_elf.specs.Choices.{within, within_if_known}
-use Rattle.linker_elf.specs.declared.elf.RelocationKindInfo.{RelocationKindInfo}
+use Rattle.linker_elf.specs.declared.elf.RowInfo.{RowInfo}
 use Rattle.linker_elf.specs.declared.elf.choice.Choice.{Choice}
 use Rattle.linker_elf.specs.declared.elf.choice.LinkFacts.{LinkFacts}
 use Rattle.linker_elf.specs.declared.elf.choice_table.ChoiceEntry.{ChoiceEntry}
@@ -83,7 +83,7 @@ value_conditions some.None = []
 value_conditions (some.One v) = value_condition v ∷ []
 value_conditions (some.Both v w) = value_condition v ∷ value_condition w ∷ []
 
-abbrev pub ValuesHold : {R : Type 0} → (R → Option RelocationKindInfo) → Operands → LinkFacts
+abbrev pub ValuesHold : {R : Type 0} → (R → Option RowInfo) → Operands → LinkFacts
     → ValueConditions R → Type 0
 ValuesHold row after facts vs = AllHold row after facts (value_conditions vs)
 
@@ -104,7 +104,7 @@ entry_of e = entry e.kind e.relocation (conditions_of e)
 
 -- the instructions of an entry are there, and its conditions hold
 abbrev pub EntryApplies : {O K R : Type 0} → (O → K → List ℕ → ℕ → Type 0)
-    → (R → Option RelocationKindInfo) → (K → ℕ → Operands → Operands) → List ℕ → ℕ → LinkFacts
+    → (R → Option RowInfo) → (K → ℕ → Operands → Operands) → List ℕ → ℕ → LinkFacts
     → ChoiceEntry O K R → Type 0
 EntryApplies are_at row after section o facts e =
     Applies (are_at e.originals) row after section o facts (entry_of e)
@@ -162,7 +162,7 @@ AreSampled {K} {R} entries =
 
 -- The choice at a relocation: that of the first of its entries that applies, and else to leave the
 -- instruction and the relocation.
-abbrev pub IsChoice : {K R : Type 0} → Tables K R → (R → Option RelocationKindInfo) → R → List ℕ → ℕ
+abbrev pub IsChoice : {K R : Type 0} → Tables K R → (R → Option RowInfo) → R → List ℕ → ℕ
     → LinkFacts → Choice K R → Type 0
 IsChoice it row name section o facts chosen =
     IsFirst (Applies (it.required name section o) row it.after section o facts)

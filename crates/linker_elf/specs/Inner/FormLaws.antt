@@ -34,11 +34,11 @@ use Rattle.linker_elf.specs.declared.loongarch64.forms.LoongArch64Instruction.Th
 use Rattle.linker_elf.specs.declared.loongarch64.forms.LoongArch64Instruction.TheVariants.{Shift10}
 use Rattle.linker_elf.specs.declared.loongarch64.forms.LoongArch64Instruction.TheVariants.{Call30}
 use Rattle.linker_elf.specs.declared.loongarch64.forms.LoongArch64Instruction.TheVariants.{Call36}
-use Rattle.linker_elf.specs.declared.ppc64.forms.Ppc64Instruction.{Ppc64Instruction}
-use Rattle.linker_elf.specs.declared.ppc64.forms.Ppc64Instruction.TheVariants.{D}
-use Rattle.linker_elf.specs.declared.elf.RelocationInstruction.{RelocationInstruction}
-use Rattle.linker_elf.specs.declared.elf.RelocationInstruction.TheVariants.{AArch64, RiscV, Ppc64}
-use Rattle.linker_elf.specs.declared.elf.RelocationInstruction.TheVariants.{LoongArch64}
+use Rattle.linker_elf.specs.declared.ppc64.forms.Ppc64Form.{Ppc64Form}
+use Rattle.linker_elf.specs.declared.ppc64.forms.Ppc64Form.TheVariants.{D}
+use Rattle.linker_elf.specs.declared.elf.AnyForm.{AnyForm}
+use Rattle.linker_elf.specs.declared.elf.AnyForm.TheVariants.{AArch64, RiscV, Ppc64}
+use Rattle.linker_elf.specs.declared.elf.AnyForm.TheVariants.{LoongArch64}
 use Rattle.linker_elf.specs.declared.riscv64.forms.RiscVInstruction.{RiscVInstruction}
 use Rattle.linker_elf.specs.declared.riscv64.forms.RiscVInstruction.TheVariants.{UType, CluiType}
 use Rattle.linker_elf.specs.declared.riscv64.forms.RiscVInstruction.TheVariants.{UiType}
@@ -55,7 +55,7 @@ pub riscv_keeps : (f : RiscVInstruction) → WriteKeepsOtherBits (riscv_form f)
 riscv_keeps UType = keeps_base (riscv_form UType) (λ _ _. refl)
 riscv_keeps f = keeps_base (riscv_form f) (λ _ _. refl)
 
-pub ppc64_keeps : (f : Ppc64Instruction) → WriteKeepsOtherBits (ppc64_form f)
+pub ppc64_keeps : (f : Ppc64Form) → WriteKeepsOtherBits (ppc64_form f)
 ppc64_keeps D = keeps_base (ppc64_form D) (λ _ _. refl)
 ppc64_keeps f = keeps_base (ppc64_form f) (λ _ _. refl)
 
@@ -63,7 +63,7 @@ pub loongarch_keeps : (f : LoongArch64Instruction) → WriteKeepsOtherBits (loon
 loongarch_keeps Shift5 = keeps_base (loongarch_form Shift5) (λ _ _. refl)
 loongarch_keeps f = keeps_base (loongarch_form f) (λ _ _. refl)
 
-pub relocation_keeps : (f : RelocationInstruction) → WriteKeepsOtherBits (relocation_form f)
+pub relocation_keeps : (f : AnyForm) → WriteKeepsOtherBits (relocation_form f)
 relocation_keeps (AArch64 f) = aarch64_keeps f
 relocation_keeps (RiscV f) = riscv_keeps f
 relocation_keeps (Ppc64 f) = ppc64_keeps f
@@ -115,7 +115,7 @@ riscv_restored UiType = λ v neg before after wide laid back.
     (sound_part 12 32 0x800 ui_high refl) (sound_part 0 12 0 ui_low refl) laid wide back.value
 riscv_restored f = layout_restores (riscv_layout f) refl
 
-pub ppc64_restored : (f : Ppc64Instruction) → WriteBackChangesNothing (ppc64_form f)
+pub ppc64_restored : (f : Ppc64Form) → WriteBackChangesNothing (ppc64_form f)
 ppc64_restored D = layout_restores (ppc64_layout D) refl
 ppc64_restored f = layout_restores (ppc64_layout f) refl
 
@@ -140,7 +140,7 @@ loongarch_restored Call36 = λ v neg before after wide laid back.
     (sound_part 0 16 0 call36_low refl) laid wide back.value
 loongarch_restored f = layout_restores (loongarch_layout f) refl
 
-pub relocation_restored : (f : RelocationInstruction) → WriteBackChangesNothing (relocation_form f)
+pub relocation_restored : (f : AnyForm) → WriteBackChangesNothing (relocation_form f)
 relocation_restored (AArch64 f) = aarch64_restored f
 relocation_restored (RiscV f) = riscv_restored f
 relocation_restored (Ppc64 f) = ppc64_restored f

@@ -14,11 +14,11 @@ use Rattle.linker_elf.specs.Value.{sum_64, bias_number, masks_symbol, masks_entr
 use Rattle.linker_elf.specs.Value.{masks_got, loads_plt_word}
 use Rattle.linker_elf.specs.declared.aarch64.forms.AArch64Instruction.TheVariants.{Movnz}
 use Rattle.linker_elf.specs.declared.loongarch64.forms.LoongArch64Instruction.TheVariants.{Shift10}
-use Rattle.linker_elf.specs.declared.ppc64.forms.Ppc64Instruction.TheVariants.{Ds}
+use Rattle.linker_elf.specs.declared.ppc64.forms.Ppc64Form.TheVariants.{Ds}
 use Rattle.linker_elf.specs.declared.riscv64.forms.RiscVInstruction.TheVariants.{CluiType}
 use Rattle.linker_elf.specs.declared.elf.PageMask.{PageMask}
-use Rattle.linker_elf.specs.declared.elf.RelocationInstruction.TheVariants.{RiscV, Ppc64}
-use Rattle.linker_elf.specs.declared.elf.RelocationInstruction.TheVariants.{LoongArch64, AArch64}
+use Rattle.linker_elf.specs.declared.elf.AnyForm.TheVariants.{RiscV, Ppc64}
+use Rattle.linker_elf.specs.declared.elf.AnyForm.TheVariants.{LoongArch64, AArch64}
 use Rattle.linker_elf.specs.declared.elf.RelocationKind.{RelocationKind}
 use Rattle.linker_elf.specs.declared.elf.RelocationKind.TheVariants.{AbsoluteAddition}
 use Rattle.linker_elf.specs.declared.elf.RelocationKind.TheVariants.{AbsoluteAdditionWord6}
@@ -29,9 +29,9 @@ use Rattle.linker_elf.specs.declared.elf.RelocationKind.TheVariants.{AbsoluteSub
 use Rattle.linker_elf.specs.declared.elf.RelocationKind.TheVariants.{Alignment}
 use Rattle.linker_elf.specs.declared.elf.RelocationKind.TheVariants.{None as NoKind, Relative}
 use Rattle.linker_elf.specs.declared.elf.RelocationKind.TheVariants as kinds
-use Rattle.linker_elf.specs.declared.elf.RelocationKindInfo.{RelocationKindInfo}
-use Rattle.linker_elf.specs.declared.elf.RelocationSize.{RelocationSize}
-use Rattle.linker_elf.specs.declared.elf.RelocationSize.TheVariants.{ByteSize, BitMasking}
+use Rattle.linker_elf.specs.declared.elf.RowInfo.{RowInfo}
+use Rattle.linker_elf.specs.declared.elf.RowSize.{RowSize}
+use Rattle.linker_elf.specs.declared.elf.RowSize.TheVariants.{ByteSize, BitMasking}
 use Rattle.linker_elf.specs.declared.elf.rows.TableRow.{TableRow}
 use Rattle.linker_elf.specs.declared.elf.rows.WriteTests.{WriteTests}
 use Rattle.linker_elf.specs.declared.elf.value.Formula.{Formula}
@@ -56,7 +56,7 @@ is_unit a = a == 1 || (a == 2 || (a == 4 || (a == 8 || a == 16)))
 
 -- No instruction at which such a row is written changes how a value is written or which values are,
 -- and no encoding is reserved.
-abbrev pub is_plain : RelocationSize → RelocationKind → Bool
+abbrev pub is_plain : RowSize → RelocationKind → Bool
 is_plain (BitMasking bits (Ppc64 Ds)) kind = false
 is_plain (BitMasking bits (LoongArch64 Shift10)) AbsoluteLowPart = false
 is_plain (BitMasking bits (AArch64 Movnz)) kind = false
@@ -64,16 +64,16 @@ is_plain (BitMasking bits (RiscV CluiType)) kind = false
 is_plain size kind = true
 
 -- each multiple of the row's alignment within its reach is written
-abbrev pub takes_all : RelocationKindInfo → Bool
+abbrev pub takes_all : RowInfo → Bool
 takes_all row = is_supported row && (is_plain row.size row.kind && is_unit row.alignment)
 
 -- how many bytes become the lowest of the value
-abbrev pub bytes_of : RelocationSize → RelocationKind → ℕ
+abbrev pub bytes_of : RowSize → RelocationKind → ℕ
 bytes_of (ByteSize n) kind = if is_over kind then 0 else n
 bytes_of (BitMasking bits insn) kind = 0
 
 -- what a write of a row tests
-abbrev pub tests_of : RelocationKindInfo → WriteTests
+abbrev pub tests_of : RowInfo → WriteTests
 tests_of row =
     record {
       is_supported = is_supported row;
@@ -91,17 +91,17 @@ bits_of true = 2 ^ 64 - 2 ^ 12
 bits_of false = 2 ^ 64 - 1
 
 -- the bits of an addend that are added to the address of an entry
-abbrev pub addend_bits : RelocationSize → ℕ
+abbrev pub addend_bits : RowSize → ℕ
 addend_bits (BitMasking bits (AArch64 insn)) = 0
 addend_bits (BitMasking bits (Ppc64 insn)) = 0
 addend_bits size = 2 ^ 64 - 1
 
 -- the first of a pair at a ULEB128 number, whose formula is S + A
-abbrev pub is_set : RelocationKind → RelocationSize → Bool
+abbrev pub is_set : RelocationKind → RowSize → Bool
 is_set Relative (ByteSize n) = n == 0
 is_set kind size = false
 
-abbrev pub place_bits : RelocationKind → RelocationSize → Option PageMask → ℕ
+abbrev pub place_bits : RelocationKind → RowSize → Option PageMask → ℕ
 place_bits kind size mask = if is_set kind size then 0 else bits_of (masks_place mask)
 
 -- the terms of a kind's formula (`formula` of Value)
@@ -139,7 +139,7 @@ formula_of kinds.TlsDescLoongArch64 = formulas.LoongArchEntry
 formula_of kind = formulas.Symbol
 
 -- a row's formula, what it adds, and which bits of its terms count
-abbrev pub terms_of : RelocationKindInfo → FormulaTerms
+abbrev pub terms_of : RowInfo → FormulaTerms
 terms_of row =
     record {
       formula = formula_of row.kind;
@@ -186,7 +186,7 @@ as_given o =
     record o { has_got_entry = true; has_plt_entry = true; has_tls_base = true }
 
 -- the entry of a row, which may be one of this library's own
-abbrev pub entry_of : Bool → RelocationKindInfo → TableRow
+abbrev pub entry_of : Bool → RowInfo → TableRow
 entry_of is_own row =
     record {
       kind = row.kind;
@@ -201,7 +201,7 @@ entry_of is_own row =
     }
 
 -- the row of an entry
-abbrev pub info_of : TableRow → RelocationKindInfo
+abbrev pub info_of : TableRow → RowInfo
 info_of entry =
     record {
       kind = entry.kind;
@@ -222,12 +222,12 @@ pub record IsSound (entry : TableRow) : Type 0 where
   pub is : entry ≡ entry_of entry.is_own (info_of entry)
   pub fits : RowFits (info_of entry)
 
-abbrev pub info_in : Option TableRow → Option RelocationKindInfo
+abbrev pub info_in : Option TableRow → Option RowInfo
 info_in None = None
 info_in (Some entry) = Some (info_of entry)
 
 -- the same without this library's own rows
-abbrev pub raw_info_in : Option TableRow → Option RelocationKindInfo
+abbrev pub raw_info_in : Option TableRow → Option RowInfo
 raw_info_in None = None
 raw_info_in (Some entry) = if entry.is_own then None else Some (info_of entry)
 
@@ -236,7 +236,7 @@ abbrev pub raw_kind : RelocationKind → RelocationKind
 raw_kind Alignment = NoKind
 raw_kind kind = kind
 
-abbrev pub with_raw_kind : Option RelocationKindInfo → Option RelocationKindInfo
+abbrev pub with_raw_kind : Option RowInfo → Option RowInfo
 with_raw_kind None = None
 with_raw_kind (Some row) = Some (record row { kind = raw_kind row.kind })
 
@@ -244,12 +244,12 @@ abbrev pub is_own_in : Option TableRow → Bool
 is_own_in None = false
 is_own_in (Some entry) = entry.is_own
 
-abbrev pub entry_in : Bool → Option RelocationKindInfo → Option TableRow
+abbrev pub entry_in : Bool → Option RowInfo → Option TableRow
 entry_in is_own None = None
 entry_in is_own (Some row) = Some (entry_of is_own row)
 
 -- an entry of a table is the row of its name
-pub record IsEntryOf (row : Option RelocationKindInfo) (entry : Option TableRow) : Type 0 where
+pub record IsEntryOf (row : Option RowInfo) (entry : Option TableRow) : Type 0 where
   pub row_is : info_in entry ≡ row
   pub entry_is : entry ≡ entry_in (is_own_in entry) (info_in entry)
 

@@ -9,15 +9,15 @@ use Rattle.linker_base.specs.Form.{ImmediateBit, Mark, replaced, ored, cleared, 
 use Rattle.linker_base.specs.Form.{values_apart, values_below}
 use Rattle.linker_elf.specs.contracts.aarch64.forms.AArch64Instruction as aarch64
 use Rattle.linker_elf.specs.contracts.loongarch64.forms.LoongArch64Instruction as loongarch64
-use Rattle.linker_elf.specs.contracts.ppc64.forms.Ppc64Instruction as ppc64
+use Rattle.linker_elf.specs.contracts.ppc64.forms.Ppc64Form as ppc64
 use Rattle.linker_elf.specs.contracts.riscv64.forms.RiscVInstruction as riscv64
 use Rattle.linker_elf.specs.Elf.{relocation_form}
 use Rattle.linker_elf.specs.declared.aarch64.forms.TheConstants as aarch64_table
 use Rattle.linker_elf.specs.declared.aarch64.forms.AArch64Instruction.TheVariants.{Movnz}
 use Rattle.linker_elf.specs.declared.aarch64.forms.AArch64Instruction.TheVariants.{MachOLow12}
-use Rattle.linker_elf.specs.declared.elf.RelocationInstruction.{RelocationInstruction}
-use Rattle.linker_elf.specs.declared.elf.RelocationInstruction.TheVariants.{AArch64, LoongArch64}
-use Rattle.linker_elf.specs.declared.elf.RelocationInstruction.TheVariants.{Ppc64, RiscV}
+use Rattle.linker_elf.specs.declared.elf.AnyForm.{AnyForm}
+use Rattle.linker_elf.specs.declared.elf.AnyForm.TheVariants.{AArch64, LoongArch64}
+use Rattle.linker_elf.specs.declared.elf.AnyForm.TheVariants.{Ppc64, RiscV}
 use Rattle.linker_elf.specs.declared.elf.engine.Encoding.{Encoding}
 use Rattle.linker_elf.specs.declared.elf.engine.Step.{Step}
 use Rattle.linker_elf.specs.declared.elf.engine.TheConstants.{UNSIGNED}
@@ -43,7 +43,7 @@ words_below n ps = list_all (λ (p : ImmediateBit). nat_lt p.insn_bit n) ps
 
 -- ---- the tables
 
-abbrev pub code_of : RelocationInstruction → Encoding × List Step
+abbrev pub code_of : AnyForm → Encoding × List Step
 code_of (AArch64 f) =
     let k = tag_of aarch64.the_type f in
     (slice_index_or aarch64_table.CODES k UNSIGNED, slice_index_or aarch64_table.STEPS k [])
@@ -58,7 +58,7 @@ code_of (LoongArch64 f) =
     (slice_index_or loongarch64_table.CODES k UNSIGNED, slice_index_or loongarch64_table.STEPS k [])
 
 -- the form's places hold the value, in any window
-abbrev pub is_plain : RelocationInstruction → Bool
+abbrev pub is_plain : AnyForm → Bool
 is_plain (AArch64 Movnz) = false
 is_plain (AArch64 MachOLow12) = false
 is_plain f = true
@@ -122,7 +122,7 @@ reads ss ps =
     && (values_below 64 ps && (steps_fit 64 ss && agree_below (comes_from ps ss) (λ _. true) 64))
 
 -- Steps of a form, spread bit by bit, are its places: they write and read them.
-abbrev pub moves_places : RelocationInstruction → List Step → Bool
+abbrev pub moves_places : AnyForm → List Step → Bool
 moves_places f ss =
     let places = (relocation_form f).places 0 in
     writes (bits_of (code_of f).0.window) (code_of f).0 ss places && reads ss places

@@ -14,7 +14,7 @@ ghost use Rattle.linker_elf.specs.Relocate.{ored_cleared, is_32_bit_move, is_mov
 ghost use Rattle.linker_elf.specs.Inner.Runs.{code_of, moves_places};
 
 use crate::elf::engine::{self, Encoding, Step, Window, forms};
-use crate::elf::{InstructionForm, RelocationInstruction};
+use crate::elf::{AnyForm, InstructionForm};
 use linker_base::bit_misc::{BitExtraction, BitRange};
 
 /// AArch64 instructions with an immediate (Arm Architecture Reference Manual for A-profile, DDI
@@ -130,7 +130,7 @@ impl AArch64Instruction {
     /// What the form is beside its steps.
     #[inline(always)]
     fn code(self) -> &'static Encoding
-        ensures { result.now ≡ (code_of (RelocationInstruction.AArch64 self)).0 }
+        ensures { result.now ≡ (code_of (AnyForm.AArch64 self)).0 }
     {
         &CODES[self as usize]
     }
@@ -138,8 +138,8 @@ impl AArch64Instruction {
     /// How its bits move.
     #[inline(always)]
     fn steps(self) -> &'static [Step; 2]
-        ensures moves { result.now ≡ (code_of (RelocationInstruction.AArch64 self)).1 }
-        ensures places { IsTrue (moves_places (RelocationInstruction.AArch64 self) result.now) }
+        ensures moves { result.now ≡ (code_of (AnyForm.AArch64 self)).1 }
+        ensures places { IsTrue (moves_places (AnyForm.AArch64 self) result.now) }
     {
         &STEPS[self as usize]
     }
@@ -224,7 +224,7 @@ impl AArch64Instruction {
                     false,
                 )
             }
-            _ => engine::read(RelocationInstruction::AArch64(self), code, steps, bytes),
+            _ => engine::read(AnyForm::AArch64(self), code, steps, bytes),
         }
     }
 
@@ -254,7 +254,7 @@ impl AArch64Instruction {
     /// Which bits of its number the immediate has.
     #[inline]
     pub fn value_bits(self) -> BitRange
-        ensures { result ≡ immediate_of (RelocationInstruction.AArch64 self) }
+        ensures { result ≡ immediate_of (AnyForm.AArch64 self) }
     {
         self.code().bits
     }
@@ -274,7 +274,7 @@ impl AArch64Instruction {
     #[inline(always)]
     pub(crate) fn is_32_bit_move(self, word: u64) -> bool
         requires { word < 2 ^ 32 }
-        ensures { result ≡ is_32_bit_move (RelocationInstruction.AArch64 self) word }
+        ensures { result ≡ is_32_bit_move (AnyForm.AArch64 self) word }
     {
         self == AArch64Instruction::Movnz && word >> 31 == 0
     }

@@ -10,7 +10,7 @@ ghost use Rattle.linker_elf.specs.contracts.aarch64.relocations.AArch64Relocatio
 
 use crate::elf::choice_table::RelocationName;
 use crate::elf::rows::{TableRow, info_in, listed, row_in, text_at};
-use crate::elf::{RelocationKindInfo, Row};
+use crate::elf::{Row, RowInfo};
 use std::fmt;
 
 /// The relocations of AArch64, by their names in ELF for the Arm 64-bit Architecture, "Relocation".
@@ -347,7 +347,7 @@ impl RelocationName for AArch64Relocation {
 
 /// What a relocation means, as `row` says.
 #[inline(always)]
-pub fn relocation_type_from_raw(name: AArch64Relocation) -> Option<RelocationKindInfo>
+pub fn relocation_type_from_raw(name: AArch64Relocation) -> Option<RowInfo>
     ensures row { result ≡ aarch64_row name }
     ensures agrees { IfSome result RowAgrees }
     ensures others { IfSome result RowReadsNoOther }

@@ -12,13 +12,12 @@ ghost use Rattle.linker_elf.specs.Uleb128.{IsNumberWritten, IsPairNumber, IsPair
 ghost use Rattle.linker_elf.specs.Uleb128.{BeginsWithNone};
 ghost use Rattle.linker_elf.specs.Value.{difference_64};
 ghost use Rattle.linker_elf.specs.Uleb128.{IsPairOutcome};
-ghost use Rattle.linker_elf.specs.declared.elf.RelocationKindInfo.{RelocationKindInfo};
+ghost use Rattle.linker_elf.specs.declared.elf.RowInfo.{RowInfo};
 ghost use Rattle.linker_elf.specs.declared.elf.Uleb128Role.{Uleb128Role};
 
 use super::{
-    AArch64Instruction, ApplyError, EM_AARCH64, EM_LOONGARCH, EM_PPC64, EM_RISCV, EM_X86_64,
-    LoongArch64Instruction, Operands, Ppc64Instruction, RelocationInstruction, RiscVInstruction,
-    Row, Uleb128Role,
+    AArch64Instruction, AnyForm, ApplyError, EM_AARCH64, EM_LOONGARCH, EM_PPC64, EM_RISCV,
+    EM_X86_64, LoongArch64Instruction, Operands, Ppc64Form, RiscVInstruction, Row, Uleb128Role,
 };
 use crate::loongarch64::LoongArch64Relocation;
 use crate::riscv64::RiscVRelocation;
@@ -198,7 +197,7 @@ impl Architecture {
         operands: &Operands,
         dest: &mut [u8],
     ) -> Option<Result<(), ApplyError>>
-        ensures { (row : Option RelocationKindInfo) × IsRow self r_type row
+        ensures { (row : Option RowInfo) × IsRow self r_type row
             × IsAppliedIfKnown row operands.now dest.old dest.new result }
     {
         match self {
@@ -226,7 +225,7 @@ impl Architecture {
         dest: &mut [u8],
         in_place: bool,
     ) -> Option<Result<(), ApplyError>>
-        ensures { (row : Option RelocationKindInfo) × IsRow self r_type row
+        ensures { (row : Option RowInfo) × IsRow self r_type row
             × IsAppliedIfKnown row operands.now dest.old dest.new result }
     {
         match self.row(r_type) {
@@ -248,7 +247,7 @@ impl Architecture {
     /// assert_eq!(Architecture::X86_64.handle(5), 0);
     /// ```
     pub fn handle(self, r_type: u32) -> u32
-        ensures { (meaning : Option RelocationKindInfo) × IsRow self r_type meaning
+        ensures { (meaning : Option RowInfo) × IsRow self r_type meaning
             × IsFound self r_type meaning result }
     {
         match self.row(r_type) {
@@ -295,7 +294,7 @@ impl Architecture {
     /// assert!(!Architecture::X86_64.asks_for_got(26));
     /// ```
     pub fn asks_for_got(self, r_type: u32) -> bool
-        ensures { (meaning : Option RelocationKindInfo) × IsRow self r_type meaning
+        ensures { (meaning : Option RowInfo) × IsRow self r_type meaning
             × IsAnswerOf IsGotAnswer meaning result }
     {
         match self.row(r_type) {
@@ -315,7 +314,7 @@ impl Architecture {
     /// assert!(!Architecture::AArch64.may_use_plt(257));
     /// ```
     pub fn may_use_plt(self, r_type: u32) -> bool
-        ensures { (meaning : Option RelocationKindInfo) × IsRow self r_type meaning
+        ensures { (meaning : Option RowInfo) × IsRow self r_type meaning
             × IsAnswerOf IsPltAnswer meaning result }
     {
         match self.row(r_type) {
@@ -372,22 +371,18 @@ impl Architecture {
     /// The form with a number, its place in the enum of its architecture's forms. None above the
     /// last, and of x86-64, whose fields are whole bytes.
     #[inline(always)]
-    pub fn form(self, number: u32) -> Option<RelocationInstruction>
+    pub fn form(self, number: u32) -> Option<AnyForm>
         ensures { result ≡ form_of_number self number }
     {
         match self {
             Architecture::AArch64 => {
-                AArch64Instruction::from_number(number).map(RelocationInstruction::AArch64)
+                AArch64Instruction::from_number(number).map(AnyForm::AArch64)
             }
-            Architecture::RiscV => {
-                RiscVInstruction::from_number(number).map(RelocationInstruction::RiscV)
-            }
+            Architecture::RiscV => { RiscVInstruction::from_number(number).map(AnyForm::RiscV) }
             Architecture::LoongArch64 => {
-                LoongArch64Instruction::from_number(number).map(RelocationInstruction::LoongArch64)
+                LoongArch64Instruction::from_number(number).map(AnyForm::LoongArch64)
             }
-            Architecture::Ppc64 => {
-                Ppc64Instruction::from_number(number).map(RelocationInstruction::Ppc64)
-            }
+            Architecture::Ppc64 => { Ppc64Form::from_number(number).map(AnyForm::Ppc64) }
             Architecture::X86_64 => None,
         }
     }

@@ -7,7 +7,7 @@ ghost use Rattle.linker_elf.specs.Inner.ChoiceTables.{is_held, facts_hold, value
 ghost use Rattle.linker_elf.specs.Inner.ChoiceTables.{seldom_facts_hold, AreSampled, ValuesHold};
 ghost use Rattle.linker_elf.specs.Inner.ChoiceTables.{EntryApplies, IsFirstOf, IsChoiceAt};
 ghost use Rattle.linker_elf.specs.Inner.ChoiceTables.{IsTableOf, Tables, IsChoice, AreEqualities};
-ghost use Rattle.linker_elf.specs.declared.elf.RelocationKindInfo.{RelocationKindInfo};
+ghost use Rattle.linker_elf.specs.declared.elf.RowInfo.{RowInfo};
 ghost use Rattle.linker_elf.specs.declared.elf.value.Operands.{Operands};
 
 use crate::elf::{Choice, InstructionRewrite, LinkFacts, Operands, Row};
@@ -109,7 +109,7 @@ pub struct ChoiceEntry<O, K, R> {
 /// A relocation's name, which has a row.
 pub trait RelocationName: Copy {
     // its row
-    ghost row_of: { Self → Option RelocationKindInfo };
+    ghost row_of: { Self → Option RowInfo };
 
     /// Its row, if it has one.
     fn find_row(self) -> Option<Row>

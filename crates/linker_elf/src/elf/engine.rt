@@ -6,7 +6,7 @@ ghost use Rattle.linker_base.specs.Form.{ImmediateBit, BitsWritten, Written, win
 ghost use Rattle.linker_elf.specs.Elf.{relocation_form};
 ghost use Rattle.linker_elf.specs.Inner.Runs.{width_of, bits_of, writes, reads, code_of, is_plain};
 
-use crate::elf::RelocationInstruction;
+use crate::elf::AnyForm;
 use linker_base::bit_misc::BitRange;
 
 /// Runs of a value's bits that move to the window by the same distance.
@@ -234,7 +234,7 @@ pub(crate) fn number_in(steps: &[Step], window: u64) -> u64
 /// `_negative`.
 #[inline(always)]
 pub(crate) fn write(
-    _insn: RelocationInstruction,
+    _insn: AnyForm,
     code: &Encoding,
     steps: &[Step],
     value: u64,
@@ -260,12 +260,7 @@ pub(crate) fn write(
 /// The value in the instruction that `bytes` begins with, modulo 2^64, and a flag. The contract
 /// alone uses `_insn`.
 #[inline(always)]
-pub(crate) fn read(
-    _insn: RelocationInstruction,
-    code: &Encoding,
-    steps: &[Step],
-    bytes: &[u8],
-) -> (u64, bool)
+pub(crate) fn read(_insn: AnyForm, code: &Encoding, steps: &[Step], bytes: &[u8]) -> (u64, bool)
     requires room { byte_len (relocation_form _insn).window ≤ length bytes.now }
     requires plain { IsTrue (is_plain _insn) }
     requires code { code.now ≡ (code_of _insn).0 }

@@ -4,7 +4,7 @@ ghost use Rattle.std.specs.Prelude.{◌≡◌};
 ghost use Rattle.linker_elf.specs.Entries.{is_of_high_part, is_branch};
 ghost use Rattle.linker_elf.specs.Value.{names_got_entry, names_plt_entry};
 
-use crate::elf::{RelocationInstruction, RelocationKind, RelocationSize, RiscVInstruction};
+use crate::elf::{AnyForm, RelocationKind, RiscVInstruction, RowSize};
 
 /// Whether the formula names the address of a PLT entry.
 #[inline(always)]
@@ -19,13 +19,13 @@ pub(crate) fn names_plt_entry(kind: RelocationKind) -> bool
 
 /// Whether the symbol labels a high part, whose value is taken.
 #[inline(always)]
-pub(crate) fn is_of_high_part(size: RelocationSize) -> bool
+pub(crate) fn is_of_high_part(size: RowSize) -> bool
     ensures { result ≡ is_of_high_part size }
 {
     matches!(
         size,
-        RelocationSize::BitMasking {
-            insn: RelocationInstruction::RiscV(RiscVInstruction::IType | RiscVInstruction::SType),
+        RowSize::BitMasking {
+            insn: AnyForm::RiscV(RiscVInstruction::IType | RiscVInstruction::SType),
             ..
         }
     )
@@ -61,15 +61,15 @@ impl RelocationKind {
     }
 }
 
-impl RelocationSize {
+impl RowSize {
     /// Whether the value goes into a branch, conditional or not. False for whole bytes.
     #[inline(always)]
     pub fn is_branch(self) -> bool
         ensures { result ≡ is_branch self }
     {
         match self {
-            RelocationSize::ByteSize(_) => false,
-            RelocationSize::BitMasking { range, insn } => insn.is_branch(range),
+            RowSize::ByteSize(_) => false,
+            RowSize::BitMasking { range, insn } => insn.is_branch(range),
         }
     }
 }

@@ -7,10 +7,10 @@ ghost use Rattle.linker_elf.specs.Elf.{relocation_form};
 ghost use Rattle.linker_elf.specs.Entries.{is_branch_insn};
 ghost use Rattle.linker_elf.specs.Forms.{instruction_mask, immediate_of};
 
-use crate::elf::{InstructionForm, RelocationInstruction, of_form};
+use crate::elf::{AnyForm, InstructionForm, of_form};
 use linker_base::bit_misc::BitRange;
 
-impl RelocationInstruction {
+impl AnyForm {
     /// The bits that a write of a row may change in the instruction that `bytes` begins with, where
     /// those of a range are taken.
     #[inline]
@@ -20,10 +20,10 @@ impl RelocationInstruction {
             ≡ instruction_mask self range (window_of (relocation_form self) bytes.now) }
     {
         match self {
-            RelocationInstruction::AArch64(insn) => insn.field_mask(),
-            RelocationInstruction::RiscV(insn) => insn.field_mask(),
-            RelocationInstruction::Ppc64(insn) => insn.field_mask(bytes),
-            RelocationInstruction::LoongArch64(insn) => insn.field_mask(range),
+            AnyForm::AArch64(insn) => insn.field_mask(),
+            AnyForm::RiscV(insn) => insn.field_mask(),
+            AnyForm::Ppc64(insn) => insn.field_mask(bytes),
+            AnyForm::LoongArch64(insn) => insn.field_mask(range),
         }
     }
 
@@ -41,10 +41,10 @@ impl RelocationInstruction {
         ensures { result ≡ is_branch_insn self range }
     {
         match self {
-            RelocationInstruction::AArch64(insn) => insn.is_branch(),
-            RelocationInstruction::RiscV(insn) => insn.is_branch(),
-            RelocationInstruction::Ppc64(insn) => insn.is_branch(),
-            RelocationInstruction::LoongArch64(insn) => insn.is_branch(range),
+            AnyForm::AArch64(insn) => insn.is_branch(),
+            AnyForm::RiscV(insn) => insn.is_branch(),
+            AnyForm::Ppc64(insn) => insn.is_branch(),
+            AnyForm::LoongArch64(insn) => insn.is_branch(range),
         }
     }
 }

@@ -15,9 +15,8 @@ ghost use Rattle.linker_elf.specs.WriteErrors.{write_error};
 use crate::aarch64::is_movk;
 use crate::elf::engine::Window;
 use crate::elf::{
-    AArch64Instruction, FormulaError, InstructionForm, LoongArch64Instruction,
-    RelocationInstruction, RelocationKind, RelocationKindInfo, RelocationSize, RiscVInstruction,
-    Row,
+    AArch64Instruction, AnyForm, FormulaError, InstructionForm, LoongArch64Instruction,
+    RelocationKind, RiscVInstruction, Row, RowInfo, RowSize,
 };
 use crate::loongarch64::is_jirl;
 use crate::ppc64::DQ_UNIT;
@@ -129,7 +128,7 @@ fn taken_bits(bits: BitRange, value: i64) -> u64
 
 /// Writes bits of a number into an instruction.
 #[inline(always)]
-pub(crate) fn write_field(insn: RelocationInstruction, bits: BitRange, value: i64, dest: &mut [u8])
+pub(crate) fn write_field(insn: AnyForm, bits: BitRange, value: i64, dest: &mut [u8])
     requires room { byte_len (relocation_form insn).window ≤ length dest.old }
     requires some { bits.start < bits.end }
     requires inside { bits.end ≤ 64 }
@@ -140,7 +139,7 @@ pub(crate) fn write_field(insn: RelocationInstruction, bits: BitRange, value: i6
     let number = taken_bits(bits, value);
     let negative = value < 0;
     match insn {
-        RelocationInstruction::AArch64(insn) => {
+        AnyForm::AArch64(insn) => {
             let old = Window::Four.load(dest);
             let word = insn.word_with(number, negative, insn.clear_immediate(old));
             // a move keeps its size
@@ -151,12 +150,12 @@ pub(crate) fn write_field(insn: RelocationInstruction, bits: BitRange, value: i6
             };
             Window::Four.store(new, dest);
         }
-        RelocationInstruction::RiscV(insn) => insn.write_to_value(number, negative, dest),
-        RelocationInstruction::Ppc64(insn) => {
+        AnyForm::RiscV(insn) => insn.write_to_value(number, negative, dest),
+        AnyForm::Ppc64(insn) => {
             let number = insn.number_placed(number, dest);
             insn.write_to_value(number, negative, dest);
         }
-        RelocationInstruction::LoongArch64(insn) => {
+        AnyForm::LoongArch64(insn) => {
             insn.clear_immediate(bits, dest);
             insn.write_to_value(number, negative, dest);
         }
@@ -172,35 +171,35 @@ pub(crate) fn write_aarch64(insn: AArch64Instruction, bits: BitRange, value: i64
     requires inside { bits.end ≤ 64 }
     requires fits { Fits (aarch64_form insn) (bits_taken bits value)
         (window_of (aarch64_form insn) dest.old) }
-    ensures { InstructionWritten (RelocationInstruction.AArch64 insn) bits value dest.old dest.new }
+    ensures { InstructionWritten (AnyForm.AArch64 insn) bits value dest.old dest.new }
 {
-    write_field(RelocationInstruction::AArch64(insn), bits, value, dest);
+    write_field(AnyForm::AArch64(insn), bits, value, dest);
 }
 
 /// Whether an instruction is a MOVK, where a row is for MOVN and MOVZ.
 #[inline(always)]
-fn stays_movk(insn: RelocationInstruction, bits: BitRange, dest: &[u8]) -> bool
+fn stays_movk(insn: AnyForm, bits: BitRange, dest: &[u8]) -> bool
     requires { byte_len (relocation_form insn).window ≤ length dest.now }
     ensures { result ≡ stays_movk insn bits (window_of (relocation_form insn) dest.now) }
 {
     match insn {
-        RelocationInstruction::AArch64(AArch64Instruction::Movnz) => {
+        AnyForm::AArch64(AArch64Instruction::Movnz) => {
             is_movk(Window::Four.load(dest)) && bits.end.saturating_sub(bits.start) < 17
         }
         _ => false,
     }
 }
 
-impl RelocationInstruction {
+impl AnyForm {
     /// The form in which a row's bits are written: that of MOVK where one stands and the row is for
     /// MOVN and MOVZ, and else the row's.
     #[inline(always)]
-    pub fn written_at(self, bits: BitRange, dest: &[u8]) -> RelocationInstruction
+    pub fn written_at(self, bits: BitRange, dest: &[u8]) -> AnyForm
         requires { byte_len (relocation_form self).window ≤ length dest.now }
         ensures { result ≡ insn_at self bits (window_of (relocation_form self) dest.now) }
     {
         if stays_movk(self, bits, dest) {
-            RelocationInstruction::AArch64(AArch64Instruction::Movkz)
+            AnyForm::AArch64(AArch64Instruction::Movkz)
         } else {
             self
         }
@@ -213,7 +212,7 @@ impl RelocationInstruction {
         ensures { result ≡ is_low_jump self kind (window_of (relocation_form self) dest.now) }
     {
         match self {
-            RelocationInstruction::LoongArch64(LoongArch64Instruction::Shift10) => {
+            AnyForm::LoongArch64(LoongArch64Instruction::Shift10) => {
                 kind == RelocationKind::AbsoluteLowPart && is_jirl(Window::Four.load(dest))
             }
             _ => false,
@@ -252,7 +251,7 @@ fn low_part(value: i64) -> i64
 /// memory.
 pub(crate) fn write_bits(
     kind: RelocationKind,
-    insn: RelocationInstruction,
+    insn: AnyForm,
     bits: BitRange,
     value: i64,
     dest: &mut [u8],
@@ -262,7 +261,7 @@ pub(crate) fn write_bits(
     requires inside { bits.end ≤ 64 }
     requires fits { Fits (relocation_form insn) (bits_taken bits value)
         (window_of (relocation_form insn) dest.old) }
-    ensures { IsWritten (RelocationSize.BitMasking bits insn) kind value dest.old dest.new }
+    ensures { IsWritten (RowSize.BitMasking bits insn) kind value dest.old dest.new }
 {
     let form = insn.written_at(bits, dest);
     let (taken, number) = if insn.is_low_jump(kind, dest) {
@@ -275,13 +274,13 @@ pub(crate) fn write_bits(
 
 /// Whether a value is a multiple of 4, where a `jirl` gets the low part of an address.
 #[inline(always)]
-fn is_in_words(size: RelocationSize, kind: RelocationKind, value: i64, dest: &[u8]) -> bool
+fn is_in_words(size: RowSize, kind: RelocationKind, value: i64, dest: &[u8]) -> bool
     requires room { size_len size ≤ length dest.now }
     ensures { IsTrue result ↔ IsInWords size kind value dest.now }
 {
     match size {
-        RelocationSize::ByteSize(_) => true,
-        RelocationSize::BitMasking { insn, .. } => {
+        RowSize::ByteSize(_) => true,
+        RowSize::BitMasking { insn, .. } => {
             !insn.is_low_jump(kind, dest) || value.rem_euclid(4) == 0
         }
     }
@@ -289,12 +288,12 @@ fn is_in_words(size: RelocationSize, kind: RelocationKind, value: i64, dest: &[u
 
 /// Whether an encoding that isn't reserved holds a value: `c.lui` has no immediate 0.
 #[inline(always)]
-pub(crate) fn is_encoded(size: RelocationSize, value: i64) -> bool
+pub(crate) fn is_encoded(size: RowSize, value: i64) -> bool
     ensures { IsTrue result ↔ IsEncoded size value }
 {
     match size {
-        RelocationSize::BitMasking {
-            insn: RelocationInstruction::RiscV(RiscVInstruction::CluiType),
+        RowSize::BitMasking {
+            insn: AnyForm::RiscV(RiscVInstruction::CluiType),
             ..
         } => value < -0x800 || 0x800 <= value,
         _ => true,
@@ -303,20 +302,20 @@ pub(crate) fn is_encoded(size: RelocationSize, value: i64) -> bool
 
 /// Whether a value is a multiple of 16, where an instruction of DQ-form stands.
 #[inline(always)]
-fn is_in_units(size: RelocationSize, value: i64, dest: &[u8]) -> bool
+fn is_in_units(size: RowSize, value: i64, dest: &[u8]) -> bool
     requires room { size_len size ≤ length dest.now }
     ensures { IsTrue result ↔ IsInUnits size value dest.now }
 {
     match size {
-        RelocationSize::BitMasking {
-            insn: RelocationInstruction::Ppc64(insn),
+        RowSize::BitMasking {
+            insn: AnyForm::Ppc64(insn),
             ..
         } => !insn.is_dq_form(dest) || value.rem_euclid(DQ_UNIT as i64) == 0,
         _ => true,
     }
 }
 
-impl RelocationKindInfo {
+impl RowInfo {
     /// Whether a value is a multiple of the row's alignment.
     #[inline(always)]
     pub(crate) fn is_aligned(&self, value: i64) -> bool

@@ -23,9 +23,8 @@ use crate::elf::relocate::{
 };
 use crate::elf::value::FormulaTerms;
 use crate::elf::{
-    AllowedRange, ApplyError, Bias, FormulaError, Operands, PageMask, RelocateError,
-    RelocationInstruction, RelocationKind, RelocationKindInfo, RelocationNumbers, RelocationSize,
-    RowFacts,
+    AllowedRange, AnyForm, ApplyError, Bias, FormulaError, Operands, PageMask, RelocateError,
+    RelocationKind, RelocationNumbers, RowFacts, RowInfo, RowSize,
 };
 use std::marker::Model;
 
@@ -34,7 +33,7 @@ use std::marker::Model;
 #[derive(Clone, Copy)]
 pub(crate) struct TableRow {
     pub(crate) kind: RelocationKind,
-    pub(crate) size: RelocationSize,
+    pub(crate) size: RowSize,
     pub(crate) mask: Option<PageMask>,
     pub(crate) numbers: RelocationNumbers,
     pub(crate) tests: WriteTests,
@@ -93,10 +92,10 @@ pub struct Row {
 }
 
 impl Model for Row {
-    ghost use Rattle.linker_elf.specs.declared.elf.RelocationKindInfo.{RelocationKindInfo};
+    ghost use Rattle.linker_elf.specs.declared.elf.RowInfo.{RowInfo};
     ghost use Rattle.linker_elf.specs.Inner.RowTables.{info_of, IsSound};
 
-    ghost Value = { RelocationKindInfo };
+    ghost Value = { RowInfo };
 
     ghost view = { λ row. info_of row.entry.now };
 
@@ -117,7 +116,7 @@ pub(crate) fn row_in(entry: &'static Option<TableRow>) -> Option<Row>
 
 /// What the row of a table's entry means, if the crate `linker-utils` has such a row.
 #[inline(always)]
-pub(crate) fn raw_info_in(entry: &'static Option<TableRow>) -> Option<RelocationKindInfo>
+pub(crate) fn raw_info_in(entry: &'static Option<TableRow>) -> Option<RowInfo>
     requires { IfSome entry.now IsSound }
     ensures row { result ≡ raw_info_in entry.now }
     ensures fits { IfSome result RowFits }
@@ -131,7 +130,7 @@ pub(crate) fn raw_info_in(entry: &'static Option<TableRow>) -> Option<Relocation
 
 /// What a row means, if there is one.
 #[inline(always)]
-pub(crate) fn info_in(row: Option<Row>) -> Option<RelocationKindInfo>
+pub(crate) fn info_in(row: Option<Row>) -> Option<RowInfo>
     ensures row { result ≡ row }
     ensures fits { IfSome result RowFits }
 {
@@ -153,7 +152,7 @@ impl Row {
 
     /// What the relocation means.
     #[inline(always)]
-    pub fn info(&self) -> RelocationKindInfo
+    pub fn info(&self) -> RowInfo
         ensures row { result ≡ self.now }
         ensures fits { RowFits result }
     {
@@ -166,7 +165,7 @@ impl Row {
         } else {
             None
         };
-        RelocationKindInfo {
+        RowInfo {
             kind: entry.kind,
             size: entry.size,
             mask: entry.mask,
@@ -472,9 +471,9 @@ fn write_plain(entry: &'static TableRow, value: i64, dest: &mut [u8])
     ensures { IsWritten entry.now.size entry.now.kind value dest.old dest.new }
 {
     match entry.size {
-        RelocationSize::ByteSize(len) => write_number(entry.kind, len as usize, value, dest),
-        RelocationSize::BitMasking { range, insn } => match insn {
-            RelocationInstruction::AArch64(insn) => write_aarch64(insn, range, value, dest),
+        RowSize::ByteSize(len) => write_number(entry.kind, len as usize, value, dest),
+        RowSize::BitMasking { range, insn } => match insn {
+            AnyForm::AArch64(insn) => write_aarch64(insn, range, value, dest),
             _ => write_field(insn, range, value, dest),
         },
     }
@@ -489,14 +488,12 @@ fn write_form(entry: &'static TableRow, value: i64, dest: &mut [u8], in_place: b
     ensures { IsWritten entry.now.size entry.now.kind value dest.old dest.new }
 {
     match entry.size {
-        RelocationSize::BitMasking { range, insn } if in_place => {
-            write_field(insn, range, value, dest)
-        }
+        RowSize::BitMasking { range, insn } if in_place => { write_field(insn, range, value, dest) }
         _ => write_plain(entry, value, dest),
     }
 }
 
-impl RelocationKindInfo {
+impl RowInfo {
     /// Whether a value is within `reach`, and an encoding holds it.
     #[inline(always)]
     fn is_reached(&self, tests: &WriteTests, value: i64) -> bool
@@ -545,8 +542,8 @@ impl RelocationKindInfo {
             return Err(RelocateError::OutOfReach);
         }
         match self.size {
-            RelocationSize::ByteSize(len) => write_number(self.kind, len as usize, value, dest),
-            RelocationSize::BitMasking { range, insn } => {
+            RowSize::ByteSize(len) => write_number(self.kind, len as usize, value, dest),
+            RowSize::BitMasking { range, insn } => {
                 write_bits(self.kind, insn, range, value, dest)
             }
         }
@@ -561,7 +558,7 @@ impl RelocationKindInfo {
 /// has no such table, `name_of` matches the `r_type`. `index_of` makes the index of a name in the
 /// list. `r_types`, `texts` and `table` make tables by these indices: of types, of the names'
 /// texts, and of rows, where the last entry is that of `Other`. `table` is given the variant of
-/// `RelocationInstruction`, the enum of the forms and the `e_machine`. A list has at most 124
+/// `AnyForm`, the enum of the forms and the `e_machine`. A list has at most 124
 /// names, since calls of macros nest at most 128 deep.
 macro_rules! listed {
     ((name_of $names:ident, $r_type:ident) { $($number:literal $name:ident $row:tt)* }) => {
@@ -651,7 +648,7 @@ pub(crate) fn text_at(texts: &[&'static str], index: usize) -> &'static str
 macro_rules! row {
     ($forms:tt ($kind:ident, $bytes:tt bytes, $($rest:tt)+)) => {
         $crate::elf::rows::row!(
-            @ $kind [Bytes Bytes $kind 0 0 $bytes] [$crate::elf::RelocationSize::ByteSize($bytes)]
+            @ $kind [Bytes Bytes $kind 0 0 $bytes] [$crate::elf::RowSize::ByteSize($bytes)]
             [form: 0, machine: 0, is_bits: 0, byte_size: $bytes, first_bit: 0, end_bit: 0]
             $($rest)+
         )
@@ -662,9 +659,9 @@ macro_rules! row {
     ) => {
         $crate::elf::rows::row!(
             @ $kind [$form $architecture $kind $start $end 0]
-            [$crate::elf::RelocationSize::BitMasking {
+            [$crate::elf::RowSize::BitMasking {
                 range: linker_base::bit_misc::BitRange { start: $start, end: $end },
-                insn: $crate::elf::RelocationInstruction::$architecture($crate::elf::$forms::$form),
+                insn: $crate::elf::AnyForm::$architecture($crate::elf::$forms::$form),
             }]
             [
                 form: $crate::elf::$forms::$form as u32, machine: $crate::elf::$machine, is_bits: 1,

@@ -8,7 +8,7 @@ ghost use Rattle.linker_elf.specs.Value.{sum_64, difference_64, sequence_pc, com
 ghost use Rattle.linker_elf.specs.Value.{loads_plt_word, value_given};
 
 use crate::elf::entries::names_plt_entry;
-use crate::elf::{RelocationInstruction, RelocationKind, RelocationKindInfo, RelocationSize};
+use crate::elf::{AnyForm, RelocationKind, RowInfo, RowSize};
 use crate::loongarch64::highest_relocation_with_bias;
 
 /// What the value of a relocation is computed from. All but the addend and the flags are addresses
@@ -132,7 +132,7 @@ impl Operands {
     }
 }
 
-impl RelocationSize {
+impl RowSize {
     /// Whether it is that of PowerPC64's calls that load the function's address themselves, of a
     /// kind.
     #[inline(always)]
@@ -141,8 +141,8 @@ impl RelocationSize {
     {
         matches!(
             self,
-            RelocationSize::BitMasking {
-                insn: RelocationInstruction::Ppc64(_),
+            RowSize::BitMasking {
+                insn: AnyForm::Ppc64(_),
                 ..
             }
         ) && names_plt_entry(kind)
@@ -161,11 +161,11 @@ impl RelocationKind {
 
 /// What `highest_relocation_with_bias` takes as `pc`.
 #[inline(always)]
-fn pc_of_sequence(size: RelocationSize, place: u64) -> u64
+fn pc_of_sequence(size: RowSize, place: u64) -> u64
     ensures { result ≡ sequence_pc size place }
 {
     match size {
-        RelocationSize::BitMasking { range, .. } if range.start == 52 => place.wrapping_sub(4),
+        RowSize::BitMasking { range, .. } if range.start == 52 => place.wrapping_sub(4),
         _ => place,
     }
 }
@@ -277,7 +277,7 @@ fn high(entry: Result<u64, FormulaError>, pc: u64) -> Result<u64, FormulaError>
     }
 }
 
-impl RelocationKindInfo {
+impl RowInfo {
     /// The value modulo 2^64.
     #[inline(always)]
     fn value_modulo(&self, terms: &FormulaTerms, operands: &Operands) -> Result<u64, FormulaError>

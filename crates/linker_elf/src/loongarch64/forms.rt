@@ -13,7 +13,7 @@ ghost use Rattle.linker_elf.specs.LoongArch.{loongarch_form, has_16_bits, ReadsL
 ghost use Rattle.linker_elf.specs.Relocate.{places_cleared, is_jirl};
 
 use crate::elf::engine::{self, Encoding, Step, Window, forms};
-use crate::elf::{InstructionForm, RelocationInstruction};
+use crate::elf::{AnyForm, InstructionForm};
 use linker_base::bit_misc::BitRange;
 
 /// LoongArch instructions with an immediate, and the pairs of long calls (LoongArch Reference
@@ -86,7 +86,7 @@ impl LoongArch64Instruction {
     /// What the form is beside its steps.
     #[inline(always)]
     fn code(self) -> &'static Encoding
-        ensures { result.now ≡ (code_of (RelocationInstruction.LoongArch64 self)).0 }
+        ensures { result.now ≡ (code_of (AnyForm.LoongArch64 self)).0 }
     {
         &CODES[self as usize]
     }
@@ -94,8 +94,8 @@ impl LoongArch64Instruction {
     /// How its bits move.
     #[inline(always)]
     fn steps(self) -> &'static [Step; 2]
-        ensures moves { result.now ≡ (code_of (RelocationInstruction.LoongArch64 self)).1 }
-        ensures places { IsTrue (moves_places (RelocationInstruction.LoongArch64 self) result.now) }
+        ensures moves { result.now ≡ (code_of (AnyForm.LoongArch64 self)).1 }
+        ensures places { IsTrue (moves_places (AnyForm.LoongArch64 self) result.now) }
     {
         &STEPS[self as usize]
     }
@@ -119,7 +119,7 @@ impl LoongArch64Instruction {
             (window_of (loongarch_form self) dest.old)
             → dest.new ≡ dest.old }
     {
-        let insn = RelocationInstruction::LoongArch64(self);
+        let insn = AnyForm::LoongArch64(self);
         let (code, steps) = (self.code(), self.steps());
         engine::write(insn, code, steps, extracted_value, negative, dest);
     }
@@ -150,7 +150,7 @@ impl LoongArch64Instruction {
         ensures flag { result.1
             ≡ (loongarch_form self).flag (window_of (loongarch_form self) bytes.now) }
     {
-        let insn = RelocationInstruction::LoongArch64(self);
+        let insn = AnyForm::LoongArch64(self);
         engine::read(insn, self.code(), self.steps(), bytes)
     }
 
@@ -179,7 +179,7 @@ impl LoongArch64Instruction {
     /// Which bits of its number the immediate has.
     #[inline]
     pub fn value_bits(self) -> BitRange
-        ensures { result ≡ immediate_of (RelocationInstruction.LoongArch64 self) }
+        ensures { result ≡ immediate_of (AnyForm.LoongArch64 self) }
     {
         self.code().bits
     }
@@ -206,7 +206,7 @@ impl LoongArch64Instruction {
     pub(crate) fn clear_immediate(self, range: BitRange, dest: &mut [u8])
         requires { byte_len (loongarch_form self).window ≤ length dest.old }
         ensures clears { BitsWritten
-            (places_cleared (RelocationInstruction.LoongArch64 self) range
+            (places_cleared (AnyForm.LoongArch64 self) range
             (window_of (loongarch_form self) dest.old))
             0 (window_of (loongarch_form self) dest.old)
             (window_of (loongarch_form self) dest.new) }

@@ -12,7 +12,7 @@ ghost use Rattle.linker_elf.specs.contracts.loongarch64.relocations.LoongArch64R
 
 use crate::elf::choice_table::RelocationName;
 use crate::elf::rows::{TableRow, listed, raw_info_in, row_in, text_at};
-use crate::elf::{RelocationKind, RelocationKindInfo, Row, SIZE_2KB, Uleb128Role};
+use crate::elf::{RelocationKind, Row, RowInfo, SIZE_2KB, Uleb128Role};
 use std::fmt;
 
 /// The relocations of LoongArch, by their names in the LoongArch ELF psABI, "Relocation Types".
@@ -278,7 +278,7 @@ impl RelocationName for LoongArch64Relocation {
 /// The row with the kind that the crate `linker-utils` has: there `R_LARCH_ALIGN` has no kind of
 /// its own. Not by the name: LLVM compiles a match of it to a jump by the `r_type`.
 #[inline(always)]
-fn with_raw_kind(row: Option<RelocationKindInfo>) -> Option<RelocationKindInfo>
+fn with_raw_kind(row: Option<RowInfo>) -> Option<RowInfo>
     ensures { result ≡ with_raw_kind row }
 {
     match row {
@@ -287,7 +287,7 @@ fn with_raw_kind(row: Option<RelocationKindInfo>) -> Option<RelocationKindInfo>
                 RelocationKind::Alignment => RelocationKind::None,
                 kind => kind,
             };
-            Some(RelocationKindInfo { kind, ..row })
+            Some(RowInfo { kind, ..row })
         }
         None => None,
     }
@@ -298,7 +298,7 @@ fn with_raw_kind(row: Option<RelocationKindInfo>) -> Option<RelocationKindInfo>
 /// `R_LARCH_TLS_LD_PCREL20_S2`, `R_LARCH_TLS_GD_PCREL20_S2` and `R_LARCH_TLS_DESC_PCREL20_S2`. The
 /// kind of `R_LARCH_ALIGN` is `None` there, and here.
 #[inline(always)]
-pub fn relocation_type_from_raw(name: LoongArch64Relocation) -> Option<RelocationKindInfo>
+pub fn relocation_type_from_raw(name: LoongArch64Relocation) -> Option<RowInfo>
     ensures row { result ≡ loongarch_raw_row name }
     // not of pairs: `reaches` of `write_to_value` says what `Call36` holds
     ensures agrees { IfSome result (LoongArchRowAgrees name) }

@@ -11,7 +11,7 @@ ghost use Rattle.linker_elf.specs.Forms.{ppc64_mask, is_dq_at, immediate_of};
 ghost use Rattle.linker_elf.specs.Relocate.{number_placed};
 
 use crate::elf::engine::{self, Encoding, Step, Window, forms};
-use crate::elf::{InstructionForm, RelocationInstruction};
+use crate::elf::{AnyForm, InstructionForm};
 use linker_base::bit_misc::BitRange;
 
 /// PowerPC64 instructions that hold a displacement. The window is 4 bytes, and 8 for `Prefixed`.
@@ -19,7 +19,7 @@ use linker_base::bit_misc::BitRange;
 /// and all other bits are unchanged.
 /// Bits are numbered from the least significant one.
 #[derive(Debug, Clone, Copy, PartialEq, Eq)]
-pub enum Ppc64Instruction {
+pub enum Ppc64Form {
     /// D-form, as `addi`: value bits 0 to 15 at bit 0 and up. A signed number of 16 bits (Power
     /// ISA, "D-Form").
     D,
@@ -60,16 +60,16 @@ const STEPS: [[Step; 2]; 6] = ppc64_forms!(2 steps);
 
 /// The forms by their numbers. A table, since a match becomes a jump by the number where what
 /// follows differs by the form.
-const FORMS: &[Ppc64Instruction] = &ppc64_forms!(variant Ppc64Instruction);
+const FORMS: &[Ppc64Form] = &ppc64_forms!(variant Ppc64Form);
 
 /// The unit of the displacements of DQ-form: the lowest four bits of such a word are others.
 pub const DQ_UNIT: u64 = 16;
 
-impl Ppc64Instruction {
+impl Ppc64Form {
     /// What the form is beside its steps.
     #[inline(always)]
     fn code(self) -> &'static Encoding
-        ensures { result.now ≡ (code_of (RelocationInstruction.Ppc64 self)).0 }
+        ensures { result.now ≡ (code_of (AnyForm.Ppc64 self)).0 }
     {
         &CODES[self as usize]
     }
@@ -77,8 +77,8 @@ impl Ppc64Instruction {
     /// How its bits move.
     #[inline(always)]
     fn steps(self) -> &'static [Step; 2]
-        ensures moves { result.now ≡ (code_of (RelocationInstruction.Ppc64 self)).1 }
-        ensures places { IsTrue (moves_places (RelocationInstruction.Ppc64 self) result.now) }
+        ensures moves { result.now ≡ (code_of (AnyForm.Ppc64 self)).1 }
+        ensures places { IsTrue (moves_places (AnyForm.Ppc64 self) result.now) }
     {
         &STEPS[self as usize]
     }
@@ -98,7 +98,7 @@ impl Ppc64Instruction {
             (window_of (ppc64_form self) dest.old)
             → dest.new ≡ dest.old }
     {
-        let insn = RelocationInstruction::Ppc64(self);
+        let insn = AnyForm::Ppc64(self);
         let (code, steps) = (self.code(), self.steps());
         engine::write(insn, code, steps, extracted_value, negative, dest);
     }
@@ -113,13 +113,13 @@ impl Ppc64Instruction {
             ((ppc64_form self).reading (window_of (ppc64_form self) bytes.now)) }
         ensures flag { result.1 ≡ (ppc64_form self).flag (window_of (ppc64_form self) bytes.now) }
     {
-        let insn = RelocationInstruction::Ppc64(self);
+        let insn = AnyForm::Ppc64(self);
         engine::read(insn, self.code(), self.steps(), bytes)
     }
 
     /// The form with a number, its place in the enum. None above the last.
     #[inline(always)]
-    pub fn from_number(number: u32) -> Option<Ppc64Instruction>
+    pub fn from_number(number: u32) -> Option<Ppc64Form>
         ensures { result ≡ slice_get ppc64_forms number }
     {
         FORMS.get(number as usize).copied()
@@ -133,7 +133,7 @@ impl Ppc64Instruction {
         ensures { result ≡ is_dq_at self (window_of (ppc64_form self) bytes.now) }
     {
         match self {
-            Ppc64Instruction::Ds => {
+            Ppc64Form::Ds => {
                 let word = Window::Four.load(bytes);
                 let opcode = word >> 26;
                 opcode == 56 || opcode == 6 || (opcode == 61 && word % 4 == 1)
@@ -159,7 +159,7 @@ impl Ppc64Instruction {
     /// Which bits of its number the immediate has.
     #[inline]
     pub fn value_bits(self) -> BitRange
-        ensures { result ≡ immediate_of (RelocationInstruction.Ppc64 self) }
+        ensures { result ≡ immediate_of (AnyForm.Ppc64 self) }
     {
         self.code().bits
     }
@@ -169,10 +169,7 @@ impl Ppc64Instruction {
     pub(crate) fn is_branch(self) -> bool
         ensures { result ≡ is_ppc64_branch self }
     {
-        matches!(
-            self,
-            Ppc64Instruction::Branch14 | Ppc64Instruction::Branch24
-        )
+        matches!(self, Ppc64Form::Branch14 | Ppc64Form::Branch24)
     }
 
     /// The number that an instruction gets. The lowest four bits of one of DQ-form are kept: they
@@ -180,10 +177,10 @@ impl Ppc64Instruction {
     #[inline(always)]
     pub(crate) fn number_placed(self, number: u64, dest: &[u8]) -> u64
         requires { byte_len (ppc64_form self).window ≤ length dest.now }
-        ensures { result ≡ number_placed (RelocationInstruction.Ppc64 self)
+        ensures { result ≡ number_placed (AnyForm.Ppc64 self)
             (window_of (ppc64_form self) dest.now) number }
     {
-        if let Ppc64Instruction::Ds = self {
+        if let Ppc64Form::Ds = self {
             if self.is_dq_form(dest) {
                 let word = Window::Four.load(dest);
                 return number - number % DQ_UNIT + word % DQ_UNIT;
@@ -193,7 +190,7 @@ impl Ppc64Instruction {
     }
 }
 
-impl InstructionForm for Ppc64Instruction {
+impl InstructionForm for Ppc64Form {
     ghost form = { ppc64_form };
 
     ghost keeps = { ppc64_keeps };
@@ -203,7 +200,7 @@ impl InstructionForm for Ppc64Instruction {
     #[inline]
     fn window(self) -> usize {
         match self {
-            Ppc64Instruction::Prefixed => 8,
+            Ppc64Form::Prefixed => 8,
             _ => 4,
         }
     }

@@ -11,7 +11,7 @@ ghost use Rattle.linker_elf.specs.contracts.ppc64.relocations.Ppc64Relocation as
 
 use crate::elf::choice_table::RelocationName;
 use crate::elf::rows::{TableRow, listed, raw_info_in, row_in, text_at};
-use crate::elf::{RelocationKindInfo, Row};
+use crate::elf::{Row, RowInfo};
 use std::fmt;
 
 /// The relocations of PowerPC64, by their names in the 64-bit ELF V2 ABI for Power, "Relocation
@@ -281,7 +281,7 @@ static R_TYPES: &[u32] = &relocations!(r_types);
 
 static TEXTS: &[&str] = &relocations!(texts);
 
-static ROWS: &[Option<TableRow>] = &relocations!(table [Ppc64 Ppc64Instruction EM_PPC64]);
+static ROWS: &[Option<TableRow>] = &relocations!(table [Ppc64 Ppc64Form EM_PPC64]);
 
 /// The index of a name in the table.
 #[inline(always)]
@@ -341,7 +341,7 @@ impl RelocationName for Ppc64Relocation {
 /// their `_NOTOC`, and `R_PPC64_PCREL_OPT`), and all prefixed instructions (`R_PPC64_D34`,
 /// `R_PPC64_PCREL34` and their like).
 #[inline(always)]
-pub fn relocation_type_from_raw(name: Ppc64Relocation) -> Option<RelocationKindInfo>
+pub fn relocation_type_from_raw(name: Ppc64Relocation) -> Option<RowInfo>
     ensures row { result ≡ raw_row (ppc64_relocation name) }
     ensures agrees { IfSome result RowAgrees }
     ensures others { IfSome result RowReadsNoOther }

@@ -4,7 +4,7 @@ ghost use Rattle.std.specs.Prelude.{◌≤◌, length};
 ghost use Rattle.std.specs.Int.{from_le_bytes, w32};
 ghost use Rattle.linker_elf.specs.Ppc64.{PairHolds, KeepsHigh};
 
-use super::Ppc64Instruction;
+use super::Ppc64Form;
 use crate::elf::InstructionForm;
 use linker_base::bit_misc::BitExtraction;
 
@@ -27,6 +27,6 @@ pub fn write_ha_lo(ha: &mut [u8], lo: &mut [u8], value: u64)
     ensures lo_kept { KeepsHigh lo.old lo.new }
 {
     let high = value.wrapping_add(0x8000).extract_bit_range(16..32);
-    Ppc64Instruction::D.write_to_value(high, false, ha);
-    Ppc64Instruction::D.write_to_value(value.low_bits(16), false, lo);
+    Ppc64Form::D.write_to_value(high, false, ha);
+    Ppc64Form::D.write_to_value(value.low_bits(16), false, lo);
 }

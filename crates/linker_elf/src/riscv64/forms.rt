@@ -10,7 +10,7 @@ ghost use Rattle.linker_elf.specs.Entries.{is_riscv_branch};
 ghost use Rattle.linker_elf.specs.Forms.{riscv_mask, immediate_of};
 
 use crate::elf::engine::{self, Encoding, Step, forms};
-use crate::elf::{InstructionForm, RelocationInstruction};
+use crate::elf::{AnyForm, InstructionForm};
 use linker_base::bit_misc::BitRange;
 
 /// RISC-V instructions with an immediate (RISC-V unprivileged ISA, "Immediate Encoding Variants"
@@ -76,7 +76,7 @@ impl RiscVInstruction {
     /// What the form is beside its steps.
     #[inline(always)]
     fn code(self) -> &'static Encoding
-        ensures { result.now ≡ (code_of (RelocationInstruction.RiscV self)).0 }
+        ensures { result.now ≡ (code_of (AnyForm.RiscV self)).0 }
     {
         &CODES[self as usize]
     }
@@ -84,8 +84,8 @@ impl RiscVInstruction {
     /// How its bits move.
     #[inline(always)]
     fn steps(self) -> &'static [Step; 6]
-        ensures moves { result.now ≡ (code_of (RelocationInstruction.RiscV self)).1 }
-        ensures places { IsTrue (moves_places (RelocationInstruction.RiscV self) result.now) }
+        ensures moves { result.now ≡ (code_of (AnyForm.RiscV self)).1 }
+        ensures places { IsTrue (moves_places (AnyForm.RiscV self) result.now) }
     {
         &STEPS[self as usize]
     }
@@ -101,7 +101,7 @@ impl RiscVInstruction {
         ensures same { window_of (riscv_form self) dest.new ≡ window_of (riscv_form self) dest.old
             → dest.new ≡ dest.old }
     {
-        let insn = RelocationInstruction::RiscV(self);
+        let insn = AnyForm::RiscV(self);
         riscv_forms!(
             by RiscVInstruction self,
             form: engine::write(insn, form.code(), form.steps(), value, negative, dest)
@@ -142,7 +142,7 @@ impl RiscVInstruction {
             ((riscv_form self).reading (window_of (riscv_form self) bytes.now)) }
         ensures flag { result.1 ≡ (riscv_form self).flag (window_of (riscv_form self) bytes.now) }
     {
-        let insn = RelocationInstruction::RiscV(self);
+        let insn = AnyForm::RiscV(self);
         riscv_forms!(
             by RiscVInstruction self, form: engine::read(insn, form.code(), form.steps(), bytes)
         )
@@ -167,7 +167,7 @@ impl RiscVInstruction {
     /// Which bits of its number the immediate has.
     #[inline]
     pub fn value_bits(self) -> BitRange
-        ensures { result ≡ immediate_of (RelocationInstruction.RiscV self) }
+        ensures { result ≡ immediate_of (AnyForm.RiscV self) }
     {
         self.code().bits
     }

@@ -11,7 +11,7 @@ ghost use Rattle.linker_elf.specs.contracts.riscv64.relocations.RiscVRelocation 
 
 use crate::elf::choice_table::RelocationName;
 use crate::elf::rows::{TableRow, listed, raw_info_in, row_in, text_at};
-use crate::elf::{RelocationKindInfo, Row, Uleb128Role};
+use crate::elf::{Row, RowInfo, Uleb128Role};
 use std::fmt;
 
 /// The relocations of RISC-V, by their names in the RISC-V ELF psABI, "Relocations". `from_elf`
@@ -240,7 +240,7 @@ pub fn clui_row() -> Row
 /// What a relocation means, as `row` says, or `None` for the four of TLS descriptors and for
 /// `R_RISCV_RVC_LUI`.
 #[inline(always)]
-pub fn relocation_type_from_raw(name: RiscVRelocation) -> Option<RelocationKindInfo>
+pub fn relocation_type_from_raw(name: RiscVRelocation) -> Option<RowInfo>
     ensures row { result ≡ riscv_row name }
     // only of branches and jumps: `pair` of `write_to_value` says what pairs hold
     ensures agrees { IfSome result RowAgrees }

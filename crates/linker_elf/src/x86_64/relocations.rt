@@ -9,7 +9,7 @@ ghost use Rattle.linker_elf.specs.contracts.x86_64.relocations.X86_64Relocation 
 
 use crate::elf::choice_table::RelocationName;
 use crate::elf::rows::{TableRow, listed, raw_info_in, row_in, text_at};
-use crate::elf::{RelocationKindInfo, Row};
+use crate::elf::{Row, RowInfo};
 use std::fmt;
 
 /// The relocations of x86-64, by their names in the x86-64 psABI, "Relocation Types". `from_elf`
@@ -186,7 +186,7 @@ impl RelocationName for X86_64Relocation {
 /// What a relocation means, as `row` says, or `None` for `R_X86_64_TPOFF64`, which the crate
 /// `linker-utils` has no row for.
 #[inline(always)]
-pub fn relocation_from_raw(name: X86_64Relocation) -> Option<RelocationKindInfo>
+pub fn relocation_from_raw(name: X86_64Relocation) -> Option<RowInfo>
     ensures { result ≡ raw_row (x86_64_relocation name) }
 {
     raw_info_in(&ROWS[index(name)])

@@ -2,7 +2,7 @@
 use Rattle.std.specs.Prelude.{◌≡◌, ℕ, List, Bool, Option}
 use Rattle.std.proofs.Common.{refl}
 use Rattle.linker_elf.specs.Inner.ChoiceTables.{Tables, IsChoice}
-use Rattle.linker_elf.specs.declared.elf.RelocationKindInfo.{RelocationKindInfo}
+use Rattle.linker_elf.specs.declared.elf.RowInfo.{RowInfo}
 use Rattle.linker_elf.specs.declared.elf.choice.Choice.{Choice}
 use Rattle.linker_elf.specs.declared.elf.choice.LinkFacts.{LinkFacts}
 use Rattle.linker_reading.specs.Inner.Equality.{IsEquality}
@@ -17,7 +17,7 @@ ChosenMatches {K} {R} it =
 
 -- The code's tables have the definition's entries, and choose what is chosen; `==` is equality.
 pub record AreLawsOf {K R : Type 0} (it : Recogniser K R) (tables : Tables K R)
-    (row_of : R → Option RelocationKindInfo) (equal_kinds : K → K → Bool)
+    (row_of : R → Option RowInfo) (equal_kinds : K → K → Bool)
     (equal_names : R → R → Bool) : Type 0 where
   pub rows : row_of ≡ it.row
   pub no_op : tables.no_op ≡ it.no_op

@@ -8,9 +8,9 @@ use Rattle.linker_elf.specs.declared.elf.RelocationKind.{RelocationKind}
 use Rattle.linker_elf.specs.declared.elf.RelocationKind.TheVariants.{AbsoluteSetWord6}
 use Rattle.linker_elf.specs.declared.elf.RelocationKind.TheVariants.{AbsoluteAdditionWord6}
 use Rattle.linker_elf.specs.declared.elf.RelocationKind.TheVariants.{AbsoluteSubtractionWord6}
-use Rattle.linker_elf.specs.declared.elf.RelocationKindInfo.{RelocationKindInfo}
-use Rattle.linker_elf.specs.declared.elf.RelocationSize.{RelocationSize}
-use Rattle.linker_elf.specs.declared.elf.RelocationSize.TheVariants.{ByteSize, BitMasking}
+use Rattle.linker_elf.specs.declared.elf.RowInfo.{RowInfo}
+use Rattle.linker_elf.specs.declared.elf.RowSize.{RowSize}
+use Rattle.linker_elf.specs.declared.elf.RowSize.TheVariants.{ByteSize, BitMasking}
 
 abbrev pub bytes_mask : ℕ → ℕ
 bytes_mask n = 2 ^ (8 * min n 8) - 1
@@ -21,12 +21,12 @@ number_mask AbsoluteAdditionWord6 n = bit_and (bytes_mask n) 0x3f
 number_mask AbsoluteSubtractionWord6 n = bit_and (bytes_mask n) 0x3f
 number_mask kind n = bytes_mask n
 
-abbrev pub size_mask : RelocationSize → RelocationKind → List ℕ → ℕ
+abbrev pub size_mask : RowSize → RelocationKind → List ℕ → ℕ
 size_mask (ByteSize n) kind bytes = number_mask kind n
 size_mask (BitMasking bits insn) kind bytes =
     let word = window_of (relocation_form insn) bytes in
     instruction_mask (insn_at insn bits word) (bits_at insn kind bits word)
     (window_of (relocation_form (insn_at insn bits word)) bytes)
 
-abbrev pub field_mask : RelocationKindInfo → List ℕ → ℕ
+abbrev pub field_mask : RowInfo → List ℕ → ℕ
 field_mask row bytes = size_mask row.size row.kind bytes

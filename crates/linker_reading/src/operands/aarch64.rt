@@ -8,7 +8,7 @@ ghost use Rattle.linker_reading.specs.AArch64Encodings.{aarch64_scale};
 
 use crate::operands::{Base, Encoding, encoding};
 use linker_base::bit_misc::BitExtraction;
-use linker_elf::elf::{AArch64Instruction, RelocationInstruction};
+use linker_elf::elf::{AArch64Instruction, AnyForm};
 
 macro_rules! a64 {
     ($mask:literal, $bits:literal, $($form:ident)*) => {

@@ -5,11 +5,11 @@ ghost use Rattle.linker_reading.specs.Ppc64Encodings.{ppc64_scale};
 
 use crate::operands::{Base, Encoding, encoding};
 use linker_base::bit_misc::BitExtraction;
-use linker_elf::elf::{Ppc64Instruction, RelocationInstruction};
+use linker_elf::elf::{AnyForm, Ppc64Form};
 
 macro_rules! power {
     ($mask:literal, $bits:literal, $form:ident) => {
-        encoding!(4, $mask, $bits, Ppc64 [Ppc64Instruction::$form])
+        encoding!(4, $mask, $bits, Ppc64 [Ppc64Form::$form])
     };
 }
 
@@ -20,7 +20,7 @@ macro_rules! prefixed {
             8,
             $mask << 32 | 0xffec_0000,
             $bits << 32 | $prefix,
-            Ppc64 [Ppc64Instruction::Prefixed]
+            Ppc64 [Ppc64Form::Prefixed]
         )
     };
 }
@@ -68,19 +68,19 @@ pub(super) static ENCODINGS: &[Encoding] = &[
 ];
 
 /// Log2 of what the immediate of an instruction counts.
-pub(super) fn scale(form: Ppc64Instruction, word: u64) -> u64
+pub(super) fn scale(form: Ppc64Form, word: u64) -> u64
     ensures value { result ≡ ppc64_scale form word }
     ensures small { result < 64 }
 {
     match form {
-        Ppc64Instruction::D => {
+        Ppc64Form::D => {
             if word.extract_bit_range(26..32) == 15 {
                 16
             } else {
                 0
             }
         }
-        Ppc64Instruction::DUnsigned => 16 * word.extract_bit(26),
+        Ppc64Form::DUnsigned => 16 * word.extract_bit(26),
         _ => 0,
     }
 }

@@ -1,7 +1,7 @@
 //! The instructions of RISC-V with an immediate.
 
 use crate::operands::{Base, Encoding, encoding};
-use linker_elf::elf::{RelocationInstruction, RiscVInstruction};
+use linker_elf::elf::{AnyForm, RiscVInstruction};
 
 macro_rules! rv {
     ($mask:literal, $bits:literal, $form:ident) => {
@@ -24,8 +24,8 @@ macro_rules! rv_pair {
             bits: $bits << 32 | 0x17,
             base: Base::From7And47,
             forms: &[
-                RelocationInstruction::RiscV(RiscVInstruction::UType),
-                RelocationInstruction::RiscV(RiscVInstruction::UiType),
+                AnyForm::RiscV(RiscVInstruction::UType),
+                AnyForm::RiscV(RiscVInstruction::UiType),
             ],
         }
     };

@@ -8,14 +8,14 @@ ghost use Rattle.linker_reading.specs.Reading.{number_held};
 
 use linker_base::bit_misc::BitExtraction;
 use linker_base::utils::{u32_from_slice, u64_from_slice};
-use linker_elf::elf::{InstructionForm, LoongArch64Instruction, RelocationInstruction};
+use linker_elf::elf::{AnyForm, InstructionForm, LoongArch64Instruction};
 
 /// What an instruction, or a pair, holds, in two's complement.
 #[inline(always)]
 pub(super) fn number(insn: LoongArch64Instruction, bytes: &[u8]) -> u64
     requires { byte_len (loongarch_form insn).window ≤ length bytes.now }
     ensures { result ≡ cast_unsigned w64
-        (number_held (RelocationInstruction.LoongArch64 insn)
+        (number_held (AnyForm.LoongArch64 insn)
         (window_of (loongarch_form insn) bytes.now)) }
 {
     match insn {

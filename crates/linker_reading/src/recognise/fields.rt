@@ -4,7 +4,7 @@ ghost use Rattle.std.specs.Prelude.{◌≡◌, ◌<◌, ◌≤◌, ◌+◌, ◌*
 ghost use Rattle.std.specs.Prelude.{IfErr, length};
 ghost use Rattle.std.specs.Int.{bit_at};
 ghost use Rattle.linker_elf.specs.Relocate.{window_len};
-ghost use Rattle.linker_elf.specs.declared.elf.RelocationKindInfo.{RelocationKindInfo};
+ghost use Rattle.linker_elf.specs.declared.elf.RowInfo.{RowInfo};
 ghost use Rattle.linker_reading.specs.FieldsOfBytes.{is_field_bit, is_in, is_in_row, AreSameBut};
 ghost use Rattle.linker_reading.specs.FieldsOfBytes.{AreSameButFor};
 ghost use Rattle.linker_reading.specs.Inner.Masks.{bytes_mask, number_mask, field_mask};
@@ -12,7 +12,7 @@ ghost use Rattle.linker_reading.specs.Inner.Words.{IsSameWordBut, AreSameFrom};
 ghost use Rattle.linker_reading.specs.WrittenRows.{ChangesField};
 
 use linker_base::utils::u32_from_slice;
-use linker_elf::elf::{RelocateError, RelocationKind, RelocationSize, Row};
+use linker_elf::elf::{RelocateError, RelocationKind, Row, RowSize};
 
 /// Some of the bits of the eight bytes from an offset of a window on.
 #[repr(C)]
@@ -69,8 +69,8 @@ pub fn field_bits(row: &Row, bytes: &[u8]) -> u64
 {
     let info = row.info();
     match info.size {
-        RelocationSize::ByteSize(len) => number_bits(info.kind, len as usize),
-        RelocationSize::BitMasking { range, insn } => {
+        RowSize::ByteSize(len) => number_bits(info.kind, len as usize),
+        RowSize::BitMasking { range, insn } => {
             let placed = insn.placed_bits(info.kind, range, bytes);
             insn.written_at(range, bytes).field_mask(placed, bytes)
         }
@@ -229,5 +229,5 @@ pub fn same_but_for(row: &Row, a: &[u8], b: &[u8]) -> bool
 /// A write of the value of any row to its window changes bits of the row's field only, which are
 /// those that `field_bits` returns.
 pub fn writes_change_fields()
-    ensures { (row : RelocationKindInfo) → ChangesField row }
+    ensures { (row : RowInfo) → ChangesField row }
 {}

@@ -4,7 +4,7 @@ use Rattle.std.specs.Prelude.{◌≡◌, ◌⊎◌, ℕ, ◌+◌, ◌-◌, ◌<�
 use Rattle.std.specs.Prelude.{nat_le, if◌then◌else◌, List}
 use Rattle.linker_elf.specs.Relocate.{window_len}
 use Rattle.linker_elf.specs.declared.elf.RelocationKind.{RelocationKind}
-use Rattle.linker_elf.specs.declared.elf.RelocationKindInfo.{RelocationKindInfo}
+use Rattle.linker_elf.specs.declared.elf.RowInfo.{RowInfo}
 use Rattle.linker_section.specs.Fields.{IsField, is_of_pair, continues, field_end}
 use Rattle.linker_section.specs.Values.{offset_at}
 use Rattle.linker_section.specs.declared.fields.Field.{Field}
@@ -25,7 +25,7 @@ next_field field last = if field.len == 0 then last else field
 
 -- the field of a relocation
 pub record HasField (architecture : Architecture) (bytes section : List ℕ) (k : ℕ)
-    (row : RelocationKindInfo) (field : Field) : Type 0 where
+    (row : RowInfo) (field : Field) : Type 0 where
   pub is_field : IsField architecture bytes section k row
   pub offset_is : offset_at bytes k ≡ field.offset
   pub end_is : field_end bytes section k row ≡ field.offset + field.len
@@ -33,7 +33,7 @@ pub record HasField (architecture : Architecture) (bytes section : List ℕ) (k 
   pub window_is : is_of_pair row ≡ false → window_len row ≡ field.len
 
 -- what continues with the number of the last field continues with that of a relocation
-abbrev pub IsContinued : RelocationKindInfo → Field → Type 0
+abbrev pub IsContinued : RowInfo → Field → Type 0
 IsContinued row last =
     (kind : RelocationKind) → continues last.kind kind ≡ true
     → (window_len row ≡ last.len) × (continues row.kind kind ≡ true)
@@ -43,7 +43,7 @@ pub record IsLastField (architecture : Architecture) (bytes section : List ℕ)
     (IsSeen : ℕ → Type 0) (last : Field) : Type 0 where
   pub index : ℕ
   pub seen : IsSeen index
-  pub row : RelocationKindInfo
+  pub row : RowInfo
   pub is_field : IsField architecture bytes section index row
   pub offset_is : offset_at bytes index ≡ last.offset
   pub end_is : field_end bytes section index row ≡ last.offset + last.len
@@ -54,7 +54,7 @@ pub record IsLastField (architecture : Architecture) (bytes section : List ℕ)
 pub record AreClaimed (architecture : Architecture) (bytes section : List ℕ)
     (IsSeen : ℕ → Type 0) (last : Field) : Type 0 where
   pub is_last : 0 < last.len → IsLastField architecture bytes section IsSeen last
-  pub others : (i : ℕ) (row : RelocationKindInfo) → IsSeen i
+  pub others : (i : ℕ) (row : RowInfo) → IsSeen i
       → IsField architecture bytes section i row
       → (field_end bytes section i row ≤ last.offset)
       ⊎ ((offset_at bytes i ≡ last.offset)

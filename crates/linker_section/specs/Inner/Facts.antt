@@ -7,7 +7,7 @@ use Rattle.linker_elf.specs.Facts.{facts_of, way_of}
 use Rattle.linker_elf.specs.Relocate.{window_len}
 use Rattle.linker_elf.specs.Value.{sum_64, difference_64, value_of, is_offset, loads_plt_word}
 use Rattle.linker_elf.specs.declared.elf.RelocationKind.TheVariants as kinds
-use Rattle.linker_elf.specs.declared.elf.RelocationKindInfo.{RelocationKindInfo}
+use Rattle.linker_elf.specs.declared.elf.RowInfo.{RowInfo}
 use Rattle.linker_elf.specs.declared.elf.facts.EntryUse.{EntryUse}
 use Rattle.linker_elf.specs.declared.elf.facts.EntryUse.TheVariants as entries
 use Rattle.linker_elf.specs.declared.elf.facts.Length.{Length}
@@ -59,7 +59,7 @@ requirements_by facts addend is_thread_local =
     }
 
 -- a row's facts say what it requires
-abbrev pub SaysNeeds : RelocationKindInfo → Type 0
+abbrev pub SaysNeeds : RowInfo → Type 0
 SaysNeeds row =
     (addend : ℤ) (is_thread_local : Bool)
     → requirements_by (facts_of row) addend is_thread_local ≡ needs_of row addend is_thread_local
@@ -88,16 +88,16 @@ abbrev pub is_low_way : Way → Bool
 is_low_way ways.Low = true
 is_low_way way = false
 
-abbrev pub is_plain : RelocationKindInfo → Bool
+abbrev pub is_plain : RowInfo → Bool
 is_plain row = is_plain_way (way_of row.size row.kind)
 
-abbrev pub is_high : RelocationKindInfo → Bool
+abbrev pub is_high : RowInfo → Bool
 is_high row = is_high_way (way_of row.size row.kind)
 
-abbrev pub is_low : RelocationKindInfo → Bool
+abbrev pub is_low : RowInfo → Bool
 is_low row = is_low_way (way_of row.size row.kind)
 
-abbrev pub is_quick : RelocationKindInfo → Bool
+abbrev pub is_quick : RowInfo → Bool
 is_quick row = is_plain row || is_low row
 
 abbrev pub is_ppc64 : Architecture → Bool
@@ -124,12 +124,12 @@ word_shows lengths.Four word = word % 4 == 3
 word_shows lengths.Prefixed word = word / 2 ^ 26 % 64 == 1
 
 -- the facts of an architecture's row say whether it is a branch of PowerPC64
-abbrev pub SaysBranch : Architecture → RelocationKindInfo → Type 0
+abbrev pub SaysBranch : Architecture → RowInfo → Type 0
 SaysBranch architecture row =
     is_ppc64_branch row.size ≡ (is_ppc64 architecture && is_branch row.size)
 
 -- what the way says of a row
-pub record SaysWay (architecture : Architecture) (row : RelocationKindInfo) : Type 0 where
+pub record SaysWay (architecture : Architecture) (row : RowInfo) : Type 0 where
   -- it has a value and a field, and is of no pair
   pub has_value : When (is_quick row) (has_value row.kind) true
   pub single : When (is_quick row) (is_of_pair row) false

@@ -1,7 +1,7 @@
 -- Indexes of relocations, sorted by offset, and what is known of fields that are gone through so.
 use Rattle.std.specs.Prelude.{◌≡◌, ◌⊎◌, ℕ, ◌+◌, ◌*◌, ◌/◌, ◌^◌, ◌<◌, ◌≤◌, List, length, slice_index}
 use Rattle.std.specs.Prelude.{drop, Option, Some, None}
-use Rattle.linker_elf.specs.declared.elf.RelocationKindInfo.{RelocationKindInfo}
+use Rattle.linker_elf.specs.declared.elf.RowInfo.{RowInfo}
 use Rattle.linker_section.specs.Fields.{IsField, IsOverlapped, Overlap, Composes}
 use Rattle.linker_section.specs.Fields.{field_end, field_len}
 use Rattle.linker_section.specs.Inner.Claims.{AreClaimed, HasField}
@@ -53,7 +53,7 @@ IsSeen order count p i = (i < count) × (q : ℕ) × (q < p) × (slice_index ord
 -- relocations that were seen compose where their fields overlap
 abbrev pub ApartIn : Architecture → List ℕ → List ℕ → (ℕ → Type 0) → Type 0
 ApartIn architecture bytes section IsSeen =
-    (i j : ℕ) (row other : RelocationKindInfo) → IsSeen i → IsSeen j → i < j
+    (i j : ℕ) (row other : RowInfo) → IsSeen i → IsSeen j → i < j
     → IsField architecture bytes section i row → IsField architecture bytes section j other
     → Overlap bytes section i row j other → Composes bytes i row j other
 
@@ -61,7 +61,7 @@ ApartIn architecture bytes section IsSeen =
 pub record IsLastAt (architecture : Architecture) (bytes section : List ℕ) (IsSeen : ℕ → Type 0)
     (index : ℕ) (last : Field) : Type 0 where
   pub seen : IsSeen index
-  pub row : RelocationKindInfo
+  pub row : RowInfo
   pub field : HasField architecture bytes section index row last
 
 -- what is known at a place
@@ -80,13 +80,13 @@ pub record AreSwept (architecture : Architecture) (bytes section order : List �
 abbrev pub IsPast : Architecture → Rela → Rela → Type 0
 IsPast architecture last next =
     (last.offset ≤ next.offset)
-    × ((row : RelocationKindInfo) (there : List ℕ) → IsRow architecture last.r_type (Some row)
+    × ((row : RowInfo) (there : List ℕ) → IsRow architecture last.r_type (Some row)
     → field_len row there ≤ 10 → last.offset + field_len row there ≤ next.offset)
 
 -- each field has at most ten bytes
 abbrev pub AreSmall : Architecture → List ℕ → List ℕ → Type 0
 AreSmall architecture bytes section =
-    (i : ℕ) (row : RelocationKindInfo) → i < length bytes / 24
+    (i : ℕ) (row : RowInfo) → i < length bytes / 24
     → IsField architecture bytes section i row
     → field_len row (drop (offset_at bytes i) section) ≤ 10
 
@@ -99,6 +99,6 @@ IsOfRuns bytes start first second i =
 pub record ArePast (architecture : Architecture) (bytes section : List ℕ) (IsSeen : ℕ → Type 0)
     (last : Rela) : Type 0 where
   pub apart : ApartIn architecture bytes section IsSeen
-  pub before : (i : ℕ) (row : RelocationKindInfo) → IsSeen i
+  pub before : (i : ℕ) (row : RowInfo) → IsSeen i
       → IsField architecture bytes section i row
       → (field_end bytes section i row ≤ last.offset) ⊎ (relocation_in bytes i ≡ last)

@@ -4,7 +4,7 @@ use Rattle.std.specs.Prelude.{ℤ, List, slice_get, Option, Some, Ok}
 use Rattle.linker_elf.specs.Relocate.{window_len}
 use Rattle.linker_elf.specs.Value.{difference_64, value_of}
 use Rattle.linker_elf.specs.declared.elf.RelocationKind.TheVariants.{RelativeRiscVLow12}
-use Rattle.linker_elf.specs.declared.elf.RelocationKindInfo.{RelocationKindInfo}
+use Rattle.linker_elf.specs.declared.elf.RowInfo.{RowInfo}
 use Rattle.linker_elf.specs.declared.elf.value.Operands.{Operands}
 use Rattle.linker_section.specs.Conditions.{is_tp_off}
 use Rattle.linker_section.specs.Fields.{is_of_pair}
@@ -21,14 +21,14 @@ use Rattle.linker_elf.specs.declared.elf.architecture.Architecture.{Architecture
 
 -- the operands of a relocation give a value
 pub record IsPlainValue (architecture : Architecture) (addresses : Addresses)
-    (symbols : List Symbol) (row : RelocationKindInfo) (r : Rela) (v : ℤ) : Type 0 where
+    (symbols : List Symbol) (row : RowInfo) (r : Rela) (v : ℤ) : Type 0 where
   pub operands : Operands
   pub found : operands_of architecture addresses symbols row r ≡ Ok operands
   pub value_is : value_of row operands ≡ Some v
 
 -- the value of a relocation that has a field of its own
 pub record IsQuickValue (architecture : Architecture) (addresses : Addresses) (bytes : List ℕ)
-    (symbols : List Symbol) (r : Rela) (row : RelocationKindInfo) (v : ℤ) : Type 0 where
+    (symbols : List Symbol) (r : Rela) (row : RowInfo) (v : ℤ) : Type 0 where
   pub has : HasValue architecture addresses bytes symbols r row v
   pub valued : has_value row.kind ≡ true
   pub single : is_of_pair row ≡ false
@@ -37,7 +37,7 @@ pub record IsQuickValue (architecture : Architecture) (addresses : Addresses) (b
 
 -- the same of the relocation at an index, however its value is found
 pub record IsQuickAt (architecture : Architecture) (addresses : Addresses) (bytes : List ℕ)
-    (values : Values) (i : ℕ) (row : RelocationKindInfo) (v : ℤ) : Type 0 where
+    (values : Values) (i : ℕ) (row : RowInfo) (v : ℤ) : Type 0 where
   pub has : IsValued architecture addresses bytes values i row v
   pub single : is_of_pair row ≡ false
   pub some : 0 < window_len row
@@ -47,7 +47,7 @@ pub record IsQuickAt (architecture : Architecture) (addresses : Addresses) (byte
 pub record IsHighValue (architecture : Architecture) (addresses : Addresses) (bytes : List ℕ)
     (symbols : List Symbol) (high : HighPart) : Type 0 where
   pub r : Rela
-  pub row : RelocationKindInfo
+  pub row : RowInfo
   pub part : IsHighPart architecture bytes RelativeRiscVLow12 high.offset r row
   pub operands : Operands
   pub found : operands_of architecture addresses symbols row r ≡ Ok operands
@@ -57,7 +57,7 @@ pub record IsHighValue (architecture : Architecture) (addresses : Addresses) (by
 pub record IsResolvedHigh (architecture : Architecture) (addresses : Addresses) (bytes : List ℕ)
     (lookup : Lookup) (high : HighPart) : Type 0 where
   pub r : Rela
-  pub row : RelocationKindInfo
+  pub row : RowInfo
   pub part : IsHighPart architecture bytes RelativeRiscVLow12 high.offset r row
   pub operands : Operands
   pub found : resolved_operands architecture addresses row r (lookup part.index r) ≡ Ok operands
@@ -65,7 +65,7 @@ pub record IsResolvedHigh (architecture : Architecture) (addresses : Addresses) 
 
 -- the operands of a relocation, by what is known of its symbol, give a value
 pub record IsPlainResolved (architecture : Architecture) (addresses : Addresses)
-    (row : RelocationKindInfo) (r : Rela) (known : Resolved) (v : ℤ) : Type 0 where
+    (row : RowInfo) (r : Rela) (known : Resolved) (v : ℤ) : Type 0 where
   pub operands : Operands
   pub found : resolved_operands architecture addresses row r (Some known) ≡ Ok operands
   pub value_is : value_of row operands ≡ Some v

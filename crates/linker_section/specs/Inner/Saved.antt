@@ -3,7 +3,7 @@ use Rattle.std.specs.Prelude.{◌≡◌, ℕ, zero, suc, ◌+◌, ◌-◌, nat_l
 use Rattle.std.specs.Prelude.{◌++◌, length, take, drop, slice_index, Option, Some, None}
 use Rattle.std.specs.Int.{w64, to_le_bytes}
 use Rattle.linker_elf.specs.Value.{sum_64}
-use Rattle.linker_elf.specs.declared.elf.RelocationKindInfo.{RelocationKindInfo}
+use Rattle.linker_elf.specs.declared.elf.RowInfo.{RowInfo}
 use Rattle.linker_section.specs.Fields.{ends_pair}
 use Rattle.linker_section.specs.Relocations.{relocation_in}
 use Rattle.linker_elf.specs.Architectures.{IsRow}
@@ -27,7 +27,7 @@ with_word offset word section =
     else section
 
 -- from where on the bytes are saved: a pair's second has those after the 8 of its first
-abbrev pub saved_place : Option RelocationKindInfo → ℕ → ℕ
+abbrev pub saved_place : Option RowInfo → ℕ → ℕ
 saved_place None offset = offset
 saved_place (Some row) offset = if ends_pair row.size row.kind then sum_64 offset 8 else offset
 
@@ -35,6 +35,6 @@ saved_place (Some row) offset = if ends_pair row.size row.kind then sum_64 offse
 abbrev pub Restores : Architecture → List ℕ → List ℕ → ℕ → List ℕ → List ℕ → Type 0
 Restores architecture bytes memory zero now before = now ≡ before
 Restores architecture bytes memory (suc n) now before =
-    (row : Option RelocationKindInfo) × IsRow architecture (relocation_in bytes n).r_type row
+    (row : Option RowInfo) × IsRow architecture (relocation_in bytes n).r_type row
     × Restores architecture bytes memory n
     (with_word (saved_place row (relocation_in bytes n).offset) (slice_index memory n) now) before

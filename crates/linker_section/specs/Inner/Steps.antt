@@ -4,7 +4,7 @@ use Rattle.std.specs.Prelude.{length}
 use Rattle.std.specs.Prelude.{drop, set, ◌⊎◌, ⊤, true, false, Option, Some, None, Result, Ok, Err}
 use Rattle.linker_base.specs.declared.utils.Uleb128Error.{Uleb128Error}
 use Rattle.linker_elf.specs.Relocate.{window_len}
-use Rattle.linker_elf.specs.declared.elf.RelocationKindInfo.{RelocationKindInfo}
+use Rattle.linker_elf.specs.declared.elf.RowInfo.{RowInfo}
 use Rattle.linker_elf.specs.declared.elf.relocate.RelocateError.TheVariants.{TooShort}
 use Rattle.linker_section.specs.Fields.{AreApart, IsOverlapped, begins_pair, ends_pair, field_len}
 use Rattle.linker_section.specs.Fields.{IsField, field_end, is_of_pair}
@@ -29,7 +29,7 @@ use Rattle.linker_elf.specs.Architectures.{IsRow}
 use Rattle.linker_elf.specs.declared.elf.architecture.Architecture.{Architecture}
 
 -- the field of a relocation of a row at an offset
-abbrev pub field_of_row : RelocationKindInfo → ℕ → List ℕ → Field
+abbrev pub field_of_row : RowInfo → ℕ → List ℕ → Field
 field_of_row row offset section =
     record { offset = offset; len = field_len row (drop offset section); kind = row.kind }
 
@@ -50,20 +50,20 @@ IsLimit architecture bytes section (Some limit) =
 pub record IsSecond (architecture : Architecture) (bytes : List ℕ) (i : ℕ) : Type 0 where
   pub within : i + 1 < length bytes / 24
   pub same_offset : offset_at bytes (i + 1) ≡ offset_at bytes i
-  pub other : RelocationKindInfo
+  pub other : RowInfo
   pub is_other : IsRow architecture (relocation_in bytes (i + 1)).r_type (Some other)
   pub ends : ends_pair other.size other.kind ≡ true
 
 -- the relocation at an index is of no pair
 abbrev pub IsAlone : Architecture → List ℕ → ℕ → Type 0
 IsAlone architecture bytes i =
-    (row : RelocationKindInfo) → IsRow architecture (relocation_in bytes i).r_type (Some row)
+    (row : RowInfo) → IsRow architecture (relocation_in bytes i).r_type (Some row)
     → is_of_pair row ≡ false
 
 -- it has no value, and no field
 abbrev pub HasNoValue : Architecture → List ℕ → ℕ → Type 0
 HasNoValue architecture bytes i =
-    (row : RelocationKindInfo) → IsRow architecture (relocation_in bytes i).r_type (Some row)
+    (row : RowInfo) → IsRow architecture (relocation_in bytes i).r_type (Some row)
     → has_value row.kind ≡ false
 
 -- why the number of the pair at an index isn't written
@@ -87,7 +87,7 @@ pub record Ascends (architecture : Architecture) (bytes before now : List ℕ) (
     (last : Field) : Type 0 where
   pub apart : AreApart architecture bytes before k
   pub claimed : AreClaimed architecture bytes before (λ i. i < k) last
-  pub no_pair : (i : ℕ) (row : RelocationKindInfo) → i + 1 ≡ k
+  pub no_pair : (i : ℕ) (row : RowInfo) → i + 1 ≡ k
       → IsRow architecture (relocation_in bytes i).r_type (Some row)
       → begins_pair row.size row.kind ≡ false
   pub inside : 0 < last.len → last.offset + last.len ≤ length before
@@ -110,7 +110,7 @@ pub record IsStopped (architecture : Architecture) (addresses : Addresses) (byte
 -- The relocation at an index isn't of a pair. It has no value, or it is left out.
 pub record IsUnvalued (architecture : Architecture) (addresses : Addresses) (bytes : List ℕ)
     (values : Values) (left_out : ℕ → Bool) (i : ℕ) : Type 0 where
-  pub row : Option RelocationKindInfo
+  pub row : Option RowInfo
   pub is_row : IsRow architecture (relocation_in bytes i).r_type row
   pub is_value : values architecture addresses bytes i (Ok None)
   pub alone : IsAlone architecture bytes i
@@ -137,7 +137,7 @@ IsLeftOut architecture bytes before now limit i (Err error) =
     ((error ≡ record { index = i; error = Overlaps }) × IsOverlapped architecture bytes before i)
     ⊎ ((error ≡ record { index = i; error = Write TooShort })
     × AreApart architecture bytes before (i + 1)
-    × (row : RelocationKindInfo) × IsField architecture bytes before i row
+    × (row : RowInfo) × IsField architecture bytes before i row
     × (length before < field_end bytes before i row))
 
 -- ---- one step
@@ -171,7 +171,7 @@ IsStep architecture addresses bytes values limit before i now memory (Err error)
 -- the field of a relocation that has a field of its own
 pub record IsOwnField (architecture : Architecture) (bytes : List ℕ) (i : ℕ) (field : Field)
     : Type 0 where
-  pub row : RelocationKindInfo
+  pub row : RowInfo
   pub is_row : IsRow architecture (relocation_in bytes i).r_type (Some row)
   pub is_field : field
       ≡ record { offset = offset_at bytes i; len = window_len row; kind = row.kind }
@@ -180,7 +180,7 @@ pub record IsOwnField (architecture : Architecture) (bytes : List ℕ) (i : ℕ)
 pub record IsQuickStep (architecture : Architecture) (addresses : Addresses) (bytes : List ℕ)
     (values : Values) (i end : ℕ) (now after memory kept : List ℕ) (own_end : ℕ)
     : Type 0 where
-  pub row : RelocationKindInfo
+  pub row : RowInfo
   pub v : ℤ
   pub value : IsQuickAt architecture addresses bytes values i row v
   pub word : ℕ

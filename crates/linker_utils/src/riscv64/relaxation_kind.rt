@@ -14,7 +14,7 @@ use super::RewriteKind;
 use crate::rewrite_rows::same_name;
 use linker_base::bit_misc::BitExtraction;
 use linker_base::relaxation::RelocationModifier;
-use linker_elf::elf::{RelocationKindInfo, RiscVInstruction};
+use linker_elf::elf::{RiscVInstruction, RowInfo};
 use linker_elf::riscv64 as relocations;
 
 /// A rewrite that the crate `linker-utils` 0.11.0 has too: the `RewriteKind` of the same name. No
@@ -110,7 +110,7 @@ impl RelaxationKind {
     /// What `R_RISCV_HI20` means once its `lui` has become a `c.lui` (`Hi20ToCLui`). Its range is
     /// wider than what `c.lui` holds: `hi20_fits_clui` is the test.
     #[inline]
-    pub fn clui_rel_info() -> RelocationKindInfo
+    pub fn clui_rel_info() -> RowInfo
         ensures row { result ≡ clui_row }
         ensures others { RowReadsNoOther result }
         ensures fits { RowFits result }

@@ -1,7 +1,7 @@
 use Rattle.std.proofs.Common.{◌≡◌, ℕ, pos, negsuc, false, true, refl, subst, ap, ◌∙◌, List, Some, lit<}
 use Rattle.std.specs.Prelude.{IsSomeAnd}
 use Rattle.linker_elf.specs.declared.riscv64.relocations.RiscVRelocation.TheVariants as names
-use Rattle.linker_final.proofs.Imports.{IsApplied, IsNamed, IsRow, RelocationKindInfo, RiscV, RiscVRelocation, Operands, r_type_of, riscv_name, riscv_relocation}
+use Rattle.linker_final.proofs.Imports.{IsApplied, IsNamed, IsRow, RowInfo, RiscV, RiscVRelocation, Operands, r_type_of, riscv_name, riscv_relocation}
 use Rattle.linker_final.proofs.worked.riscv32.Goals as goal
 
 -- with the addend of the file
@@ -21,7 +21,7 @@ operands =
       has_tls_base = false;
     }
 
-applied : (name : RiscVRelocation) (r_type : ℕ) (row : RelocationKindInfo) → IsRow RiscV r_type (Some row)
+applied : (name : RiscVRelocation) (r_type : ℕ) (row : RowInfo) → IsRow RiscV r_type (Some row)
     → IsNamed (riscv_name name) → r_type_of (riscv_name name) ≡ r_type
     → (o given : Operands) → given ≡ o → (before after : List ℕ) → IsApplied row given before after
     → IsSomeAnd ((riscv_relocation name).row) (λ row.
@@ -51,7 +51,10 @@ returns c = λ so.
         applied names.R_RISCV_HI20 26 c.in-Some.high (subst (IsRow RiscV 26) c.in-Some.is c.row.ensures) tt refl
             wrapped c.new-operands.result c.new-operands.ensures _ _
             (c.apply_formula.ensures.applied c.if-not-apply_formula.false),
-        (applied names.R_RISCV_LO12_I 27 c.in-Some-row.low (subst (IsRow RiscV 27) c.in-Some-row.is c.row-2.ensures) tt refl
-            wrapped c.new-operands.result c.new-operands.ensures _ _ (c.apply_formula-2.ensures.applied so), tt),
+        (
+          applied names.R_RISCV_LO12_I 27 c.in-Some-row.low (subst (IsRow RiscV 27) c.in-Some-row.is c.row-2.ensures) tt refl
+              wrapped c.new-operands.result c.new-operands.ensures _ _ (c.apply_formula-2.ensures.applied so),
+          tt,
+        ),
       );
     }

@@ -1,10 +1,10 @@
 use Rattle.std.proofs.Common.{rules, ◌≡◌, ◌≤◌, ℕ, ℤ, List, length, drop, subst, arith, IfNone, IfSome, Option, Some, None}
 use Rattle.std.proofs.lemmas.List.{take_rest}
-use Rattle.linker_output.proofs.Imports.{w64, cast_signed, cast_unsigned, IsAccepted, IsCause, RelocationKindInfo, RelocateError}
+use Rattle.linker_output.proofs.Imports.{w64, cast_signed, cast_unsigned, IsAccepted, IsCause, RowInfo, RelocateError}
 use Rattle.linker_output.specs.Routes.{IsObstacle}
 use Rattle.linker_output.proofs.routes.obstacle.Goals as goal
 
-obstacle_is : (row : RelocationKindInfo) (v : ℤ) (offset : ℕ) (section : List ℕ)
+obstacle_is : (row : RowInfo) (v : ℤ) (offset : ℕ) (section : List ℕ)
     (found : Option RelocateError) → offset ≤ length section
     → IfNone found (IsAccepted row v (drop offset section))
     → IfSome found (IsCause row v (drop offset section)) → IsObstacle row v offset section found

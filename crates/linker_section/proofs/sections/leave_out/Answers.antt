@@ -1,7 +1,7 @@
 use Rattle.std.proofs.Common.{◌≡◌, ◌+◌, ◌≤◌, ◌∙◌, ℕ, List, length, drop, refl, sym, ap, subst, arith, inl, inr, true, false}
 use Rattle.std.specs.Prelude.{IfNone}
 use Rattle.linker_elf.specs.declared.elf.RelocationKind.{RelocationKind}
-use Rattle.linker_elf.specs.declared.elf.RelocationKindInfo.{RelocationKindInfo}
+use Rattle.linker_elf.specs.declared.elf.RowInfo.{RowInfo}
 use Rattle.linker_section.proofs.Rows.{one_info}
 use Rattle.linker_section.proofs.Stepping.{alone_field, apart_next, field_valued, left_order, len_alone, mark_order, next_some, overlap_now}
 use Rattle.linker_section.specs.Fields.{IsField, field_end, field_len, is_of_pair}
@@ -23,14 +23,14 @@ by_parts field offset len kind o l k =
 
 -- what is known of the relocation's field
 record Known (c : In-Some) : Type 0 where
-  row : RelocationKindInfo
+  row : RowInfo
   has : HasField c.args.architecture c.args.relocations.now c.args.section.now c.args.index row c.in-Some.field
   valued : has_value row.kind ≡ true
   alone : is_of_pair row ≡ false
   field_is : c.in-Some.field ≡ field_of_row row (offset_at c.args.relocations.now c.args.index) c.args.section.now
 
 -- the field ends where it did before all writes
-same_end : (c : In-Some) (before : List ℕ) (row : RelocationKindInfo) → Known c
+same_end : (c : In-Some) (before : List ℕ) (row : RowInfo) → Known c
     → length c.args.section.now ≡ length before
     → IsField c.args.architecture c.args.relocations.now before c.args.index row
     → field_end c.args.relocations.now before c.args.index row ≡ c.in-Some.field.offset + c.in-Some.field.len
@@ -66,9 +66,9 @@ pub returns-in_default : goal.returns-in_default
 returns-in_default c before is_limit order same =
     let a = c.args in
     let bytes = a.relocations.now in
-    let none : (row : RelocationKindInfo) → IsField a.architecture bytes a.section.now a.index row → ⊥ =
-    subst (λ x. IfNone x ((row : RelocationKindInfo) → IsField a.architecture bytes a.section.now a.index row → ⊥)) c.in_default.is c.field_in.ensures.none in
-    let fieldless : (row : RelocationKindInfo) → IsField a.architecture bytes before a.index row → ⊥ =
+    let none : (row : RowInfo) → IsField a.architecture bytes a.section.now a.index row → ⊥ =
+    subst (λ x. IfNone x ((row : RowInfo) → IsField a.architecture bytes a.section.now a.index row → ⊥)) c.in_default.is c.field_in.ensures.none in
+    let fieldless : (row : RowInfo) → IsField a.architecture bytes before a.index row → ⊥ =
     λ row is_field. none row (alone_field a.architecture bytes before a.section.now a.index row (c.requires.alone row is_field.is_row) is_field) in (
       refl,
       mark_order a.limit a.architecture bytes before a.section.now a.index a.last is_limit order c.requires.within c.requires.alone fieldless,

@@ -1,5 +1,5 @@
 use Rattle.std.proofs.Common.{◌≡◌, ◌+◌, ◌≤◌, ◌++◌, ◌∙◌, ℕ, ℤ, List, length, take, refl, sym, ap, subst, true, true≢false, inr, drop, rules, FitsSigned, to_z, of_z, Ok}
-use Rattle.linker_section.proofs.Imports.{RelocationKindInfo, w64, to_z-of_z, IsUlebWritten, IsUlebCause, Architecture}
+use Rattle.linker_section.proofs.Imports.{RowInfo, w64, to_z-of_z, IsUlebWritten, IsUlebCause, Architecture}
 use Rattle.linker_section.specs.Fields.{begins_pair, ends_pair}
 use Rattle.linker_section.specs.Relocations.{relocation_in}
 use Rattle.linker_section.specs.Sections.{IsPair, IsNumberOfPair, IsNumberWrittenAt, BeginsPair}
@@ -21,8 +21,8 @@ returns-in-Ok-None g c =
 -- what makes a pair of the two relocations
 pub pair_is : (architecture : Architecture) (addresses : Addresses) (bytes : List ℕ)
     (values : Values) (i : ℕ) (there : List ℕ) (value subtracted : ℤ)
-    (other : RelocationKindInfo) (number : ℕ) → BeginsPair architecture bytes i
-    → (row : RelocationKindInfo) × IsValued architecture addresses bytes values i row value
+    (other : RowInfo) (number : ℕ) → BeginsPair architecture bytes i
+    → (row : RowInfo) × IsValued architecture addresses bytes values i row value
     → IsValued architecture addresses bytes values (i + 1) other subtracted
     → IsNumberOfPair other.kind there value subtracted number
     → IsPair architecture addresses bytes values i there number

@@ -4,7 +4,7 @@ use Rattle.linker_elf.specs.LoongArch.{loongarch_form}
 use Rattle.linker_elf.specs.Ppc64.{ppc64_form}
 use Rattle.linker_elf.specs.RiscV.{riscv_form}
 use Rattle.linker_elf.specs.Relocate.{is_32_bit_move, with_bit_31_if}
-use Rattle.linker_elf.specs.declared.elf.RelocationInstruction.TheVariants.{AArch64, RiscV, Ppc64, LoongArch64}
+use Rattle.linker_elf.specs.declared.elf.AnyForm.TheVariants.{AArch64, RiscV, Ppc64, LoongArch64}
 use Rattle.linker_elf.proofs.AArch64Forms.{is_word}
 use Rattle.linker_elf.proofs.Clearing.{nothing_written}
 use Rattle.linker_elf.proofs.Placed.{bit_31_is_set, of_value}

@@ -1,5 +1,5 @@
 use Rattle.std.proofs.Common.{Option, sym, ap, ◌∙◌}
-use Rattle.linker_elf.specs.declared.elf.RelocationKindInfo.{RelocationKindInfo}
+use Rattle.linker_elf.specs.declared.elf.RowInfo.{RowInfo}
 use Rattle.linker_reading.specs.Reading.{value_read}
 use Rattle.linker_reading.specs.Recognised.{value_at}
 use Rattle.linker_reading.proofs.Read.{read_from}
@@ -8,4 +8,4 @@ use Rattle.linker_reading.proofs.recognise.engine.value_at.Goals as goal
 pub returns : goal.returns
 returns c =
     c.read.ensures.value ∙ ap (value_read c.in-Some.row) (read_from c.args.at c.min-start.result c.args.linked.now c.min-start.ensures)
-    ∙ sym (ap (λ (row : Option RelocationKindInfo). value_at row c.args.at c.args.linked.now) c.in-Some.is)
+    ∙ sym (ap (λ (row : Option RowInfo). value_at row c.args.at c.args.linked.now) c.in-Some.is)

@@ -5,7 +5,7 @@ use Rattle.linker_elf.specs.Reach.{reach_of}
 use Rattle.linker_elf.specs.Relocate.{IsEncoded, IsReached}
 use Rattle.linker_elf.proofs.Reached.{accepts}
 use Rattle.linker_elf.proofs.WrittenRows.{writes_row}
-use Rattle.linker_elf.proofs.elf.RelocationKindInfo.write_tested.Goals as goal
+use Rattle.linker_elf.proofs.elf.RowInfo.write_tested.Goals as goal
 
 pub returns-in-BitMasking-clause-ok : goal.returns-in-BitMasking-clause-ok
 returns-in-BitMasking-clause-ok c =

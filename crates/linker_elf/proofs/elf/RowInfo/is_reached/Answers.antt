@@ -3,8 +3,8 @@ use Rattle.linker_elf.proofs.Imports.{w64, ints, to_z-of_z}
 use Rattle.linker_elf.specs.Reach.{reach_of}
 use Rattle.linker_elf.specs.Relocate.{IsEncoded}
 use Rattle.linker_elf.proofs.Reached.{ends_of, within_from}
-use Rattle.linker_elf.proofs.elf.RelocationKindInfo.is_reached.Goals.{then-value-tests-via-then-value-tests, then-value-tests-via-else-value-tests+then-tests-value}
-use Rattle.linker_elf.proofs.elf.RelocationKindInfo.is_reached.Goals as goal
+use Rattle.linker_elf.proofs.elf.RowInfo.is_reached.Goals.{then-value-tests-via-then-value-tests, then-value-tests-via-else-value-tests+then-tests-value}
+use Rattle.linker_elf.proofs.elf.RowInfo.is_reached.Goals as goal
 
 pub returns-then-value-tests : goal.returns-then-value-tests
 returns-then-value-tests c =

@@ -7,9 +7,9 @@ use Rattle.linker_elf.specs.Value.{sum_64, difference_64, symbol_term, entry_ter
 use Rattle.linker_elf.specs.declared.elf.RelocationKind.TheVariants.{PltRelGotBase, PltRelative}
 use Rattle.linker_elf.specs.declared.elf.value.Formula.TheVariants as formulas
 use Rattle.linker_elf.specs.declared.elf.value.FormulaError.{FormulaError}
-use Rattle.linker_elf.specs.declared.elf.RelocationKindInfo.{RelocationKindInfo}
+use Rattle.linker_elf.specs.declared.elf.RowInfo.{RowInfo}
 use Rattle.linker_elf.specs.declared.elf.value.Operands.{Operands}
-use Rattle.linker_elf.proofs.elf.RelocationKindInfo.value_modulo.Goals as goal
+use Rattle.linker_elf.proofs.elf.RowInfo.value_modulo.Goals as goal
 
 pub returns-in-Without : goal.returns-in-Without
 returns-in-Without c =
@@ -35,7 +35,7 @@ returns-in-SymbolLessPlace c =
           ∙ ap (λ n. Ok (cast_signed w64 n))
           (sym (ours ∙ (ap (λ t. difference_64 (symbol_term row o) (bit_and o.place t.place)) c.requires ∙ relative_is row o relative small short)))
       | inr low ↦
-          let term : RelocationKindInfo → Operands → ℕ = λ r o. difference_64 (symbol_term r o) (place_term r o) in
+          let term : RowInfo → Operands → ℕ = λ r o. difference_64 (symbol_term r o) (place_term r o) in
           let has : HasTerm term false row.kind =
           subst (HasTerm term false) (sym low) (record { formula_is = λ r o. refl; got_is = refl; no_plt = refl; no_offset = refl; unset = λ size. refl }) in
           plain_value row o term has

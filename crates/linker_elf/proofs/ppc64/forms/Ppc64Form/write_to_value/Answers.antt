@@ -2,7 +2,7 @@ use Rattle.linker_base.specs.Form.{window_of}
 use Rattle.linker_elf.specs.Ppc64.{ppc64_form}
 use Rattle.linker_elf.specs.Inner.FormLaws.{ppc64_restored}
 use Rattle.linker_elf.proofs.Ppc64Forms.{ppc64_machine}
-use Rattle.linker_elf.proofs.ppc64.forms.Ppc64Instruction.write_to_value.Goals as goal
+use Rattle.linker_elf.proofs.ppc64.forms.Ppc64Form.write_to_value.Goals as goal
 
 pub returns : goal.returns
 returns c =

@@ -1,7 +1,7 @@
 use Rattle.std.proofs.Common.{rules, arith, ◌%◌}
 use Rattle.std.specs.Int.{w64, trailing_zeros}
 use Rattle.linker_elf.proofs.Taken.{is_multiple}
-use Rattle.linker_elf.proofs.elf.RelocationKindInfo.is_aligned.Goals as goal
+use Rattle.linker_elf.proofs.elf.RowInfo.is_aligned.Goals as goal
 
 pub returns-then-self-unit : goal.returns-then-self-unit
 returns-then-self-unit c =
