@@ -189,56 +189,6 @@ pub enum RowSize {
     BitMasking { range: BitRange, insn: AnyForm },
 }
 
-impl RowSize {
-    /// Bits `start` and up, below `end`, into an AArch64 instruction.
-    pub fn bit_mask_aarch64(start: u8, end: u8, insn: AArch64Instruction) -> RowSize
-        ensures { result
-            ≡ RowSize.BitMasking (record { start = start; end = end })
-            (AnyForm.AArch64 insn) }
-    {
-        RowSize::BitMasking {
-            range: BitRange { start, end },
-            insn: AnyForm::AArch64(insn),
-        }
-    }
-
-    /// Bits `start` and up, below `end`, into a RISC-V instruction.
-    pub fn bit_mask_riscv(start: u8, end: u8, insn: RiscVInstruction) -> RowSize
-        ensures { result
-            ≡ RowSize.BitMasking (record { start = start; end = end })
-            (AnyForm.RiscV insn) }
-    {
-        RowSize::BitMasking {
-            range: BitRange { start, end },
-            insn: AnyForm::RiscV(insn),
-        }
-    }
-
-    /// Bits `start` and up, below `end`, into a PowerPC64 instruction.
-    pub fn bit_mask_ppc64(start: u8, end: u8, insn: Ppc64Form) -> RowSize
-        ensures { result
-            ≡ RowSize.BitMasking (record { start = start; end = end })
-            (AnyForm.Ppc64 insn) }
-    {
-        RowSize::BitMasking {
-            range: BitRange { start, end },
-            insn: AnyForm::Ppc64(insn),
-        }
-    }
-
-    /// Bits `start` and up, below `end`, into a LoongArch instruction.
-    pub fn bit_mask_loongarch64(start: u8, end: u8, insn: LoongArch64Instruction) -> RowSize
-        ensures { result
-            ≡ RowSize.BitMasking (record { start = start; end = end })
-            (AnyForm.LoongArch64 insn) }
-    {
-        RowSize::BitMasking {
-            range: BitRange { start, end },
-            insn: AnyForm::LoongArch64(insn),
-        }
-    }
-}
-
 /// An instruction form of one of the architectures.
 #[derive(Debug, Clone, Copy, PartialEq, Eq)]
 pub enum AnyForm {

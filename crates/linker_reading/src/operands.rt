@@ -122,7 +122,7 @@ fn first_forms(encodings: &'static [Encoding], len: usize, number: u64) -> &'sta
 ///
 /// ```
 /// use linker_reading::operands::{forms_of, operand};
-/// use linker_utils::elf::{Architecture, Ppc64Form, AnyForm};
+/// use linker_utils::elf::{AnyForm, Architecture, Ppc64Form};
 ///
 /// // `b .-4`
 /// let word = 0x4bff_fffcu32.to_le_bytes();

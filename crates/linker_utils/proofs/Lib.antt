@@ -11,6 +11,7 @@ pub mod RewriteRows
 pub mod RiscVAlike
 pub mod RiscVChoices
 pub mod RiscVRewrites
+pub mod Upstream
 pub mod X86Bytes
 pub mod X86Choices
 pub mod X86Originals

@@ -4,6 +4,7 @@ pub mod LoongArchRewrites
 pub mod Ppc64Rewrites
 pub mod Relaxations
 pub mod RiscVRewrites
+pub mod Upstream
 pub mod X86RelocationsAfter
 pub mod X86Rewrites
 -- the definitions that public contracts of the crates below cite
@@ -63,8 +64,8 @@ pub use Rattle.linker_base.specs.declared.relaxation.RelaxDelta
 pub use Rattle.linker_base.specs.declared.relaxation.RelocationModifier
 pub use Rattle.linker_base.specs.declared.relaxation.blocks.BlockHead
 pub use Rattle.linker_elf.specs.declared.elf.AllowedRange
-pub use Rattle.linker_elf.specs.declared.elf.PageMask
 pub use Rattle.linker_elf.specs.declared.elf.AnyForm
+pub use Rattle.linker_elf.specs.declared.elf.PageMask
 pub use Rattle.linker_elf.specs.declared.elf.RelocationKind
 pub use Rattle.linker_elf.specs.declared.elf.RowInfo
 pub use Rattle.linker_elf.specs.declared.elf.RowSize

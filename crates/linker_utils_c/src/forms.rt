@@ -85,8 +85,7 @@ fn fit<F: InstructionForm>(form: F, value: u64, bytes: &[u8]) -> u32
     Status::Success as u32
 }
 
-// Writes a value by a form, if there is one: `AnyForm` would require its architecture
-// again.
+// Writes a value by a form, if there is one: `AnyForm` would require its architecture again.
 #[inline(always)]
 fn write_by<F: InstructionForm>(form: Option<F>, value: u64, negative: bool, dest: &mut [u8]) -> u32
     ensures outcome { MatchOption form (result ≡ code Status.UnknownForm)

@@ -9,15 +9,18 @@ ghost use Rattle.linker_utils.specs.Bits.{field};
 ghost use Rattle.linker_utils.specs.Deletions.{AreDisjoint, AreKept, HasInput, IsSortedUnion};
 ghost use Rattle.linker_utils.specs.Deletions.{IsValid, rank};
 ghost use Rattle.linker_utils.specs.Form.{Written, window_of};
+ghost use Rattle.linker_utils.specs.Forms.{immediate_of};
 ghost use Rattle.linker_utils.specs.Packing.{IsFirstFailing, IsPacked};
 ghost use Rattle.linker_utils.specs.RiscV.{riscv_form};
 ghost use Rattle.linker_utils.specs.RiscVCalls.{word_at};
 ghost use Rattle.linker_utils.specs.Shrinking.{AreShrinkable};
 ghost use Rattle.linker_utils.specs.RiscVInstruction.TheVariants.{JType};
 ghost use Rattle.linker_utils.specs.LinkRegister.TheVariants.{OfAuipc};
+ghost use Rattle.linker_utils.specs.AnyForm.TheVariants.{Ppc64};
+ghost use Rattle.linker_utils.specs.Upstream.{ppc64_of};
 
-use linker_utils::bit_misc::BitExtraction;
-use linker_utils::elf::InstructionForm;
+use linker_utils::bit_misc::{BitExtraction, BitRange};
+use linker_utils::elf::{InstructionForm, Ppc64Instruction};
 use linker_utils::relaxation::{
     OutOfMemory, PackError, SectionRelaxDeltas, laws, pack_section, shrink_calls,
 };
@@ -163,4 +166,18 @@ pub fn halves(value: u64) -> (u64, u64)
         value.extract_bit_range(12..32),
         value.extract_bit_range(0..12),
     )
+}
+
+/// Which bits of a displacement a PowerPC64 instruction holds: a match of the forms of the original
+/// crate needs no last arm.
+pub fn displacement_bits(insn: Ppc64Instruction) -> BitRange
+    ensures { result ≡ immediate_of (Ppc64 (ppc64_of insn)) }
+{
+    let (start, end) = match insn {
+        Ppc64Instruction::D => (0, 16),
+        Ppc64Instruction::Ds => (2, 16),
+        Ppc64Instruction::Branch14 => (2, 16),
+        Ppc64Instruction::Branch24 => (2, 26),
+    };
+    BitRange { start, end }
 }

@@ -345,9 +345,9 @@ impl RelocationName for AArch64Relocation {
     }
 }
 
-/// What a relocation means, as `row` says.
+/// What a relocation means, if the crate `linker-utils` has a row for it.
 #[inline(always)]
-pub fn relocation_type_from_raw(name: AArch64Relocation) -> Option<RowInfo>
+pub fn upstream_row(name: AArch64Relocation) -> Option<RowInfo>
     ensures row { result ≡ aarch64_row name }
     ensures agrees { IfSome result RowAgrees }
     ensures others { IfSome result RowReadsNoOther }

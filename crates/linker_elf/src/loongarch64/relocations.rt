@@ -293,12 +293,9 @@ fn with_raw_kind(row: Option<RowInfo>) -> Option<RowInfo>
     }
 }
 
-/// What a relocation means, as `row` says, or `None` for those that the crate `linker-utils` has no
-/// row for: `R_LARCH_MARK_LA`, and the GOT entries for TLS by `pcaddi`,
-/// `R_LARCH_TLS_LD_PCREL20_S2`, `R_LARCH_TLS_GD_PCREL20_S2` and `R_LARCH_TLS_DESC_PCREL20_S2`. The
-/// kind of `R_LARCH_ALIGN` is `None` there, and here.
+/// What a relocation means, if the crate `linker-utils` has a row for it.
 #[inline(always)]
-pub fn relocation_type_from_raw(name: LoongArch64Relocation) -> Option<RowInfo>
+pub fn upstream_row(name: LoongArch64Relocation) -> Option<RowInfo>
     ensures row { result ≡ loongarch_raw_row name }
     // not of pairs: `reaches` of `write_to_value` says what `Call36` holds
     ensures agrees { IfSome result (LoongArchRowAgrees name) }

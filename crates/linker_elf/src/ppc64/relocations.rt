@@ -332,16 +332,9 @@ impl RelocationName for Ppc64Relocation {
     }
 }
 
-/// What a relocation means, as `row` says, or `None` for those that the crate `linker-utils` has no
-/// row for: `R_PPC64_NONE`, absolute addresses (`R_PPC64_ADDR24`, `R_PPC64_ADDR14` and the
-/// `R_PPC64_ADDR16` with what follows it), the parts of 64 bits (`_HIGH`, `_HIGHER`, `_HIGHEST` and
-/// those with an A), `R_PPC64_TOC16`, `R_PPC64_TOC16_HI`, `R_PPC64_TOC16_DS`, `R_PPC64_REL16`,
-/// `R_PPC64_REL16_HI`, `R_PPC64_REL24_NOTOC`, the GOT and PLT entries (`R_PPC64_GOT16` and
-/// `R_PPC64_PLT16` with what follows), marks (`R_PPC64_ENTRY`, `R_PPC64_PLTSEQ`, `R_PPC64_PLTCALL`,
-/// their `_NOTOC`, and `R_PPC64_PCREL_OPT`), and all prefixed instructions (`R_PPC64_D34`,
-/// `R_PPC64_PCREL34` and their like).
+/// What a relocation means, if the crate `linker-utils` has a row for it.
 #[inline(always)]
-pub fn relocation_type_from_raw(name: Ppc64Relocation) -> Option<RowInfo>
+pub fn upstream_row(name: Ppc64Relocation) -> Option<RowInfo>
     ensures row { result ≡ raw_row (ppc64_relocation name) }
     ensures agrees { IfSome result RowAgrees }
     ensures others { IfSome result RowReadsNoOther }

@@ -237,10 +237,9 @@ pub fn clui_row() -> Row
     row(RiscVRelocation::R_RISCV_RVC_LUI).unwrap()
 }
 
-/// What a relocation means, as `row` says, or `None` for the four of TLS descriptors and for
-/// `R_RISCV_RVC_LUI`.
+/// What a relocation means, if the crate `linker-utils` has a row for it.
 #[inline(always)]
-pub fn relocation_type_from_raw(name: RiscVRelocation) -> Option<RowInfo>
+pub fn upstream_row(name: RiscVRelocation) -> Option<RowInfo>
     ensures row { result ≡ riscv_row name }
     // only of branches and jumps: `pair` of `write_to_value` says what pairs hold
     ensures agrees { IfSome result RowAgrees }

@@ -183,10 +183,9 @@ impl RelocationName for X86_64Relocation {
     }
 }
 
-/// What a relocation means, as `row` says, or `None` for `R_X86_64_TPOFF64`, which the crate
-/// `linker-utils` has no row for.
+/// What a relocation means, if the crate `linker-utils` has a row for it.
 #[inline(always)]
-pub fn relocation_from_raw(name: X86_64Relocation) -> Option<RowInfo>
+pub fn upstream_row(name: X86_64Relocation) -> Option<RowInfo>
     ensures { result ≡ raw_row (x86_64_relocation name) }
 {
     raw_info_in(&ROWS[index(name)])

@@ -9,12 +9,14 @@ ghost use Rattle.linker_elf.specs.RiscVRelocations.{clui_row};
 ghost use Rattle.linker_utils.specs.RiscVRewrites.{riscv_rewrite_kind, riscv_rewrite};
 ghost use Rattle.linker_utils.specs.RiscVRewrites.{riscv_modifier, hi20, lo12, IsSigned32};
 ghost use Rattle.linker_utils.specs.RiscVRewrites.{FitsClui, HoldsHigh};
+ghost use Rattle.linker_utils.specs.Upstream.{row_of};
 
 use super::RewriteKind;
+use crate::elf::{RelocationKindInfo, RelocationSize};
 use crate::rewrite_rows::same_name;
 use linker_base::bit_misc::BitExtraction;
 use linker_base::relaxation::RelocationModifier;
-use linker_elf::elf::{RiscVInstruction, RowInfo};
+use linker_elf::elf::RiscVInstruction;
 use linker_elf::riscv64 as relocations;
 
 /// A rewrite that the crate `linker-utils` 0.11.0 has too: the `RewriteKind` of the same name. No
@@ -110,11 +112,13 @@ impl RelaxationKind {
     /// What `R_RISCV_HI20` means once its `lui` has become a `c.lui` (`Hi20ToCLui`). Its range is
     /// wider than what `c.lui` holds: `hi20_fits_clui` is the test.
     #[inline]
-    pub fn clui_rel_info() -> RowInfo
-        ensures row { result ≡ clui_row }
-        ensures others { RowReadsNoOther result }
-        ensures fits { RowFits result }
+    pub fn clui_rel_info() -> RelocationKindInfo
+        ensures row { row_of result ≡ clui_row }
+        ensures others { RowReadsNoOther (row_of result) }
+        ensures fits { RowFits (row_of result) }
     {
-        relocations::clui_row().info()
+        let row = relocations::clui_row().info();
+        let bits = RelocationSize::bit_mask_riscv(0, 32, RiscVInstruction::CluiType);
+        RelocationKindInfo::of_size(row, bits)
     }
 }

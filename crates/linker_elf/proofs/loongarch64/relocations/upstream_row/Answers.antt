@@ -9,7 +9,7 @@ use Rattle.linker_elf.proofs.Readings.{loongarch_reads_no_other}
 use Rattle.linker_elf.proofs.RowsAgree.{loongarch_rows as loongarch_agree}
 use Rattle.linker_elf.proofs.RowTables.{sound_from, unless, loongarch_rows, loongarch_raw_rows, raw_kind_fits}
 use Rattle.linker_elf.proofs.RowsFit.{loongarch_fits}
-use Rattle.linker_elf.proofs.loongarch64.relocations.relocation_type_from_raw.Goals as goal
+use Rattle.linker_elf.proofs.loongarch64.relocations.upstream_row.Goals as goal
 
 agrees : (name : LoongArch64Relocation) → IfSome (loongarch_raw_row name) (LoongArchRowAgrees name)
 agrees r.R_LARCH_NONE = loongarch_agree r.R_LARCH_NONE

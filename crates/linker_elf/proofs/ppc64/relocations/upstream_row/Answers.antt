@@ -6,7 +6,7 @@ use Rattle.linker_elf.proofs.Readings.{ppc64_reads_no_other}
 use Rattle.linker_elf.proofs.RowsAgree.{ppc64_rows as ppc64_agree}
 use Rattle.linker_elf.proofs.RowTables.{sound_from, unless, ppc64_rows, ppc64_raw_rows}
 use Rattle.linker_elf.proofs.RowsFit.{ppc64_fits}
-use Rattle.linker_elf.proofs.ppc64.relocations.relocation_type_from_raw.Goals as goal
+use Rattle.linker_elf.proofs.ppc64.relocations.upstream_row.Goals as goal
 
 pub raw_info_in-requires : goal.raw_info_in-requires
 raw_info_in-requires c = sound_from _ _ (ppc64_rows c.args.name _ c.index.ensures) (ppc64_fits c.args.name)

@@ -6,7 +6,7 @@ use Rattle.linker_elf.proofs.Readings.{riscv_reads_no_other}
 use Rattle.linker_elf.proofs.RowsAgree.{riscv_rows as riscv_agree}
 use Rattle.linker_elf.proofs.RowTables.{sound_from, unless, riscv_rows, riscv_raw_rows}
 use Rattle.linker_elf.proofs.RowsFit.{riscv_fits}
-use Rattle.linker_elf.proofs.riscv64.relocations.relocation_type_from_raw.Goals as goal
+use Rattle.linker_elf.proofs.riscv64.relocations.upstream_row.Goals as goal
 
 pub raw_info_in-requires : goal.raw_info_in-requires
 raw_info_in-requires c = sound_from _ _ (riscv_rows c.args.name _ c.index.ensures) (riscv_fits c.args.name)
