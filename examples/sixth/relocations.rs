@@ -1,8 +1,8 @@
 //! The sixth architecture: what its relocations mean. Its instructions are those of AArch64.
 
 use crate::linker_elf::elf::choice_table::RelocationName;
-use crate::linker_elf::elf::rows::{TableRow, info_in, listed, row_in, text_at};
-use crate::linker_elf::elf::{RelocationKindInfo, Row};
+use crate::linker_elf::elf::rows::{TableRow, listed, row_in, text_at};
+use crate::linker_elf::elf::Row;
 use core::fmt;
 
 /// The relocations. Most types are such as other architectures have for something else.
@@ -121,10 +121,4 @@ impl RelocationName for SixthRelocation {
     fn find_row(self) -> Option<Row> {
         row(self)
     }
-}
-
-#[must_use]
-#[inline(always)]
-pub const fn relocation_type_from_raw(name: SixthRelocation) -> Option<RelocationKindInfo> {
-    info_in(row(name))
 }

@@ -8,7 +8,7 @@ use crate::linker_elf::elf::choice_table::{
 };
 use crate::linker_elf::elf::{Choice, InstructionRewrite, LinkFacts, Operands};
 use crate::linker_elf::sixth::SixthRelocation as Names;
-pub use crate::linker_elf::sixth::{SixthRelocation, relocation_type_from_raw, row};
+pub use crate::linker_elf::sixth::{SixthRelocation, row};
 
 /// The rewrites.
 #[derive(Debug, Default, Clone, Copy, PartialEq, Eq, Hash, PartialOrd, Ord)]

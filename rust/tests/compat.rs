@@ -5,7 +5,10 @@ use linker_utils::compat as linker_utils;
 
 use linker_utils::aarch64;
 use linker_utils::bit_misc::BitExtraction;
-use linker_utils::elf::{RelocationKind, RelocationSize, RiscVInstruction};
+use linker_utils::elf::{
+    Ppc64Instruction, RelocationInstruction, RelocationKind, RelocationKindInfo, RelocationSize,
+    RiscVInstruction,
+};
 use linker_utils::relaxation::{
     RelaxDelta, RelaxDeltaMap, RelocationModifier, SectionRelaxDeltas, opt_input_to_output,
 };
@@ -74,7 +77,7 @@ fn calls_are_relaxed() {
     let row = riscv64::relocation_type_from_raw(17).expect("R_RISCV_JAL");
     let RelocationSize::BitMasking { range, insn } = row.size else { panic!("bits") };
     assert_eq!((range.start, range.end), (0, 32));
-    assert_eq!(insn, linker_utils::elf::RelocationInstruction::RiscV(RiscVInstruction::JType));
+    assert_eq!(insn, RelocationInstruction::RiscV(RiscVInstruction::JType));
     RiscVInstruction::JType.write_to_value(8u64.extract_bit_range(0..32), false, &mut section);
     assert_eq!(section[..4], 0x0080_00efu32.to_le_bytes()); // jal ra, 8
 }
@@ -113,6 +116,31 @@ fn rewrites_are_those_of_the_original() {
         TlsDescToLocalExec(_) TlsDescToInitialExec SkipTlsDescCall
     };
     assert_eq!(name, "RexCmpIndirectToAbsolute");
+}
+
+/// By matches with an arm for each form of the original's and no other.
+#[test]
+fn forms_are_those_of_the_original() {
+    let mut counts = [0; 4];
+    for row in (0..256).filter_map(ppc64::relocation_type_from_raw) {
+        let RelocationSize::BitMasking { insn, .. } = row.size else { continue };
+        let form = match insn {
+            RelocationInstruction::Ppc64(form) => form,
+            RelocationInstruction::AArch64(_)
+            | RelocationInstruction::RiscV(_)
+            | RelocationInstruction::LoongArch64(_) => panic!("{insn:?}"),
+        };
+        counts[match form {
+            Ppc64Instruction::D => 0,
+            Ppc64Instruction::Ds => 1,
+            Ppc64Instruction::Branch14 => 2,
+            Ppc64Instruction::Branch24 => 3,
+        }] += 1;
+    }
+    assert_eq!(counts, [22, 7, 1, 1]);
+    // R_PPC64_PCREL34
+    let row = ppc64::row(ppc64::Ppc64Relocation::from_elf(132)).expect("a row");
+    assert_eq!(RelocationKindInfo::of(row.info()), None);
 }
 
 #[test]

@@ -67,9 +67,9 @@ fn rows_are_constants() {
     const ROW: Option<linker_utils::elf::RelocationKindInfo> =
         linker_utils::aarch64::relocation_type_from_raw(AArch64Relocation::R_AARCH64_CALL26);
     let row = linker_utils::aarch64::row(AArch64Relocation::R_AARCH64_CALL26).expect("a row");
-    assert_eq!(ROW, Some(row.info()));
+    assert_eq!(ROW, linker_utils::elf::RelocationKindInfo::of(row.info()));
     assert_eq!(Some(row), Architecture::AArch64.row(283));
-    assert!(format!("{row:?}").starts_with("Row(RelocationKindInfo { kind: "));
+    assert!(format!("{row:?}").starts_with("Row(RowInfo { kind: "));
     for &architecture in Architecture::ALL {
         let of_codes = (0..0x1_0000).filter_map(|r_type| Some((r_type, architecture.row(r_type)?)));
         assert!(architecture.rows().eq(of_codes));

@@ -365,7 +365,7 @@ PREFIXED = words(0x3ffff, 0xffff)
 
 PPC64 = Architecture(
     "Ppc64", "qemu-ppc64le", "power10", 21, 2, 64, list(range(3, 32)), "Ppc64", "ppc64_form",
-    "Ppc64Instruction", "ppc64", [
+    "Ppc64Form", "ppc64", [
         Instruction("addi", "D", 0x38000000, 0xffff, gains(), 1, RT_RA),
         Instruction("addis", "D", 0x3c000000, 0xffff, gains(), 2 ** 16, RT_RA),
         *[Instruction(name, "D", opcode, 0xffff, loads(size), 1, RT_RA)

@@ -10,7 +10,7 @@
 //! instructions make one address, a line more has the number of both. Of a relocation it is the name,
 //! the symbol and the addend, and of x86-64 the number in the field before these.
 
-use linker_utils::elf::{Architecture, InstructionForm, RelocationInstruction};
+use linker_utils::elf::{AnyForm, Architecture, InstructionForm};
 use linker_utils::reading::{forms_of, operand, read};
 use object::LittleEndian;
 use object::elf::{FileHeader64, SHF_EXECINSTR, SHN_UNDEF, SHT_NOBITS, SHT_RELA, STT_SECTION};
@@ -57,12 +57,12 @@ fn length(architecture: Architecture, bytes: &[u8]) -> usize {
 }
 
 /// A form's name.
-fn name(form: RelocationInstruction) -> String {
+fn name(form: AnyForm) -> String {
     match form {
-        RelocationInstruction::AArch64(form) => format!("{form:?}"),
-        RelocationInstruction::RiscV(form) => format!("{form:?}"),
-        RelocationInstruction::Ppc64(form) => format!("{form:?}"),
-        RelocationInstruction::LoongArch64(form) => format!("{form:?}"),
+        AnyForm::AArch64(form) => format!("{form:?}"),
+        AnyForm::RiscV(form) => format!("{form:?}"),
+        AnyForm::Ppc64(form) => format!("{form:?}"),
+        AnyForm::LoongArch64(form) => format!("{form:?}"),
     }
 }
 

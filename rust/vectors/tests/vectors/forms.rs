@@ -3,8 +3,7 @@
 //! print them (`tools/oracle forms`).
 
 use linker_utils::elf::{
-    AArch64Instruction, Architecture, InstructionForm, LoongArch64Instruction,
-    RelocationInstruction,
+    AArch64Instruction, AnyForm, Architecture, InstructionForm, LoongArch64Instruction,
 };
 use linker_utils::reading::{forms_of, operand};
 
@@ -25,12 +24,12 @@ fn instructions(text: &str) -> impl Iterator<Item = (Vec<u8>, i64, Vec<&str>, &s
 }
 
 /// A form's name in its enum.
-fn name(form: RelocationInstruction) -> String {
+fn name(form: AnyForm) -> String {
     match form {
-        RelocationInstruction::AArch64(form) => format!("{form:?}"),
-        RelocationInstruction::RiscV(form) => format!("{form:?}"),
-        RelocationInstruction::Ppc64(form) => format!("{form:?}"),
-        RelocationInstruction::LoongArch64(form) => format!("{form:?}"),
+        AnyForm::AArch64(form) => format!("{form:?}"),
+        AnyForm::RiscV(form) => format!("{form:?}"),
+        AnyForm::Ppc64(form) => format!("{form:?}"),
+        AnyForm::LoongArch64(form) => format!("{form:?}"),
     }
 }
 
@@ -106,11 +105,11 @@ fn pairs_share_a_register() {
 fn other_forms_have_no_operand() {
     // `b .+4`
     let word = 0x1400_0001_u32.to_le_bytes();
-    let form = |form| RelocationInstruction::AArch64(form);
+    let form = |form| AnyForm::AArch64(form);
     assert_eq!(operand(form(AArch64Instruction::JumpCall), &word), Some(4));
     assert_eq!(operand(form(AArch64Instruction::Bcond), &word), None);
     assert!(forms_of(Architecture::X86_64, &[0xe8, 0, 0, 0, 0]).is_empty());
-    let call_30 = RelocationInstruction::LoongArch64(LoongArch64Instruction::Call30);
+    let call_30 = AnyForm::LoongArch64(LoongArch64Instruction::Call30);
     assert_eq!(operand(call_30, &[0; 8]), None);
     assert!(forms_of(Architecture::RiscV, &[]).is_empty());
 }

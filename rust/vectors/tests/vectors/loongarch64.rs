@@ -10,7 +10,7 @@ use assembled::{BRANCH_21, BRANCH_26, SHIFT_5, SHIFT_10};
 use linked::{ABSOLUTE, CALL_36, FIVE, PAGE_PAIR};
 use linker_utils::bit_misc::BitExtraction;
 use linker_utils::elf::{
-    InstructionForm, LoongArch64Instruction, RelocateError, RelocationKind, RelocationSize,
+    InstructionForm, LoongArch64Instruction, RelocateError, RelocationKind, RelocationSize, RowSize,
 };
 use linker_utils::loongarch64::{
     LoongArch64Relocation, relocation_type_from_raw, row, write_address_sequence,
@@ -230,7 +230,7 @@ fn marks_and_alignments_have_rows_without_bytes() {
     ] {
         assert_eq!((name.r_type(), LoongArch64Relocation::from_elf(r_type)), (r_type, name));
         let info = row(name).expect("a row").info();
-        assert_eq!((info.kind, info.size), (kind, RelocationSize::ByteSize(0)), "{name:?}");
+        assert_eq!((info.kind, info.size), (kind, RowSize::ByteSize(0)), "{name:?}");
         let raw = relocation_type_from_raw(name);
         assert_eq!(raw.map(|info| info.kind), original, "{name:?}");
     }

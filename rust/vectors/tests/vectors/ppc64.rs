@@ -7,7 +7,8 @@ pub(crate) mod linked;
 
 use linker_utils::bit_misc::BitExtraction;
 use linker_utils::elf::{
-    AllowedRange, Bias, Ppc64Instruction, RelocationKind, RelocationKindInfo, RelocationSize,
+    AllowedRange, Bias, InstructionForm, Ppc64Form, Ppc64Instruction, RelocationKind,
+    RelocationKindInfo, RelocationSize,
 };
 use linker_utils::ppc64::{Ppc64Relocation, RewriteKind, relocation_type_from_raw, write_ha_lo};
 use linker_utils::relaxation::RelocationModifier;
@@ -294,9 +295,9 @@ static LD_PAIRS: [(u32, u32, u64, u32, u32); 27] = [
 ];
 
 // The words are in windows of 8 bytes, which is room for each form.
-fn written(insn: Ppc64Instruction, value: u64, word: u32) -> u32 {
+fn written(form: impl InstructionForm, value: u64, word: u32) -> u32 {
     let mut bytes = u64::from(word).to_le_bytes();
-    insn.write_to_value(value, false, &mut bytes);
+    form.write(value, false, &mut bytes);
     u32::from_le_bytes([bytes[0], bytes[1], bytes[2], bytes[3]])
 }
 
@@ -330,8 +331,8 @@ fn unsigned_words_match_assemblers() {
         (0x6063_0000, 0x8000, 0x6063_8000),
         (0x6463_0000, 0xffff, 0x6463_ffff),
     ] {
-        assert_eq!(written(Ppc64Instruction::DUnsigned, value, before), after, "{value:?}");
-        let read = Ppc64Instruction::DUnsigned.read_value(&after.to_le_bytes());
+        assert_eq!(written(Ppc64Form::DUnsigned, value, before), after, "{value:?}");
+        let read = Ppc64Form::DUnsigned.read_value(&after.to_le_bytes());
         assert_eq!(read, (value, false));
     }
 }

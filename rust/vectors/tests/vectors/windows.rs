@@ -3,20 +3,20 @@
 //! relocation is of, whose lengths are those of the manuals.
 
 use linker_utils::elf::{
-    Architecture, LoongArch64Instruction, RelocateError, RelocationInstruction, RelocationKind,
-    RelocationKindInfo, RelocationSize, RiscVInstruction, Row,
+    AnyForm, Architecture, LoongArch64Instruction, RelocateError, RelocationKind, RiscVInstruction,
+    Row, RowInfo, RowSize,
 };
 
 /// How many bytes the relocations of a row write.
-fn window(row: &RelocationKindInfo) -> usize {
+fn window(row: &RowInfo) -> usize {
     match row.size {
-        RelocationSize::ByteSize(len) => len as usize,
-        RelocationSize::BitMasking { insn, .. } => match insn {
-            RelocationInstruction::RiscV(
+        RowSize::ByteSize(len) => len as usize,
+        RowSize::BitMasking { insn, .. } => match insn {
+            AnyForm::RiscV(
                 RiscVInstruction::CbType | RiscVInstruction::CjType | RiscVInstruction::CluiType,
             ) => 2,
-            RelocationInstruction::RiscV(RiscVInstruction::UiType)
-            | RelocationInstruction::LoongArch64(
+            AnyForm::RiscV(RiscVInstruction::UiType)
+            | AnyForm::LoongArch64(
                 LoongArch64Instruction::Call30 | LoongArch64Instruction::Call36,
             ) => 8,
             _ => 4,
@@ -35,10 +35,7 @@ fn requires_bytes(r_type: u32, row: &Row) -> u64 {
             | RelocationKind::PairSubtractionULEB128LoongArch
     ) || matches!(
         info.size,
-        RelocationSize::BitMasking {
-            insn: RelocationInstruction::LoongArch64(LoongArch64Instruction::Call30),
-            ..
-        }
+        RowSize::BitMasking { insn: AnyForm::LoongArch64(LoongArch64Instruction::Call30), .. }
     );
     let error = if is_unsupported { RelocateError::Unsupported } else { RelocateError::TooShort };
     let mut rejected = 0;
