@@ -8,10 +8,10 @@ mod choices;
 mod rewrites;
 mod sequences;
 
+use crate::elf::{RelocationKindInfo, upstream};
 pub use choices::{choose, fits, is_tls_descriptor_sequence, relocations_are_chosen_alike};
-pub use crate::linker_elf::aarch64::{
-    AArch64Instruction, AArch64Relocation, relocation_type_from_raw, row,
-};
+use crate::linker_elf::aarch64 as relocations;
+pub use crate::linker_elf::aarch64::{AArch64Instruction, AArch64Relocation, row};
 pub use rewrites::{RewriteKind, RewriteKind as RelaxationKind, is_adrp_pair};
 pub use sequences::write_mov_sequence;
 
@@ -20,3 +20,10 @@ pub use sequences::write_mov_sequence;
 pub const TLS_TCB_SIZE: u64 = 16;
 
 const _: () = assert!(TLS_TCB_SIZE == 2 * size_of::<u64>() as u64);
+
+/// What a relocation means, as `row` says.
+#[must_use]
+#[inline(always)]
+pub const fn relocation_type_from_raw(name: AArch64Relocation) -> Option<RelocationKindInfo> {
+    upstream(relocations::upstream_row(name))
+}

@@ -24,6 +24,8 @@ pub mod properties;
 mod r_types;
 pub mod relr;
 #[cfg(feature = "riscv64")]
+mod riscv32;
+#[cfg(feature = "riscv64")]
 mod riscv64;
 pub mod routes;
 pub mod stubs;

@@ -9,11 +9,11 @@ mod choices;
 mod relaxation_kind;
 mod rewrites;
 
+use crate::elf::{RelocationKindInfo, upstream};
 pub use choices::{choose, fits, relocations_are_chosen_alike};
 pub use crate::linker_base::rewrite::DeletedBytes;
-pub use crate::linker_elf::riscv64::{
-    RiscVInstruction, RiscVRelocation, clui_row, relocation_type_from_raw, row,
-};
+use crate::linker_elf::riscv64 as relocations;
+pub use crate::linker_elf::riscv64::{RiscVInstruction, RiscVRelocation, clui_row, row};
 pub use crate::linker_riscv64::{
     AsChoice, Call, CallError, JAL_MAX, JAL_MIN, JumpError, LinkRegister, PackError, RejectedCall,
     calls_apart, calls_shrinkable, distance_fits_jal, fields, first_not_apart,
@@ -23,3 +23,11 @@ pub use crate::linker_riscv64::{
 };
 pub use relaxation_kind::RelaxationKind;
 pub use rewrites::{RewriteKind, may_be_skipped};
+
+/// What a relocation means, as `row` says, or `None` for the four of TLS descriptors and for
+/// `R_RISCV_RVC_LUI`.
+#[must_use]
+#[inline(always)]
+pub const fn relocation_type_from_raw(name: RiscVRelocation) -> Option<RelocationKindInfo> {
+    upstream(relocations::upstream_row(name))
+}

@@ -5,13 +5,13 @@
 use crate::architectures::{by_architecture, known};
 use crate::status::Status;
 use linker_utils::elf::{
-    AArch64Instruction, Architecture, InstructionForm, LoongArch64Instruction, Ppc64Instruction,
-    RelocationInstruction, RiscVInstruction,
+    AArch64Instruction, AnyForm, Architecture, InstructionForm, LoongArch64Instruction, Ppc64Form,
+    RiscVInstruction,
 };
 
 /// The form of an architecture and a number, or the status that says which of the two is unknown.
 #[inline(always)]
-fn form_in(architecture: Architecture, form: u32) -> Result<RelocationInstruction, u32> {
+fn form_in(architecture: Architecture, form: u32) -> Result<AnyForm, u32> {
     match architecture {
         Architecture::X86_64 => Err(Status::UnknownArchitecture as u32),
         _ => architecture.form(form).ok_or(Status::UnknownForm as u32),
@@ -20,7 +20,7 @@ fn form_in(architecture: Architecture, form: u32) -> Result<RelocationInstructio
 
 /// The same by a machine.
 #[inline(always)]
-pub(crate) fn form_of(machine: u16, form: u32) -> Result<RelocationInstruction, u32> {
+pub(crate) fn form_of(machine: u16, form: u32) -> Result<AnyForm, u32> {
     match Architecture::from_machine(machine) {
         Some(architecture) => form_in(architecture, form),
         None => Err(Status::UnknownArchitecture as u32),
@@ -64,8 +64,7 @@ fn fit<F: InstructionForm>(form: F, value: u64, bytes: &[u8]) -> u32 {
     Status::Success as u32
 }
 
-// Writes a value by a form, if there is one: `RelocationInstruction` would require its architecture
-// again.
+// Writes a value by a form, if there is one: `AnyForm` would require its architecture again.
 #[inline(always)]
 fn write_by<F: InstructionForm>(form: Option<F>, value: u64, negative: bool, dest: &mut [u8]) -> u32 {
     let Some(named) = form else {
@@ -106,9 +105,7 @@ pub fn linker_utils_write_nonnull(
                 dest,
             )
         }
-        Architecture::Ppc64 => {
-            write_by(Ppc64Instruction::from_number(form), value, negative, dest)
-        }
+        Architecture::Ppc64 => { write_by(Ppc64Form::from_number(form), value, negative, dest) }
         Architecture::X86_64 => Status::UnknownArchitecture as u32,
     }
 }
@@ -119,12 +116,7 @@ const LONGEST_WINDOW: usize = 8;
 
 // Reads a value by a form, if there is one.
 #[inline(always)]
-fn read_by(
-    form: Result<RelocationInstruction, u32>,
-    bytes: &[u8],
-    value: &mut u64,
-    negative: &mut u8,
-) -> u32 {
+fn read_by(form: Result<AnyForm, u32>, bytes: &[u8], value: &mut u64, negative: &mut u8) -> u32 {
     let named = match form {
         Ok(named) => named,
         Err(status) => return status,

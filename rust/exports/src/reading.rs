@@ -10,7 +10,7 @@ use linker_utils::source::reading::operand;
 use linker_utils::source::reading::read;
 use linker_utils::source::reading::{Reference, Terms, join, solve, terms_of};
 use linker_utils::bit_misc::BitRange;
-use linker_utils::elf::{Architecture, Operands, RelocationInstruction, Row};
+use linker_utils::elf::{AnyForm, Architecture, Operands, Row};
 
 /// The number that the machine makes of the immediate of the instruction that the bytes begin with,
 /// as `operand` of `reading` returns it. The first that applies of `UnknownArchitecture`;
@@ -28,7 +28,7 @@ pub fn linker_utils_operand_nonnull(
 }
 
 #[inline(always)]
-fn put_operand(form: RelocationInstruction, bytes: &[u8], number: &mut i64) -> u32 {
+fn put_operand(form: AnyForm, bytes: &[u8], number: &mut i64) -> u32 {
     match operand(form, bytes) {
         Some(found) => {
             *number = found;

@@ -9,7 +9,7 @@ use crate::status::Status;
 use linker_utils::source::section::needs;
 use linker_utils::architecture::fits;
 use linker_utils::elf::{
-    ApplyError, Architecture, HANDLE_UNIT, Operands, RelocationKind, RelocationSize, Row,
+    ApplyError, Architecture, HANDLE_UNIT, Operands, RelocationKind, Row, RowSize,
 };
 
 /// The row of a handle, if it is one.
@@ -163,9 +163,9 @@ pub struct RowNumbers {
 
 /// Whether the formula has the place.
 #[inline(always)]
-fn is_relative(kind: RelocationKind, size: RelocationSize) -> bool {
+fn is_relative(kind: RelocationKind, size: RowSize) -> bool {
     match kind {
-        RelocationKind::Relative => !matches!(size, RelocationSize::ByteSize(0)),
+        RelocationKind::Relative => !matches!(size, RowSize::ByteSize(0)),
         RelocationKind::RelativeRiscVLow12
         | RelocationKind::RelativeLoongArchHigh
         | RelocationKind::GotRelative

@@ -7,4 +7,4 @@ mod relocations;
 
 pub use forms::AArch64Instruction;
 pub(crate) use forms::is_movk;
-pub use relocations::{AArch64Relocation, relocation_type_from_raw, row};
+pub use relocations::{AArch64Relocation, row, upstream_row};

@@ -20,7 +20,7 @@ pub use crate::linker_elf::aarch64::AArch64Instruction;
 #[cfg(feature = "loongarch64")]
 pub use crate::linker_elf::loongarch64::LoongArch64Instruction;
 #[cfg(feature = "ppc64")]
-pub use crate::linker_elf::ppc64::Ppc64Instruction;
+pub use crate::linker_elf::ppc64::Ppc64Form;
 #[cfg(feature = "riscv64")]
 pub use crate::linker_elf::riscv64::RiscVInstruction;
 pub use architecture::{Architecture, HANDLE_UNIT, Uleb128PairError};
@@ -184,67 +184,22 @@ pub enum Sign {
 
 /// Where a relocation's value is written.
 #[derive(Debug, Clone, Copy, PartialEq, Eq, Hash)]
-pub enum RelocationSize {
+pub enum RowSize {
     /// This number of whole bytes.
     ByteSize(u8),
     /// A bit range of the value into an instruction of a form.
-    BitMasking {
-        range: BitRange,
-        insn: RelocationInstruction,
-    },
-}
-
-impl RelocationSize {
-    /// Bits `start` and up, below `end`, into an AArch64 instruction.
-    #[cfg(feature = "aarch64")]
-    #[must_use]
-    pub const fn bit_mask_aarch64(start: u8, end: u8, insn: AArch64Instruction) -> RelocationSize {
-        RelocationSize::BitMasking {
-            range: BitRange { start, end },
-            insn: RelocationInstruction::AArch64(insn),
-        }
-    }
-
-    /// Bits `start` and up, below `end`, into a RISC-V instruction.
-    #[cfg(feature = "riscv64")]
-    #[must_use]
-    pub const fn bit_mask_riscv(start: u8, end: u8, insn: RiscVInstruction) -> RelocationSize {
-        RelocationSize::BitMasking {
-            range: BitRange { start, end },
-            insn: RelocationInstruction::RiscV(insn),
-        }
-    }
-
-    /// Bits `start` and up, below `end`, into a PowerPC64 instruction.
-    #[cfg(feature = "ppc64")]
-    #[must_use]
-    pub const fn bit_mask_ppc64(start: u8, end: u8, insn: Ppc64Instruction) -> RelocationSize {
-        RelocationSize::BitMasking {
-            range: BitRange { start, end },
-            insn: RelocationInstruction::Ppc64(insn),
-        }
-    }
-
-    /// Bits `start` and up, below `end`, into a LoongArch instruction.
-    #[cfg(feature = "loongarch64")]
-    #[must_use]
-    pub const fn bit_mask_loongarch64(start: u8, end: u8, insn: LoongArch64Instruction) -> RelocationSize {
-        RelocationSize::BitMasking {
-            range: BitRange { start, end },
-            insn: RelocationInstruction::LoongArch64(insn),
-        }
-    }
+    BitMasking { range: BitRange, insn: AnyForm },
 }
 
 /// An instruction form of one of the architectures.
 #[derive(Debug, Clone, Copy, PartialEq, Eq, Hash, PartialOrd, Ord)]
-pub enum RelocationInstruction {
+pub enum AnyForm {
     #[cfg(feature = "aarch64")]
     AArch64(AArch64Instruction),
     #[cfg(feature = "riscv64")]
     RiscV(RiscVInstruction),
     #[cfg(feature = "ppc64")]
-    Ppc64(Ppc64Instruction),
+    Ppc64(Ppc64Form),
     #[cfg(feature = "loongarch64")]
     LoongArch64(LoongArch64Instruction),
 }
@@ -371,11 +326,11 @@ impl AllowedRange {
 
 /// What a relocation means.
 #[derive(Debug, Clone, Copy, PartialEq, Eq, Hash)]
-pub struct RelocationKindInfo {
+pub struct RowInfo {
     /// The formula of its value.
     pub kind: RelocationKind,
     /// Where its value is written.
-    pub size: RelocationSize,
+    pub size: RowSize,
     /// The addresses whose offset in the page is cleared.
     pub mask: Option<PageMask>,
     /// The allowed values.
@@ -466,20 +421,20 @@ macro_rules! of_form {
     ($insn:expr, $form:ident => $made:expr) => {
         match $insn {
             #[cfg(feature = "aarch64")]
-            RelocationInstruction::AArch64($form) => $made,
+            AnyForm::AArch64($form) => $made,
             #[cfg(feature = "riscv64")]
-            RelocationInstruction::RiscV($form) => $made,
+            AnyForm::RiscV($form) => $made,
             #[cfg(feature = "ppc64")]
-            RelocationInstruction::Ppc64($form) => $made,
+            AnyForm::Ppc64($form) => $made,
             #[cfg(feature = "loongarch64")]
-            RelocationInstruction::LoongArch64($form) => $made,
+            AnyForm::LoongArch64($form) => $made,
         }
     };
 }
 
 pub(crate) use of_form;
 
-impl InstructionForm for RelocationInstruction {
+impl InstructionForm for AnyForm {
     #[inline]
     fn window(self) -> usize {
         of_form!(self, insn => insn.window())

@@ -8,5 +8,5 @@ mod sequences;
 
 pub use forms::LoongArch64Instruction;
 pub(crate) use forms::is_jirl;
-pub use relocations::{LoongArch64Relocation, relocation_type_from_raw, row};
+pub use relocations::{LoongArch64Relocation, row, upstream_row};
 pub use sequences::{highest_relocation_with_bias, write_address_sequence};

@@ -6,6 +6,6 @@ mod forms;
 mod relocations;
 mod sequences;
 
-pub use forms::{DQ_UNIT, Ppc64Instruction};
-pub use relocations::{Ppc64Relocation, relocation_type_from_raw, row};
+pub use forms::{DQ_UNIT, Ppc64Form};
+pub use relocations::{Ppc64Relocation, row, upstream_row};
 pub use sequences::write_ha_lo;

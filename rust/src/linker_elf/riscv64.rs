@@ -6,4 +6,4 @@ pub(crate) mod forms;
 mod relocations;
 
 pub use forms::RiscVInstruction;
-pub use relocations::{RiscVRelocation, clui_row, relocation_type_from_raw, row};
+pub use relocations::{RiscVRelocation, clui_row, row, upstream_row};

@@ -4,4 +4,4 @@
 
 mod relocations;
 
-pub use relocations::{X86_64Relocation, relocation_from_raw, row};
+pub use relocations::{X86_64Relocation, row, upstream_row};

@@ -9,15 +9,13 @@ use crate::linker_base::utils::u32_from_slice;
 use crate::linker_section::facts::{Addresses, Symbol};
 use crate::linker_section::relocations::Rela;
 use crate::linker_section::values::{ValueError, value};
-use crate::elf::{
-    Architecture, RelocateError, RelocationInstruction, RelocationKind, RelocationSize, Row,
-};
+use crate::elf::{AnyForm, Architecture, RelocateError, RelocationKind, Row, RowSize};
 #[cfg(feature = "aarch64")]
 use crate::elf::AArch64Instruction;
 #[cfg(feature = "loongarch64")]
 use crate::elf::LoongArch64Instruction;
 #[cfg(feature = "ppc64")]
-use crate::elf::Ppc64Instruction;
+use crate::elf::Ppc64Form;
 #[cfg(feature = "ppc64")]
 use crate::ppc64::Ppc64Relocation;
 
@@ -69,18 +67,18 @@ fn may_go_by_stub(row: &Row) -> bool {
 
 /// Whether a field is that of `R_AARCH64_CALL26`, `R_LARCH_B26` or `R_PPC64_REL24`.
 #[inline(always)]
-fn has_call_form(size: RelocationSize) -> bool {
-    let RelocationSize::BitMasking { insn, .. } = size else {
+fn has_call_form(size: RowSize) -> bool {
+    let RowSize::BitMasking { insn, .. } = size else {
         return false;
     };
     matches_any!(
         insn,
         #[cfg(feature = "aarch64")]
-        RelocationInstruction::AArch64(AArch64Instruction::JumpCall),
+        AnyForm::AArch64(AArch64Instruction::JumpCall),
         #[cfg(feature = "loongarch64")]
-        RelocationInstruction::LoongArch64(LoongArch64Instruction::Branch26),
+        AnyForm::LoongArch64(LoongArch64Instruction::Branch26),
         #[cfg(feature = "ppc64")]
-        RelocationInstruction::Ppc64(Ppc64Instruction::Branch24)
+        AnyForm::Ppc64(Ppc64Form::Branch24)
     )
 }
 

@@ -14,13 +14,13 @@ mod riscv64;
 use crate::linker_reading::reading::{number_held, number_of_bytes};
 use crate::linker_base::bit_misc::BitExtraction;
 use crate::linker_base::utils::u32_from_slice;
-use crate::linker_elf::elf::{InstructionForm, RelocationInstruction};
+use crate::linker_elf::elf::{AnyForm, InstructionForm};
 #[cfg(feature = "aarch64")]
 use crate::linker_elf::elf::AArch64Instruction;
 #[cfg(feature = "loongarch64")]
 use crate::linker_elf::elf::LoongArch64Instruction;
 #[cfg(feature = "ppc64")]
-use crate::linker_elf::elf::Ppc64Instruction;
+use crate::linker_elf::elf::Ppc64Form;
 use crate::elf::Architecture;
 
 /// Which registers of two instructions have to be the same: the destination of the first, and the
@@ -47,7 +47,7 @@ struct Encoding {
     /// Which registers have to be the same.
     base: Base,
     /// The forms.
-    forms: &'static [RelocationInstruction],
+    forms: &'static [AnyForm],
 }
 
 /// An encoding of n bytes of an architecture.
@@ -58,7 +58,7 @@ macro_rules! encoding {
             mask: $mask,
             bits: $bits,
             base: Base::Any,
-            forms: &[$(RelocationInstruction::$architecture($form)),*],
+            forms: &[$(AnyForm::$architecture($form)),*],
         }
     };
 }
@@ -99,11 +99,7 @@ impl Encoding {
 }
 
 /// The forms of the first encoding that is in a number of n bytes.
-fn first_forms(
-    encodings: &'static [Encoding],
-    len: usize,
-    number: u64,
-) -> &'static [RelocationInstruction] {
+fn first_forms(encodings: &'static [Encoding], len: usize, number: u64) -> &'static [AnyForm] {
     for encoding in encodings {
         if encoding.is_in(len, number) {
             return encoding.forms;
@@ -125,36 +121,36 @@ fn first_forms(
 ///
 /// ```
 /// use linker_utils::reading::{forms_of, operand};
-/// use linker_utils::elf::{Architecture, Ppc64Instruction, RelocationInstruction};
+/// use linker_utils::elf::{AnyForm, Architecture, Ppc64Form};
 ///
 /// // `b .-4`
 /// let word = 0x4bff_fffcu32.to_le_bytes();
 /// let forms = forms_of(Architecture::Ppc64, &word);
-/// assert_eq!(forms, [RelocationInstruction::Ppc64(Ppc64Instruction::Branch24)]);
+/// assert_eq!(forms, [AnyForm::Ppc64(Ppc64Form::Branch24)]);
 /// assert_eq!(operand(forms[0], &word), Some(-4));
 /// ```
 #[must_use]
-pub fn forms_of(architecture: Architecture, bytes: &[u8]) -> &'static [RelocationInstruction] {
+pub fn forms_of(architecture: Architecture, bytes: &[u8]) -> &'static [AnyForm] {
     let len = bytes.len().min(8);
     first_forms(encodings(architecture), len, number_of_bytes(len, bytes))
 }
 
 /// Whose forms these are.
-fn architecture_of(form: RelocationInstruction) -> Architecture {
+fn architecture_of(form: AnyForm) -> Architecture {
     match form {
         #[cfg(feature = "aarch64")]
-        RelocationInstruction::AArch64(_) => Architecture::AArch64,
+        AnyForm::AArch64(_) => Architecture::AArch64,
         #[cfg(feature = "riscv64")]
-        RelocationInstruction::RiscV(_) => Architecture::RiscV,
+        AnyForm::RiscV(_) => Architecture::RiscV,
         #[cfg(feature = "ppc64")]
-        RelocationInstruction::Ppc64(_) => Architecture::Ppc64,
+        AnyForm::Ppc64(_) => Architecture::Ppc64,
         #[cfg(feature = "loongarch64")]
-        RelocationInstruction::LoongArch64(_) => Architecture::LoongArch64,
+        AnyForm::LoongArch64(_) => Architecture::LoongArch64,
     }
 }
 
 /// Whether bytes begin with an instruction of a form.
-fn has_form(form: RelocationInstruction, bytes: &[u8]) -> bool {
+fn has_form(form: AnyForm, bytes: &[u8]) -> bool {
     if bytes.len() < form.window() {
         return false;
     }
@@ -162,7 +158,7 @@ fn has_form(form: RelocationInstruction, bytes: &[u8]) -> bool {
 }
 
 /// Whether a form is one of some.
-fn is_one_of(form: RelocationInstruction, forms: &'static [RelocationInstruction]) -> bool {
+fn is_one_of(form: AnyForm, forms: &'static [AnyForm]) -> bool {
     for other in forms {
         if *other == form {
             return true;
@@ -172,14 +168,14 @@ fn is_one_of(form: RelocationInstruction, forms: &'static [RelocationInstruction
 }
 
 /// The number in an immediate, modulo 2^64.
-fn immediate_number(form: RelocationInstruction, bytes: &[u8]) -> u64 {
+fn immediate_number(form: AnyForm, bytes: &[u8]) -> u64 {
     match form {
         #[cfg(feature = "aarch64")]
-        RelocationInstruction::AArch64(AArch64Instruction::Movnz) => {
+        AnyForm::AArch64(AArch64Instruction::Movnz) => {
             aarch64::moved_number(u32_from_slice(bytes) as u64)
         }
         #[cfg(feature = "loongarch64")]
-        RelocationInstruction::LoongArch64(LoongArch64Instruction::Shift10) => {
+        AnyForm::LoongArch64(LoongArch64Instruction::Shift10) => {
             loongarch64::shift10_number(u32_from_slice(bytes) as u64)
         }
         _ => number_held(form, bytes),
@@ -187,24 +183,22 @@ fn immediate_number(form: RelocationInstruction, bytes: &[u8]) -> u64 {
 }
 
 /// Log2 of what an immediate counts.
-fn scale_of(form: RelocationInstruction, bytes: &[u8]) -> u64 {
+fn scale_of(form: AnyForm, bytes: &[u8]) -> u64 {
     match form {
         #[cfg(feature = "aarch64")]
-        RelocationInstruction::AArch64(form) => aarch64::scale(form, u32_from_slice(bytes) as u64),
+        AnyForm::AArch64(form) => aarch64::scale(form, u32_from_slice(bytes) as u64),
         #[cfg(feature = "riscv64")]
-        RelocationInstruction::RiscV(_) => 0,
+        AnyForm::RiscV(_) => 0,
         #[cfg(feature = "ppc64")]
-        RelocationInstruction::Ppc64(Ppc64Instruction::Prefixed) => 0,
+        AnyForm::Ppc64(Ppc64Form::Prefixed) => 0,
         #[cfg(feature = "ppc64")]
-        RelocationInstruction::Ppc64(form) => ppc64::scale(form, u32_from_slice(bytes) as u64),
+        AnyForm::Ppc64(form) => ppc64::scale(form, u32_from_slice(bytes) as u64),
         #[cfg(feature = "loongarch64")]
-        RelocationInstruction::LoongArch64(LoongArch64Instruction::Call30) => 0,
+        AnyForm::LoongArch64(LoongArch64Instruction::Call30) => 0,
         #[cfg(feature = "loongarch64")]
-        RelocationInstruction::LoongArch64(LoongArch64Instruction::Call36) => 2,
+        AnyForm::LoongArch64(LoongArch64Instruction::Call36) => 2,
         #[cfg(feature = "loongarch64")]
-        RelocationInstruction::LoongArch64(form) => {
-            loongarch64::scale(form, u32_from_slice(bytes) as u64)
-        }
+        AnyForm::LoongArch64(form) => { loongarch64::scale(form, u32_from_slice(bytes) as u64) }
     }
 }
 
@@ -234,7 +228,7 @@ fn scale_of(form: RelocationInstruction, bytes: &[u8]) -> u64 {
 /// assert_eq!(operand(forms[0], &word), Some(0x1234_5000));
 /// ```
 #[must_use]
-pub fn operand(form: RelocationInstruction, bytes: &[u8]) -> Option<i64> {
+pub fn operand(form: AnyForm, bytes: &[u8]) -> Option<i64> {
     if !has_form(form, bytes) {
         return None;
     }

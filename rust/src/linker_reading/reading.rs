@@ -14,16 +14,13 @@ mod riscv64;
 use crate::linker_reading::fields::{FieldValue, bits_of, power_of_two};
 use crate::linker_base::bit_misc::{BitExtraction, BitRange};
 use crate::linker_base::utils::u32_from_slice;
-use crate::linker_elf::elf::{
-    AllowedRange, RelocationInstruction, RelocationKind, RelocationKindInfo, RelocationSize, Row,
-    Sign,
-};
+use crate::linker_elf::elf::{AllowedRange, AnyForm, RelocationKind, Row, RowInfo, RowSize, Sign};
 #[cfg(feature = "aarch64")]
 use crate::linker_elf::elf::AArch64Instruction;
 #[cfg(feature = "loongarch64")]
 use crate::linker_elf::elf::LoongArch64Instruction;
 #[cfg(feature = "ppc64")]
-use crate::linker_elf::elf::Ppc64Instruction;
+use crate::linker_elf::elf::Ppc64Form;
 #[cfg(feature = "riscv64")]
 use crate::linker_elf::elf::RiscVInstruction;
 
@@ -43,36 +40,34 @@ fn holds_value(kind: RelocationKind) -> bool {
 
 /// Whether an instruction holds bits of a value from the range's start up.
 #[inline(always)]
-fn holds_bits(insn: RelocationInstruction, bits: BitRange) -> bool {
+fn holds_bits(insn: AnyForm, bits: BitRange) -> bool {
     match insn {
         #[cfg(feature = "aarch64")]
-        RelocationInstruction::AArch64(AArch64Instruction::Movnz) => {
-            bits.end as u32 == bits.start as u32 + 16
-        }
+        AnyForm::AArch64(AArch64Instruction::Movnz) => { bits.end as u32 == bits.start as u32 + 16 }
         #[cfg(feature = "aarch64")]
-        RelocationInstruction::AArch64(AArch64Instruction::MachOLow12) => false,
+        AnyForm::AArch64(AArch64Instruction::MachOLow12) => false,
         #[cfg(feature = "loongarch64")]
-        RelocationInstruction::LoongArch64(LoongArch64Instruction::Call30) => false,
+        AnyForm::LoongArch64(LoongArch64Instruction::Call30) => false,
         #[cfg(feature = "ppc64")]
-        RelocationInstruction::Ppc64(Ppc64Instruction::Ds) => bits.start == 0,
+        AnyForm::Ppc64(Ppc64Form::Ds) => bits.start == 0,
         #[cfg(feature = "riscv64")]
-        RelocationInstruction::RiscV(RiscVInstruction::UType | RiscVInstruction::CluiType) => bits.start == 0,
+        AnyForm::RiscV(RiscVInstruction::UType | RiscVInstruction::CluiType) => bits.start == 0,
         _ => true,
     }
 }
 
 /// What the machine reads of an instruction, in units of the first bit of its range, modulo 2^64.
 #[inline(always)]
-pub(crate) fn number_held(insn: RelocationInstruction, bytes: &[u8]) -> u64 {
+pub(crate) fn number_held(insn: AnyForm, bytes: &[u8]) -> u64 {
     match insn {
         #[cfg(feature = "aarch64")]
-        RelocationInstruction::AArch64(insn) => aarch64::number(insn, bytes),
+        AnyForm::AArch64(insn) => aarch64::number(insn, bytes),
         #[cfg(feature = "riscv64")]
-        RelocationInstruction::RiscV(insn) => riscv64::number(insn, bytes),
+        AnyForm::RiscV(insn) => riscv64::number(insn, bytes),
         #[cfg(feature = "ppc64")]
-        RelocationInstruction::Ppc64(insn) => ppc64::number(insn, bytes),
+        AnyForm::Ppc64(insn) => ppc64::number(insn, bytes),
         #[cfg(feature = "loongarch64")]
-        RelocationInstruction::LoongArch64(insn) => loongarch64::number(insn, bytes),
+        AnyForm::LoongArch64(insn) => loongarch64::number(insn, bytes),
     }
 }
 
@@ -102,10 +97,10 @@ fn bits_within(immediate: BitRange, bits: BitRange) -> BitRange {
 
 /// Which bits of the value, rounded, an instruction holds.
 #[inline(always)]
-fn bits_held(insn: RelocationInstruction, bits: BitRange, reach: AllowedRange) -> BitRange {
+fn bits_held(insn: AnyForm, bits: BitRange, reach: AllowedRange) -> BitRange {
     match insn {
         #[cfg(feature = "aarch64")]
-        RelocationInstruction::AArch64(AArch64Instruction::Movnz) => {
+        AnyForm::AArch64(AArch64Instruction::Movnz) => {
             if bits.end < 49 && are_signed(bits.end as u32 + 1, reach) {
                 BitRange {
                     start: bits.start,
@@ -121,10 +116,10 @@ fn bits_held(insn: RelocationInstruction, bits: BitRange, reach: AllowedRange) -
 
 /// Whether a field holds a value, or some of its bits.
 #[inline(always)]
-fn holds_field(kind: RelocationKind, size: RelocationSize, reach: AllowedRange) -> bool {
+fn holds_field(kind: RelocationKind, size: RowSize, reach: AllowedRange) -> bool {
     match size {
-        RelocationSize::ByteSize(len) => 0 < len && len < 9 && holds_value(kind),
-        RelocationSize::BitMasking { range, insn } => {
+        RowSize::ByteSize(len) => 0 < len && len < 9 && holds_value(kind),
+        RowSize::BitMasking { range, insn } => {
             if range.start >= range.end {
                 return false;
             }
@@ -139,10 +134,10 @@ fn holds_field(kind: RelocationKind, size: RelocationSize, reach: AllowedRange) 
 
 /// What is added to a value before an instruction takes its bits.
 #[inline(always)]
-fn rounding_of(insn: RelocationInstruction) -> u64 {
+fn rounding_of(insn: AnyForm) -> u64 {
     match insn {
         #[cfg(feature = "riscv64")]
-        RelocationInstruction::RiscV(RiscVInstruction::UType | RiscVInstruction::CluiType) => 0x800,
+        AnyForm::RiscV(RiscVInstruction::UType | RiscVInstruction::CluiType) => 0x800,
         _ => 0,
     }
 }
@@ -169,12 +164,7 @@ fn jump_read(bytes: &[u8]) -> FieldValue {
 
 /// What stands in an instruction of a form.
 #[inline(always)]
-fn instruction_read(
-    insn: RelocationInstruction,
-    range: BitRange,
-    reach: AllowedRange,
-    bytes: &[u8],
-) -> FieldValue {
+fn instruction_read(insn: AnyForm, range: BitRange, reach: AllowedRange, bytes: &[u8]) -> FieldValue {
     let known = bits_held(insn, range, reach);
     let number = number_held(insn, bytes);
     FieldValue {
@@ -186,9 +176,9 @@ fn instruction_read(
 
 /// What stands in the field.
 #[inline(always)]
-fn field_read(row: &RelocationKindInfo, reach: AllowedRange, bytes: &[u8]) -> FieldValue {
+fn field_read(row: &RowInfo, reach: AllowedRange, bytes: &[u8]) -> FieldValue {
     match row.size {
-        RelocationSize::ByteSize(len) => {
+        RowSize::ByteSize(len) => {
             let count = match row.kind {
                 RelocationKind::AbsoluteSetWord6 => 6,
                 _ => 8 * len,
@@ -202,7 +192,7 @@ fn field_read(row: &RelocationKindInfo, reach: AllowedRange, bytes: &[u8]) -> Fi
                 rounding: 0,
             }
         }
-        RelocationSize::BitMasking { range, insn } => {
+        RowSize::BitMasking { range, insn } => {
             if insn.is_low_jump(row.kind, bytes) {
                 return jump_read(bytes);
             }
@@ -305,16 +295,16 @@ fn with_alignment(alignment: u64, field: FieldValue) -> FieldValue {
 pub fn read(row: &Row, bytes: &[u8]) -> Option<FieldValue> {
     // in each arm the compiler knows the architecture, and tests it no more
     match row.info().size {
-        RelocationSize::ByteSize(_) => read_as(row, bytes),
-        RelocationSize::BitMasking { insn, .. } => match insn {
+        RowSize::ByteSize(_) => read_as(row, bytes),
+        RowSize::BitMasking { insn, .. } => match insn {
             #[cfg(feature = "aarch64")]
-            RelocationInstruction::AArch64(_) => read_as(row, bytes),
+            AnyForm::AArch64(_) => read_as(row, bytes),
             #[cfg(feature = "riscv64")]
-            RelocationInstruction::RiscV(_) => read_as(row, bytes),
+            AnyForm::RiscV(_) => read_as(row, bytes),
             #[cfg(feature = "ppc64")]
-            RelocationInstruction::Ppc64(_) => read_as(row, bytes),
+            AnyForm::Ppc64(_) => read_as(row, bytes),
             #[cfg(feature = "loongarch64")]
-            RelocationInstruction::LoongArch64(_) => read_as(row, bytes),
+            AnyForm::LoongArch64(_) => read_as(row, bytes),
         },
     }
 }

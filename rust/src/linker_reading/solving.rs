@@ -4,9 +4,7 @@
 
 use crate::linker_reading::fields::{FieldValue, bits_of, power_of_two};
 use crate::linker_base::bit_misc::BitRange;
-use crate::linker_elf::elf::{
-    Bias, Operands, PageMask, RelocationKind, RelocationKindInfo, RelocationSize,
-};
+use crate::linker_elf::elf::{Bias, Operands, PageMask, RelocationKind, RowInfo, RowSize};
 
 /// Which address a relocation's value is computed from.
 #[derive(Clone, Copy, Debug, PartialEq, Eq, Hash)]
@@ -88,9 +86,9 @@ fn terms_of_kind(kind: RelocationKind) -> Option<Terms> {
 /// stood there, of ULEB128 numbers, and LoongArch's bits 32 to 63 of a distance, which depend on
 /// the low bits of the address too.
 #[must_use]
-pub fn terms_of(kind: RelocationKind, size: RelocationSize) -> Option<Terms> {
+pub fn terms_of(kind: RelocationKind, size: RowSize) -> Option<Terms> {
     match size {
-        RelocationSize::ByteSize(0) => None,
+        RowSize::ByteSize(0) => None,
         _ => terms_of_kind(kind),
     }
 }
@@ -113,7 +111,7 @@ fn has_base(origin: Origin, operands: &Operands) -> bool {
 }
 
 /// What a row's formula takes off the address.
-fn base(origin: Origin, row: &RelocationKindInfo, operands: &Operands) -> u64 {
+fn base(origin: Origin, row: &RowInfo, operands: &Operands) -> u64 {
     match origin {
         Origin::Zero => 0,
         Origin::Place => {
@@ -179,11 +177,7 @@ fn without_rounding(field: FieldValue) -> FieldValue {
 /// - `field.is_proper()`
 #[must_use]
 #[cfg_attr(debug_assertions, track_caller)]
-pub fn solve(
-    row: &RelocationKindInfo,
-    field: &FieldValue,
-    operands: &Operands,
-) -> Option<FieldValue> {
+pub fn solve(row: &RowInfo, field: &FieldValue, operands: &Operands) -> Option<FieldValue> {
     debug_assert!(field.is_proper());
     match terms_of(row.kind, row.size) {
         Some(terms) => {

@@ -9,9 +9,9 @@ use crate::linker_reading::recognise::{
 use crate::linker_reading::solving::{Reference, solve, terms_of};
 use crate::linker_base::rewrite::RewriteWindow;
 use crate::linker_elf::elf::choice_table::RelocationName;
-use crate::linker_elf::elf::{InstructionRewrite, RelocationInstruction, RelocationSize, Row};
+use crate::linker_elf::elf::{AnyForm, InstructionRewrite, Row, RowSize};
 #[cfg(feature = "ppc64")]
-use crate::linker_elf::elf::Ppc64Instruction;
+use crate::linker_elf::elf::Ppc64Form;
 use crate::architecture::Relaxation;
 use crate::elf::{Architecture, Choice, Operands};
 
@@ -186,11 +186,11 @@ fn entry_distance(is_local: bool, st_other: u8) -> u64 {
 }
 
 /// Whether a row is that of a branch of PowerPC64.
-fn is_local_entry(size: RelocationSize) -> bool {
+fn is_local_entry(size: RowSize) -> bool {
     matches_any!(
         size,
         #[cfg(feature = "ppc64")]
-        RelocationSize::BitMasking { insn: RelocationInstruction::Ppc64( Ppc64Instruction::Branch14 | Ppc64Instruction::Branch24 ), .. }
+        RowSize::BitMasking { insn: AnyForm::Ppc64(Ppc64Form::Branch14 | Ppc64Form::Branch24), .. }
     )
 }
 

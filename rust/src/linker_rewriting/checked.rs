@@ -4,7 +4,7 @@
 //! they were made on.
 
 use crate::linker_rewriting::candidates::deletes_within;
-use crate::linker_rewriting::decisions::{AsKeptDecision, Decision, DecisionError, end_after, span_of};
+use crate::linker_rewriting::decisions::{AsKeptDecision, Decision, DecisionError, decision_in, end_after, span_of};
 use crate::linker_rewriting::relocations::relocation_in;
 use crate::linker_section::relocations::relocations_len;
 use crate::architecture::Relaxation;
@@ -86,13 +86,12 @@ pub(crate) fn check_decisions<D: AsKeptDecision>(
     }
     let mut end = 0;
     for index in 0..len {
-        let kept = decisions[index];
-        let decision = kept.as_decision();
+        let decision = decision_in(decisions, index);
         if let Decision::Kept = decision {
             continue;
         }
         let offset = relocation_in(relocations, index).offset;
-        if !fits(&decision, kept.bytes(), section, offset) {
+        if !fits(&decision, decisions[index].bytes(), section, offset) {
             return Err(DecisionError::Changed(index));
         }
         let (start, own) = span_of(&decision, offset);

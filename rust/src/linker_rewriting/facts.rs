@@ -112,8 +112,8 @@ pub(crate) fn facts_of(
 pub struct RelaxContext<'a> {
     /// The architecture.
     pub architecture: Architecture,
-    /// The phase. Loads from `.toc` are rewritten in `ShortPcRel`. The rewrites by the global pointer
-    /// don't read it.
+    /// The phase. Loads from `.toc` are rewritten in `ShortPcRel`. The rewrites by the global
+    /// pointer don't read it.
     pub phase: Phase,
     /// What is known of the output.
     pub output: &'a OutputFacts,
@@ -208,11 +208,13 @@ fn facts_at(
     marked: bool,
     symbol: &SymbolFacts,
 ) -> Option<LinkFacts> {
-    let (offset, addend) = (relocation.offset, subject.addend);
     match context.phase {
-        Phase::PreLayout => Some(facts_of(context.output, symbol, addend, marked)),
+        Phase::PreLayout => Some(facts_of(context.output, symbol, subject.addend, marked)),
         _ => match context.values.get(subject.symbol as usize) {
-            Some(value) => Some(placed_facts(context, symbol, value, offset, addend, marked)),
+            Some(value) => {
+                let (offset, addend) = (relocation.offset, subject.addend);
+                Some(placed_facts(context, symbol, value, offset, addend, marked))
+            }
             None => None,
         },
     }

@@ -4,7 +4,7 @@
 //! rule.
 
 use crate::linker_rewriting::covered::first_covered;
-use crate::linker_rewriting::decisions::{AsDecision, Decision, RewritingError, end_after};
+use crate::linker_rewriting::decisions::{AsDecision, Decision, RewritingError, decision_in, end_after};
 use crate::linker_rewriting::relocations::relocation_in;
 use crate::linker_rewriting::riscv_pcrel_groups::is_note;
 use crate::linker_section::relocations::{Rela, relocations_len};
@@ -53,7 +53,7 @@ pub(crate) fn decide_by<R: Rule, D: AsDecision>(
             continue;
         }
         let relocation = relocation_in(relocations, index);
-        let stays = is_note(&decisions[index].as_decision());
+        let stays = is_note(&decision_in(decisions, index));
         let Some(decision) = rule.decide(is_taken, stays, relocations, section, index, &relocation)
         else {
             return Err(RewritingError::NotSurveyed(index));

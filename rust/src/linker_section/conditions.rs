@@ -5,9 +5,7 @@
 use crate::linker_section::facts::{Addresses, Symbol};
 use crate::linker_section::relocations::{Rela, first_from, relocation_in, relocations_len};
 use crate::linker_base::utils::u32_from_slice;
-use crate::linker_elf::elf::{
-    Architecture, Length, RelocationInstruction, RelocationKind, RelocationSize, Row,
-};
+use crate::linker_elf::elf::{AnyForm, Architecture, Length, RelocationKind, Row, RowSize};
 #[cfg(feature = "loongarch64")]
 use crate::linker_elf::elf::LoongArch64Instruction;
 #[cfg(feature = "riscv64")]
@@ -158,20 +156,20 @@ pub(crate) fn begins_with(architecture: Architecture, row: &Row, word: u64) -> b
 
 /// Whether the base register of an instruction is the thread pointer.
 #[inline(always)]
-fn is_thread_based(size: RelocationSize, there: &[u8]) -> bool {
+fn is_thread_based(size: RowSize, there: &[u8]) -> bool {
     match size {
-        RelocationSize::BitMasking { range, insn } => match insn {
+        RowSize::BitMasking { range, insn } => match insn {
             #[cfg(feature = "riscv64")]
-            RelocationInstruction::RiscV(RiscVInstruction::IType | RiscVInstruction::SType) => {
+            AnyForm::RiscV(RiscVInstruction::IType | RiscVInstruction::SType) => {
                 u32_from_slice(there) / (1 << 15) % 32 == 4
             }
             #[cfg(feature = "loongarch64")]
-            RelocationInstruction::LoongArch64(LoongArch64Instruction::Shift10) => {
+            AnyForm::LoongArch64(LoongArch64Instruction::Shift10) => {
                 range.start == 0 && u32_from_slice(there) / (1 << 5) % 32 == 2
             }
             _ => false,
         },
-        RelocationSize::ByteSize(_) => false,
+        RowSize::ByteSize(_) => false,
     }
 }
 

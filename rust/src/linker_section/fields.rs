@@ -3,27 +3,27 @@
 //! The bytes that relocations write, and which relocations compose.
 
 use crate::linker_section::values::has_value;
-use crate::linker_elf::elf::{RelocationKind, RelocationKindInfo, RelocationSize};
+use crate::linker_elf::elf::{RelocationKind, RowInfo, RowSize};
 
 /// Whether a row is that of the first of a pair at a ULEB128 number.
 #[inline(always)]
-pub(crate) fn begins_pair(size: RelocationSize, kind: RelocationKind) -> bool {
-    matches!(size, RelocationSize::ByteSize(0)) && matches!(kind, RelocationKind::Relative)
+pub(crate) fn begins_pair(size: RowSize, kind: RelocationKind) -> bool {
+    matches!(size, RowSize::ByteSize(0)) && matches!(kind, RelocationKind::Relative)
 }
 
 /// Whether a row is that of the second of such a pair.
 #[inline(always)]
-pub(crate) fn ends_pair(size: RelocationSize, kind: RelocationKind) -> bool {
+pub(crate) fn ends_pair(size: RowSize, kind: RelocationKind) -> bool {
     matches!(
         kind,
         RelocationKind::PairSubtractionULEB128RiscV
             | RelocationKind::PairSubtractionULEB128LoongArch
-    ) && matches!(size, RelocationSize::ByteSize(_))
+    ) && matches!(size, RowSize::ByteSize(_))
 }
 
 /// Whether a row is that of either.
 #[inline(always)]
-pub(crate) fn is_of_pair(info: &RelocationKindInfo) -> bool {
+pub(crate) fn is_of_pair(info: &RowInfo) -> bool {
     begins_pair(info.size, info.kind) || ends_pair(info.size, info.kind)
 }
 

@@ -10,7 +10,7 @@
 //! is RV32.
 
 use crate::linker_section::facts::{Addresses, Symbol};
-use crate::linker_section::relocations::{Rela, relocation_in, relocations_len, set_relocation, u32_at};
+use crate::linker_section::relocations::{RELA_LEN, Rela, relocation_in, relocations_len, set_relocation, u32_at};
 use crate::linker_section::values::{names_label, own_value};
 use crate::linker_base::utils::u32_from_slice;
 use crate::linker_elf::elf::{Architecture, Row};
@@ -72,16 +72,17 @@ pub fn relocations32_len(entries: &[u8]) -> usize {
 #[cfg_attr(debug_assertions, track_caller)]
 pub fn read_rela32(entries: &[u8], relocations: &mut [u8]) {
     debug_assert!((relocations32_len(entries) as u128) * 24 <= (relocations.len() as u128));
-    for index in 0..relocations32_len(entries) {
-        set_relocation(relocations, index, &relocation32_in(entries, index));
+    let len = relocations32_len(entries);
+    let copied = &mut relocations[..len * RELA_LEN];
+    for index in 0..len {
+        set_relocation(copied, index, &relocation32_in(entries, index));
     }
 }
 
 /// The least number from `least` on that is the value modulo 2^32.
 fn wrapped(least: i64, value: i64) -> i64 {
-    let least = least as u64;
-    let above = (value as u64).wrapping_sub(least) % (1 << 32);
-    least.wrapping_add(above) as i64
+    let above = (value as u64).wrapping_sub(least as u64) % (1 << 32);
+    least + above as i64
 }
 
 /// The least value that a row can hold, if it can't hold all, and its value is the relocation's
@@ -149,8 +150,10 @@ fn wrap_addend(addresses: &Addresses, symbols: &[Symbol], relocation: &Rela) -> 
 /// ```
 #[cfg(feature = "riscv64")]
 pub fn wrap_addends(addresses: &Addresses, symbols: &[Symbol], relocations: &mut [u8]) {
-    for index in 0..relocations_len(relocations) {
-        let relocation = wrap_addend(addresses, symbols, &relocation_in(relocations, index));
-        set_relocation(relocations, index, &relocation);
+    let len = relocations_len(relocations);
+    let whole = &mut relocations[..len * RELA_LEN];
+    for index in 0..len {
+        let relocation = wrap_addend(addresses, symbols, &relocation_in(whole, index));
+        set_relocation(whole, index, &relocation);
     }
 }

@@ -6,8 +6,7 @@ use crate::linker_section::facts::{Addresses, Symbol};
 use crate::linker_section::needed::{Entry, EntryClass, entry_by};
 use crate::linker_section::relocations::{Rela, first_from, offset_at, relocation_in, relocations_len};
 use crate::linker_elf::elf::{
-    Architecture, Operands, RelocationInstruction, RelocationKind, RelocationKindInfo,
-    RelocationSize, Row,
+    AnyForm, Architecture, Operands, RelocationKind, Row, RowInfo, RowSize,
 };
 #[cfg(feature = "riscv64")]
 use crate::linker_elf::elf::RiscVInstruction;
@@ -113,11 +112,11 @@ pub(crate) fn local_entry(other: u8) -> u64 {
 /// Whether it is a branch of PowerPC64.
 #[cfg(feature = "ppc64")]
 #[inline(always)]
-fn is_ppc64_branch(size: RelocationSize) -> bool {
+fn is_ppc64_branch(size: RowSize) -> bool {
     matches_any!(
         size,
         #[cfg(feature = "ppc64")]
-        RelocationSize::BitMasking { insn: RelocationInstruction::Ppc64(_), .. }
+        RowSize::BitMasking { insn: AnyForm::Ppc64(_), .. }
     ) && size.is_branch()
 }
 
@@ -331,17 +330,17 @@ pub(crate) fn own_value(
 
 /// Whether it is a low part of RISC-V.
 #[inline(always)]
-fn is_low_part(size: RelocationSize) -> bool {
+fn is_low_part(size: RowSize) -> bool {
     matches_any!(
         size,
         #[cfg(feature = "riscv64")]
-        RelocationSize::BitMasking { insn: RelocationInstruction::RiscV(RiscVInstruction::IType | RiscVInstruction::SType), .. }
+        RowSize::BitMasking { insn: AnyForm::RiscV(RiscVInstruction::IType | RiscVInstruction::SType), .. }
     )
 }
 
 /// Whether the symbol labels a high part.
 #[inline(always)]
-pub(crate) fn names_label(size: RelocationSize, kind: RelocationKind) -> bool {
+pub(crate) fn names_label(size: RowSize, kind: RelocationKind) -> bool {
     match kind {
         RelocationKind::RelativeRiscVLow12 => true,
         RelocationKind::TlsDesc => is_low_part(size),
@@ -351,11 +350,11 @@ pub(crate) fn names_label(size: RelocationSize, kind: RelocationKind) -> bool {
 
 /// Whether it is an `auipc` of RISC-V.
 #[inline(always)]
-fn is_auipc(size: RelocationSize) -> bool {
+fn is_auipc(size: RowSize) -> bool {
     matches_any!(
         size,
         #[cfg(feature = "riscv64")]
-        RelocationSize::BitMasking { insn: RelocationInstruction::RiscV(RiscVInstruction::UType), .. }
+        RowSize::BitMasking { insn: AnyForm::RiscV(RiscVInstruction::UType), .. }
     )
 }
 
@@ -376,7 +375,7 @@ fn is_high_kind(low: RelocationKind, kind: RelocationKind) -> bool {
 
 /// Whether a row is that of a high part of low parts of a kind.
 #[inline(always)]
-fn is_high_part(low: RelocationKind, info: &RelocationKindInfo) -> bool {
+fn is_high_part(low: RelocationKind, info: &RowInfo) -> bool {
     is_auipc(info.size) && is_high_kind(low, info.kind)
 }
 

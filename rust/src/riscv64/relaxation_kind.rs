@@ -3,10 +3,11 @@
 //! RISC-V: the rewrites of the crate `linker-utils`.
 
 use super::RewriteKind;
+use crate::elf::{RelocationKindInfo, RelocationSize};
 use crate::rewrite_rows::same_name;
 use crate::linker_base::bit_misc::BitExtraction;
 use crate::linker_base::relaxation::RelocationModifier;
-use crate::linker_elf::elf::{RelocationKindInfo, RiscVInstruction};
+use crate::linker_elf::elf::RiscVInstruction;
 use crate::linker_elf::riscv64 as relocations;
 
 /// A rewrite that the crate `linker-utils` 0.11.0 has too: the `RewriteKind` of the same name. No
@@ -90,6 +91,8 @@ impl RelaxationKind {
     #[must_use]
     #[inline]
     pub fn clui_rel_info() -> RelocationKindInfo {
-        relocations::clui_row().info()
+        let row = relocations::clui_row().info();
+        let bits = RelocationSize::bit_mask_riscv(0, 32, RiscVInstruction::CluiType);
+        RelocationKindInfo::of_size(row, bits)
     }
 }

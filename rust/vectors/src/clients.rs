@@ -3,8 +3,8 @@
 //! What a user of the library writes over it, proved from the public contracts of `linker_utils`
 //! alone: no function here has a proof of its own.
 
-use linker_utils::bit_misc::BitExtraction;
-use linker_utils::elf::InstructionForm;
+use linker_utils::bit_misc::{BitExtraction, BitRange};
+use linker_utils::elf::{InstructionForm, Ppc64Instruction};
 use linker_utils::relaxation::{
     OutOfMemory, PackError, SectionRelaxDeltas, laws, pack_section, shrink_calls,
 };
@@ -95,4 +95,16 @@ pub fn halves(value: u64) -> (u64, u64) {
         value.extract_bit_range(12..32),
         value.extract_bit_range(0..12),
     )
+}
+
+/// Which bits of a displacement a PowerPC64 instruction holds: a match of the forms of the original
+/// crate needs no last arm.
+pub fn displacement_bits(insn: Ppc64Instruction) -> BitRange {
+    let (start, end) = match insn {
+        Ppc64Instruction::D => (0, 16),
+        Ppc64Instruction::Ds => (2, 16),
+        Ppc64Instruction::Branch14 => (2, 16),
+        Ppc64Instruction::Branch24 => (2, 26),
+    };
+    BitRange { start, end }
 }

@@ -3,7 +3,7 @@
 //! AArch64 instructions that hold a value.
 
 use crate::linker_elf::elf::engine::{self, Encoding, Step, Window, forms};
-use crate::linker_elf::elf::{InstructionForm, RelocationInstruction};
+use crate::linker_elf::elf::{AnyForm, InstructionForm};
 use crate::linker_base::bit_misc::{BitExtraction, BitRange};
 
 /// AArch64 instructions with an immediate (Arm Architecture Reference Manual for A-profile, DDI
@@ -186,7 +186,7 @@ impl AArch64Instruction {
                     false,
                 )
             }
-            _ => engine::read(RelocationInstruction::AArch64(self), code, steps, bytes),
+            _ => engine::read(AnyForm::AArch64(self), code, steps, bytes),
         }
     }
 

@@ -4,7 +4,7 @@
 
 use crate::linker_elf::elf::choice_table::RelocationName;
 use crate::linker_elf::elf::rows::{TableRow, info_in, listed, row_in, text_at};
-use crate::linker_elf::elf::{RelocationKindInfo, Row};
+use crate::linker_elf::elf::{Row, RowInfo};
 use core::fmt;
 
 /// The relocations of AArch64, by their names in ELF for the Arm 64-bit Architecture, "Relocation".
@@ -330,9 +330,9 @@ impl RelocationName for AArch64Relocation {
     }
 }
 
-/// What a relocation means, as `row` says.
+/// What a relocation means, if the crate `linker-utils` has a row for it.
 #[must_use]
 #[inline(always)]
-pub const fn relocation_type_from_raw(name: AArch64Relocation) -> Option<RelocationKindInfo> {
+pub const fn upstream_row(name: AArch64Relocation) -> Option<RowInfo> {
     info_in(row(name))
 }

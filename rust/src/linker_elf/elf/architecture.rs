@@ -2,13 +2,13 @@
 // Made by tools/generate of crates/linker_elf/src/elf/architecture.rt.
 //! The architectures: their relocations by `r_type` and handles, and their forms by numbers.
 
-use super::{ApplyError, Operands, RelocationInstruction, Row, Uleb128Role};
+use super::{AnyForm, ApplyError, Operands, Row, Uleb128Role};
 #[cfg(feature = "aarch64")]
 use super::{AArch64Instruction, EM_AARCH64};
 #[cfg(feature = "loongarch64")]
 use super::{EM_LOONGARCH, LoongArch64Instruction};
 #[cfg(feature = "ppc64")]
-use super::{EM_PPC64, Ppc64Instruction};
+use super::{EM_PPC64, Ppc64Form};
 #[cfg(feature = "riscv64")]
 use super::{EM_RISCV, RiscVInstruction};
 #[cfg(feature = "x86_64")]
@@ -360,24 +360,20 @@ impl Architecture {
     /// last, and of x86-64, whose fields are whole bytes.
     #[must_use]
     #[inline(always)]
-    pub fn form(self, number: u32) -> Option<RelocationInstruction> {
+    pub fn form(self, number: u32) -> Option<AnyForm> {
         match self {
             #[cfg(feature = "aarch64")]
             Architecture::AArch64 => {
-                AArch64Instruction::from_number(number).map(RelocationInstruction::AArch64)
+                AArch64Instruction::from_number(number).map(AnyForm::AArch64)
             }
             #[cfg(feature = "riscv64")]
-            Architecture::RiscV => {
-                RiscVInstruction::from_number(number).map(RelocationInstruction::RiscV)
-            }
+            Architecture::RiscV => { RiscVInstruction::from_number(number).map(AnyForm::RiscV) }
             #[cfg(feature = "loongarch64")]
             Architecture::LoongArch64 => {
-                LoongArch64Instruction::from_number(number).map(RelocationInstruction::LoongArch64)
+                LoongArch64Instruction::from_number(number).map(AnyForm::LoongArch64)
             }
             #[cfg(feature = "ppc64")]
-            Architecture::Ppc64 => {
-                Ppc64Instruction::from_number(number).map(RelocationInstruction::Ppc64)
-            }
+            Architecture::Ppc64 => { Ppc64Form::from_number(number).map(AnyForm::Ppc64) }
             #[cfg(feature = "x86_64")]
             Architecture::X86_64 => None,
         }

@@ -2,7 +2,7 @@
 // Made by tools/generate of crates/linker_elf/src/elf/engine.rt.
 //! Writes the bits of a value into the window of an instruction, and reads them.
 
-use crate::linker_elf::elf::RelocationInstruction;
+use crate::linker_elf::elf::AnyForm;
 use crate::linker_base::bit_misc::BitRange;
 
 /// Runs of a value's bits that move to the window by the same distance.
@@ -212,7 +212,7 @@ pub(crate) fn number_in(steps: &[Step], window: u64) -> u64 {
 /// `_negative`.
 #[inline(always)]
 pub(crate) fn write(
-    _insn: RelocationInstruction,
+    _insn: AnyForm,
     code: &Encoding,
     steps: &[Step],
     value: u64,
@@ -226,12 +226,7 @@ pub(crate) fn write(
 /// The value in the instruction that `bytes` begins with, modulo 2^64, and a flag. The contract
 /// alone uses `_insn`.
 #[inline(always)]
-pub(crate) fn read(
-    _insn: RelocationInstruction,
-    code: &Encoding,
-    steps: &[Step],
-    bytes: &[u8],
-) -> (u64, bool) {
+pub(crate) fn read(_insn: AnyForm, code: &Encoding, steps: &[Step], bytes: &[u8]) -> (u64, bool) {
     let number = number_in(steps, code.window.load(bytes));
     // no branch, since the sign of what is read is unpredictable
     let value = number.wrapping_sub((number & code.signs) << 1);

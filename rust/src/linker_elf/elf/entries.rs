@@ -2,7 +2,7 @@
 // Made by tools/generate of crates/linker_elf/src/elf/entries.rt.
 //! For which relocations a linker makes an entry of the GOT or of the PLT.
 
-use crate::linker_elf::elf::{RelocationInstruction, RelocationKind, RelocationSize};
+use crate::linker_elf::elf::{AnyForm, RelocationKind, RowSize};
 #[cfg(feature = "riscv64")]
 use crate::linker_elf::elf::RiscVInstruction;
 
@@ -17,11 +17,11 @@ pub(crate) fn names_plt_entry(kind: RelocationKind) -> bool {
 
 /// Whether the symbol labels a high part, whose value is taken.
 #[inline(always)]
-pub(crate) fn is_of_high_part(size: RelocationSize) -> bool {
+pub(crate) fn is_of_high_part(size: RowSize) -> bool {
     matches_any!(
         size,
         #[cfg(feature = "riscv64")]
-        RelocationSize::BitMasking { insn: RelocationInstruction::RiscV(RiscVInstruction::IType | RiscVInstruction::SType), .. }
+        RowSize::BitMasking { insn: AnyForm::RiscV(RiscVInstruction::IType | RiscVInstruction::SType), .. }
     )
 }
 
@@ -55,14 +55,14 @@ impl RelocationKind {
     }
 }
 
-impl RelocationSize {
+impl RowSize {
     /// Whether the value goes into a branch, conditional or not. False for whole bytes.
     #[must_use]
     #[inline(always)]
     pub fn is_branch(self) -> bool {
         match self {
-            RelocationSize::ByteSize(_) => false,
-            RelocationSize::BitMasking { range, insn } => insn.is_branch(range),
+            RowSize::ByteSize(_) => false,
+            RowSize::BitMasking { range, insn } => insn.is_branch(range),
         }
     }
 }

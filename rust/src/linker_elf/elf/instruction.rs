@@ -2,10 +2,10 @@
 // Made by tools/generate of crates/linker_elf/src/elf/instruction.rt.
 //! What a form says of an instruction, for all architectures.
 
-use crate::linker_elf::elf::{InstructionForm, RelocationInstruction, of_form};
+use crate::linker_elf::elf::{AnyForm, InstructionForm, of_form};
 use crate::linker_base::bit_misc::BitRange;
 
-impl RelocationInstruction {
+impl AnyForm {
     /// The bits that a write of a row may change in the instruction that `bytes` begins with, where
     /// those of a range are taken.
     ///
@@ -20,13 +20,13 @@ impl RelocationInstruction {
         debug_assert!(self.window() <= bytes.len());
         match self {
             #[cfg(feature = "aarch64")]
-            RelocationInstruction::AArch64(insn) => insn.field_mask(),
+            AnyForm::AArch64(insn) => insn.field_mask(),
             #[cfg(feature = "riscv64")]
-            RelocationInstruction::RiscV(insn) => insn.field_mask(),
+            AnyForm::RiscV(insn) => insn.field_mask(),
             #[cfg(feature = "ppc64")]
-            RelocationInstruction::Ppc64(insn) => insn.field_mask(bytes),
+            AnyForm::Ppc64(insn) => insn.field_mask(bytes),
             #[cfg(feature = "loongarch64")]
-            RelocationInstruction::LoongArch64(insn) => insn.field_mask(range),
+            AnyForm::LoongArch64(insn) => insn.field_mask(range),
         }
     }
 
@@ -43,13 +43,13 @@ impl RelocationInstruction {
     pub(crate) fn is_branch(self, range: BitRange) -> bool {
         match self {
             #[cfg(feature = "aarch64")]
-            RelocationInstruction::AArch64(insn) => insn.is_branch(),
+            AnyForm::AArch64(insn) => insn.is_branch(),
             #[cfg(feature = "riscv64")]
-            RelocationInstruction::RiscV(insn) => insn.is_branch(),
+            AnyForm::RiscV(insn) => insn.is_branch(),
             #[cfg(feature = "ppc64")]
-            RelocationInstruction::Ppc64(insn) => insn.is_branch(),
+            AnyForm::Ppc64(insn) => insn.is_branch(),
             #[cfg(feature = "loongarch64")]
-            RelocationInstruction::LoongArch64(insn) => insn.is_branch(range),
+            AnyForm::LoongArch64(insn) => insn.is_branch(range),
         }
     }
 }

@@ -6,8 +6,7 @@
 use crate::linker_elf::aarch64::is_movk;
 use crate::linker_elf::elf::engine::Window;
 use crate::linker_elf::elf::{
-    FormulaError, InstructionForm, RelocationInstruction, RelocationKind, RelocationKindInfo,
-    RelocationSize, Row,
+    AnyForm, FormulaError, InstructionForm, RelocationKind, Row, RowInfo, RowSize,
 };
 #[cfg(feature = "aarch64")]
 use crate::linker_elf::elf::AArch64Instruction;
@@ -107,12 +106,12 @@ fn taken_bits(bits: BitRange, value: i64) -> u64 {
 
 /// Writes bits of a number into an instruction.
 #[inline(always)]
-pub(crate) fn write_field(insn: RelocationInstruction, bits: BitRange, value: i64, dest: &mut [u8]) {
+pub(crate) fn write_field(insn: AnyForm, bits: BitRange, value: i64, dest: &mut [u8]) {
     let number = taken_bits(bits, value);
     let negative = value < 0;
     match insn {
         #[cfg(feature = "aarch64")]
-        RelocationInstruction::AArch64(insn) => {
+        AnyForm::AArch64(insn) => {
             let old = Window::Four.load(dest);
             let word = insn.word_with(number, negative, insn.clear_immediate(old));
             // a move keeps its size
@@ -124,14 +123,14 @@ pub(crate) fn write_field(insn: RelocationInstruction, bits: BitRange, value: i6
             Window::Four.store(new, dest);
         }
         #[cfg(feature = "riscv64")]
-        RelocationInstruction::RiscV(insn) => insn.write_to_value(number, negative, dest),
+        AnyForm::RiscV(insn) => insn.write_to_value(number, negative, dest),
         #[cfg(feature = "ppc64")]
-        RelocationInstruction::Ppc64(insn) => {
+        AnyForm::Ppc64(insn) => {
             let number = insn.number_placed(number, dest);
             insn.write_to_value(number, negative, dest);
         }
         #[cfg(feature = "loongarch64")]
-        RelocationInstruction::LoongArch64(insn) => {
+        AnyForm::LoongArch64(insn) => {
             insn.clear_immediate(bits, dest);
             insn.write_to_value(number, negative, dest);
         }
@@ -143,22 +142,22 @@ pub(crate) fn write_field(insn: RelocationInstruction, bits: BitRange, value: i6
 #[cfg(feature = "aarch64")]
 #[inline(never)]
 pub(crate) fn write_aarch64(insn: AArch64Instruction, bits: BitRange, value: i64, dest: &mut [u8]) {
-    write_field(RelocationInstruction::AArch64(insn), bits, value, dest);
+    write_field(AnyForm::AArch64(insn), bits, value, dest);
 }
 
 /// Whether an instruction is a MOVK, where a row is for MOVN and MOVZ.
 #[inline(always)]
-fn stays_movk(insn: RelocationInstruction, bits: BitRange, dest: &[u8]) -> bool {
+fn stays_movk(insn: AnyForm, bits: BitRange, dest: &[u8]) -> bool {
     match insn {
         #[cfg(feature = "aarch64")]
-        RelocationInstruction::AArch64(AArch64Instruction::Movnz) => {
+        AnyForm::AArch64(AArch64Instruction::Movnz) => {
             is_movk(Window::Four.load(dest)) && bits.end.saturating_sub(bits.start) < 17
         }
         _ => false,
     }
 }
 
-impl RelocationInstruction {
+impl AnyForm {
     /// The form in which a row's bits are written: that of MOVK where one stands and the row is for
     /// MOVN and MOVZ, and else the row's.
     ///
@@ -169,7 +168,7 @@ impl RelocationInstruction {
     #[must_use]
     #[cfg_attr(debug_assertions, track_caller)]
     #[inline(always)]
-    pub fn written_at(self, bits: BitRange, dest: &[u8]) -> RelocationInstruction {
+    pub fn written_at(self, bits: BitRange, dest: &[u8]) -> AnyForm {
         #[cfg(not(feature = "aarch64"))]
         {
             self
@@ -178,7 +177,7 @@ impl RelocationInstruction {
         {
         debug_assert!(self.window() <= dest.len());
         if stays_movk(self, bits, dest) {
-            RelocationInstruction::AArch64(AArch64Instruction::Movkz)
+            AnyForm::AArch64(AArch64Instruction::Movkz)
         } else {
             self
         }
@@ -198,7 +197,7 @@ impl RelocationInstruction {
         debug_assert!(self.window() <= dest.len());
         match self {
             #[cfg(feature = "loongarch64")]
-            RelocationInstruction::LoongArch64(LoongArch64Instruction::Shift10) => {
+            AnyForm::LoongArch64(LoongArch64Instruction::Shift10) => {
                 kind == RelocationKind::AbsoluteLowPart && is_jirl(Window::Four.load(dest))
             }
             _ => false,
@@ -240,7 +239,7 @@ fn low_part(value: i64) -> i64 {
 /// memory.
 pub(crate) fn write_bits(
     kind: RelocationKind,
-    insn: RelocationInstruction,
+    insn: AnyForm,
     bits: BitRange,
     value: i64,
     dest: &mut [u8],
@@ -256,10 +255,10 @@ pub(crate) fn write_bits(
 
 /// Whether a value is a multiple of 4, where a `jirl` gets the low part of an address.
 #[inline(always)]
-fn is_in_words(size: RelocationSize, kind: RelocationKind, value: i64, dest: &[u8]) -> bool {
+fn is_in_words(size: RowSize, kind: RelocationKind, value: i64, dest: &[u8]) -> bool {
     match size {
-        RelocationSize::ByteSize(_) => true,
-        RelocationSize::BitMasking { insn, .. } => {
+        RowSize::ByteSize(_) => true,
+        RowSize::BitMasking { insn, .. } => {
             !insn.is_low_jump(kind, dest) || value.rem_euclid(4) == 0
         }
     }
@@ -267,11 +266,11 @@ fn is_in_words(size: RelocationSize, kind: RelocationKind, value: i64, dest: &[u
 
 /// Whether an encoding that isn't reserved holds a value: `c.lui` has no immediate 0.
 #[inline(always)]
-pub(crate) fn is_encoded(size: RelocationSize, value: i64) -> bool {
+pub(crate) fn is_encoded(size: RowSize, value: i64) -> bool {
     match size {
         #[cfg(feature = "riscv64")]
-        RelocationSize::BitMasking {
-            insn: RelocationInstruction::RiscV(RiscVInstruction::CluiType),
+        RowSize::BitMasking {
+            insn: AnyForm::RiscV(RiscVInstruction::CluiType),
             ..
         } => value < -0x800 || 0x800 <= value,
         _ => true,
@@ -280,18 +279,18 @@ pub(crate) fn is_encoded(size: RelocationSize, value: i64) -> bool {
 
 /// Whether a value is a multiple of 16, where an instruction of DQ-form stands.
 #[inline(always)]
-fn is_in_units(size: RelocationSize, value: i64, dest: &[u8]) -> bool {
+fn is_in_units(size: RowSize, value: i64, dest: &[u8]) -> bool {
     match size {
         #[cfg(feature = "ppc64")]
-        RelocationSize::BitMasking {
-            insn: RelocationInstruction::Ppc64(insn),
+        RowSize::BitMasking {
+            insn: AnyForm::Ppc64(insn),
             ..
         } => !insn.is_dq_form(dest) || value.rem_euclid(DQ_UNIT as i64) == 0,
         _ => true,
     }
 }
 
-impl RelocationKindInfo {
+impl RowInfo {
     /// Whether a value is a multiple of the row's alignment.
     #[inline(always)]
     pub(crate) fn is_aligned(&self, value: i64) -> bool {

@@ -8,9 +8,8 @@ use crate::linker_elf::elf::relocate::{is_encoded, store, write_bits, write_fiel
 use crate::linker_elf::elf::relocate::write_aarch64;
 use crate::linker_elf::elf::value::FormulaTerms;
 use crate::linker_elf::elf::{
-    AllowedRange, ApplyError, Bias, FormulaError, Operands, PageMask, RelocateError,
-    RelocationInstruction, RelocationKind, RelocationKindInfo, RelocationNumbers, RelocationSize,
-    RowFacts,
+    AllowedRange, AnyForm, ApplyError, Bias, FormulaError, Operands, PageMask, RelocateError,
+    RelocationKind, RelocationNumbers, RowFacts, RowInfo, RowSize,
 };
 
 /// An entry of a table: a row, the row in numbers, and what a write of it tests. Its range,
@@ -18,7 +17,7 @@ use crate::linker_elf::elf::{
 #[derive(Clone, Copy)]
 pub(crate) struct TableRow {
     pub(crate) kind: RelocationKind,
-    pub(crate) size: RelocationSize,
+    pub(crate) size: RowSize,
     pub(crate) mask: Option<PageMask>,
     pub(crate) numbers: RelocationNumbers,
     pub(crate) tests: WriteTests,
@@ -87,7 +86,7 @@ pub(crate) const fn row_in(entry: &'static Option<TableRow>) -> Option<Row> {
 
 /// What the row of a table's entry means, if the crate `linker-utils` has such a row.
 #[inline(always)]
-pub(crate) const fn raw_info_in(entry: &'static Option<TableRow>) -> Option<RelocationKindInfo> {
+pub(crate) const fn raw_info_in(entry: &'static Option<TableRow>) -> Option<RowInfo> {
     match entry {
         // by the entry: LLVM compiles a match of the name to a jump by the `r_type`
         Some(entry) if !entry.is_own => Some(Row::of(entry).info()),
@@ -97,7 +96,7 @@ pub(crate) const fn raw_info_in(entry: &'static Option<TableRow>) -> Option<Relo
 
 /// What a row means, if there is one.
 #[inline(always)]
-pub(crate) const fn info_in(row: Option<Row>) -> Option<RelocationKindInfo> {
+pub(crate) const fn info_in(row: Option<Row>) -> Option<RowInfo> {
     match row {
         Some(row) => Some(row.info()),
         None => None,
@@ -114,7 +113,7 @@ impl Row {
     /// What the relocation means.
     #[must_use]
     #[inline(always)]
-    pub const fn info(&self) -> RelocationKindInfo {
+    pub const fn info(&self) -> RowInfo {
         let entry = self.entry;
         let numbers = &entry.numbers;
         // loaded before the test, so that LLVM needs no branch
@@ -124,7 +123,7 @@ impl Row {
         } else {
             None
         };
-        RelocationKindInfo {
+        RowInfo {
             kind: entry.kind,
             size: entry.size,
             mask: entry.mask,
@@ -388,10 +387,10 @@ fn write_looking(entry: &'static TableRow, value: i64, dest: &mut [u8]) -> Resul
 #[inline(never)]
 fn write_plain(entry: &'static TableRow, value: i64, dest: &mut [u8]) {
     match entry.size {
-        RelocationSize::ByteSize(len) => write_number(entry.kind, len as usize, value, dest),
-        RelocationSize::BitMasking { range, insn } => match insn {
+        RowSize::ByteSize(len) => write_number(entry.kind, len as usize, value, dest),
+        RowSize::BitMasking { range, insn } => match insn {
             #[cfg(feature = "aarch64")]
-            RelocationInstruction::AArch64(insn) => write_aarch64(insn, range, value, dest),
+            AnyForm::AArch64(insn) => write_aarch64(insn, range, value, dest),
             _ => write_field(insn, range, value, dest),
         },
     }
@@ -401,14 +400,12 @@ fn write_plain(entry: &'static TableRow, value: i64, dest: &mut [u8]) {
 #[inline(always)]
 fn write_form(entry: &'static TableRow, value: i64, dest: &mut [u8], in_place: bool) {
     match entry.size {
-        RelocationSize::BitMasking { range, insn } if in_place => {
-            write_field(insn, range, value, dest)
-        }
+        RowSize::BitMasking { range, insn } if in_place => { write_field(insn, range, value, dest) }
         _ => write_plain(entry, value, dest),
     }
 }
 
-impl RelocationKindInfo {
+impl RowInfo {
     /// Whether a value is within `reach`, and an encoding holds it.
     #[inline(always)]
     fn is_reached(&self, tests: &WriteTests, value: i64) -> bool {
@@ -445,8 +442,8 @@ impl RelocationKindInfo {
             return Err(RelocateError::OutOfReach);
         }
         match self.size {
-            RelocationSize::ByteSize(len) => write_number(self.kind, len as usize, value, dest),
-            RelocationSize::BitMasking { range, insn } => {
+            RowSize::ByteSize(len) => write_number(self.kind, len as usize, value, dest),
+            RowSize::BitMasking { range, insn } => {
                 write_bits(self.kind, insn, range, value, dest)
             }
         }
@@ -461,7 +458,7 @@ impl RelocationKindInfo {
 /// has no such table, `name_of` matches the `r_type`. `index_of` makes the index of a name in the
 /// list. `r_types`, `texts` and `table` make tables by these indices: of types, of the names'
 /// texts, and of rows, where the last entry is that of `Other`. `table` is given the variant of
-/// `RelocationInstruction`, the enum of the forms and the `e_machine`. A list has at most 124
+/// `AnyForm`, the enum of the forms and the `e_machine`. A list has at most 124
 /// names, since calls of macros nest at most 128 deep.
 macro_rules! listed {
     ((name_of $names:ident, $r_type:ident) { $($number:literal $name:ident $row:tt)* }) => {
@@ -546,7 +543,7 @@ pub(crate) const fn text_at(texts: &[&'static str], index: usize) -> &'static st
 macro_rules! row {
     ($forms:tt ($kind:ident, $bytes:tt bytes, $($rest:tt)+)) => {
         $crate::linker_elf::elf::rows::row!(
-            @ $kind [Bytes Bytes $kind 0 0 $bytes] [$crate::linker_elf::elf::RelocationSize::ByteSize($bytes)]
+            @ $kind [Bytes Bytes $kind 0 0 $bytes] [$crate::linker_elf::elf::RowSize::ByteSize($bytes)]
             [form: 0, machine: 0, is_bits: 0, byte_size: $bytes, first_bit: 0, end_bit: 0]
             $($rest)+
         )
@@ -557,9 +554,9 @@ macro_rules! row {
     ) => {
         $crate::linker_elf::elf::rows::row!(
             @ $kind [$form $architecture $kind $start $end 0]
-            [$crate::linker_elf::elf::RelocationSize::BitMasking {
+            [$crate::linker_elf::elf::RowSize::BitMasking {
                 range: crate::linker_base::bit_misc::BitRange { start: $start, end: $end },
-                insn: $crate::linker_elf::elf::RelocationInstruction::$architecture($crate::linker_elf::elf::$forms::$form),
+                insn: $crate::linker_elf::elf::AnyForm::$architecture($crate::linker_elf::elf::$forms::$form),
             }]
             [
                 form: $crate::linker_elf::elf::$forms::$form as u32, machine: $crate::linker_elf::elf::$machine, is_bits: 1,

@@ -3,7 +3,7 @@
 //! The value of a relocation, from the addresses that a linker knows.
 
 use crate::linker_elf::elf::entries::names_plt_entry;
-use crate::linker_elf::elf::{RelocationInstruction, RelocationKind, RelocationKindInfo, RelocationSize};
+use crate::linker_elf::elf::{AnyForm, RelocationKind, RowInfo, RowSize};
 #[cfg(feature = "loongarch64")]
 use crate::linker_elf::loongarch64::highest_relocation_with_bias;
 
@@ -114,7 +114,7 @@ impl Operands {
     }
 }
 
-impl RelocationSize {
+impl RowSize {
     /// Whether it is that of PowerPC64's calls that load the function's address themselves, of a
     /// kind.
     #[doc(hidden)]
@@ -124,7 +124,7 @@ impl RelocationSize {
         matches_any!(
             self,
             #[cfg(feature = "ppc64")]
-            RelocationSize::BitMasking { insn: RelocationInstruction::Ppc64(_), .. }
+            RowSize::BitMasking { insn: AnyForm::Ppc64(_), .. }
         ) && names_plt_entry(kind)
     }
 }
@@ -141,9 +141,9 @@ impl RelocationKind {
 
 /// What [`highest_relocation_with_bias`](crate::loongarch64::highest_relocation_with_bias()) takes as `pc`.
 #[inline(always)]
-fn pc_of_sequence(size: RelocationSize, place: u64) -> u64 {
+fn pc_of_sequence(size: RowSize, place: u64) -> u64 {
     match size {
-        RelocationSize::BitMasking { range, .. } if range.start == 52 => place.wrapping_sub(4),
+        RowSize::BitMasking { range, .. } if range.start == 52 => place.wrapping_sub(4),
         _ => place,
     }
 }
@@ -246,7 +246,7 @@ fn high(entry: Result<u64, FormulaError>, pc: u64) -> Result<u64, FormulaError> 
     }
 }
 
-impl RelocationKindInfo {
+impl RowInfo {
     /// The value modulo 2^64.
     #[inline(always)]
     fn value_modulo(&self, terms: &FormulaTerms, operands: &Operands) -> Result<u64, FormulaError> {

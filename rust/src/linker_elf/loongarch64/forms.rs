@@ -3,7 +3,7 @@
 //! LoongArch: the immediates of instructions.
 
 use crate::linker_elf::elf::engine::{self, Encoding, Step, Window, forms};
-use crate::linker_elf::elf::{InstructionForm, RelocationInstruction};
+use crate::linker_elf::elf::{AnyForm, InstructionForm};
 use crate::linker_base::bit_misc::BitRange;
 
 /// LoongArch instructions with an immediate, and the pairs of long calls (LoongArch Reference
@@ -92,7 +92,7 @@ impl LoongArch64Instruction {
     pub fn write_to_value(self, extracted_value: u64, negative: bool, dest: &mut [u8]) {
         debug_assert!(self.window() <= dest.len());
         debug_assert!(self.fits(extracted_value, dest));
-        let insn = RelocationInstruction::LoongArch64(self);
+        let insn = AnyForm::LoongArch64(self);
         let (code, steps) = (self.code(), self.steps());
         engine::write(insn, code, steps, extracted_value, negative, dest);
     }
@@ -118,7 +118,7 @@ impl LoongArch64Instruction {
     // The same of any form.
     #[inline(always)]
     fn read_by_table(self, bytes: &[u8]) -> (u64, bool) {
-        let insn = RelocationInstruction::LoongArch64(self);
+        let insn = AnyForm::LoongArch64(self);
         engine::read(insn, self.code(), self.steps(), bytes)
     }
 

@@ -4,7 +4,7 @@
 
 use crate::linker_elf::elf::choice_table::RelocationName;
 use crate::linker_elf::elf::rows::{TableRow, listed, raw_info_in, row_in, text_at};
-use crate::linker_elf::elf::{RelocationKind, RelocationKindInfo, Row, SIZE_2KB, Uleb128Role};
+use crate::linker_elf::elf::{RelocationKind, Row, RowInfo, SIZE_2KB, Uleb128Role};
 use core::fmt;
 
 /// The relocations of LoongArch, by their names in the LoongArch ELF psABI, "Relocation Types".
@@ -259,25 +259,22 @@ impl RelocationName for LoongArch64Relocation {
 /// The row with the kind that the crate `linker-utils` has: there `R_LARCH_ALIGN` has no kind of
 /// its own. Not by the name: LLVM compiles a match of it to a jump by the `r_type`.
 #[inline(always)]
-const fn with_raw_kind(row: Option<RelocationKindInfo>) -> Option<RelocationKindInfo> {
+const fn with_raw_kind(row: Option<RowInfo>) -> Option<RowInfo> {
     match row {
         Some(row) => {
             let kind = match row.kind {
                 RelocationKind::Alignment => RelocationKind::None,
                 kind => kind,
             };
-            Some(RelocationKindInfo { kind, ..row })
+            Some(RowInfo { kind, ..row })
         }
         None => None,
     }
 }
 
-/// What a relocation means, as `row` says, or `None` for those that the crate `linker-utils` has no
-/// row for: `R_LARCH_MARK_LA`, and the GOT entries for TLS by `pcaddi`,
-/// `R_LARCH_TLS_LD_PCREL20_S2`, `R_LARCH_TLS_GD_PCREL20_S2` and `R_LARCH_TLS_DESC_PCREL20_S2`. The
-/// kind of `R_LARCH_ALIGN` is `None` there, and here.
+/// What a relocation means, if the crate `linker-utils` has a row for it.
 #[must_use]
 #[inline(always)]
-pub const fn relocation_type_from_raw(name: LoongArch64Relocation) -> Option<RelocationKindInfo> {
+pub const fn upstream_row(name: LoongArch64Relocation) -> Option<RowInfo> {
     with_raw_kind(raw_info_in(&ROWS[index(name)]))
 }

@@ -3,7 +3,7 @@
 //! PowerPC64 instructions that hold a value.
 
 use crate::linker_elf::elf::engine::{self, Encoding, Step, Window, forms};
-use crate::linker_elf::elf::{InstructionForm, RelocationInstruction};
+use crate::linker_elf::elf::{AnyForm, InstructionForm};
 use crate::linker_base::bit_misc::BitRange;
 
 /// PowerPC64 instructions that hold a displacement. The window is 4 bytes, and 8 for `Prefixed`.
@@ -11,7 +11,7 @@ use crate::linker_base::bit_misc::BitRange;
 /// and all other bits are unchanged.
 /// Bits are numbered from the least significant one.
 #[derive(Debug, Clone, Copy, PartialEq, Eq, Hash, PartialOrd, Ord)]
-pub enum Ppc64Instruction {
+pub enum Ppc64Form {
     /// D-form, as `addi`: value bits 0 to 15 at bit 0 and up. A signed number of 16 bits (Power
     /// ISA, "D-Form").
     D,
@@ -52,12 +52,12 @@ const STEPS: [[Step; 2]; 6] = ppc64_forms!(2 steps);
 
 /// The forms by their numbers. A table, since a match becomes a jump by the number where what
 /// follows differs by the form.
-const FORMS: &[Ppc64Instruction] = &ppc64_forms!(variant Ppc64Instruction);
+const FORMS: &[Ppc64Form] = &ppc64_forms!(variant Ppc64Form);
 
 /// The unit of the displacements of DQ-form: the lowest four bits of such a word are others.
 pub const DQ_UNIT: u64 = 16;
 
-impl Ppc64Instruction {
+impl Ppc64Form {
     /// What the form is beside its steps.
     #[inline(always)]
     fn code(self) -> &'static Encoding {
@@ -80,7 +80,7 @@ impl Ppc64Instruction {
     #[inline(always)]
     pub fn write_to_value(self, extracted_value: u64, negative: bool, dest: &mut [u8]) {
         debug_assert!(self.window() <= dest.len());
-        let insn = RelocationInstruction::Ppc64(self);
+        let insn = AnyForm::Ppc64(self);
         let (code, steps) = (self.code(), self.steps());
         engine::write(insn, code, steps, extracted_value, negative, dest);
     }
@@ -96,14 +96,14 @@ impl Ppc64Instruction {
     #[inline]
     pub fn read_value(self, bytes: &[u8]) -> (u64, bool) {
         debug_assert!(self.window() <= bytes.len());
-        let insn = RelocationInstruction::Ppc64(self);
+        let insn = AnyForm::Ppc64(self);
         engine::read(insn, self.code(), self.steps(), bytes)
     }
 
     /// The form with a number, its place in the enum. None above the last.
     #[must_use]
     #[inline(always)]
-    pub fn from_number(number: u32) -> Option<Ppc64Instruction> {
+    pub fn from_number(number: u32) -> Option<Ppc64Form> {
         FORMS.get(number as usize).copied()
     }
 
@@ -120,7 +120,7 @@ impl Ppc64Instruction {
     pub fn is_dq_form(self, bytes: &[u8]) -> bool {
         debug_assert!(self.window() <= bytes.len());
         match self {
-            Ppc64Instruction::Ds => {
+            Ppc64Form::Ds => {
                 let word = Window::Four.load(bytes);
                 let opcode = word >> 26;
                 opcode == 56 || opcode == 6 || (opcode == 61 && word % 4 == 1)
@@ -159,17 +159,14 @@ impl Ppc64Instruction {
     /// Whether the form is that of a branch.
     #[inline(always)]
     pub(crate) fn is_branch(self) -> bool {
-        matches!(
-            self,
-            Ppc64Instruction::Branch14 | Ppc64Instruction::Branch24
-        )
+        matches!(self, Ppc64Form::Branch14 | Ppc64Form::Branch24)
     }
 
     /// The number that an instruction gets. The lowest four bits of one of DQ-form are kept: they
     /// aren't its displacement's.
     #[inline(always)]
     pub(crate) fn number_placed(self, number: u64, dest: &[u8]) -> u64 {
-        if let Ppc64Instruction::Ds = self {
+        if let Ppc64Form::Ds = self {
             if self.is_dq_form(dest) {
                 let word = Window::Four.load(dest);
                 return number - number % DQ_UNIT + word % DQ_UNIT;
@@ -179,11 +176,11 @@ impl Ppc64Instruction {
     }
 }
 
-impl InstructionForm for Ppc64Instruction {
+impl InstructionForm for Ppc64Form {
     #[inline]
     fn window(self) -> usize {
         match self {
-            Ppc64Instruction::Prefixed => 8,
+            Ppc64Form::Prefixed => 8,
             _ => 4,
         }
     }

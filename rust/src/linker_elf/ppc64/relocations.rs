@@ -4,7 +4,7 @@
 
 use crate::linker_elf::elf::choice_table::RelocationName;
 use crate::linker_elf::elf::rows::{TableRow, listed, raw_info_in, row_in, text_at};
-use crate::linker_elf::elf::{RelocationKindInfo, Row};
+use crate::linker_elf::elf::{Row, RowInfo};
 use core::fmt;
 
 /// The relocations of PowerPC64, by their names in the 64-bit ELF V2 ABI for Power, "Relocation
@@ -272,7 +272,7 @@ static R_TYPES: &[u32] = &relocations!(r_types);
 
 static TEXTS: &[&str] = &relocations!(texts);
 
-static ROWS: &[Option<TableRow>] = &relocations!(table [Ppc64 Ppc64Instruction EM_PPC64]);
+static ROWS: &[Option<TableRow>] = &relocations!(table [Ppc64 Ppc64Form EM_PPC64]);
 
 /// The index of a name in the table.
 #[inline(always)]
@@ -316,16 +316,9 @@ impl RelocationName for Ppc64Relocation {
     }
 }
 
-/// What a relocation means, as `row` says, or `None` for those that the crate `linker-utils` has no
-/// row for: `R_PPC64_NONE`, absolute addresses (`R_PPC64_ADDR24`, `R_PPC64_ADDR14` and the
-/// `R_PPC64_ADDR16` with what follows it), the parts of 64 bits (`_HIGH`, `_HIGHER`, `_HIGHEST` and
-/// those with an A), `R_PPC64_TOC16`, `R_PPC64_TOC16_HI`, `R_PPC64_TOC16_DS`, `R_PPC64_REL16`,
-/// `R_PPC64_REL16_HI`, `R_PPC64_REL24_NOTOC`, the GOT and PLT entries (`R_PPC64_GOT16` and
-/// `R_PPC64_PLT16` with what follows), marks (`R_PPC64_ENTRY`, `R_PPC64_PLTSEQ`, `R_PPC64_PLTCALL`,
-/// their `_NOTOC`, and `R_PPC64_PCREL_OPT`), and all prefixed instructions (`R_PPC64_D34`,
-/// `R_PPC64_PCREL34` and their like).
+/// What a relocation means, if the crate `linker-utils` has a row for it.
 #[must_use]
 #[inline(always)]
-pub const fn relocation_type_from_raw(name: Ppc64Relocation) -> Option<RelocationKindInfo> {
+pub const fn upstream_row(name: Ppc64Relocation) -> Option<RowInfo> {
     raw_info_in(&ROWS[index(name)])
 }

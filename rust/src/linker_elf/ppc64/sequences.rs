@@ -2,7 +2,7 @@
 // Made by tools/generate of crates/linker_elf/src/ppc64/sequences.rt.
 //! Addresses in two halves.
 
-use super::Ppc64Instruction;
+use super::Ppc64Form;
 use crate::linker_elf::elf::InstructionForm;
 use crate::linker_base::bit_misc::BitExtraction;
 
@@ -27,6 +27,6 @@ pub fn write_ha_lo(ha: &mut [u8], lo: &mut [u8], value: u64) {
     debug_assert!(4 <= ha.len());
     debug_assert!(4 <= lo.len());
     let high = value.wrapping_add(0x8000).extract_bit_range(16..32);
-    Ppc64Instruction::D.write_to_value(high, false, ha);
-    Ppc64Instruction::D.write_to_value(value.low_bits(16), false, lo);
+    Ppc64Form::D.write_to_value(high, false, ha);
+    Ppc64Form::D.write_to_value(value.low_bits(16), false, lo);
 }

@@ -3,7 +3,7 @@
 //! RISC-V: the immediates of instructions.
 
 use crate::linker_elf::elf::engine::{self, Encoding, Step, forms};
-use crate::linker_elf::elf::{InstructionForm, RelocationInstruction};
+use crate::linker_elf::elf::{AnyForm, InstructionForm};
 use crate::linker_base::bit_misc::BitRange;
 
 /// RISC-V instructions with an immediate (RISC-V unprivileged ISA, "Immediate Encoding Variants"
@@ -81,7 +81,7 @@ impl RiscVInstruction {
     /// Writes the bits of a value.
     #[inline(always)]
     fn insert_into(self, value: u64, negative: bool, dest: &mut [u8]) {
-        let insn = RelocationInstruction::RiscV(self);
+        let insn = AnyForm::RiscV(self);
         riscv_forms!(
             by RiscVInstruction self,
             form: engine::write(insn, form.code(), form.steps(), value, negative, dest)
@@ -118,7 +118,7 @@ impl RiscVInstruction {
     #[inline(always)]
     pub fn read_value(self, bytes: &[u8]) -> (u64, bool) {
         debug_assert!(self.window() <= bytes.len());
-        let insn = RelocationInstruction::RiscV(self);
+        let insn = AnyForm::RiscV(self);
         riscv_forms!(
             by RiscVInstruction self, form: engine::read(insn, form.code(), form.steps(), bytes)
         )

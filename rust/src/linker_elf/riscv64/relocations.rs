@@ -4,7 +4,7 @@
 
 use crate::linker_elf::elf::choice_table::RelocationName;
 use crate::linker_elf::elf::rows::{TableRow, listed, raw_info_in, row_in, text_at};
-use crate::linker_elf::elf::{RelocationKindInfo, Row, Uleb128Role};
+use crate::linker_elf::elf::{Row, RowInfo, Uleb128Role};
 use core::fmt;
 
 /// The relocations of RISC-V, by their names in the RISC-V ELF psABI, "Relocations". `from_elf`
@@ -218,10 +218,9 @@ pub const fn clui_row() -> Row {
     row(RiscVRelocation::R_RISCV_RVC_LUI).unwrap()
 }
 
-/// What a relocation means, as `row` says, or `None` for the four of TLS descriptors and for
-/// `R_RISCV_RVC_LUI`.
+/// What a relocation means, if the crate `linker-utils` has a row for it.
 #[must_use]
 #[inline(always)]
-pub const fn relocation_type_from_raw(name: RiscVRelocation) -> Option<RelocationKindInfo> {
+pub const fn upstream_row(name: RiscVRelocation) -> Option<RowInfo> {
     raw_info_in(&ROWS[index(name)])
 }

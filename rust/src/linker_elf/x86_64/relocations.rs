@@ -4,7 +4,7 @@
 
 use crate::linker_elf::elf::choice_table::RelocationName;
 use crate::linker_elf::elf::rows::{TableRow, listed, raw_info_in, row_in, text_at};
-use crate::linker_elf::elf::{RelocationKindInfo, Row};
+use crate::linker_elf::elf::{Row, RowInfo};
 use core::fmt;
 
 /// The relocations of x86-64, by their names in the x86-64 psABI, "Relocation Types". `from_elf`
@@ -171,10 +171,9 @@ impl RelocationName for X86_64Relocation {
     }
 }
 
-/// What a relocation means, as `row` says, or `None` for `R_X86_64_TPOFF64`, which the crate
-/// `linker-utils` has no row for.
+/// What a relocation means, if the crate `linker-utils` has a row for it.
 #[must_use]
 #[inline(always)]
-pub const fn relocation_from_raw(name: X86_64Relocation) -> Option<RelocationKindInfo> {
+pub const fn upstream_row(name: X86_64Relocation) -> Option<RowInfo> {
     raw_info_in(&ROWS[index(name)])
 }

@@ -4,7 +4,7 @@
 
 use crate::linker_reading::operands::{Base, Encoding, encoding};
 use crate::linker_base::bit_misc::BitExtraction;
-use crate::linker_elf::elf::{AArch64Instruction, RelocationInstruction};
+use crate::linker_elf::elf::{AArch64Instruction, AnyForm};
 
 macro_rules! a64 {
     ($mask:literal, $bits:literal, $($form:ident)*) => {

@@ -5,7 +5,7 @@
 
 use crate::linker_reading::operands::{Base, Encoding, encoding};
 use crate::linker_base::bit_misc::BitExtraction;
-use crate::linker_elf::elf::{LoongArch64Instruction, RelocationInstruction};
+use crate::linker_elf::elf::{AnyForm, LoongArch64Instruction};
 
 macro_rules! la {
     ($mask:literal, $bits:literal, $form:ident) => {
@@ -24,8 +24,8 @@ pub(super) static ENCODINGS: &[Encoding] = &[
         bits: 0x4c00_0000 << 32 | 0x1e00_0000,
         base: Base::From0And37,
         forms: &[
-            RelocationInstruction::LoongArch64(LoongArch64Instruction::Shift5),
-            RelocationInstruction::LoongArch64(LoongArch64Instruction::Call36),
+            AnyForm::LoongArch64(LoongArch64Instruction::Shift5),
+            AnyForm::LoongArch64(LoongArch64Instruction::Call36),
         ],
     },
     la!(0xfc00_0000, 0x1400_0000, Shift5),

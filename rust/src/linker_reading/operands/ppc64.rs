@@ -4,11 +4,11 @@
 
 use crate::linker_reading::operands::{Base, Encoding, encoding};
 use crate::linker_base::bit_misc::BitExtraction;
-use crate::linker_elf::elf::{Ppc64Instruction, RelocationInstruction};
+use crate::linker_elf::elf::{AnyForm, Ppc64Form};
 
 macro_rules! power {
     ($mask:literal, $bits:literal, $form:ident) => {
-        encoding!(4, $mask, $bits, Ppc64 [Ppc64Instruction::$form])
+        encoding!(4, $mask, $bits, Ppc64 [Ppc64Form::$form])
     };
 }
 
@@ -19,7 +19,7 @@ macro_rules! prefixed {
             8,
             $mask << 32 | 0xffec_0000,
             $bits << 32 | $prefix,
-            Ppc64 [Ppc64Instruction::Prefixed]
+            Ppc64 [Ppc64Form::Prefixed]
         )
     };
 }
@@ -67,16 +67,16 @@ pub(super) static ENCODINGS: &[Encoding] = &[
 ];
 
 /// Log2 of what the immediate of an instruction counts.
-pub(super) fn scale(form: Ppc64Instruction, word: u64) -> u64 {
+pub(super) fn scale(form: Ppc64Form, word: u64) -> u64 {
     match form {
-        Ppc64Instruction::D => {
+        Ppc64Form::D => {
             if word.extract_bit_range(26..32) == 15 {
                 16
             } else {
                 0
             }
         }
-        Ppc64Instruction::DUnsigned => 16 * word.extract_bit(26),
+        Ppc64Form::DUnsigned => 16 * word.extract_bit(26),
         _ => 0,
     }
 }

@@ -3,7 +3,7 @@
 //! The instructions of RISC-V with an immediate.
 
 use crate::linker_reading::operands::{Base, Encoding, encoding};
-use crate::linker_elf::elf::{RelocationInstruction, RiscVInstruction};
+use crate::linker_elf::elf::{AnyForm, RiscVInstruction};
 
 macro_rules! rv {
     ($mask:literal, $bits:literal, $form:ident) => {
@@ -26,8 +26,8 @@ macro_rules! rv_pair {
             bits: $bits << 32 | 0x17,
             base: Base::From7And47,
             forms: &[
-                RelocationInstruction::RiscV(RiscVInstruction::UType),
-                RelocationInstruction::RiscV(RiscVInstruction::UiType),
+                AnyForm::RiscV(RiscVInstruction::UType),
+                AnyForm::RiscV(RiscVInstruction::UiType),
             ],
         }
     };

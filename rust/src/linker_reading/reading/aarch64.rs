@@ -3,7 +3,7 @@
 //! What an instruction of AArch64 holds.
 
 use crate::linker_base::bit_misc::BitExtraction;
-use crate::linker_elf::elf::{AArch64Instruction, InstructionForm, RelocationInstruction};
+use crate::linker_elf::elf::{AArch64Instruction, AnyForm, InstructionForm};
 
 /// What an instruction holds.
 #[inline(always)]

@@ -4,7 +4,7 @@
 
 use crate::linker_base::bit_misc::BitExtraction;
 use crate::linker_base::utils::{u32_from_slice, u64_from_slice};
-use crate::linker_elf::elf::{InstructionForm, LoongArch64Instruction, RelocationInstruction};
+use crate::linker_elf::elf::{AnyForm, InstructionForm, LoongArch64Instruction};
 
 /// What an instruction, or a pair, holds, in two's complement.
 #[inline(always)]

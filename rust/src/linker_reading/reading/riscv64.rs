@@ -2,7 +2,7 @@
 // Made by tools/generate of crates/linker_reading/src/reading/riscv64.rt.
 //! What an instruction of RISC-V holds.
 
-use crate::linker_elf::elf::{InstructionForm, RelocationInstruction, RiscVInstruction};
+use crate::linker_elf::elf::{AnyForm, InstructionForm, RiscVInstruction};
 
 /// What an instruction holds, its value rounded.
 #[inline(always)]

@@ -3,7 +3,7 @@
 //! The bits of a relocation's field, and bytes that differ in such bits only.
 
 use crate::linker_base::utils::u32_from_slice;
-use crate::linker_elf::elf::{RelocateError, RelocationKind, RelocationSize, Row};
+use crate::linker_elf::elf::{RelocateError, RelocationKind, Row, RowSize};
 
 /// Some of the bits of the eight bytes from an offset of a window on.
 #[repr(C)]
@@ -59,8 +59,8 @@ pub fn field_bits(row: &Row, bytes: &[u8]) -> u64 {
     debug_assert!(row.window() <= bytes.len());
     let info = row.info();
     match info.size {
-        RelocationSize::ByteSize(len) => number_bits(info.kind, len as usize),
-        RelocationSize::BitMasking { range, insn } => {
+        RowSize::ByteSize(len) => number_bits(info.kind, len as usize),
+        RowSize::BitMasking { range, insn } => {
             let placed = insn.placed_bits(info.kind, range, bytes);
             insn.written_at(range, bytes).field_mask(placed, bytes)
         }

@@ -1,4 +1,4 @@
-use Rattle.std.proofs.Common.{◌≡◌, ℕ, pos, negsuc, false, true, refl, subst, ap, ◌∙◌, List, Some, lit<}
+use Rattle.std.proofs.Common.{◌≡◌, ℕ, pos, negsuc, false, refl, subst, ap, ◌∙◌, List, Some, lit<}
 use Rattle.std.specs.Prelude.{IsSomeAnd}
 use Rattle.linker_elf.specs.declared.riscv64.relocations.RiscVRelocation.TheVariants as names
 use Rattle.linker_final.proofs.Imports.{IsApplied, IsNamed, IsRow, RowInfo, RiscV, RiscVRelocation, Operands, r_type_of, riscv_name, riscv_relocation}
