@@ -160,10 +160,10 @@ fn merges_of_batches_are_tested_without_memory() {
 
 #[test]
 fn deletions_are_not_listed() {
-    // the deltas, and the heads of their blocks
-    for pairs in [vec![(4, 4), (8, 4)], many()] {
+    // the deltas, and the heads of their blocks where these are many
+    for (takes, pairs) in [(1, vec![(4, 4), (8, 4)]), (2, many())] {
         let (count, made) = each_fails(|| SectionRelaxDeltas::new(&pairs), |_| {});
-        assert_eq!((count, listed(&made)), (2, pairs));
+        assert_eq!((count, listed(&made)), (takes, pairs));
     }
     let (count, none) = each_fails(|| SectionRelaxDeltas::new(&[]), |_| {});
     assert_eq!((count, listed(&none)), (0, vec![]));
@@ -225,10 +225,10 @@ fn no_batch_is_merged() {
 #[test]
 fn copies_leave_the_source() {
     let pairs = [(4, 4), (12, 2)];
-    for pairs in [pairs.to_vec(), many()] {
+    for (takes, pairs) in [(1, pairs.to_vec()), (2, many())] {
         let source = deltas(&pairs);
         let (count, copy) = each_fails(|| source.try_clone(), |_| assert_eq!(listed(&source), pairs));
-        assert_eq!((count, listed(&copy)), (2, pairs));
+        assert_eq!((count, listed(&copy)), (takes, pairs));
     }
 
     let mut sections = RelaxDeltaMap::new();
@@ -240,7 +240,7 @@ fn copies_leave_the_source() {
         assert_eq!(map.last_index(), Some(3));
     };
     let (count, copy) = each_fails(|| sections.try_clone(), |_| is_whole(&sections));
-    assert_eq!(count, 5);
+    assert_eq!(count, 3);
     is_whole(&copy);
 }
 
@@ -364,8 +364,8 @@ fn runs_are_not_relaxed() {
     let call = Item::Site(Site { offset: 0, len: 8, target: 22, shapes: CALL });
     let aligned = Item::Aligned(Alignment { offset: 8, nops: 14, alignment: 16, max_skip: None });
     let (count, plan) = each_fails(|| relax(&[call, aligned], 0), |_| {});
-    // the four arrays, the pairs of the deletions, the deltas and the heads of their blocks
-    assert_eq!((count, plan.kept), (7, vec![4, 12]));
+    // the four arrays, the pairs of the deletions and the deltas
+    assert_eq!((count, plan.kept), (6, vec![4, 12]));
 
     let relocation = |offset, r_type, addend, target: Option<u64>| Relocation {
         offset,

@@ -20,7 +20,7 @@ mod overlap;
 mod search;
 mod walk;
 
-use blocks::{count_blocks, fill_heads};
+use blocks::{count_heads, fill_heads};
 pub use blocks::{
     BLOCK_LEN, BlockHead, Counted, Looks, input_to_output_counted, output_to_input_counted,
 };
@@ -76,6 +76,7 @@ pub struct RelaxDelta {
 #[derive(Debug, Drop)]
 pub struct SectionRelaxDeltas {
     deltas: Vec<RelaxDelta>,
+    // None of a single block: a short list allocates once.
     heads: Vec<BlockHead>,
 }
 
@@ -94,15 +95,15 @@ impl Model for SectionRelaxDeltas {
 impl SectionRelaxDeltas {
     /// The deletions that `raw` lists, each as an offset and a count of bytes.
     ///
-    /// It allocates twice, for the deltas and the heads of their blocks, and not at all where `raw`
-    /// is empty. `is_valid` tests what it requires.
+    /// It allocates once, twice for more than `BLOCK_LEN` deletions, of whose blocks it keeps the
+    /// heads, and not at all where `raw` is empty. `is_valid` tests what it requires.
     pub fn new(alloc: Global, raw: &[(u64, u32)]) -> Result<Self, OutOfMemory>
         requires { IsValid raw.now }
         ensures ok { IfOk result (λ section. section ≡ raw.now) }
         ensures empty_succeeds { raw.now ≡ [] → IsOk result }
     {
         let mut deltas = Vec::with_capacity(alloc, raw.len())?;
-        let mut heads = Vec::with_capacity(alloc, count_blocks(raw.len()))?;
+        let mut heads = Vec::with_capacity(alloc, count_heads(raw.len()))?;
         append(&mut deltas, raw);
         fill_heads(&deltas, &mut heads);
         Ok(SectionRelaxDeltas { deltas, heads })
@@ -193,8 +194,7 @@ impl SectionRelaxDeltas {
         can_batches_be_merged(&self.deltas, batches)
     }
 
-    /// A copy of the deltas and of the heads of their blocks. It allocates twice, and not at all
-    /// where there are none.
+    /// A copy. It allocates as `new` does.
     pub fn clone(&self) -> Result<Self, OutOfMemory>
         ensures ok { IfOk result (λ section. section ≡ self.now) }
         ensures empty_succeeds { self.now ≡ [] → IsOk result }

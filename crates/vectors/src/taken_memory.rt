@@ -9,18 +9,18 @@ use linker_utils::relaxation::{
 
 const FEW: [(u64, u32); 2] = [(8, 4), (16, 4)];
 
-// none of no deletions, and else the deltas and the heads of their blocks
+// none of no deletions, and else the deltas: so few have no heads of blocks
 #[test]
-fn lists_and_their_copies_take_4(rt: HostRuntime) {
+fn lists_and_their_copies_take_2(rt: HostRuntime) {
     for raw in [[].as_slice(), &FEW] {
         let copy = copy_of(&rt, &deltas_of(&rt, rt.alloc(), raw));
         expect_eq(&rt, raw, copy.deltas().len(), raw.len());
     }
 }
 
-// the deltas and the heads of their blocks, and a copy of pairs that don't ascend
+// the deltas, and a copy of pairs that don't ascend
 #[test]
-fn merges_take_5(rt: HostRuntime) {
+fn merges_take_3(rt: HostRuntime) {
     for more in [[].as_slice(), &FEW, &[(16, 4), (8, 4)]] {
         let mut deltas = deltas_of(&rt, rt.alloc(), &[]);
         expect(&rt, more, deltas.is_mergeable(more));
@@ -34,10 +34,9 @@ fn merges_take_5(rt: HostRuntime) {
     }
 }
 
-// the batches themselves, which are three; then none of empty ones, and the deltas, the heads of
-// their blocks and a copy
+// the batches themselves, which are three; then none of empty ones, and the deltas and a copy
 #[test]
-fn batches_take_6(rt: HostRuntime) {
+fn batches_take_5(rt: HostRuntime) {
     let batches = batches_of(&rt, rt.alloc(), &FEW);
     expect(&rt, 3, batches.len() == 3);
     for (first, count) in [(&batches[..1], 0), (&batches[..], 2)] {
@@ -53,9 +52,9 @@ fn batches_take_6(rt: HostRuntime) {
     }
 }
 
-// the deltas of a section, the heads of their blocks and the map's entries, and the same of a copy
+// the deltas of a section and the map's entries, and the same of a copy
 #[test]
-fn maps_and_their_copies_take_6(rt: HostRuntime) {
+fn maps_and_their_copies_take_4(rt: HostRuntime) {
     let mut map = RelaxDeltaMap::new(rt.alloc());
     let empty = map.clone().expect(&rt, "no memory");
     expect(&rt, 0, empty.is_empty());

@@ -1,6 +1,6 @@
 -- What holds of the fields of deltas and of a cursor, and of what searches and tests in them find.
 use Rattle.std.specs.Prelude.{◌≡◌, ℕ, ◌+◌, ◌-◌, ◌<◌, ◌≤◌, List, length, map, take, slice_index_or}
-use Rattle.std.specs.Prelude.{All, Any, Bool, true, ◌^◌}
+use Rattle.std.specs.Prelude.{All, Any, Bool, true, ◌^◌, nat_lt, if◌then◌else◌}
 use Rattle.std.specs.Prelude.{false, ◌++◌, drop}
 use Rattle.std.specs.Slice.Iter.{iter_rest}
 use Rattle.linker_base.specs.declared.relaxation.RelaxDelta.{RelaxDelta}
@@ -9,13 +9,22 @@ use Rattle.linker_base.specs.declared.relaxation.walk.Reached.{Reached}
 use Rattle.linker_base.specs.Deletions.{DoNotOverlap, AreDisjoint, IsValid}
 use Rattle.linker_base.specs.Deletions.{bytes_of}
 use Rattle.linker_base.specs.Deltas.{deletion_of}
-use Rattle.linker_base.specs.Blocks.{AreHeads}
+use Rattle.linker_base.specs.Blocks.{AreHeads, blocks_of}
 use Rattle.linker_base.specs.Listed.{AreValidDeltas}
+
+-- how many heads a section keeps of n deltas: none of a single block
+abbrev pub heads_of : ℕ → ℕ
+heads_of len = if nat_lt 64 len then blocks_of len else 0
+
+-- the heads are those of the blocks; of a single block there may be none
+pub record KeepsHeads (list : List RelaxDelta) (blocks : List BlockHead) : Type 0 where
+  pub many : 64 < length list → 0 < length blocks
+  pub heads : 0 < length blocks → AreHeads list blocks
 
 -- what holds of the fields of a section's deltas
 pub record IsSound (list : List RelaxDelta) (blocks : List BlockHead) : Type 0 where
   pub deltas : AreValidDeltas list
-  pub heads : AreHeads list blocks
+  pub heads : KeepsHeads list blocks
 
 -- the first `passed` deletions are those whose output offset, the offset less the bytes deleted
 -- before, is at most y

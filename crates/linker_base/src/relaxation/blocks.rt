@@ -8,6 +8,7 @@ ghost use Rattle.linker_base.specs.Blocks.{output_offset_of, blocks_of, head_of,
 ghost use Rattle.linker_base.specs.Deletions.{rank, IsSelected, HasInput};
 ghost use Rattle.linker_base.specs.Deltas.{deletions_of};
 ghost use Rattle.linker_base.specs.Listed.{AreValidDeltas};
+ghost use Rattle.linker_base.specs.Inner.Listed.{IsSound, KeepsHeads, heads_of};
 ghost use Rattle.linker_base.specs.Inner.Search.{list_subject};
 
 use super::RelaxDelta;
@@ -112,8 +113,8 @@ impl<K: Looks> Probe for K {
     }
 }
 
-/// The deltas of a section and the heads that it keeps, with a count of the looks at them.
-/// Contracts see the list and the count.
+/// The deltas of a section and the heads that it keeps, none of a single block, with a count of the
+/// looks at them. Contracts see the list and the count.
 #[derive(Drop)]
 pub struct Counted<'a> {
     deltas: &'a [RelaxDelta],
@@ -122,22 +123,20 @@ pub struct Counted<'a> {
 }
 
 impl<'a> Model for Counted<'a> {
-    ghost use Rattle.linker_base.specs.Blocks.{Counts, AreHeads};
-    ghost use Rattle.linker_base.specs.Listed.{AreValidDeltas};
+    ghost use Rattle.linker_base.specs.Blocks.{Counts};
+    ghost use Rattle.linker_base.specs.Inner.Listed.{IsSound};
 
     ghost Value = { Counts };
 
     ghost view = { λ counted. record { listed = counted.deltas.now; looked = counted.count } };
 
-    ghost invariant = { λ counted. AreValidDeltas counted.deltas.now
-        × AreHeads counted.deltas.now counted.heads.now };
+    ghost invariant = { λ counted. IsSound counted.deltas.now counted.heads.now };
 }
 
 impl<'a> Counted<'a> {
     #[inline(always)]
     pub(super) fn new(deltas: &'a [RelaxDelta], heads: &'a [BlockHead]) -> Counted<'a>
-        requires valid { AreValidDeltas deltas.now }
-        requires heads { AreHeads deltas.now heads.now }
+        requires { IsSound deltas.now heads.now }
         ensures { result ≡ record { listed = deltas.now; looked = 0 } }
     {
         Counted {
@@ -166,7 +165,11 @@ impl<'a> Looks for Counted<'a> {
     #[inline(always)]
     fn head(&mut self, block: usize) -> (u64, u64) {
         self.count += 1;
-        let head = self.heads[block];
+        let head = if self.deltas.len() > BLOCK_LEN {
+            self.heads[block]
+        } else {
+            BlockHead::of(&self.deltas[BLOCK_LEN * block])
+        };
         (head.input_offset, head.output_offset)
     }
 
@@ -177,15 +180,15 @@ impl<'a> Looks for Counted<'a> {
     }
 }
 
-/// Puts the heads of the other blocks after those of the first blocks.
+/// Puts the heads of the other blocks after those of the first blocks, if there is more than one.
 pub(super) fn fill_heads(deltas: &[RelaxDelta], heads: &mut Vec<BlockHead>)
     requires first { (b : ℕ) (h : BlockHead) (d : RelaxDelta) → b < vec_len heads.old
         → slice_index_or heads.old.items b h ≡ head_of (slice_index_or deltas.now (64 * b) d) }
     requires within { vec_len heads.old ≤ blocks_of (length deltas.now) }
-    requires room { blocks_of (length deltas.now) ≤ vec_capacity heads.old }
-    ensures { AreHeads deltas.now heads.new.items }
+    requires room { heads_of (length deltas.now) ≤ vec_capacity heads.old }
+    ensures { KeepsHeads deltas.now heads.new.items }
 {
-    for block in heads.len()..count_blocks(deltas.len()) {
+    for block in heads.len()..count_heads(deltas.len()) {
         heads.push_reserved(BlockHead::of(&deltas[BLOCK_LEN * block]));
     }
 }
@@ -206,6 +209,18 @@ pub(super) fn count_blocks(len: usize) -> usize
     ensures { result ≡ blocks_of len }
 {
     len / BLOCK_LEN + usize::from(len % BLOCK_LEN > 0)
+}
+
+/// How many heads a section keeps of n deltas.
+#[inline(always)]
+pub(super) fn count_heads(len: usize) -> usize
+    ensures { result ≡ heads_of len }
+{
+    if len > BLOCK_LEN {
+        count_blocks(len)
+    } else {
+        0
+    }
 }
 
 /// The output offset of `input_offset`, as `SectionRelaxDeltas::input_to_output_offset` returns it.

@@ -127,8 +127,8 @@ impl RelaxDeltaMap {
         self.entries.last().map(|entry| entry.0)
     }
 
-    /// A copy of the map and of the deltas of each section. It allocates once for the entries and
-    /// twice for each section that has any deltas, and not at all for an empty map.
+    /// A copy of the map and of the deltas of each section. It allocates once for the entries, as
+    /// `SectionRelaxDeltas::clone` for each section, and not at all for an empty map.
     pub fn clone(&self) -> Result<Self, OutOfMemory>
         ensures ok { IfOk result (λ sections. sections ≡ self.now) }
         ensures empty_succeeds { self.now ≡ finite.empty → IsOk result }

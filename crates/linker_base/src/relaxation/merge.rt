@@ -8,7 +8,7 @@ ghost use Rattle.linker_base.specs.Deltas.{deletion_of, pairs_of, RecordsDeletio
 ghost use Rattle.linker_base.specs.Listed.{AreValidDeltas, AreValidTogether};
 ghost use Rattle.linker_base.specs.Inner.Listed.{IsSound};
 
-use super::blocks::{BlockHead, count_blocks, fill_heads};
+use super::blocks::{BlockHead, count_blocks, count_heads, fill_heads};
 use super::delta_slice::bytes_of_first;
 use super::overlap::{AsDeletion, are_valid, pair_at};
 use super::{OutOfMemory, RelaxDelta};
@@ -82,7 +82,7 @@ pub(super) fn insert_ascending(
 {
     let count = deltas.len();
     deltas.reserve(pairs.len())?;
-    heads.reserve(count_blocks(count + pairs.len()).saturating_sub(heads.len()))?;
+    heads.reserve(count_heads(count + pairs.len()).saturating_sub(heads.len()))?;
     let bytes = append(deltas, pairs);
     let kept = merge_in_place(deltas, count, pairs, bytes);
     heads.truncate(count_blocks(kept));

@@ -178,7 +178,7 @@ pub(super) fn count_passing<P: Probe>(probe: &mut P, test: Test) -> usize
         → (P.state probe.new).probes ≤ (P.state probe.old).probes + digits + 7 }
 {
     let len = probe.len();
-    if len == 0 || !test.passes(probe.read(Level::Heads, 0)) {
+    if len == 0 || !test.passes(probe.read(Level::Deltas, 0)) {
         return 0;
     }
     let (first, count) = find_block(probe, test, len);
