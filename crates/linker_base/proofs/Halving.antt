@@ -1,6 +1,7 @@
 -- Steps of a search: what one test says of all other elements, and how many probes they take.
 use Rattle.std.proofs.Common.{pow_mono, pow-add, ◌≡◌, ℕ, ◌+◌, ◌-◌, ◌*◌, ◌<◌, ◌≤◌, true, sym, ◌∙◌, arith, ◌^◌}
 use Rattle.std.proofs.lemmas.Bool.{false_from_ne_true, false≢true}
+use Rattle.linker_base.specs.declared.relaxation.search.Level.{Level}
 use Rattle.linker_base.specs.declared.relaxation.search.Level.TheVariants.{Heads, Deltas}
 use Rattle.linker_base.specs.declared.relaxation.search.Test.{Test}
 use Rattle.linker_base.specs.Inner.Search.{Subject, size_of, passing, IsPartitioned, IsNarrowed, HeadsAgree}
@@ -14,14 +15,18 @@ digits_left few digits n low high =
     let back : digits - few + few ≡ digits = omega arith in
     (above, rw back at (pow-add 2 (digits - few) few))
 
+-- where the first passes, any may be the last that does
+pub all_narrowed : (s : Subject) (test : Test) (level : Level) → IsPartitioned s level test
+    → passing s level test 0 ≡ true → IsNarrowed s level test 1 (size_of s level)
+all_narrowed s test level parted passes = record {
+  parted = parted;
+  before = λ k low. let none : k ≡ 0 = omega arith in rw none passes;
+  after = λ k low high. absurd (omega arith);
+}
+
 module _ (s : Subject) (test : Test) (parted : IsPartitioned s Deltas test) (agree : HeadsAgree s test) where
-  -- where the first head passes, any may be the last that does
   pub heads_narrowed : passing s Heads test 0 ≡ true → IsNarrowed s Heads test 1 (size_of s Heads)
-  heads_narrowed passes = record {
-    parted = λ i j le low at. agree i (omega arith) ∙ parted (64 * i) (64 * j) (omega arith) (omega arith) (sym (agree j low) ∙ at);
-    before = λ k low. let none : k ≡ 0 = omega arith in rw none passes;
-    after = λ k low high. absurd (omega arith);
-  }
+  heads_narrowed = all_narrowed s test Heads (λ i j le low at. agree i (omega arith) ∙ parted (64 * i) (64 * j) (omega arith) (omega arith) (sym (agree j low) ∙ at))
 
   -- the last head that passes is the first delta of the block in which those that pass end
   pub block_narrowed : (b first count : ℕ) → b < size_of s Heads → IsNarrowed s Heads test (b + 1) 1

@@ -1,5 +1,5 @@
 -- What a search in the deltas of a section finds.
-use Rattle.std.proofs.Common.{◌≡◌, ℕ, ◌+◌, ◌-◌, ◌<◌, ◌≤◌, Bool, true, false, List, length, map, get_or, take, leb, refl, ap, ◌∙◌, inl, inr, arith}
+use Rattle.std.proofs.Common.{◌≡◌, ℕ, ◌+◌, ◌-◌, ◌*◌, ◌<◌, ◌≤◌, Bool, true, false, List, length, map, get_or, take, leb, refl, sym, ap, ◌∙◌, inl, inr, arith}
 use Rattle.std.specs.Prelude.{◌%◌, ◌^◌, ◌↔◌, max, Any, nat_eq}
 use Rattle.std.specs.List.Sorted.{IsNonDecreasingBy, IsPartitionedBy, IsPartitionPoint}
 use Rattle.std.proofs.lemmas.Bool.{cases_eq, cases_lt, cases_order}
@@ -65,6 +65,17 @@ output_offset_at deltas listed k d within =
     let inside : k < length ds = omega (arith, length-map deltas deletion_of) in
     let at = deletion_at deltas k d (0, 0) within in
     rw (sum_at deltas listed k d within) (output_offset_from_sum (get_or deltas k d).input_offset (get_or deltas k d).bytes_deleted (bytes_of (take k ds)) (rw at at (bytes-le-offset ds k (0, 0) listed.valid.ascending inside)) (rw at at (listed.valid.ends k (0, 0) inside)))
+
+-- nothing is deleted before the first delta, which begins a single block
+pub first_is_placed : (deltas : List RelaxDelta) → AreValidDeltas deltas → (block : ℕ) (d e : RelaxDelta)
+    → 64 * block < length deltas → length deltas ≤ 64
+    → (get_or deltas (64 * block) e).input_offset ≡ output_offset_of (get_or deltas (64 * block) d)
+first_is_placed deltas listed block d e within few =
+    let none : block ≡ 0 = omega arith in
+    let some : 0 < length deltas = omega arith in
+    let at : output_offset_of (get_or deltas 0 d) + 0 ≡ (get_or deltas 0 d).input_offset = output_offset_at deltas listed 0 d some in
+    let same : (get_or deltas 0 e).input_offset ≡ (get_or deltas 0 d).input_offset = sym (ap (λ (x : ℕ × ℕ). x.0) (deletion_at deltas 0 e (0, 0) some)) ∙ ap (λ (x : ℕ × ℕ). x.0) (deletion_at deltas 0 d (0, 0) some) in
+    rw none (omega (arith, at, same))
 
 -- whether the output offset of a delta is at most y
 abbrev pub is_placed : ℕ → RelaxDelta → Bool

@@ -165,12 +165,13 @@ impl<'a> Looks for Counted<'a> {
     #[inline(always)]
     fn head(&mut self, block: usize) -> (u64, u64) {
         self.count += 1;
-        let head = if self.deltas.len() > BLOCK_LEN {
-            self.heads[block]
-        } else {
-            BlockHead::of(&self.deltas[BLOCK_LEN * block])
-        };
-        (head.input_offset, head.output_offset)
+        if self.deltas.len() > BLOCK_LEN {
+            let head = self.heads[block];
+            return (head.input_offset, head.output_offset);
+        }
+        // Nothing is deleted before the first delta.
+        let first = self.deltas[BLOCK_LEN * block].input_offset;
+        (first, first)
     }
 
     #[inline(always)]

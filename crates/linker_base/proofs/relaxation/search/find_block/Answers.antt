@@ -26,7 +26,7 @@ returns-clause-narrowed g c parted agree passes =
     let all = at.narrowed (rw c.requires.all (heads_narrowed s c.args.test parted agree passes)) in
     let block = c.narrow-block.ensures.narrowed _ 1 (omega arith) (omega (arith, at.some)) (c.narrow-some.ensures.narrowed _ _ (omega arith) refl all) in
     let same = c.narrow-block.ensures.probes.same ∙ c.narrow-some.ensures.probes.same ∙ at.same in
-    block_narrowed s c.args.test parted agree c.narrow-block.result c.min.result 64 (omega (arith, c.requires.all, at.within, at.some, c.narrow-some.ensures.end, c.narrow-block.ensures.end)) (rw same at block) (omega (arith, c.min.ensures)) (λ low. omega (arith, c.requires.all, c.min.ensures, c.if-len-le-BLOCK_LEN.false))
+    block_narrowed s c.args.test parted agree c.narrow-block.result c.min.result 64 (omega (arith, c.requires.all, at.within, at.some, c.narrow-some.ensures.end, c.narrow-block.ensures.end)) (rw same at block) (omega (arith, c.min.ensures)) (λ low. omega (arith, c.requires.all, c.min.ensures, c.requires.many))
 
 pub returns-clause-spent : goal.returns-clause-spent
 returns-clause-spent g c digits few =
