@@ -78,7 +78,7 @@ pub use Rattle.linker_rewriting.proofs.PreLayout.{AreEarly, IsListed, are_early,
 pub use Rattle.linker_rewriting.specs.Candidates.{IsCandidate, IsCandidateWith}
 pub use Rattle.linker_rewriting.specs.Decisions.{AreDecidedIn, IsDecidedAfter, IsDecidedAlone, IsGroupDecision, IsLabelDecision, IsRejected, IsRejectedPlaced, IsScopeDecision, decision_at, decision_of, deleted_of, deletions_by, is_taken, label_decision, rewritten_by, start_at, start_by, takes_next, takes_symbol, window_of, written_end_at, written_end_by}
 pub use Rattle.linker_rewriting.specs.Facts.{RelaxContext, address_in, context, facts_at, facts_by, facts_with, link_facts, placed_facts, pre_layout}
-pub use Rattle.linker_rewriting.specs.Groups.{IsScopeIn, aarch64_scope_in, group_stays, loongarch_scope, loongarch_scope_in, ppc64_scope_in, riscv_scope_in}
+pub use Rattle.linker_rewriting.specs.Groups.{IsScopeIn, aarch64_scope_in, group_stays, loongarch_scope_in, ppc64_scope_in, riscv_scope_in}
 pub use Rattle.linker_rewriting.specs.Kept.{IsWritingCause}
 pub use Rattle.linker_rewriting.specs.Rewritten.{AreDone, AreRelocationsAfter, IsAddressRewritten, IsDescriptorRewritten, IsDone, IsLoadRewritten, IsMade, IsPartAt, IsRewrittenAs, IsRewrittenBy, IsWholeBy, OthersStay, relocation_after}
 pub use Rattle.linker_rewriting.specs.RiscVPcrelGroups.{IsHighIn, IsLabelCandidate, far_entry, is_label_marked, is_labelled, label_facts, without_entry}

@@ -18,7 +18,7 @@ use Rattle.linker_laws.proofs.Sums.{sum_below}
 use Rattle.linker_section.proofs.QuickValues.{when_true}
 use Rattle.linker_section.specs.Inner.Facts.{When}
 use Rattle.linker_section.specs.Relocations.{relocation_at}
-use Rattle.linker_section.specs.RiscV32.{AreWrapped, IsWrapped, least_in, with_value, wrapped, wrapped_by, wrapped_to}
+use Rattle.linker_section.specs.RiscV32.{AreWrapped, IsLeastFrom, IsWrapped, IsWrappedBy, IsWrappedTo, least_in, with_value}
 use Rattle.linker_section.specs.Values.{IsHighPartAt, IsLowValue, IsNoHighPart, IsValue, is_high_part, low_by, low_operands, low_value, own_value}
 use Rattle.linker_section.specs.declared.values.ValueError.TheVariants.{NoSymbol}
 use Rattle.linker_final.specs.RiscV32.{Addends, HasWrappedAddend, IsSame32, IsWrappedValue, IsWrappedWithin, PairsReachAll, Values}
@@ -32,57 +32,31 @@ unsigned_small z fits = omega (arith, ints)
 abbrev IsLeast : ℤ → Type 0
 IsLeast least = (neg_ℤ (pos (2 ^ 40)) ≤ℤ least) × (least ≤ℤ pos 0)
 
-least_small : (least : ℤ) → IsLeast least → cast_unsigned w64 least ≤ 2 ^ 64
-least_small (pos n) is = omega (arith, ints)
-least_small (negsuc n) is = omega arith
-
--- a number from one of them on, by less than 2^32
-from_least : (least : ℤ) (above : ℕ) → IsLeast least → above < 2 ^ 32
-    → cast_signed w64 (sum_64 (cast_unsigned w64 least) above) ≡ least +ℤ pos above
-from_least (pos n) above is small = omega (arith, ints)
-from_least (negsuc n) above is small =
-    let low : n < 2 ^ 40 = omega (arith, ints) in
-    elim (cases_lt above (suc n)) [
-      | inl less ↦
-          let m : sum_64 (2 ^ 64 - suc n) above ≡ 2 ^ 64 - suc (n - above) = omega arith in
-          ap (cast_signed w64) m
-          ∙ (to_z-of_z w64 (negsuc (n - above)) (record { sfits = omega arith }) ∙ omega (arith, ints))
-      | inr most ↦
-          let m : sum_64 (2 ^ 64 - suc n) above ≡ above - suc n = omega arith in
-          ap (cast_signed w64) m ∙ (to_z_pos w64 (above - suc n) (omega arith) ∙ omega (arith, ints))
-    ]
-
 record IsLeastSame (least value w : ℤ) : Type 0 where
   same : IsSame32 w value
   least_is : least ≤ℤ w
   below : w <ℤ (least +ℤ pos (2 ^ 32))
   fits : FitsSigned w64 w
 
-wrapped_is : (least value : ℤ) → IsLeast least → IsLeastSame least value (wrapped least value)
-wrapped_is least value is =
-    let first = cast_unsigned w64 least in
-    let more = difference_64 (cast_unsigned w64 value) first in
-    let above = more % 2 ^ 32 in
-    let w : wrapped least value ≡ least +ℤ pos above = from_least least above is (low more) in
+-- a number near one of them
+near_fits : (least w : ℤ) → IsLeast least → least ≤ℤ w → w <ℤ (least +ℤ pos (2 ^ 32)) → FitsSigned w64 w
+near_fits least (pos n) is low high = record { sfits = omega (arith, ints) }
+near_fits least (negsuc n) is low high = record { sfits = omega (arith, ints) }
+
+low_bits : (z : ℤ) → FitsSigned w64 z → int_rem_euclid z (pos (2 ^ 32)) ≡ pos (cast_unsigned w64 z % 2 ^ 32)
+low_bits (pos n) fits = refl
+low_bits (negsuc n) fits = ap pos (omega (arith, fits.sfits))
+
+is_wrapped : (least value w : ℤ) → IsLeast least → FitsSigned w64 value → IsLeastFrom least value w
+    → IsLeastSame least value w
+is_wrapped least value w is small from =
+    let fits = near_fits least w is from.from from.below in
     record {
-      same = ap (λ n. n % 2 ^ 32) (of_z-to_z w64 (sum_64 first above) (sum_below first above))
-          ∙ same_low first (cast_unsigned w64 value) (least_small least is);
-      least_is = subst (λ z. least ≤ℤ z) (sym w) (onto least above);
-      below = subst (λ z. z <ℤ (least +ℤ pos (2 ^ 32))) (sym w) (under least above (low more));
-      fits = sfits_to_z (record { fits = sum_below first above });
+      same = ap unsigned_abs (sym (low_bits w fits) ∙ (from.same ∙ low_bits value small));
+      least_is = from.from;
+      below = from.below;
+      fits = fits;
     }
-  where
-    low : (n : ℕ) → n % 2 ^ 32 < 2 ^ 32
-    low n = omega arith
-
-    same_low : (first v : ℕ) → first ≤ 2 ^ 64 → sum_64 first (difference_64 v first % 2 ^ 32) % 2 ^ 32 ≡ v % 2 ^ 32
-    same_low first v small = omega arith
-
-    onto : (z : ℤ) (n : ℕ) → z ≤ℤ (z +ℤ pos n)
-    onto z n = omega (arith, ints)
-
-    under : (z : ℤ) (n : ℕ) → n < 2 ^ 32 → (z +ℤ pos n) <ℤ (z +ℤ pos (2 ^ 32))
-    under z n small = omega (arith, ints)
 
 -- no other such number is below it
 least_one : (least w v : ℤ) → IsLeast least → IsSame32 w v → least ≤ℤ w
@@ -93,16 +67,15 @@ abbrev AreNear : Bounds → Type 0
 AreNear None = Unit
 AreNear (Some bounds) = IsLeast bounds.0 × (bounds.1 ≤ℤ pos (2 ^ 40))
 
-wrapped_within : (bounds : ℤ × ℤ) (value : ℤ) → AreNear (Some bounds)
-    → IsWrappedWithin (Some bounds) value (wrapped bounds.0 value)
-wrapped_within bounds value near =
-    let is = wrapped_is bounds.0 value near.0 in
+wrapped_within : (bounds : ℤ × ℤ) (value w : ℤ) → AreNear (Some bounds) → IsLeastSame bounds.0 value w
+    → IsWrappedWithin (Some bounds) value w
+wrapped_within bounds value w near is =
     record {
       same = is.same;
       within = λ v same inside. (
         is.least_is,
-        up_to (wrapped bounds.0 value) v bounds.1
-            (least_one bounds.0 (wrapped bounds.0 value) v near.0 (is.same ∙ sym same) is.least_is is.below inside.0
+        up_to w v bounds.1
+            (least_one bounds.0 w v near.0 (is.same ∙ sym same) is.least_is is.below inside.0
             (below v bounds.1 (pos (2 ^ 40)) inside.1 near.1)) inside.1,
       );
     }
@@ -264,14 +237,15 @@ abbrev Value : Type 0
 Value = Result (Option ℤ) ValueError
 
 -- a relocation with another addend, and the value that it then has
-record HasMoved (r after : Rela) (wanted : ℤ) (result : Value) : Type 0 where
+record HasMoved (r after : Rela) (least value wanted : ℤ) (result : Value) : Type 0 where
   addend : IsSame32 after.addend r.addend
   is : result ≡ Ok (Some wanted)
+  from : IsLeastSame least value wanted
 
-module _ (row : RowInfo) (sum : IsSum row) (addresses : Addresses) (r : Rela) (value wanted : ℤ)
-    (fits : FitsSigned w64 wanted) (same : IsSame32 wanted value) where
+module _ (row : RowInfo) (sum : IsSum row) (addresses : Addresses) (r : Rela) (least value wanted : ℤ)
+    (near : IsLeast least) (wrapped : IsLeastFrom least value wanted) where
   abbrev HasMovedTo : Value → Type 0
-  HasMovedTo result = HasMoved r (with_value r value wanted) wanted result
+  HasMovedTo result = HasMoved r (with_value r value wanted) least value wanted result
 
   with_addend : has_value row.kind ≡ true → (o : Operands) (a : ℤ)
       → value_of row (record o { addend = a })
@@ -300,20 +274,22 @@ module _ (row : RowInfo) (sum : IsSum row) (addresses : Addresses) (r : Rela) (v
       let w = cast_unsigned w64 wanted in
       let of : Some (cast_signed w64 n) ≡ Some value =
       sym (with_addend valued o r.addend) ∙ (ap (value_of row) (sym (operands_are symbol entry r.addend)) ∙ is) in
-      let number : cast_unsigned w64 value ≡ n =
-      sym (let e : cast_signed w64 n ≡ value = cc in ap (cast_unsigned w64) e) ∙ of_z-to_z w64 n small in
+      let read : cast_signed w64 n ≡ value = cc in
+      let number : cast_unsigned w64 value ≡ n = sym (ap (cast_unsigned w64) read) ∙ of_z-to_z w64 n small in
+      let from = is_wrapped least value wanted near (subst (FitsSigned w64) read (sfits_to_z (record { fits = small }))) wrapped in
       let b = sum_64 a (difference_64 w n) in
       let addend : (with_value r value wanted).addend ≡ cast_signed w64 b =
       ap (λ v. cast_signed w64 (sum_64 a (difference_64 w v))) number in
       let there : cast_unsigned w64 (cast_signed w64 b) ≡ b = of_z-to_z w64 b (sum_below a (difference_64 w n)) in
       record {
         addend = ap (λ z. cast_unsigned w64 z % 2 ^ 32) addend
-            ∙ (ap (λ y. y % 2 ^ 32) there ∙ moved_low a w n small (same ∙ ap (λ v. v % 2 ^ 32) number));
+            ∙ (ap (λ y. y % 2 ^ 32) there ∙ moved_low a w n small (from.same ∙ ap (λ v. v % 2 ^ 32) number));
         is = ap Ok (ap (value_of row) (operands_are symbol entry (with_value r value wanted).addend)
             ∙ (with_addend valued o (with_value r value wanted).addend
             ∙ ap Some (ap (λ z. cast_signed w64 (made base less (cast_unsigned w64 z))) addend
             ∙ (ap (λ y. cast_signed w64 (made base less y)) there
-            ∙ (ap (cast_signed w64) (moved base less a w (unsigned_small wanted fits)) ∙ to_z-of_z w64 wanted fits)))));
+            ∙ (ap (cast_signed w64) (moved base less a w (unsigned_small wanted from.fits)) ∙ to_z-of_z w64 wanted from.fits)))));
+        from = from;
       }
 
   by_entry : has_value row.kind ≡ true → (lacks : Bool) (symbol : Symbol) (entry : Option ℕ)
@@ -361,48 +337,50 @@ module _ (addresses : Addresses) (symbols : List Symbol) (row : RowInfo) (sum : 
       HasWrappedAddend r after × IsWrappedValue bounds result (own_value RiscV addresses symbols row after)
 
   becomes : (bounds : Bounds) → AreNear bounds → (result : Value) → own_value RiscV addresses symbols row r ≡ result
-      → Becomes bounds result (wrapped_to (least_in bounds) r result)
-  becomes None are result is = (unchanged r, subst (λ x. IsWrappedValue None result x) (sym is) (unbounded result))
-  becomes (Some bounds) are (Err error) is = (unchanged r, is)
-  becomes (Some bounds) are (Ok None) is = (unchanged r, is)
-  becomes (Some bounds) are (Ok (Some value)) is =
-      let w = wrapped bounds.0 value in
-      let within = wrapped_within bounds value are in
-      let done = own_moved row sum addresses r value w (wrapped_is bounds.0 value are.0).fits within.same symbols (has_value row.kind) refl is in
-      (record { others = refl; addend = done.addend }, (w, done.is, within))
+      → (after : Rela) → IsWrappedTo (least_in bounds) r result after → Becomes bounds result after
+  becomes None are result is after same =
+      subst (Becomes None result) (sym same) (unchanged r, subst (λ x. IsWrappedValue None result x) (sym is) (unbounded result))
+  becomes (Some bounds) are (Err error) is after same = subst (Becomes (Some bounds) (Err error)) (sym same) (unchanged r, is)
+  becomes (Some bounds) are (Ok None) is after same = subst (Becomes (Some bounds) (Ok None)) (sym same) (unchanged r, is)
+  becomes (Some bounds) are (Ok (Some value)) is after given =
+      let done = own_moved row sum addresses r bounds.0 value given.0 are.0 given.1 symbols (has_value row.kind) refl is in
+      subst (Becomes (Some bounds) (Ok (Some value))) (sym given.2) (
+        record { others = refl; addend = done.addend },
+        (given.0, done.is, wrapped_within bounds value given.0 are done.from),
+      )
 
   -- a low part stays
-  by_label : (labelled : Bool) → names_label row.size row.kind ≡ labelled
-      → HasWrappedAddend r (wrapped_to (if labelled then None else least_in (reach_of row)) r (own_value RiscV addresses symbols row r))
-  by_label true is = unchanged r
-  by_label false is = (becomes (reach_of row) (near (reach_of row) sum.near) (own_value RiscV addresses symbols row r) refl).0
+  by_label : (labelled : Bool) → names_label row.size row.kind ≡ labelled → (after : Rela)
+      → IsWrappedTo (if labelled then None else least_in (reach_of row)) r (own_value RiscV addresses symbols row r) after
+      → HasWrappedAddend r after
+  by_label true is after same = subst (HasWrappedAddend r) (sym same) (unchanged r)
+  by_label false is after given =
+      (becomes (reach_of row) (near (reach_of row) sum.near) (own_value RiscV addresses symbols row r) refl after given).0
 
-  alone : names_label row.size row.kind ≡ false
-      → Becomes (reach_of row) (own_value RiscV addresses symbols row r) (wrapped_by addresses symbols r (Some row))
-  alone isnt =
-      subst (λ labelled. Becomes (reach_of row) (own_value RiscV addresses symbols row r)
-      (wrapped_to (if labelled then None else least_in (reach_of row)) r (own_value RiscV addresses symbols row r))) (sym isnt)
-      (becomes (reach_of row) (near (reach_of row) sum.near) (own_value RiscV addresses symbols row r) refl)
+  alone : names_label row.size row.kind ≡ false → (after : Rela) → IsWrappedBy addresses symbols r (Some row) after
+      → Becomes (reach_of row) (own_value RiscV addresses symbols row r) after
+  alone isnt after given =
+      becomes (reach_of row) (near (reach_of row) sum.near) (own_value RiscV addresses symbols row r) refl after
+      (subst (λ labelled. IsWrappedTo (if labelled then None else least_in (reach_of row)) r (own_value RiscV addresses symbols row r) after) isnt given)
 
 addend_by : (addresses : Addresses) (symbols : List Symbol) (r : Rela) (row : Option RowInfo)
-    → IsRow RiscV r.r_type row → HasWrappedAddend r (wrapped_by addresses symbols r row)
-addend_by addresses symbols r None of = unchanged r
-addend_by addresses symbols r (Some row) of =
-    by_label addresses symbols row (is_sum r.r_type row of) r (names_label row.size row.kind) refl
+    → IsRow RiscV r.r_type row → (after : Rela) → IsWrappedBy addresses symbols r row after → HasWrappedAddend r after
+addend_by addresses symbols r None of after same = subst (HasWrappedAddend r) (sym same) (unchanged r)
+addend_by addresses symbols r (Some row) of after given =
+    by_label addresses symbols row (is_sum r.r_type row of) r (names_label row.size row.kind) refl after given
 
 pub addends : Addends
 addends addresses symbols before after are n below =
     let each = are.each n below in
-    subst (HasWrappedAddend (relocation_in before n)) (sym each.2) (addend_by addresses symbols (relocation_in before n) each.0 each.1)
+    addend_by addresses symbols (relocation_in before n) each.0 each.1 (relocation_in after n) each.2
 
 -- the value of a relocation that is no low part
 own_wrapped : (addresses : Addresses) (symbols : List Symbol) (row : RowInfo) (r after : Rela)
     → IsRow RiscV r.r_type (Some row) → IsWrapped addresses symbols r after → names_label row.size row.kind ≡ false
     → IsWrappedValue (reach_of row) (own_value RiscV addresses symbols row r) (own_value RiscV addresses symbols row after)
 own_wrapped addresses symbols row r after of each isnt =
-    let is = each.2 ∙ ap (wrapped_by addresses symbols r) (one_row RiscV r.r_type each.0 (Some row) each.1 of) in
-    subst (λ x. IsWrappedValue (reach_of row) (own_value RiscV addresses symbols row r) (own_value RiscV addresses symbols row x)) (sym is)
-    (alone addresses symbols row (is_sum r.r_type row of) r isnt).1
+    let given = subst (λ x. IsWrappedBy addresses symbols r x after) (one_row RiscV r.r_type each.0 (Some row) each.1 of) each.2 in
+    (alone addresses symbols row (is_sum r.r_type row of) r isnt after given).1
 
 -- ---- a low part
 
