@@ -165,17 +165,15 @@ pub(crate) fn candidate(
 fn at_base(facts: Option<LinkFacts>) -> Option<LinkFacts>
     ensures { result ≡ at_base facts }
 {
-    match facts {
-        Some(facts) => Some(LinkFacts {
-            operands: Operands {
-                symbol: facts.operands.got_base,
-                addend: 0,
-                ..facts.operands
-            },
-            ..facts
-        }),
-        None => None,
-    }
+    let facts = facts?;
+    Some(LinkFacts {
+        operands: Operands {
+            symbol: facts.operands.got_base,
+            addend: 0,
+            ..facts.operands
+        },
+        ..facts
+    })
 }
 
 /// Whether the instruction of the relocation with an index is one that its rewrite is meant for,

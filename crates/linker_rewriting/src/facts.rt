@@ -231,13 +231,11 @@ fn facts_at(
 {
     match context.phase {
         Phase::PreLayout => Some(facts_of(context.output, symbol, subject.addend, marked)),
-        _ => match context.values.get(subject.symbol as usize) {
-            Some(value) => {
-                let (offset, addend) = (relocation.offset, subject.addend);
-                Some(placed_facts(context, symbol, value, offset, addend, marked))
-            }
-            None => None,
-        },
+        _ => {
+            let value = context.values.get(subject.symbol as usize)?;
+            let (offset, addend) = (relocation.offset, subject.addend);
+            Some(placed_facts(context, symbol, value, offset, addend, marked))
+        }
     }
 }
 
@@ -252,8 +250,6 @@ pub(crate) fn link_facts(
 ) -> Option<LinkFacts>
     ensures { result ≡ link_facts (context_of context.now) relocation.now subject.now marked }
 {
-    match context.symbols.get(subject.symbol as usize) {
-        Some(symbol) => facts_at(context, relocation, subject, marked, symbol),
-        None => None,
-    }
+    let symbol = context.symbols.get(subject.symbol as usize)?;
+    facts_at(context, relocation, subject, marked, symbol)
 }

@@ -666,10 +666,8 @@ fn base_of(
     ensures base { result ≡ base_of addresses.now values.now gp relocation.now }
     ensures register { IfSome result (λ base. base.0 ≤ 3) }
 {
-    match values.get(relocation.symbol as usize) {
-        Some(value) => base_for(gp, address_of(addresses, relocation, value)),
-        None => None,
-    }
+    let value = values.get(relocation.symbol as usize)?;
+    base_for(gp, address_of(addresses, relocation, value))
 }
 
 /// Whether a relocation is of no low part without a base, or its instruction is in the section and

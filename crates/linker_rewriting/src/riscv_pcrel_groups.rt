@@ -7,7 +7,7 @@ ghost use Rattle.linker_section.specs.Values.{IsAscending};
 ghost use Rattle.linker_rewriting.specs.Decisions.{IsThere, decision_at};
 ghost use Rattle.linker_rewriting.specs.Facts.{context_of};
 ghost use Rattle.linker_rewriting.specs.RiscVPcrelGroups.{high_r_type, IsHighAt, label_offset};
-ghost use Rattle.linker_rewriting.specs.RiscVPcrelGroups.{IsHighOf, offset_of_label, is_beyond};
+ghost use Rattle.linker_rewriting.specs.RiscVPcrelGroups.{IsHighIn, offset_of_label, is_beyond};
 ghost use Rattle.linker_rewriting.specs.RiscVPcrelGroups.{searched, is_labelled, IsInLabel};
 ghost use Rattle.linker_rewriting.specs.RiscVPcrelGroups.{is_label_marked, has_labels};
 ghost use Rattle.linker_rewriting.specs.RiscVPcrelGroups.{far_entry, without_entry};
@@ -92,10 +92,8 @@ pub(crate) fn label_at(context: &RelaxContext<'_>, relocation: &Rela) -> Option<
     ensures { result ≡ offset_of_label context.now.addresses.now
         (slice_get context.now.values.now relocation.now.symbol) }
 {
-    match context.values.get(relocation.symbol as usize) {
-        Some(label) => Some(label.address.wrapping_sub(context.addresses.section)),
-        None => None,
-    }
+    let label = context.values.get(relocation.symbol as usize)?;
+    Some(label.address.wrapping_sub(context.addresses.section))
 }
 
 /// Where the label of a relocation is in the section.
@@ -119,13 +117,10 @@ pub(crate) fn high_of(
 ) -> Option<usize>
     ensures within { IfSome result (λ high. high < length relocations.now / 24) }
     ensures high { IsAscending relocations.now
-        → IsHighOf context.now.phase context.now.addresses.now context.now.values.now
-        relocations.now relocation.now result }
+        → IsHighIn (context_of context.now) relocations.now relocation.now result }
 {
-    match label_offset(context, relocation) {
-        Some(at) => high_at(relocations, high_r_type(context.phase), at),
-        None => None,
-    }
+    let at = label_offset(context, relocation)?;
+    high_at(relocations, high_r_type(context.phase), at)
 }
 
 /// Whether a scope is that of one label.
@@ -183,16 +178,14 @@ fn far_entry(operands: &Operands) -> u64
 fn without_entry(facts: Option<LinkFacts>) -> Option<LinkFacts>
     ensures { result ≡ without_entry facts }
 {
-    match facts {
-        Some(facts) => Some(LinkFacts {
-            operands: Operands {
-                got_entry: far_entry(&facts.operands),
-                ..facts.operands
-            },
-            ..facts
-        }),
-        None => None,
-    }
+    let facts = facts?;
+    Some(LinkFacts {
+        operands: Operands {
+            got_entry: far_entry(&facts.operands),
+            ..facts.operands
+        },
+        ..facts
+    })
 }
 
 /// The rewrite of the instruction of the relocation with an index, by the facts of its label's high

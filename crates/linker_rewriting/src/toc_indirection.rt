@@ -67,14 +67,10 @@ fn word_offset(context: &RelaxContext<'_>, start: u64, relocation: &Rela) -> Opt
     ensures { result ≡ word_offset context.now.addresses.now context.now.values.now start
         relocation.now }
 {
-    match context.values.get(relocation.symbol as usize) {
-        Some(value) => {
-            let addend = relocation.addend.cast_unsigned();
-            let address = address_in(context.addresses, value).wrapping_add(addend);
-            Some(address.wrapping_sub(start))
-        }
-        None => None,
-    }
+    let value = context.values.get(relocation.symbol as usize)?;
+    let addend = relocation.addend.cast_unsigned();
+    let address = address_in(context.addresses, value).wrapping_add(addend);
+    Some(address.wrapping_sub(start))
 }
 
 /// The words of an object's section of addresses, and what loads of them are chosen by.
