@@ -2,10 +2,9 @@
 use Rattle.linker_final.proofs.Imports.{◌≡◌, ℕ, pos, ◌+ℤ◌, ◌+◌, ◌-◌, ◌%◌, ◌^◌, ◌<◌, ◌≤◌, ◌⊎◌, Bool, true, false, true≢false, refl, sym, ◌∙◌, ap, subst, arith, List, drop, ℤ, Option, Some, None, if◌then◌else◌, ◌&&◌, IsTrue, w32, w64, cast_signed, cast_unsigned, from_le_bytes, ints, of_z-to_z, ltb-true, signed, riscv_form, pair_row, sum_64, difference_64, RelocationKind, Absolute, Relative, RelativeRiscVLow12, RowInfo, Operands, IType, UType, opcode_of, funct3_of, adds_low12, address_in, Relocated, wrapped, symbol_address, IsAddress, unsigned_abs, IsSomeAnd, lo12, moved, sum_zero}
 use Rattle.linker_riscv64.specs.RiscVCalls.{word_at}
 use Rattle.linker_laws.specs.RiscVRelocationLaws.{AbsoluteAddresses, RelativeAddresses}
-use Rattle.linker_laws.specs.RiscVMachine.{Action, register}
+use Rattle.linker_laws.specs.RiscVMachine.{Action, register, auipc, goes_to, lui, with_integer, stores, rs1_of}
 use Rattle.linker_riscv64.specs.RiscVFields.{rd_of}
 use Rattle.linker_rewriting.specs.GlobalPointer.{address_of, base_by, base_for, base_of, based_relocation, is_near, relocation_over}
-use Rattle.linker_laws.specs.RiscVMachine.{auipc, goes_to, lui, with_integer, stores, rs1_of}
 use Rattle.linker_laws.specs.RiscVRewriteLaws.{low_row, word_of}
 use Rattle.linker_laws.proofs.RiscVHighParts.{IsFormulaOf, of_address}
 use Rattle.linker_laws.proofs.RiscVDescriptors.{lui_word, upper_long, upper_word}

@@ -1,5 +1,5 @@
 -- Moves of 16 bits of AArch64.
-use Rattle.linker_laws.proofs.Imports.{◌≡◌, ℕ, ◌+◌, ◌-◌, ◌*◌, ◌/◌, ◌%◌, ◌^◌, ◌<◌, ◌≤◌, Bool, true, false, refl, sym, ◌∙◌, ap, subst, arith, List, [], ◌∷◌, ℤ, pos, negsuc, ◌+ℤ◌, ◌-ℤ◌, ◌*ℤ◌, Option, Some, None, suc, unsigned_abs, eqb, ltb, not, true, false, Bool, ◌==◌, ◌&&◌, w32, w64, bit_at, cast_signed, from_le_bytes, int_rem_euclid, and_parts, eqb-true, ints, int_rem_euclid_is, mod_below, pow_pos, pow-add, div-add-mod', field, BitRange, aarch64_form, shift_of, bits_from, AgreesInReach, IsWithin, reach_of, is_movk, stays_movk, value_of, sum_64, Movkz, Movnz, AllowedRange, PageMask, AArch64, RelocationKind, RowInfo, Operands, taken_is_field, IsApplied, div-mul-add, IsSameModulo, IsSameIn, aarch64_reads, MoveReads, IsAddress, AreAddresses, Law, Premise, PremiseHolds, of_words, none, number_at}
+use Rattle.linker_laws.proofs.Imports.{◌≡◌, ℕ, ◌+◌, ◌-◌, ◌*◌, ◌/◌, ◌%◌, ◌^◌, ◌<◌, ◌≤◌, Bool, true, false, refl, sym, ◌∙◌, ap, subst, arith, List, [], ◌∷◌, ℤ, pos, negsuc, ◌+ℤ◌, ◌-ℤ◌, ◌*ℤ◌, Option, Some, None, suc, unsigned_abs, eqb, ltb, not, ◌==◌, ◌&&◌, w32, w64, bit_at, cast_signed, from_le_bytes, int_rem_euclid, and_parts, eqb-true, ints, int_rem_euclid_is, mod_below, pow_pos, pow-add, div-add-mod', field, BitRange, aarch64_form, shift_of, bits_from, AgreesInReach, IsWithin, reach_of, is_movk, stays_movk, value_of, sum_64, Movkz, Movnz, AllowedRange, PageMask, AArch64, RelocationKind, RowInfo, Operands, taken_is_field, IsApplied, div-mul-add, IsSameModulo, IsSameIn, aarch64_reads, MoveReads, IsAddress, AreAddresses, Law, Premise, PremiseHolds, of_words, none, number_at}
 use Rattle.std.proofs.Math.Nat.{mul-add-mod_self_right}
 use Rattle.linker_laws.specs.AArch64RelocationLaws.{movk, movz, movn_or_movz}
 use Rattle.linker_laws.proofs.Applied.{value_is, reads, taken_bits}

@@ -1,5 +1,5 @@
 -- What two relocations of one place leave there.
-use Rattle.linker_laws.proofs.Imports.{◌≡◌, ℕ, zero, suc, ◌+◌, ◌-◌, ◌*◌, ◌%◌, ◌^◌, ◌<◌, ◌≤◌, Bool, refl, sym, ◌∙◌, ap, arith, List, inl, inr, pos, negsuc, ◌+ℤ◌, ◌-ℤ◌, Option, Some, unsigned_abs, w64, cast_signed, cast_unsigned, int_rem_euclid, cases_lt, ints, to_z_pos, field, number_of_bytes, value_of, sum_64, difference_64, AllowedRange, PageMask, RowInfo, Operands, rem_rem, cast_negative, IsApplied, AbsoluteSet, AbsoluteSetWord6, AbsoluteAddition, AbsoluteAdditionWord6, AbsoluteSubtraction, AbsoluteSubtractionWord6, mod_mod, IsAddress, symbol_address}
+use Rattle.linker_laws.proofs.Imports.{◌≡◌, ℕ, zero, suc, ◌+◌, ◌-◌, ◌*◌, ◌%◌, ◌^◌, ◌<◌, ◌≤◌, Bool, refl, sym, ◌∙◌, ap, arith, List, inl, inr, pos, negsuc, ◌+ℤ◌, ◌-ℤ◌, Option, Some, unsigned_abs, w64, cast_signed, cast_unsigned, int_rem_euclid, cases_lt, ints, to_z_pos, field, number_of_bytes, value_of, sum_64, difference_64, AllowedRange, PageMask, RowInfo, Operands, rem_rem, cast_negative, IsApplied, AbsoluteSet, AbsoluteSetWord6, AbsoluteAddition, AbsoluteAdditionWord6, AbsoluteSubtraction, AbsoluteSubtractionWord6, mod_mod, IsAddress, symbol_address, zero-add}
 use Rattle.linker_laws.specs.Differences.{AddsDistance, AddsDistance6, SetsDistance, SetsDistance6}
 use Rattle.linker_laws.proofs.Fields.{bytes_of, held}
 use Rattle.linker_laws.proofs.Instructions.{absolute}
@@ -138,53 +138,11 @@ sum_less (suc (suc (suc (suc (suc (suc (suc (suc (suc n))))))))) b s t h small =
 number_less : (n s t : ℕ) → n < 9 → t < 2 ^ 64
     → (sum_64 s 0 % 2 ^ (8 * n) + (2 ^ 64 - sum_64 t 0)) % 2 ^ (8 * n)
     ≡ difference_64 s t % 2 ^ (8 * n)
-number_less zero s t h small = omega arith
-number_less (suc zero) s t h small = omega arith
-number_less (suc (suc zero)) s t h small = omega arith
-number_less (suc (suc (suc zero))) s t h small = omega arith
-number_less (suc (suc (suc (suc zero)))) s t h small = omega arith
-number_less (suc (suc (suc (suc (suc zero))))) s t h small = omega arith
-number_less (suc (suc (suc (suc (suc (suc zero)))))) s t h small = omega arith
-number_less (suc (suc (suc (suc (suc (suc (suc zero))))))) s t h small = omega arith
-number_less (suc (suc (suc (suc (suc (suc (suc (suc zero)))))))) s t h small = omega arith
-number_less (suc (suc (suc (suc (suc (suc (suc (suc (suc n))))))))) s t h small =
-    absurd (omega arith)
-
-pub adds_distance : (n : ℕ) → n < 9
-    → {mask : Option PageMask} {range : AllowedRange} {a : ℕ} {bias : Option ℕ}
-    {thunkable implicit : Bool}
-    {mask2 : Option PageMask} {range2 : AllowedRange} {a2 : ℕ} {bias2 : Option ℕ}
-    {thunkable2 implicit2 : Bool}
-    → HasAddress (bytes_of AbsoluteAddition n mask range a bias thunkable implicit) → HasAddress (bytes_of AbsoluteSubtraction n mask2 range2 a2 bias2 thunkable2 implicit2)
-    → AddsDistance n (Some (bytes_of AbsoluteAddition n mask range a bias thunkable implicit))
-    (Some (bytes_of AbsoluteSubtraction n mask2 range2 a2 bias2 thunkable2 implicit2))
-adds_distance n few e e2 = λ o p before between after first second.
-    let one = added o before between (absolute symbol_address o) (sum_below (symbol_address o) 0)
-    first (e o) (omega arith) in
-    let two = subtracted p between after (absolute symbol_address p)
-    (sum_below (symbol_address p) 0) second (e2 p) (omega arith) in
-    two
-    ∙ ap (λ m. (m + (2 ^ 64 - absolute symbol_address p)) % 2 ^ (8 * n)) one
-    ∙ sum_less n (number_of_bytes n before) (symbol_address o) (symbol_address p) few
-    (sum_below p.symbol (cast_unsigned w64 p.addend))
-
-pub sets_distance : (n : ℕ) → n < 9
-    → {mask : Option PageMask} {range : AllowedRange} {a : ℕ} {bias : Option ℕ}
-    {thunkable implicit : Bool}
-    {mask2 : Option PageMask} {range2 : AllowedRange} {a2 : ℕ} {bias2 : Option ℕ}
-    {thunkable2 implicit2 : Bool}
-    → HasAddress (bytes_of AbsoluteSet n mask range a bias thunkable implicit) → HasAddress (bytes_of AbsoluteSubtraction n mask2 range2 a2 bias2 thunkable2 implicit2)
-    → SetsDistance n (Some (bytes_of AbsoluteSet n mask range a bias thunkable implicit))
-    (Some (bytes_of AbsoluteSubtraction n mask2 range2 a2 bias2 thunkable2 implicit2))
-sets_distance n few e e2 = λ o p before between after first second.
-    let one = set o before between (absolute symbol_address o) (sum_below (symbol_address o) 0)
-    first (e o) (omega arith) in
-    let two = subtracted p between after (absolute symbol_address p)
-    (sum_below (symbol_address p) 0) second (e2 p) (omega arith) in
-    two
-    ∙ ap (λ m. (m + (2 ^ 64 - absolute symbol_address p)) % 2 ^ (8 * n)) one
-    ∙ number_less n (symbol_address o) (symbol_address p) few
-    (sum_below p.symbol (cast_unsigned w64 p.addend))
+number_less n s t h small =
+    ap (λ x. (x % 2 ^ (8 * n) + (2 ^ 64 - sum_64 t 0)) % 2 ^ (8 * n)) (sym (zero-add (sum_64 s 0)))
+    ∙ sum_less n 0 s t h small
+    ∙ ap (λ d. d % 2 ^ (8 * n))
+    (let same : sum_64 0 (difference_64 s t) ≡ difference_64 s t = omega arith in same)
 
 -- ---- both in 6 bits
 
@@ -210,50 +168,76 @@ number_6 : (s t : ℕ) → t < 2 ^ 64
     → (sum_64 s 0 % 64 + (2 ^ 64 - t)) % 64 ≡ difference_64 s t % 2 ^ 6
 number_6 s t small = omega arith
 
-pub adds_distance_6 : {mask : Option PageMask} {range : AllowedRange} {a : ℕ} {bias : Option ℕ}
-    {thunkable implicit : Bool}
-    {mask2 : Option PageMask} {range2 : AllowedRange} {a2 : ℕ} {bias2 : Option ℕ}
-    {thunkable2 implicit2 : Bool}
-    → HasAddress (bytes_of AbsoluteAdditionWord6 1 mask range a bias thunkable implicit) → HasAddress (bytes_of AbsoluteSubtractionWord6 1 mask2 range2 a2 bias2 thunkable2 implicit2)
-    → AddsDistance6 (Some (bytes_of AbsoluteAdditionWord6 1 mask range a bias thunkable implicit))
-    (Some (bytes_of AbsoluteSubtractionWord6 1 mask2 range2 a2 bias2 thunkable2 implicit2))
-adds_distance_6 e e2 = λ o p before between after first second.
-    let old = number_of_bytes 1 before in
-    let m = number_of_bytes 1 between in
-    let s = absolute symbol_address o in
-    let t = absolute symbol_address p in
-    let small = sum_below p.symbol (cast_unsigned w64 p.addend) in
-    let one = added_6 o before between s (sum_below (symbol_address o) 0) first (e o) in
-    let two = subtracted_6 p between after t (sum_below (symbol_address p) 0) second (e2 p) in (
-      ap (λ x. field x 0 6) two ∙ low_6 m (m + (2 ^ 64 - t))
-          ∙ taken_6 m (symbol_address p) small
-          ∙ ap (λ x. (x + (2 ^ 64 - symbol_address p)) % 64)
-          (six_of m ∙ ap (λ x. field x 0 6) one ∙ low_6 old (old + s))
-          ∙ sum_6 old (symbol_address o) (symbol_address p) small,
-      ap (λ x. field x 6 8) two ∙ high_2 m (m + (2 ^ 64 - t)) ∙ ap (λ x. field x 6 8) one
-          ∙ high_2 old (old + s),
-    )
+-- ---- the laws
 
-pub sets_distance_6 : {mask : Option PageMask} {range : AllowedRange} {a : ℕ} {bias : Option ℕ}
+module _ {mask : Option PageMask} {range : AllowedRange} {a : ℕ} {bias : Option ℕ}
     {thunkable implicit : Bool}
     {mask2 : Option PageMask} {range2 : AllowedRange} {a2 : ℕ} {bias2 : Option ℕ}
-    {thunkable2 implicit2 : Bool}
-    → HasAddress (bytes_of AbsoluteSetWord6 1 mask range a bias thunkable implicit) → HasAddress (bytes_of AbsoluteSubtractionWord6 1 mask2 range2 a2 bias2 thunkable2 implicit2)
-    → SetsDistance6 (Some (bytes_of AbsoluteSetWord6 1 mask range a bias thunkable implicit))
-    (Some (bytes_of AbsoluteSubtractionWord6 1 mask2 range2 a2 bias2 thunkable2 implicit2))
-sets_distance_6 e e2 = λ o p before between after first second.
-    let old = number_of_bytes 1 before in
-    let m = number_of_bytes 1 between in
-    let s = absolute symbol_address o in
-    let t = absolute symbol_address p in
-    let small = sum_below p.symbol (cast_unsigned w64 p.addend) in
-    let one = set_6 o before between s (sum_below (symbol_address o) 0) first (e o) in
-    let two = subtracted_6 p between after t (sum_below (symbol_address p) 0) second (e2 p) in (
-      ap (λ x. field x 0 6) two ∙ low_6 m (m + (2 ^ 64 - t))
-          ∙ taken_6 m (symbol_address p) small
-          ∙ ap (λ x. (x + (2 ^ 64 - symbol_address p)) % 64)
-          (six_of m ∙ ap (λ x. field x 0 6) one ∙ low_6 old s)
-          ∙ number_6 (symbol_address o) (symbol_address p) small,
-      ap (λ x. field x 6 8) two ∙ high_2 m (m + (2 ^ 64 - t)) ∙ ap (λ x. field x 6 8) one
-          ∙ high_2 old s,
-    )
+    {thunkable2 implicit2 : Bool} where
+  pub adds_distance : (n : ℕ) → n < 9
+      → HasAddress (bytes_of AbsoluteAddition n mask range a bias thunkable implicit) → HasAddress (bytes_of AbsoluteSubtraction n mask2 range2 a2 bias2 thunkable2 implicit2)
+      → AddsDistance n (Some (bytes_of AbsoluteAddition n mask range a bias thunkable implicit))
+      (Some (bytes_of AbsoluteSubtraction n mask2 range2 a2 bias2 thunkable2 implicit2))
+  adds_distance n few e e2 = λ o p before between after first second.
+      let one = added o before between (absolute symbol_address o) (sum_below (symbol_address o) 0)
+      first (e o) (omega arith) in
+      let two = subtracted p between after (absolute symbol_address p)
+      (sum_below (symbol_address p) 0) second (e2 p) (omega arith) in
+      two
+      ∙ ap (λ m. (m + (2 ^ 64 - absolute symbol_address p)) % 2 ^ (8 * n)) one
+      ∙ sum_less n (number_of_bytes n before) (symbol_address o) (symbol_address p) few
+      (sum_below p.symbol (cast_unsigned w64 p.addend))
+
+  pub sets_distance : (n : ℕ) → n < 9
+      → HasAddress (bytes_of AbsoluteSet n mask range a bias thunkable implicit) → HasAddress (bytes_of AbsoluteSubtraction n mask2 range2 a2 bias2 thunkable2 implicit2)
+      → SetsDistance n (Some (bytes_of AbsoluteSet n mask range a bias thunkable implicit))
+      (Some (bytes_of AbsoluteSubtraction n mask2 range2 a2 bias2 thunkable2 implicit2))
+  sets_distance n few e e2 = λ o p before between after first second.
+      let one = set o before between (absolute symbol_address o) (sum_below (symbol_address o) 0)
+      first (e o) (omega arith) in
+      let two = subtracted p between after (absolute symbol_address p)
+      (sum_below (symbol_address p) 0) second (e2 p) (omega arith) in
+      two
+      ∙ ap (λ m. (m + (2 ^ 64 - absolute symbol_address p)) % 2 ^ (8 * n)) one
+      ∙ number_less n (symbol_address o) (symbol_address p) few
+      (sum_below p.symbol (cast_unsigned w64 p.addend))
+
+  pub adds_distance_6 : HasAddress (bytes_of AbsoluteAdditionWord6 1 mask range a bias thunkable implicit) → HasAddress (bytes_of AbsoluteSubtractionWord6 1 mask2 range2 a2 bias2 thunkable2 implicit2)
+      → AddsDistance6 (Some (bytes_of AbsoluteAdditionWord6 1 mask range a bias thunkable implicit))
+      (Some (bytes_of AbsoluteSubtractionWord6 1 mask2 range2 a2 bias2 thunkable2 implicit2))
+  adds_distance_6 e e2 = λ o p before between after first second.
+      let old = number_of_bytes 1 before in
+      let m = number_of_bytes 1 between in
+      let s = absolute symbol_address o in
+      let t = absolute symbol_address p in
+      let small = sum_below p.symbol (cast_unsigned w64 p.addend) in
+      let one = added_6 o before between s (sum_below (symbol_address o) 0) first (e o) in
+      let two = subtracted_6 p between after t (sum_below (symbol_address p) 0) second (e2 p) in (
+        ap (λ x. field x 0 6) two ∙ low_6 m (m + (2 ^ 64 - t))
+            ∙ taken_6 m (symbol_address p) small
+            ∙ ap (λ x. (x + (2 ^ 64 - symbol_address p)) % 64)
+            (six_of m ∙ ap (λ x. field x 0 6) one ∙ low_6 old (old + s))
+            ∙ sum_6 old (symbol_address o) (symbol_address p) small,
+        ap (λ x. field x 6 8) two ∙ high_2 m (m + (2 ^ 64 - t)) ∙ ap (λ x. field x 6 8) one
+            ∙ high_2 old (old + s),
+      )
+
+  pub sets_distance_6 : HasAddress (bytes_of AbsoluteSetWord6 1 mask range a bias thunkable implicit) → HasAddress (bytes_of AbsoluteSubtractionWord6 1 mask2 range2 a2 bias2 thunkable2 implicit2)
+      → SetsDistance6 (Some (bytes_of AbsoluteSetWord6 1 mask range a bias thunkable implicit))
+      (Some (bytes_of AbsoluteSubtractionWord6 1 mask2 range2 a2 bias2 thunkable2 implicit2))
+  sets_distance_6 e e2 = λ o p before between after first second.
+      let old = number_of_bytes 1 before in
+      let m = number_of_bytes 1 between in
+      let s = absolute symbol_address o in
+      let t = absolute symbol_address p in
+      let small = sum_below p.symbol (cast_unsigned w64 p.addend) in
+      let one = set_6 o before between s (sum_below (symbol_address o) 0) first (e o) in
+      let two = subtracted_6 p between after t (sum_below (symbol_address p) 0) second (e2 p) in (
+        ap (λ x. field x 0 6) two ∙ low_6 m (m + (2 ^ 64 - t))
+            ∙ taken_6 m (symbol_address p) small
+            ∙ ap (λ x. (x + (2 ^ 64 - symbol_address p)) % 64)
+            (six_of m ∙ ap (λ x. field x 0 6) one ∙ low_6 old s)
+            ∙ number_6 (symbol_address o) (symbol_address p) small,
+        ap (λ x. field x 6 8) two ∙ high_2 m (m + (2 ^ 64 - t)) ∙ ap (λ x. field x 6 8) one
+            ∙ high_2 old s,
+      )

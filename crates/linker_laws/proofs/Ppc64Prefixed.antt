@@ -8,10 +8,9 @@ use Rattle.linker_laws.specs.Ppc64Groups as groups
 use Rattle.linker_laws.specs.Ppc64RewriteLaws as laws
 use Rattle.linker_laws.specs.Ppc64Machine.{State, Formats, base, step_prefixed, write, go_to}
 use Rattle.linker_laws.proofs.AArch64Words.{field_kept}
-use Rattle.linker_laws.proofs.Words.{back_word}
+use Rattle.linker_laws.proofs.Words.{back_word, two_words}
 use Rattle.linker_laws.proofs.Ppc64Calls.{first_made, second_made}
 use Rattle.linker_laws.proofs.RiscVMachine.{times_one, address_is}
-use Rattle.linker_laws.proofs.Words.{two_words}
 
 -- the parts of a prefixed instruction
 pub record HasPrefixedParts (prefix opcode rt ra : ℕ) (both : ℕ) : Type 0 where

@@ -11,7 +11,7 @@ use Rattle.linker_laws.specs.Ppc64RewriteLaws as laws
 use Rattle.linker_laws.proofs.AArch64Pairs.{word_made}
 use Rattle.linker_laws.proofs.Ppc64Accesses.{step_access, indexed_parts, below, indexed_word_parts, is_direct, step_word}
 use Rattle.linker_laws.proofs.Ppc64Apart.{Does, base_some}
-use Rattle.linker_laws.proofs.Words.{back_word}
+use Rattle.linker_laws.proofs.Words.{back_word, two_words}
 use Rattle.linker_laws.proofs.Ppc64Calls.{first_made, second_made}
 use Rattle.linker_laws.proofs.Ppc64LowHalves.{whole_from}
 use Rattle.linker_laws.proofs.Ppc64Offsets.{SumSteps, accesses_sum, adds_sum, words_sum}
@@ -19,7 +19,6 @@ use Rattle.linker_laws.proofs.Ppc64Prefixed.{HasPrefixedParts, of_words}
 use Rattle.linker_laws.proofs.Ppc64Words.{set, step_nop}
 use Rattle.linker_laws.proofs.RiscVMachine.{address_is, times_one}
 use Rattle.linker_laws.proofs.Sums.{sum_below, wrapped_is}
-use Rattle.linker_laws.proofs.Words.{two_words}
 
 -- ---- their words
 

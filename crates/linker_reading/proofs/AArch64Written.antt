@@ -1,12 +1,12 @@
 -- What is read of an instruction of AArch64 after a write; and what a write keeps of it.
-use Rattle.std.proofs.Common.{FitsSigned, ◌≡◌, ℕ, ◌+◌, ◌-◌, ◌*◌, ◌/◌, ◌%◌, ◌^◌, ◌<◌, ◌≤◌, refl, sym, ◌∙◌, ap, subst, arith, Bool, true, false, ◌&&◌, ltb, List, ℤ, pos, negsuc, int_lt, eqb, unsigned_abs, Some, None, if◌then◌else◌, ◌≤ℤ◌, ◌<ℤ◌, neg_ℤ, ◌≡◌, ℕ, ◌<◌, ◌+◌, ◌-◌, ◌*◌, ◌/◌, ◌%◌, ◌^◌, Bool, true, false, refl, ◌∙◌, ap, arith, List, [], ℤ, pos, int_lt, eqb, ltb, if◌then◌else◌, ◌≡◌, ◌≤◌, ◌<◌, ℕ, zero, suc, ◌+◌, ◌-◌, ◌*◌, ◌/◌, ◌%◌, ◌^◌, Bool, true, false, not, ◌&&◌, ◌||◌, List, [], refl, sym, ap, subst, ◌∙◌, ⊎_elim, arith, ℤ, eqb, ◌≡◌, ◌≤◌, ◌<◌, ℕ, zero, suc, ◌+◌, ◌-◌, ◌*◌, ◌/◌, ◌%◌, ◌^◌, Bool, true, false, ◌&&◌, List, refl, sym, ap, subst, ◌∙◌, ⊎_elim, arith, ℤ, pos, negsuc}
-use Rattle.linker_reading.proofs.Imports.{w64, cast_unsigned, int_rem_euclid, bit_at, and_parts, ltb-true, eqb-true, cases_lt, lt-ltb, le-ltb, ints, mod_below, pow_pos, field, Written, IsClear, window_of, place_sum, replaced, BitRange, is_sound_layout, always_clear, consecutive_bits_sum, aarch64_form, moved_value, bits_from, IsWithin, InstructionWritten, bits_taken, Bounds, sum_64, AArch64Instruction, Movkz, Movnz, AArch64, clear_after, taken_is_field, window_of, aarch64_form, InstructionWritten, bits_taken, ored_cleared, places_cleared, high_kept, nat_lt, if◌then◌else◌, bit_at, w64, cast_unsigned, cases_lt, lt-ltb, le-ltb, eqb-true, bit_at_cat_low, bit_at_cat_high, bit_at-lt, replaced, BitsWritten, Written, is_placed, aarch64_form, access_scale, ored_cleared, places_cleared, bits_taken, Movnz, same_window, nat_lt, if◌then◌else◌, int_lt, unsigned_abs, bit_at, byte_len, w64, int_rem_euclid, cases_lt, lt-ltb, and_parts, ltb-true, bit_at_cat_high, aarch64_form, InstructionWritten, bits_taken, Movnz, AArch64, or_first, or_second}
+use Rattle.std.proofs.Common.{FitsSigned, ◌≡◌, ℕ, ◌+◌, ◌-◌, ◌*◌, ◌/◌, ◌%◌, ◌^◌, ◌<◌, ◌≤◌, refl, sym, ◌∙◌, ap, subst, arith, Bool, true, false, ◌&&◌, ltb, List, ℤ, pos, negsuc, int_lt, eqb, unsigned_abs, Some, None, if◌then◌else◌, ◌≤ℤ◌, ◌<ℤ◌, neg_ℤ, [], zero, suc, not, ◌||◌, ⊎_elim}
+use Rattle.linker_reading.proofs.Imports.{w64, cast_unsigned, int_rem_euclid, bit_at, and_parts, ltb-true, eqb-true, cases_lt, lt-ltb, le-ltb, ints, mod_below, pow_pos, field, Written, IsClear, window_of, place_sum, replaced, BitRange, is_sound_layout, always_clear, consecutive_bits_sum, aarch64_form, moved_value, bits_from, IsWithin, InstructionWritten, bits_taken, Bounds, sum_64, AArch64Instruction, Movkz, Movnz, AArch64, clear_after, taken_is_field, ored_cleared, places_cleared, high_kept, nat_lt, if◌then◌else◌, bit_at_cat_low, bit_at_cat_high, bit_at-lt, BitsWritten, is_placed, access_scale, same_window, int_lt, unsigned_abs, byte_len, or_first, or_second}
 use Rattle.std.specs.Int.Signed.{le_z}
 use Rattle.linker_base.proofs.Immediates.{place_sum_laid}
-use Rattle.linker_elf.specs.AArch64.{aarch64_layout, movnz, moved_bits, move_opcode, imm16_places, imm16_places, move_opcode, moved_bits, move_opcode}
+use Rattle.linker_elf.specs.AArch64.{aarch64_layout, movnz, moved_bits, move_opcode, imm16_places}
 use Rattle.linker_elf.specs.Elf.{bit_bounds}
-use Rattle.linker_elf.specs.Relocate.{with_bit_31_if, is_movk, with_bit_31_if, is_32_bit_move, with_bit_31_if, is_32_bit_move}
-use Rattle.linker_elf.specs.declared.aarch64.forms.AArch64Instruction.TheVariants.{MachOLow12, MachOLow12}
+use Rattle.linker_elf.specs.Relocate.{with_bit_31_if, is_movk, is_32_bit_move}
+use Rattle.linker_elf.specs.declared.aarch64.forms.AArch64Instruction.TheVariants.{MachOLow12}
 use Rattle.linker_elf.specs.declared.elf.Sign.TheVariants.{Signed}
 use Rattle.linker_elf.proofs.Agreement.{quotient_low, quotient_high, le_yes}
 use Rattle.linker_reading.proofs.Aligned.{cast_below}
@@ -14,7 +14,7 @@ use Rattle.linker_reading.specs.Fields.{IsOfValue}
 use Rattle.linker_reading.specs.Reading.{bits_held, bits_read, holds_bits, are_signed}
 use Rattle.linker_elf.specs.Inner.FormLaws.{aarch64_keeps}
 use Rattle.linker_elf.proofs.Clearing.{none_ored}
-use Rattle.linker_reading.specs.FieldsOfBytes.{is_instruction_bit, is_instruction_bit}
+use Rattle.linker_reading.specs.FieldsOfBytes.{is_instruction_bit}
 use Rattle.linker_reading.proofs.WrittenImmediates.{unrounded, plain_read}
 use Rattle.linker_reading.proofs.WrittenBits.{not_cleared, outside}
 use Rattle.linker_elf.proofs.RowsAgree.{sign_of_quotient}

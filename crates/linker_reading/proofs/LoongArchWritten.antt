@@ -1,6 +1,6 @@
 -- What is read of an instruction of LoongArch after a write; and what a write keeps of it.
-use Rattle.std.proofs.Common.{FitsSigned, ◌≡◌, ℕ, ◌+◌, ◌-◌, ◌*◌, ◌/◌, ◌%◌, ◌^◌, ◌<◌, ◌≤◌, refl, sym, ◌∙◌, ap, subst, arith, inl, inr, Bool, true, false, ltb, List, ℤ, pos, int_lt, eqb, unsigned_abs, if◌then◌else◌, ◌≤ℤ◌, ◌<ℤ◌, neg_ℤ, ◌≡◌, ℕ, ◌<◌, ◌+◌, ◌-◌, ◌*◌, ◌/◌, ◌%◌, ◌^◌, Bool, true, false, refl, ◌∙◌, ap, arith, List, [], ℤ, pos, int_lt, eqb, ltb, if◌then◌else◌, ◌≡◌, ◌≤◌, ◌<◌, ℕ, ◌+◌, ◌-◌, ◌*◌, ◌/◌, ◌%◌, ◌^◌, Bool, true, false, ◌||◌, List, [], refl, sym, ap, subst, ◌∙◌, ⊎_elim, arith, ℤ, max, eqb, ◌≡◌, ◌≤◌, ◌<◌, ℕ, ◌+◌, ◌-◌, ◌*◌, ◌/◌, ◌%◌, ◌^◌, Bool, true, false, List, refl, sym, ap, subst, ◌∙◌, ⊎_elim, arith, ℤ, pos}
-use Rattle.linker_reading.proofs.Imports.{w64, cast_unsigned, bit_at, eqb-true, cases_lt, lt-ltb, ints, field, signed, Written, IsClear, window_of, place_sum, twos_complement, one_field, replaced, ored, or_bits_to, BitRange, mod_mod, always_clear, place_sum_below, consecutive_bits_sum, signed_cases, sums, immediate_of, loongarch_form, shift10_low, pcaddu18i_imm, jirl_imm, InstructionWritten, bits_taken, IsAligned, is_low_jump, low_part, HoldsBits, Bounds, LoongArch64, RelocationKind, BitMasking, LoongArch64Instruction, Shift10, Call36, clear_after, taken_below, field, window_of, loongarch_form, InstructionWritten, bits_taken, is_low_jump, ored_cleared, places_cleared, high_kept, nat_lt, if◌then◌else◌, bit_at, w64, cast_unsigned, cases_lt, lt-ltb, eqb-true, ImmediateBit, replaced, ored, BitsWritten, Written, is_placed, or_bits_to, bit_at_mod_above, loongarch_form, shift10_low, ored_cleared, places_cleared, bits_taken, same_window, nat_lt, if◌then◌else◌, int_lt, unsigned_abs, bit_at, byte_len, w64, cases_lt, lt-ltb, is_low_jump, InstructionWritten, bits_taken, LoongArch64, BitMasking, Shift5}
+use Rattle.std.proofs.Common.{FitsSigned, ◌≡◌, ℕ, ◌+◌, ◌-◌, ◌*◌, ◌/◌, ◌%◌, ◌^◌, ◌<◌, ◌≤◌, refl, sym, ◌∙◌, ap, subst, arith, inl, inr, Bool, true, false, ltb, List, ℤ, pos, int_lt, eqb, unsigned_abs, if◌then◌else◌, ◌≤ℤ◌, ◌<ℤ◌, neg_ℤ, [], ◌||◌, ⊎_elim, max}
+use Rattle.linker_reading.proofs.Imports.{w64, cast_unsigned, bit_at, eqb-true, cases_lt, lt-ltb, ints, field, signed, Written, IsClear, window_of, place_sum, twos_complement, one_field, replaced, ored, or_bits_to, BitRange, mod_mod, always_clear, place_sum_below, consecutive_bits_sum, signed_cases, sums, immediate_of, loongarch_form, shift10_low, pcaddu18i_imm, jirl_imm, InstructionWritten, bits_taken, IsAligned, is_low_jump, low_part, HoldsBits, Bounds, LoongArch64, RelocationKind, BitMasking, LoongArch64Instruction, Shift10, Call36, clear_after, taken_below, ored_cleared, places_cleared, high_kept, nat_lt, if◌then◌else◌, ImmediateBit, BitsWritten, is_placed, bit_at_mod_above, same_window, int_lt, unsigned_abs, byte_len, Shift5}
 use Rattle.linker_elf.specs.LoongArch.{shift10_imm16}
 use Rattle.linker_elf.specs.declared.elf.RelocationKind.TheVariants as kinds
 use Rattle.linker_elf.specs.declared.loongarch64.forms.LoongArch64Instruction.TheVariants.{Call30}
@@ -15,7 +15,7 @@ use Rattle.linker_elf.specs.Relocate.{is_jirl}
 use Rattle.std.proofs.lemmas.Bool.{or_cases}
 use Rattle.std.proofs.lemmas.List.Folds.{list_any-append}
 use Rattle.linker_elf.specs.Inner.FormLaws.{loongarch_keeps}
-use Rattle.linker_reading.specs.FieldsOfBytes.{is_instruction_bit, is_instruction_bit}
+use Rattle.linker_reading.specs.FieldsOfBytes.{is_instruction_bit}
 use Rattle.linker_reading.proofs.WrittenImmediates.{unrounded, plain_read, moved_sum_fits, modulo_read, rest_is}
 use Rattle.linker_reading.proofs.WrittenBits.{not_cleared, outside}
 

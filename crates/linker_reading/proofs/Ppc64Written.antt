@@ -1,13 +1,13 @@
 -- What is read of an instruction of PowerPC64 after a write; and what a write keeps of it.
-use Rattle.std.proofs.Common.{FitsSigned, ◌≡◌, ℕ, ◌+◌, ◌%◌, ◌^◌, ◌<◌, ◌≤◌, refl, sym, ◌∙◌, ap, arith, Bool, true, false, ◌&&◌, List, ℤ, pos, int_lt, if◌then◌else◌, ◌≡◌, ◌≤◌, ◌<◌, ℕ, zero, suc, ◌+◌, ◌%◌, ◌^◌, Bool, true, false, not, ◌&&◌, List, [], refl, sym, ap, ◌∙◌, ⊎_elim, arith, ℤ, ◌≡◌, ◌≤◌, ◌<◌, ℕ, zero, suc, ◌+◌, ◌%◌, ◌^◌, Bool, true, false, ◌&&◌, List, refl, sym, ap, ◌∙◌, ⊎_elim, arith, ℤ, pos}
-use Rattle.linker_reading.proofs.Imports.{w64, cast_unsigned, bit_at, eqb-true, cases_lt, le-ltb, Written, window_of, replaced, BitRange, always_clear, ppc64_form, InstructionWritten, bits_taken, ppc64_reads, IsInUnits, Bounds, Ppc64, BitMasking, Ppc64Form, D, Ds, taken_below, nat_lt, if◌then◌else◌, bit_at, w64, cast_unsigned, cases_lt, le-ltb, eqb-true, replaced, BitsWritten, Written, is_placed, bit_at_mod, bits_taken, is_dq_form, Ds, nat_lt, if◌then◌else◌, int_lt, bit_at, byte_len, w64, cases_lt, window_of, bit_at_mod, InstructionWritten, bits_taken, Ppc64, BitMasking, D}
+use Rattle.std.proofs.Common.{FitsSigned, ◌≡◌, ℕ, ◌+◌, ◌%◌, ◌^◌, ◌<◌, ◌≤◌, refl, sym, ◌∙◌, ap, arith, Bool, true, false, ◌&&◌, List, ℤ, pos, int_lt, if◌then◌else◌, zero, suc, not, [], ⊎_elim}
+use Rattle.linker_reading.proofs.Imports.{w64, cast_unsigned, bit_at, eqb-true, cases_lt, le-ltb, Written, window_of, replaced, BitRange, always_clear, ppc64_form, InstructionWritten, bits_taken, ppc64_reads, IsInUnits, Bounds, Ppc64, BitMasking, Ppc64Form, D, Ds, taken_below, nat_lt, if◌then◌else◌, BitsWritten, is_placed, bit_at_mod, is_dq_form, int_lt, byte_len}
 use Rattle.linker_elf.proofs.Placed.{reads_as}
 use Rattle.linker_elf.proofs.Taken.{taken_in_units}
 use Rattle.linker_reading.specs.Fields.{IsOfValue}
 use Rattle.linker_reading.specs.Reading.{bits_held, bits_read, holds_bits}
 use Rattle.linker_elf.specs.Inner.FormLaws.{ppc64_keeps}
 use Rattle.linker_elf.specs.Relocate.{number_placed, with_low_4}
-use Rattle.linker_reading.specs.FieldsOfBytes.{is_instruction_bit, is_instruction_bit}
+use Rattle.linker_reading.specs.FieldsOfBytes.{is_instruction_bit}
 use Rattle.linker_reading.proofs.WrittenImmediates.{plain_read}
 use Rattle.linker_reading.proofs.WrittenBits.{outside}
 

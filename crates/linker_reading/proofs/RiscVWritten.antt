@@ -1,6 +1,6 @@
 -- What is read of an instruction of RISC-V after a write; and what a write keeps of it.
-use Rattle.std.proofs.Common.{FitsSigned, ◌≡◌, ℕ, ◌+◌, ◌-◌, ◌*◌, ◌/◌, ◌%◌, ◌^◌, ◌<◌, ◌≤◌, refl, sym, ◌∙◌, ap, arith, Bool, true, false, List, ℤ, pos, int_lt, ◌≡◌, ◌≤◌, ◌<◌, ℕ, ◌+◌, ◌-◌, ◌*◌, ◌/◌, ◌%◌, ◌^◌, Bool, true, false, List, [], refl, sym, ap, ◌∙◌, arith, ℤ, ◌≡◌, ◌≤◌, ◌<◌, ℕ, ◌+◌, ◌-◌, ◌*◌, ◌/◌, ◌%◌, ◌^◌, Bool, true, false, List, refl, sym, ap, ◌∙◌, arith, ℤ, pos}
-use Rattle.linker_reading.proofs.Imports.{w64, cast_unsigned, bit_at, eqb-true, mod-add-mod, field, signed, Written, window_of, place_sum, twos_complement, BitRange, mod_mod, aligned_rem, always_clear, place_sum_below, InstructionWritten, bits_taken, riscv_form, Bounds, sum_64, RiscV, RiscVInstruction, UType, CluiType, taken_below, bit_at, w64, cast_unsigned, BitsWritten, Written, bits_taken, riscv_form, UType, int_lt, bit_at, byte_len, w64, window_of, InstructionWritten, bits_taken, RiscV}
+use Rattle.std.proofs.Common.{FitsSigned, ◌≡◌, ℕ, ◌+◌, ◌-◌, ◌*◌, ◌/◌, ◌%◌, ◌^◌, ◌<◌, ◌≤◌, refl, sym, ◌∙◌, ap, arith, Bool, true, false, List, ℤ, pos, int_lt, []}
+use Rattle.linker_reading.proofs.Imports.{w64, cast_unsigned, bit_at, eqb-true, mod-add-mod, field, signed, Written, window_of, place_sum, twos_complement, BitRange, mod_mod, aligned_rem, always_clear, place_sum_below, InstructionWritten, bits_taken, riscv_form, Bounds, sum_64, RiscV, RiscVInstruction, UType, CluiType, taken_below, BitsWritten, int_lt, byte_len}
 use Rattle.linker_elf.specs.RiscV.{riscv_places, ui_high, ui_low}
 use Rattle.linker_elf.specs.declared.riscv64.forms.RiscVInstruction.TheVariants.{UiType}
 use Rattle.linker_elf.proofs.RiscV.{u_laid, clui_laid, riscv_machine}
@@ -9,7 +9,7 @@ use Rattle.linker_reading.proofs.Numbers.{short}
 use Rattle.linker_reading.specs.Fields.{IsOfValue}
 use Rattle.linker_reading.specs.Reading.{bits_within, bits_held, bits_read, holds_bits}
 use Rattle.linker_elf.specs.Inner.FormLaws.{riscv_keeps}
-use Rattle.linker_reading.specs.FieldsOfBytes.{is_instruction_bit, is_instruction_bit}
+use Rattle.linker_reading.specs.FieldsOfBytes.{is_instruction_bit}
 use Rattle.linker_reading.proofs.WrittenImmediates.{plain_read, sum_fits, modulo_read}
 use Rattle.linker_reading.proofs.WrittenBits.{outside}
 

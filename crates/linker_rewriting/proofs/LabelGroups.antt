@@ -10,8 +10,7 @@ use Rattle.linker_elf.specs.declared.loongarch64.relocations.LoongArch64Relocati
 use Rattle.linker_elf.specs.declared.ppc64.relocations.Ppc64Relocation.TheVariants as ppc64
 use Rattle.linker_elf.specs.declared.x86_64.relocations.X86_64Relocation.TheVariants as x86_64
 use Rattle.linker_rewriting.proofs.Unique.{one_scope, one_candidate_with}
-use Rattle.linker_rewriting.specs.Decisions.{decision_at, label_decision, IsLabelDecision}
-use Rattle.linker_rewriting.specs.Decisions.{rewritten_by, takes_symbol}
+use Rattle.linker_rewriting.specs.Decisions.{decision_at, label_decision, IsLabelDecision, rewritten_by, takes_symbol}
 use Rattle.linker_rewriting.specs.Facts.{RelaxContext}
 use Rattle.linker_rewriting.specs.Groups.{aarch64_scope_in, loongarch_scope_in, ppc64_scope_in, x86_64_scope_in}
 use Rattle.linker_rewriting.specs.RiscVPcrelGroups.{high_r_type, is_high, searched, is_beyond, is_high_in, IsHighAt, offset_of_label, label_offset, IsHighFrom, IsHighIn, is_labelled, has_labels, IsInLabel, label_facts, IsLabelCandidate, Lacks, IsLacking, HasLacking, LabelFits, LabelStays, IsLabelNote}

@@ -12,11 +12,10 @@ use Rattle.linker_section.specs.Inner.Claims.{is_clear_of, next_field}
 use Rattle.linker_section.specs.Inner.Order.{AreSmall}
 use Rattle.linker_section.specs.declared.sections.Step.{Step}
 use Rattle.linker_section.specs.Inner.Steps.{Ascends, IsLimit, Reached, clear_in, field_of_row, AreWrittenBelow, IsFirstRun, IsFront, IsOwnField, IsQuickStep}
-use Rattle.linker_section.specs.Sections.{AreRelocated, IsWritten, IsWrittenAt}
+use Rattle.linker_section.specs.Sections.{AreRelocated, IsWritten, IsWrittenAt, AreAllRelocatedBy, Values}
 use Rattle.linker_section.specs.Values.{offset_at}
 use Rattle.linker_section.specs.declared.facts.Addresses.{Addresses}
 use Rattle.linker_section.specs.declared.fields.Field.{Field}
-use Rattle.linker_section.specs.Sections.{AreAllRelocatedBy, Values}
 
 pub below_first : (architecture : Architecture) (addresses : Addresses) (bytes : List ℕ)
     (values : Values) (before memory : List ℕ)

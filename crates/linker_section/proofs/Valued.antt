@@ -1,5 +1,5 @@
 -- Which relocations have a value.
-use Rattle.std.proofs.Common.{◌≡◌, ℕ, ℤ, List, Bool, true, false, true≢false, refl, sym, subst, ◌∙◌, inl, inr, Option, Some, None, Result, Ok, Err}
+use Rattle.std.proofs.Common.{◌≡◌, ℕ, ℤ, List, Bool, true, false, true≢false, refl, sym, subst, ◌∙◌, inl, inr, Option, Some, None, Result, Ok, Err, ap}
 use Rattle.linker_section.proofs.Imports.{cases_Bool, cond-true, cond-false, value_of, RelocationKind, RowInfo, RowSize, Operands, slice_get, IsRow, Architecture}
 use Rattle.linker_elf.specs.Value.{formula, read_signed}
 use Rattle.linker_elf.specs.declared.elf.RelocationKind.TheVariants as kinds
@@ -14,7 +14,6 @@ use Rattle.linker_section.specs.declared.facts.Addresses.{Addresses}
 use Rattle.linker_section.specs.declared.facts.Symbol.{Symbol}
 use Rattle.linker_section.specs.declared.relocations.Rela.{Rela}
 use Rattle.linker_section.specs.declared.values.ValueError.{ValueError}
-use Rattle.std.proofs.Common.{ap}
 use Rattle.std.specs.Prelude.{◌||◌}
 
 -- ---- what a result is

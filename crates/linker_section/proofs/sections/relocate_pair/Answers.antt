@@ -2,11 +2,10 @@ use Rattle.std.proofs.Common.{◌≡◌, ◌+◌, ◌≤◌, ◌++◌, ◌∙◌
 use Rattle.linker_section.proofs.Imports.{RowInfo, w64, to_z-of_z, IsUlebWritten, IsUlebCause, Architecture}
 use Rattle.linker_section.specs.Fields.{begins_pair, ends_pair}
 use Rattle.linker_section.specs.Relocations.{relocation_in}
-use Rattle.linker_section.specs.Sections.{IsPair, IsNumberOfPair, IsNumberWrittenAt, BeginsPair}
+use Rattle.linker_section.specs.Sections.{IsPair, IsNumberOfPair, IsNumberWrittenAt, BeginsPair, IsValued, Values}
 use Rattle.linker_section.specs.declared.facts.Addresses.{Addresses}
 use Rattle.linker_section.proofs.Rows.{one_info}
 use Rattle.linker_section.proofs.sections.relocate_pair.Goals as goal
-use Rattle.linker_section.specs.Sections.{IsValued, Values}
 use Rattle.linker_section.specs.Inner.Steps.{IsOutcome}
 use Rattle.std.proofs.lemmas.Bool.{or_right}
 

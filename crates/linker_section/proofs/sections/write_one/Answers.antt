@@ -1,4 +1,4 @@
-use Rattle.std.proofs.Common.{◌≡◌, ◌+◌, ◌∙◌, sym, ap, subst, arith, length, rules, FitsSigned, to_z, of_z, inl, inr, refl, true, true≢false, Ok, Err, ◌≤◌, ◌<◌, ◌^◌, set}
+use Rattle.std.proofs.Common.{◌≡◌, ◌+◌, ◌∙◌, sym, ap, subst, arith, length, rules, FitsSigned, to_z, of_z, inl, inr, refl, true, true≢false, Ok, Err, ◌≤◌, ◌<◌, ◌^◌, set, List, ℕ}
 use Rattle.linker_section.proofs.Imports.{to_z-of_z, w64, IfNone, IfSome, sum_64}
 use Rattle.linker_section.proofs.Lengths.{length_of, other_length}
 use Rattle.linker_section.proofs.Local.{pair_local}
@@ -15,7 +15,6 @@ use Rattle.linker_section.specs.declared.sections.Stopped.{Stopped}
 use Rattle.linker_section.proofs.sections.write_one.Goals.{After-field_at-field, After-or-last, In-Ok-None}
 use Rattle.linker_section.proofs.sections.write_one.Given.{Over}
 use Rattle.linker_section.proofs.sections.write_one.Goals as goal
-use Rattle.std.proofs.Common.{List, ℕ}
 
 -- what is known of the row, the value and the field that were found
 record Known (g : Over) (c : After-field_at-field g) : Type 0 where
