@@ -83,7 +83,6 @@ pub mod source {
         pub use crate::linker_rewriting::sections::{
             decide_rewrites, make_rewrites, rewrite_placed_section, rewrite_section,
         };
-        #[cfg(feature = "ppc64")]
         pub use crate::linker_rewriting::surveys::{survey, survey_placed_section};
         pub use crate::linker_rewriting::toc_indirection::{rewrite_toc_loads, survey_toc_loads};
         pub use crate::rewriting::*;
@@ -113,10 +112,8 @@ pub mod link_in_ten_calls {
     use crate::placement::place_stubs;
     use crate::rewriting::{
         Decision, decide_rewrites, make_rewrites, snapshot_facts, relocate_rewritten_section,
-        rewrite_placed_section, rewrite_section,
+        rewrite_placed_section, rewrite_section, survey, survey_placed_section,
     };
-    #[cfg(feature = "ppc64")]
-    use crate::rewriting::{survey, survey_placed_section};
     use crate::runs::{pack_run, relax, rewritten_items_into};
     use crate::section::{memory_len, needs, read_crel, read_rela32, relocate_section, wrap_addends};
 }
@@ -175,10 +172,8 @@ pub mod rewriting {
     pub use crate::link::{
         Words, WritingError, decide_rewrites, first_changed, make_rewrites, snapshot_facts,
         relocate_rewritten_section, rewrite_toc_loads, rewrite_placed_section, rewrite_section,
-        survey_toc_loads,
+        survey, survey_toc_loads, survey_placed_section,
     };
-    #[cfg(feature = "ppc64")]
-    pub use crate::link::{survey, survey_placed_section};
     #[cfg(feature = "riscv64")]
     pub use crate::link::{finish_gp_relaxation, rewrite_global_pointer, survey_global_pointer};
     pub use crate::linker_rewriting::decisions::{

@@ -49,40 +49,6 @@ adjusted_low n m low reads is =
     ap (λ z. z +ℤ pos 0x8000) reads ∙ signed_16 (n % 2 ^ 16) (omega arith)
     ∙ ap pos (let same : (n % 2 ^ 16 + 0x8000) % 2 ^ 16 ≡ m % 2 ^ 16 = omega arith in same)
 
-<<<<<<< ours
-pub adjusted_halves : {begin target number rounded : Operands → ℕ} → IsNumber begin target number
-    → IsRounded 0x8000 number rounded → {f : Ppc64Form} {a' : ℕ} → ReadsLow f a'
-    → (operands : Operands → ℕ → Operands) {kind : RelocationKind} {mask : Option PageMask} {range : AllowedRange} {a : ℕ}
-    {bias : Option ℕ} {thunkable implicit : Bool} {b : ℤ × ℤ}
-    {kind' : RelocationKind} {mask' : Option PageMask} {range' : AllowedRange}
-    {bias' : Option ℕ} {thunkable' implicit' : Bool}
-    → reach_of (row_of kind 16 32 (Ppc64 D) mask range a bias thunkable implicit) ≡ Some b
-    → is_read (Ppc64 D) 16 32 b a ≡ true
-    → ((o : Operands)
-    → value_of (row_of kind 16 32 (Ppc64 D) mask range a bias thunkable implicit) o
-    ≡ Some (cast_signed w64 (rounded o)))
-    → HasNumber (row_of kind' 0 16 (Ppc64 f) mask' range' a' bias' thunkable' implicit') operands number
-    → Law
-    (first_step (row_of kind 16 32 (Ppc64 D) mask range a bias thunkable implicit) none
-    ∷ step_of (row_of kind' 0 16 (Ppc64 f) mask' range' a' bias' thunkable' implicit') operands none
-    ∷ []) (adjusted begin f) target
-adjusted_halves {begin} {target} {number} {rounded} leads rounds {f} low operands within ok e e' =
-    λ o small at before after high any at' before' after' rest any'.
-    let n = number o in
-    let numbers = leads o small in
-    let is = rounds o small in
-    let below : rounded o < 2 ^ 64 = subst (λ x. x < 2 ^ 64) (sym is) (sum_below n 0x8000) in
-    let h = reads_bits _ _ _ _ _ _ _ _ _ _ o before after high _
-    (subst (λ b. IsWithin b high.value) within high.accepted.reached.0) ok (rounded o) below (e o)
-    in
-    let l = low _ _ _ _ _ _ _ before' after' rest n numbers.below (e' o small at') in
-    halves_sum 16 0x8000 (begin o) (target o) n (rounded o)
-    ((ppc64_form D).machine (window_of (ppc64_form D) after))
-    (ppc64_reads f (window_of (ppc64_form f) after')) (omega arith) (omega arith)
-    numbers.small numbers.below numbers.leads is h (adjusted_low n (rounded o) _ l is)
-
-=======
->>>>>>> theirs
 -- the low half without a sign
 pub d_field : (x : ℕ) → place_sum ((ppc64_form D).places 0) x ≡ field x 0 16
 d_field x = consecutive_bits_sum replaced 16 0 0 0 x refl ∙ omega arith

@@ -106,51 +106,6 @@ module _ {kind : RelocationKind} {mask : Option PageMask} {range : AllowedRange}
       (upper_of n (window_of (ppc64_form D) after) (window_of (ppc64_form DUnsigned) after2)
       (window_of (ppc64_form DUnsigned) after3) numbers.below x y z) (l ∙ omega arith))
 
-<<<<<<< ours
-pub quarters_adjusted : {begin target number rounded : Operands → ℕ} → IsNumber begin target number
-    → IsRounded 0x8000 number rounded → {f : Ppc64Form} {a4 : ℕ} → ReadsLow f a4
-    → (operands2 operands3 operands4 : Operands → ℕ → Operands) {kind : RelocationKind} {mask : Option PageMask} {range : AllowedRange} {a : ℕ}
-    {bias : Option ℕ} {thunkable implicit : Bool}
-    {kind2 : RelocationKind} {mask2 : Option PageMask} {range2 : AllowedRange} {a2 : ℕ}
-    {bias2 : Option ℕ} {thunkable2 implicit2 : Bool}
-    {kind3 : RelocationKind} {mask3 : Option PageMask} {range3 : AllowedRange} {a3 : ℕ}
-    {bias3 : Option ℕ} {thunkable3 implicit3 : Bool}
-    {kind4 : RelocationKind} {mask4 : Option PageMask} {range4 : AllowedRange}
-    {bias4 : Option ℕ} {thunkable4 implicit4 : Bool}
-    → FirstHasNumber (row_of kind 48 64 (Ppc64 D) mask range a bias thunkable implicit) rounded
-    → HasNumber (row_of kind2 32 48 (Ppc64 DUnsigned) mask2 range2 a2 bias2 thunkable2 implicit2) operands2 rounded
-    → HasNumber (row_of kind3 16 32 (Ppc64 DUnsigned) mask3 range3 a3 bias3 thunkable3 implicit3) operands3 rounded
-    → HasNumber (row_of kind4 0 16 (Ppc64 f) mask4 range4 a4 bias4 thunkable4 implicit4) operands4 number
-    → Law
-    (first_step (row_of kind 48 64 (Ppc64 D) mask range a bias thunkable implicit) none
-    ∷ step_of (row_of kind2 32 48 (Ppc64 DUnsigned) mask2 range2 a2 bias2 thunkable2 implicit2) operands2 none
-    ∷ step_of (row_of kind3 16 32 (Ppc64 DUnsigned) mask3 range3 a3 bias3 thunkable3 implicit3) operands3 none
-    ∷ step_of (row_of kind4 0 16 (Ppc64 f) mask4 range4 a4 bias4 thunkable4 implicit4) operands4 none
-    ∷ []) (adjusted_quarters begin f) target
-quarters_adjusted {begin} {target} {number} {rounded} leads rounds {f} low operands2 operands3
-    operands4 e e2 e3 e4 =
-    λ o small at before after step any at2 before2 after2 step2 any2 at3 before3 after3 step3 any3
-    at4 before4 after4 step4 any4.
-    let n = number o in
-    let m = rounded o in
-    let numbers = leads o small in
-    let is = rounds o small in
-    let below : m < 2 ^ 64 = subst (λ x. x < 2 ^ 64) (sym is) (sum_below n 0x8000) in
-    let x = d_part _ 48 _ _ _ _ _ _ _ before after step m below (omega arith) (e o small) in
-    let y = u_part _ 32 _ _ _ _ _ _ _ before2 after2 step2 m below (omega arith)
-    (e2 o small at2) in
-    let z = u_part _ 16 _ _ _ _ _ _ _ before3 after3 step3 m below (omega arith)
-    (e3 o small at3) in
-    let l = low _ _ _ _ _ _ _ before4 after4 step4 n numbers.below (e4 o small at4) in
-    let upper = upper_parts (window_of (ppc64_form D) after)
-    (window_of (ppc64_form DUnsigned) after2) (window_of (ppc64_form DUnsigned) after3) in
-    low_part (pos (begin o + upper)) (ppc64_reads f (window_of (ppc64_form f) after4))
-    ((begin o + upper) % 2 ^ 64) 0x8000 (m % 2 ^ 16) (target o) refl
-    (adjusted_low n m _ l is) numbers.small
-    (adjusted_sum (begin o) (target o) n m upper numbers.leads is
-    (upper_of m (window_of (ppc64_form D) after) (window_of (ppc64_form DUnsigned) after2)
-    (window_of (ppc64_form DUnsigned) after3) below x y z) numbers.small)
-=======
   pub quarters_adjusted : {begin target number rounded : Operands → ℕ} → IsNumber begin target number
       → IsRounded 0x8000 number rounded → {f : Ppc64Form} → ReadsLow f a4
       → (operands2 operands3 operands4 : Operands → ℕ → Operands)
@@ -187,4 +142,3 @@ quarters_adjusted {begin} {target} {number} {rounded} leads rounds {f} low opera
       (adjusted_sum (begin o) (target o) n m upper numbers.leads is
       (upper_of m (window_of (ppc64_form D) after) (window_of (ppc64_form DUnsigned) after2)
       (window_of (ppc64_form DUnsigned) after3) below x y z) numbers.small)
->>>>>>> theirs

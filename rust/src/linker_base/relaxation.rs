@@ -15,7 +15,7 @@ mod walk;
 
 use alloc::vec::Vec;
 use crate::support::*;
-use blocks::{count_blocks, fill_heads};
+use blocks::{count_heads, fill_heads};
 pub use blocks::{
     BLOCK_LEN, BlockHead, Counted, Looks, input_to_output_counted, output_to_input_counted,
 };
@@ -71,14 +71,15 @@ pub struct RelaxDelta {
 #[derive(Debug, Clone, Default)]
 pub struct SectionRelaxDeltas {
     deltas: Vec<RelaxDelta>,
+    // None of a single block: a short list allocates once.
     heads: Vec<BlockHead>,
 }
 
 impl SectionRelaxDeltas {
     /// The deletions that `raw` lists, each as an offset and a count of bytes.
     ///
-    /// It allocates twice, for the deltas and the heads of their blocks, and not at all where `raw`
-    /// is empty. `is_valid` tests what it requires.
+    /// It allocates once, twice for more than [`BLOCK_LEN`](crate::relaxation::BLOCK_LEN) deletions, of whose blocks it keeps the
+    /// heads, and not at all where `raw` is empty. `is_valid` tests what it requires.
     ///
     /// # Requires
     ///
@@ -87,7 +88,7 @@ impl SectionRelaxDeltas {
     pub fn new(raw: &[(u64, u32)]) -> Result<Self, OutOfMemory> {
         debug_assert!(SectionRelaxDeltas::is_valid(raw));
         let mut deltas = Vec::fallible_with_capacity(raw.len())?;
-        let mut heads = Vec::fallible_with_capacity(count_blocks(raw.len()))?;
+        let mut heads = Vec::fallible_with_capacity(count_heads(raw.len()))?;
         append(&mut deltas, raw);
         fill_heads(&deltas, &mut heads);
         Ok(SectionRelaxDeltas { deltas, heads })
@@ -174,8 +175,7 @@ impl SectionRelaxDeltas {
         can_batches_be_merged(&self.deltas, batches)
     }
 
-    /// A copy of the deltas and of the heads of their blocks. It allocates twice, and not at all
-    /// where there are none.
+    /// A copy. It allocates as `new` does.
     pub fn try_clone(&self) -> Result<Self, OutOfMemory> {
         let mut deltas = Vec::fallible_with_capacity(self.deltas.len())?;
         let mut heads = Vec::fallible_with_capacity(self.heads.len())?;

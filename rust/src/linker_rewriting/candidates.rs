@@ -129,17 +129,15 @@ pub(crate) fn candidate(
 /// The same facts of what is where the GOT's or the TOC's base is, at the distance 0.
 #[inline(always)]
 fn at_base(facts: Option<LinkFacts>) -> Option<LinkFacts> {
-    match facts {
-        Some(facts) => Some(LinkFacts {
-            operands: Operands {
-                symbol: facts.operands.got_base,
-                addend: 0,
-                ..facts.operands
-            },
-            ..facts
-        }),
-        None => None,
-    }
+    let facts = facts?;
+    Some(LinkFacts {
+        operands: Operands {
+            symbol: facts.operands.got_base,
+            addend: 0,
+            ..facts.operands
+        },
+        ..facts
+    })
 }
 
 /// Whether the instruction of the relocation with an index is one that its rewrite is meant for,

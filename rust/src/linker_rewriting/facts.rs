@@ -210,13 +210,11 @@ fn facts_at(
 ) -> Option<LinkFacts> {
     match context.phase {
         Phase::PreLayout => Some(facts_of(context.output, symbol, subject.addend, marked)),
-        _ => match context.values.get(subject.symbol as usize) {
-            Some(value) => {
-                let (offset, addend) = (relocation.offset, subject.addend);
-                Some(placed_facts(context, symbol, value, offset, addend, marked))
-            }
-            None => None,
-        },
+        _ => {
+            let value = context.values.get(subject.symbol as usize)?;
+            let (offset, addend) = (relocation.offset, subject.addend);
+            Some(placed_facts(context, symbol, value, offset, addend, marked))
+        }
     }
 }
 
@@ -229,8 +227,6 @@ pub(crate) fn link_facts(
     subject: &Rela,
     marked: bool,
 ) -> Option<LinkFacts> {
-    match context.symbols.get(subject.symbol as usize) {
-        Some(symbol) => facts_at(context, relocation, subject, marked, symbol),
-        None => None,
-    }
+    let symbol = context.symbols.get(subject.symbol as usize)?;
+    facts_at(context, relocation, subject, marked, symbol)
 }

@@ -480,10 +480,8 @@ fn base_of(
     gp: u64,
     relocation: &Rela,
 ) -> Option<(u32, u64)> {
-    match values.get(relocation.symbol as usize) {
-        Some(value) => base_for(gp, address_of(addresses, relocation, value)),
-        None => None,
-    }
+    let value = values.get(relocation.symbol as usize)?;
+    base_for(gp, address_of(addresses, relocation, value))
 }
 
 /// Whether a relocation is of no low part without a base, or its instruction is in the section and

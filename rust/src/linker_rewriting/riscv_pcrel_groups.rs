@@ -71,10 +71,8 @@ pub(crate) fn high_at(relocations: &[u8], r_type: u32, at: u64) -> Option<usize>
 /// Where the label is in the section that is a relocation's symbol.
 #[inline(always)]
 pub(crate) fn label_at(context: &RelaxContext<'_>, relocation: &Rela) -> Option<u64> {
-    match context.values.get(relocation.symbol as usize) {
-        Some(label) => Some(label.address.wrapping_sub(context.addresses.section)),
-        None => None,
-    }
+    let label = context.values.get(relocation.symbol as usize)?;
+    Some(label.address.wrapping_sub(context.addresses.section))
 }
 
 /// Where the label of a relocation is in the section.
@@ -93,10 +91,8 @@ pub(crate) fn high_of(
     relocations: &[u8],
     relocation: &Rela,
 ) -> Option<usize> {
-    match label_offset(context, relocation) {
-        Some(at) => high_at(relocations, high_r_type(context.phase), at),
-        None => None,
-    }
+    let at = label_offset(context, relocation)?;
+    high_at(relocations, high_r_type(context.phase), at)
 }
 
 /// Whether a scope is that of one label.
@@ -141,16 +137,14 @@ fn far_entry(operands: &Operands) -> u64 {
 /// The same facts, where no entry of the GOT is in reach.
 #[inline(always)]
 fn without_entry(facts: Option<LinkFacts>) -> Option<LinkFacts> {
-    match facts {
-        Some(facts) => Some(LinkFacts {
-            operands: Operands {
-                got_entry: far_entry(&facts.operands),
-                ..facts.operands
-            },
-            ..facts
-        }),
-        None => None,
-    }
+    let facts = facts?;
+    Some(LinkFacts {
+        operands: Operands {
+            got_entry: far_entry(&facts.operands),
+            ..facts.operands
+        },
+        ..facts
+    })
 }
 
 /// The rewrite of the instruction of the relocation with an index, by the facts of its label's high

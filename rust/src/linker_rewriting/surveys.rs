@@ -98,7 +98,6 @@ fn needs_mark(
 
 /// Whether a relocation is one that keeps all thread-local storage of its object: it needs a mark,
 /// and has none.
-#[cfg(feature = "ppc64")]
 #[inline(always)]
 fn is_unmarked(
     context: &RelaxContext<'_>,
@@ -106,6 +105,12 @@ fn is_unmarked(
     index: usize,
     relocation: &Rela,
 ) -> bool {
+    #[cfg(not(feature = "ppc64"))]
+    {
+        false
+    }
+    #[cfg(feature = "ppc64")]
+    {
     if !needs_mark(
         context.architecture,
         context.phase,
@@ -115,6 +120,7 @@ fn is_unmarked(
         return false;
     }
     !is_marked(relocations, index, relocation)
+    }
 }
 
 /// Whether the relocation with an index is of no group by its `r_type`, and needs no mark.
@@ -160,7 +166,6 @@ fn next_keeping(context: &RelaxContext<'_>, relocations: &[u8], from: usize) -> 
 }
 
 /// Notes which groups stay in a phase, by a section, as [`survey`](crate::rewriting::survey()) and [`survey_placed_section`](crate::rewriting::survey_placed_section()) say.
-#[cfg(feature = "ppc64")]
 #[inline(always)]
 fn survey_in(
     context: &RelaxContext<'_>,
@@ -198,7 +203,6 @@ fn survey_in(
 /// let none = UnrelaxableGroups::default();
 /// assert_eq!(kept, [none, UnrelaxableGroups { descriptor: true, ..none }]);
 /// ```
-#[cfg(feature = "ppc64")]
 pub fn survey(
     architecture: Architecture,
     output: &OutputFacts,
@@ -219,7 +223,6 @@ pub fn survey(
 }
 
 /// `crate::link::survey_placed_section`, with more parameters.
-#[cfg(feature = "ppc64")]
 pub fn survey_placed_section(
     context: &RelaxContext<'_>,
     relocations: &[u8],

@@ -77,14 +77,10 @@ fn word_r_type() -> u32 {
 /// How far what a relocation refers to is after the start of the section of words.
 #[inline(always)]
 fn word_offset(context: &RelaxContext<'_>, start: u64, relocation: &Rela) -> Option<u64> {
-    match context.values.get(relocation.symbol as usize) {
-        Some(value) => {
-            let addend = relocation.addend as u64;
-            let address = address_in(context.addresses, value).wrapping_add(addend);
-            Some(address.wrapping_sub(start))
-        }
-        None => None,
-    }
+    let value = context.values.get(relocation.symbol as usize)?;
+    let addend = relocation.addend as u64;
+    let address = address_in(context.addresses, value).wrapping_add(addend);
+    Some(address.wrapping_sub(start))
 }
 
 /// The words of an object's section of addresses, and what loads of them are chosen by.

@@ -11,18 +11,18 @@ use linker_utils::relaxation::{
 
 const FEW: [(u64, u32); 2] = [(8, 4), (16, 4)];
 
-// none of no deletions, and else the deltas and the heads of their blocks
+// none of no deletions, and else the deltas: so few have no heads of blocks
 #[test]
-fn lists_and_their_copies_take_4() {
+fn lists_and_their_copies_take_2() {
     for raw in [[].as_slice(), &FEW] {
         let copy = copy_of(&deltas_of(raw));
         expect_eq(raw, copy.deltas().len(), raw.len());
     }
 }
 
-// the deltas and the heads of their blocks, and a copy of pairs that don't ascend
+// the deltas, and a copy of pairs that don't ascend
 #[test]
-fn merges_take_5() {
+fn merges_take_3() {
     for more in [[].as_slice(), &FEW, &[(16, 4), (8, 4)]] {
         let mut deltas = deltas_of(&[]);
         expect(more, deltas.is_mergeable(more));
@@ -35,10 +35,9 @@ fn merges_take_5() {
     }
 }
 
-// the batches themselves, which are three; then none of empty ones, and the deltas, the heads of
-// their blocks and a copy
+// the batches themselves, which are three; then none of empty ones, and the deltas and a copy
 #[test]
-fn batches_take_6() {
+fn batches_take_5() {
     let batches = batches_of(&FEW);
     expect(3, batches.len() == 3);
     for (first, count) in [(&batches[..1], 0), (&batches[..], 2)] {
@@ -53,9 +52,9 @@ fn batches_take_6() {
     }
 }
 
-// the deltas of a section, the heads of their blocks and the map's entries, and the same of a copy
+// the deltas of a section and the map's entries, and the same of a copy
 #[test]
-fn maps_and_their_copies_take_6() {
+fn maps_and_their_copies_take_4() {
     let mut map = RelaxDeltaMap::new();
     let empty = map.try_clone().expect("no memory");
     expect(0, empty.is_empty());

@@ -89,7 +89,8 @@ impl<K: Looks> Probe for K {
     }
 }
 
-/// The deltas of a section and the heads that it keeps, with a count of the looks at them.
+/// The deltas of a section and the heads that it keeps, none of a single block, with a count of the
+/// looks at them.
 #[doc(hidden)]
 pub struct Counted<'a> {
     deltas: &'a [RelaxDelta],
@@ -125,8 +126,13 @@ impl<'a> Looks for Counted<'a> {
         debug_assert!(64 * (block as u128) < (Looks::len(self) as u128));
         debug_assert!((self.count() as u128) + 1 < 1 << 64);
         self.count += 1;
-        let head = self.heads[block];
-        (head.input_offset, head.output_offset)
+        if self.deltas.len() > BLOCK_LEN {
+            let head = self.heads[block];
+            return (head.input_offset, head.output_offset);
+        }
+        // Nothing is deleted before the first delta.
+        let first = self.deltas[BLOCK_LEN * block].input_offset;
+        (first, first)
     }
 
     #[cfg_attr(debug_assertions, track_caller)]
@@ -139,9 +145,9 @@ impl<'a> Looks for Counted<'a> {
     }
 }
 
-/// Puts the heads of the other blocks after those of the first blocks.
+/// Puts the heads of the other blocks after those of the first blocks, if there is more than one.
 pub(super) fn fill_heads(deltas: &[RelaxDelta], heads: &mut Vec<BlockHead>) {
-    for block in heads.len()..count_blocks(deltas.len()) {
+    for block in heads.len()..count_heads(deltas.len()) {
         heads.push_reserved(BlockHead::of(&deltas[BLOCK_LEN * block]));
     }
 }
@@ -157,6 +163,16 @@ pub(super) fn write_heads(deltas: &[RelaxDelta], heads: &mut [BlockHead]) {
 #[inline(always)]
 pub(super) fn count_blocks(len: usize) -> usize {
     len / BLOCK_LEN + usize::from(len % BLOCK_LEN > 0)
+}
+
+/// How many heads a section keeps of n deltas.
+#[inline(always)]
+pub(super) fn count_heads(len: usize) -> usize {
+    if len > BLOCK_LEN {
+        count_blocks(len)
+    } else {
+        0
+    }
 }
 
 /// The output offset of `input_offset`, as [`SectionRelaxDeltas::input_to_output_offset`](crate::relaxation::SectionRelaxDeltas::input_to_output_offset) returns it.

@@ -30,8 +30,10 @@ impl<'a> Probe for DeltaSlice<'a> {
     fn read(&mut self, level: Level, at: usize) -> BlockHead {
         match level {
             Level::Deltas => BlockHead::of(&self.deltas[at]),
-            Level::Heads if self.heads.is_empty() => BlockHead::of(&self.deltas[BLOCK_LEN * at]),
-            Level::Heads => self.heads[at],
+            Level::Heads => match self.heads.get(at) {
+                Some(head) => *head,
+                None => BlockHead::of(&self.deltas[BLOCK_LEN * at]),
+            },
         }
     }
 }
@@ -44,7 +46,7 @@ impl<'a> DeltaSlice<'a> {
         DeltaSlice { deltas, heads: &[] }
     }
 
-    // Requires as many heads as blocks.
+    // Requires as many heads as blocks, or none.
     #[inline(always)]
     pub(super) fn over(deltas: &'a [RelaxDelta], heads: &'a [BlockHead]) -> DeltaSlice<'a> {
         DeltaSlice { deltas, heads }

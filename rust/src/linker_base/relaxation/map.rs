@@ -98,8 +98,8 @@ impl RelaxDeltaMap {
         self.entries.last().map(|entry| entry.0)
     }
 
-    /// A copy of the map and of the deltas of each section. It allocates once for the entries and
-    /// twice for each section that has any deltas, and not at all for an empty map.
+    /// A copy of the map and of the deltas of each section. It allocates once for the entries, as
+    /// `SectionRelaxDeltas::clone` for each section, and not at all for an empty map.
     pub fn try_clone(&self) -> Result<Self, OutOfMemory> {
         let sections = self.entries.as_slice();
         let mut entries = Vec::fallible_with_capacity(sections.len())?;

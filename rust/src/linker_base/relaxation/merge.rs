@@ -4,7 +4,7 @@
 
 use alloc::vec::Vec;
 use crate::support::*;
-use super::blocks::{BlockHead, count_blocks, fill_heads};
+use super::blocks::{BlockHead, count_blocks, count_heads, fill_heads};
 use super::delta_slice::bytes_of_first;
 use super::overlap::{AsDeletion, are_valid, pair_at};
 use super::{OutOfMemory, RelaxDelta};
@@ -60,7 +60,7 @@ pub(super) fn insert_ascending(
     debug_assert!(super::DeltaSlice::new(deltas).can_merge_ascending(pairs));
     let count = deltas.len();
     deltas.try_reserve(pairs.len())?;
-    heads.try_reserve(count_blocks(count + pairs.len()).saturating_sub(heads.len()))?;
+    heads.try_reserve(count_heads(count + pairs.len()).saturating_sub(heads.len()))?;
     let bytes = append(deltas, pairs);
     let kept = merge_in_place(deltas, count, pairs, bytes);
     heads.truncate(count_blocks(kept));

@@ -88,14 +88,10 @@ fn narrow<P: Probe>(
     halve(probe, level, test, some, count, width)
 }
 
-/// Of `len` deltas, the first of which passes, the first and the count of those, 64 at most, one of
-/// which is the last that passes. It takes at most as many probes as there are binary digits in the
-/// number of blocks.
+/// Of `len` deltas, the first of which passes, the first of 64, one of which is the last that
+/// passes. It takes at most as many probes as there are binary digits in the number of blocks.
 #[inline(always)]
-fn find_block<P: Probe>(probe: &mut P, test: Test, len: usize) -> (usize, usize) {
-    if len <= BLOCK_LEN {
-        return (0, len);
-    }
+fn find_block<P: Probe>(probe: &mut P, test: Test, len: usize) -> usize {
     let (mut last, mut count) = (0, count_blocks(len));
     // Of more heads, a branch that is mispredicted costs less than the wait for memory.
     while count > BLOCK_LEN * BLOCK_LEN {
@@ -106,7 +102,7 @@ fn find_block<P: Probe>(probe: &mut P, test: Test, len: usize) -> (usize, usize)
     let some = narrow(probe, Level::Heads, test, last, count, BLOCK_LEN);
     let block = narrow(probe, Level::Heads, test, some, count, 1);
     // The last block may be shorter. Its search begins in the one before, so that all are alike.
-    ((BLOCK_LEN * block).min(len - BLOCK_LEN), BLOCK_LEN)
+    (BLOCK_LEN * block).min(len - BLOCK_LEN)
 }
 
 /// How many deltas pass. With B blocks it takes at most as many probes as B has binary digits, and
@@ -114,9 +110,15 @@ fn find_block<P: Probe>(probe: &mut P, test: Test, len: usize) -> (usize, usize)
 #[inline(always)]
 pub(super) fn count_passing<P: Probe>(probe: &mut P, test: Test) -> usize {
     let len = probe.len();
+    if len > BLOCK_LEN {
+        if !test.passes(probe.read(Level::Heads, 0)) {
+            return 0;
+        }
+        let first = find_block(probe, test, len);
+        return narrow(probe, Level::Deltas, test, first, BLOCK_LEN, 1) + 1;
+    }
     if len == 0 || !test.passes(probe.read(Level::Heads, 0)) {
         return 0;
     }
-    let (first, count) = find_block(probe, test, len);
-    narrow(probe, Level::Deltas, test, first, count, 1) + 1
+    narrow(probe, Level::Deltas, test, 0, len, 1) + 1
 }
