@@ -822,7 +822,7 @@ fn runs(report: &mut Report, random: &mut Random) {
     for (machine, [of_call, of_mark, of_alignment], nops, call, nop) in machines {
         let name = name_of(machine);
         let of_crate = match machine {
-            RISCV => Machine::RiscV64,
+            RISCV => Machine::RiscV { is_32: false },
             _ => Machine::LoongArch64,
         };
         let mut section = vec![0; COUNT * 64];

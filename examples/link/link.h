@@ -266,6 +266,7 @@ static inline uint32_t type_of(const Elf64_Rela *r) { return ELF64_R_TYPE(r->r_i
 
 /* How many bytes a word with an address has. */
 static inline uint64_t word_len(void) { return is_narrow ? 4 : 8; }
+static inline uint16_t class_bit(void) { return is_narrow ? LINKER_UTILS_CLASS32 : 0; }
 
 /* How many bytes the shortest instruction has. */
 static inline uint64_t code_unit(void) { return linker_utils_code_unit(machine, machine_flags); }

@@ -46,7 +46,8 @@ static void add_items(struct section *s) {
         relocations[i] = seen(s, &s->relocations[i]);
     }
     struct linker_utils_items made = {items + items_len, most, makers + items_len, most, 0};
-    uint32_t status = linker_utils_rewritten_items(machine, &here, relocations, all, &made, &at);
+    uint32_t status = linker_utils_rewritten_items(machine | class_bit(), &here, relocations, all,
+                                                   &made, &at);
     check_items(s, at, status);
     s->first_item = (uint32_t)items_len;
     s->items_len = (uint32_t)made.items_used;
@@ -77,7 +78,8 @@ static void pack_output(struct output *o) {
         uint64_t at = address_of(o, s->offset) - start;
         size_t len = linker_utils_packed_run_len(&here, &part), faulty = SIZE_MAX;
         memcpy(packed + to, o->bytes + from, at - to);
-        uint32_t status = linker_utils_pack_run(machine, &here, &part, packed + at, len, &faulty);
+        uint32_t status = linker_utils_pack_run(machine | class_bit(), &here, &part, packed + at, len,
+                                                &faulty);
         check_items(s, faulty < s->items_len ? makers[s->first_item + faulty] : SIZE_MAX, status);
         from = s->offset + s->len;
         s->offset = at, s->len = len;

@@ -2,7 +2,7 @@
 //! Links RISC-V objects into a static executable that begins at `_start`: lays out and relaxes all
 //! sections, and then packs and relocates one after another. A GOT, thread-local storage, groups, and
 //! common and absolute symbols are errors.    usage: relaxing_linker OUTPUT OBJECT..
-use linker_utils::runs::{Machine::RiscV64, *};
+use linker_utils::runs::*;
 use linker_utils::{elf::Architecture::RiscV, output::Target, section::*};
 use object::{LittleEndian as LE, SectionIndex, elf::*, read::elf::*};
 use std::{collections::HashMap, error::Error, fs, iter, os::unix::fs::PermissionsExt};
@@ -103,7 +103,7 @@ fn main() -> Result<(), Box<dyn Error>> {
             let is_known = it.symbol != 0 && it.addend == 0;
             refers.push(Relocation::new(it, is_known.then_some(target), *may_compress));
         }
-        items.extend(section_items(RiscV64, section, &refers)?.items);
+        items.extend(section_items(Machine::RiscV { is_32: false }, section, &refers)?.items);
     }
     let items: Vec<_> = list.iter().flat_map(|it| &it.items).copied().collect();
     first_faulty(&items, START).map_or(Ok(()), Err)?;
@@ -127,7 +127,7 @@ fn main() -> Result<(), Box<dyn Error>> {
         let run = Run { start: START, items: &items[1..], deltas: deletions.deltas() };
         let len = packed_run_len(section.base, section.bytes.len(), run.deltas);
         let bytes = &mut image[(address(section.base) - START + PAGE) as usize..][..len];
-        let mut packed = run.pack(RiscV64, section, bytes)?;
+        let mut packed = run.pack(Machine::RiscV { is_32: false }, section, bytes)?;
         let mut memory = vec![0; memory_len(&packed.relocations)];
         relocate_section(&Link::new(RiscV), &object, &mut packed, &mut memory)?;
     }

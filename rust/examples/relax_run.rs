@@ -33,7 +33,7 @@ fn bytes_of(text: &str) -> Result<Vec<u8>, Box<dyn Error>> {
 }
 
 fn main() -> Result<(), Box<dyn Error>> {
-    let (mut machine, mut may_compress, mut start) = (Machine::RiscV64, false, 0);
+    let (mut machine, mut may_compress, mut start) = (Machine::RiscV { is_32: false }, false, 0);
     let (mut sections, mut others) = (Vec::<Input>::new(), Vec::new());
     for line in io::stdin().lock().lines() {
         let line = line?;

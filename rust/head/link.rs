@@ -1049,7 +1049,7 @@ impl<I: AsItem> Run<'_, I> {
     /// let plan = relax(&items, 0x1000).unwrap();
     /// let run = Run { start: 0x1000, items: &items[1..], deltas: plan.deletions.deltas() };
     /// let ret = Section { base: 8, ..Section::new([0x67, 0x80, 0, 0], []) };
-    /// let packed = run.pack(Machine::RiscV64, ret, [0; 4]).unwrap();
+    /// let packed = run.pack(Machine::RiscV { is_32: false }, ret, [0; 4]).unwrap();
     /// assert_eq!((packed.address, packed.bytes), (0x1004, [0x67, 0x80, 0, 0]));
     /// ```
     #[inline]

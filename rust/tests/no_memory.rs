@@ -383,7 +383,7 @@ fn runs_are_not_relaxed() {
     let mut section = [0; 22];
     section[..8].copy_from_slice(&0x000080e7_00000097u64.to_le_bytes());
     let (count, made) = each_fails(
-        || section_items(Machine::RiscV64, &Section::new(&section, []), &relocations),
+        || section_items(Machine::RiscV { is_32: false }, &Section::new(&section, []), &relocations),
         |error| assert_eq!(error, ItemsError::OutOfMemory),
     );
     assert!(count > 1);

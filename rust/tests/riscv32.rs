@@ -4,6 +4,7 @@
 use linker_utils::elf::Architecture::RiscV;
 use linker_utils::elf::RelocateError::OutOfReach;
 use linker_utils::output::{StubKind, Target};
+use linker_utils::runs::{Machine, Relocation, Run, packed_run_len, relax, section_items};
 use linker_utils::section::{
     Addresses, Link, Object, RelocationError, Section, Symbol, memory_len, read_rela32,
     ValueError, relocate_section, relocation_at, relocations_len, value, wrap_addends,
@@ -163,6 +164,36 @@ fn outputs_have_words_of_4_bytes() {
         assert_eq!(target.interpreter(flags), Some(path.as_str()));
     }
     assert_eq!((target.page, target.unit(1)), (0x1000, 2));
+}
+
+/// Calls of functions 0x24 and 0xbde bytes on, as GNU as leaves them, and as GNU ld links them for
+/// RV32: c.jal, c.j, a jal without its value, jal, c.jal; and for RV64.
+#[test]
+fn calls_are_those_of_gnu_ld() {
+    let mut bytes = bytes_of(&[
+        0x0000_0097, 0x0000_80e7, 0x0000_0317, 0x0003_0067, 0x0140_00ef, 0x0000_0097, 0x0000_80e7,
+        0x0000_0097, 0x0000_80e7, 0x8082,
+    ]);
+    bytes.resize(0xbe0, 0);
+    let call = |offset, target| {
+        let mark = Relocation { offset, r_type: 51, has_symbol: false, addend: 0, target: None, may_compress: true };
+        [Relocation { r_type: 19, has_symbol: true, target: Some(target), ..mark }, mark]
+    };
+    let relocations = [call(0, 0x24), call(8, 0x24), call(0x14, 0xbde), call(0x1c, 0x24)].concat();
+    let section = Section::new(bytes, vec![]);
+    for (is_32, text) in [
+        (true, [0x2039, 0xa031, 0x00ef, 0x0140, 0x00ef, 0x3c10, 0x2009, 0x8082]),
+        (false, [0x00ef, 0x0120, 0xa039, 0x00ef, 0x0140, 0x00ef, 0x3c30, 0x00ef]),
+    ] {
+        let machine = Machine::RiscV { is_32 };
+        let items = section_items(machine, &section, &relocations).unwrap().items;
+        let plan = relax(&items, 0x10000).unwrap();
+        let run = Run { start: 0x10000, items: &items, deltas: plan.deletions.deltas() };
+        let mut packed = vec![0; packed_run_len(0, section.bytes.len(), run.deltas)];
+        run.pack(machine, Section::new(&section.bytes, vec![]), &mut packed).unwrap();
+        let halves = packed.chunks(2).map(|half| u16::from_le_bytes([half[0], half[1]]));
+        assert_eq!(halves.take(8).collect::<Vec<_>>(), text);
+    }
 }
 
 /// The thread pointer's offsets, entries of the GOT, and what has no value or isn't tested.

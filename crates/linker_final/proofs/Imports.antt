@@ -95,7 +95,7 @@ pub use Rattle.linker_runs.specs.LoongArchSites.{IsBranch, IsCall36At, IsFarCall
 pub use Rattle.linker_runs.specs.Moved.{AreMoved}
 pub use Rattle.linker_runs.specs.Packing.{IsFirstRejected, IsPackedRun, ItemBecomes, SiteBecomes, is_fixed, kept_len, packed_offset, section_of}
 pub use Rattle.linker_runs.specs.Relaxing.{end_of, offset_of}
-pub use Rattle.linker_runs.specs.declared.packing.Machine.TheVariants.{RiscV64}
+pub use Rattle.linker_runs.specs.Machines.{RiscV64}
 pub use Rattle.linker_runs.specs.declared.packing.Machine.{Machine}
 pub use Rattle.linker_runs.specs.declared.relaxation.Item.TheVariants.{Aligned, Site}
 pub use Rattle.linker_runs.specs.declared.relaxation.Item.{Item}

@@ -1,8 +1,7 @@
 -- RISC-V: where calls go in the final bytes of a packed section.
 use Rattle.linker_final.proofs.Imports.{◌≡◌, ◌≢◌, ℕ, ◌+◌, ◌-◌, ◌%◌, ◌^◌, ◌<◌, ◌≤◌, inl, inr, List, length, take, drop, refl, sym, ap, subst, ◌∙◌, arith, Some, Ok, IsSomeAnd, drop-drop, All-drop, All-take, w32, from_le_bytes, riscv_relocation, IsApplied, value_of, Operands, RiscVRelocation, Groups, AreAddresses, plt_address, SiteBecomes, Site, relocation_in, offset_at, operands_with, IsRow, RiscV, take_all, AreBytes, architecture_of, place_of, site_bytes, site_len, site_offset, site_place, site_target, CallStays}
-use Rattle.linker_riscv64.specs.RiscVCalls.{word_at, IsCallPair}
+use Rattle.linker_riscv64.specs.RiscVCalls.{word_at, IsCallPair, link_register}
 use Rattle.linker_laws.specs.RiscVRelocationLaws.{even}
-use Rattle.linker_elf.specs.declared.riscv64.relocations.RiscVRelocation.TheVariants as names
 use Rattle.linker_final.proofs.InstructionFields.{some_value}
 use Rattle.linker_final.proofs.PackedBytes.{stay_inside, places_inside}
 use Rattle.linker_final.proofs.PackedInstructions.{instructions}
@@ -14,11 +13,25 @@ use Rattle.linker_laws.proofs.RiscVMachine.{address_is}
 use Rattle.linker_final.proofs.Written.{back_of_pair, front_of_pair}
 use Rattle.linker_riscv64.specs.RiscVFields.{rd_of}
 use Rattle.linker_runs.specs.Origins.{HasItsInstructions}
-use Rattle.linker_runs.specs.RiscVItems.{IsCallAt}
+use Rattle.linker_runs.specs.RiscVItems.{IsCallAt, links_short}
 use Rattle.linker_runs.specs.RiscVSites.{RiscVBecomes}
 use Rattle.linker_runs.specs.RiscVSites.RiscVBecomes.{short_jump, jump, call}
 use Rattle.linker_runs.specs.Sites.{operands_of}
+use Rattle.std.proofs.Common.{true, false}
+use Rattle.linker_base.specs.Bits.{field}
+use Rattle.linker_riscv64.specs.declared.calls.LinkRegister.TheVariants.{OfJalr}
+use Rattle.std.proofs.lemmas.Bool.{cases_Bool, eqb-true, false≢true}
+use Rattle.std.specs.Int.{w16}
+use Rattle.std.specs.Prelude.{◌==◌, ◌||◌, ◌&&◌, if◌then◌else◌}
+use Rattle.linker_elf.specs.declared.riscv64.relocations.RiscVRelocation.TheVariants as names
 use Rattle.linker_section.specs.Values as values
+
+-- on RV64 only a call that links x0 becomes two bytes long
+links_none : (link : ℕ) → links_short false link ≡ true → (link == 0) ≡ true
+links_none link short = elim (cases_Bool (link == 0)) [
+  | inl none ↦ none
+  | inr some ↦ absurd (false≢true (subst (λ b. (b || false && link == 1) ≡ true) some short))
+]
 
 -- both relocations of calls have one row
 of_either : (P : RiscVRelocation → Type 0) (name : RiscVRelocation) → IsOfCall name
@@ -69,7 +82,7 @@ module _ (groups : Groups) (section : List ℕ) (o : ℕ) (bytes : AreBytes sect
 
   -- what a site becomes
   becomes : (place target n : ℕ) (final : List ℕ) → place < 2 ^ 64 → target < 2 ^ 64 → AreBytes final
-      → length final ≡ n → RiscVBecomes section o place target final → (name : RiscVRelocation) → IsOfCall name
+      → length final ≡ n → RiscVBecomes false section o place target final → (name : RiscVRelocation) → IsOfCall name
       → CallIsAlike window (operands_of place target) n (instructions_in n) (landing n target) final name
   becomes place target n final small reach new same (short_jump len none cj) name of =
       subst (λ m. CallIsAlike window (operands_of place target) m (instructions_in m) (landing m target) final name)
@@ -79,7 +92,7 @@ module _ (groups : Groups) (section : List ℕ) (o : ℕ) (bytes : AreBytes sect
       goes : CallIsAlike window (operands_of place target) 2 1 target final names.R_RISCV_CALL
       goes c x k s sx at leads old stands =
           jump_group c x (operands_of place target) k s window 2 sx at target leads pair some old
-          (cj_goes c.others c.new place _ target final stands cj.quadrant cj.function (ap rd_of second_is ∙ none)
+          (cj_goes c.others c.new place _ target final stands cj.quadrant (subst (λ b. field (from_le_bytes w16 final) 13 16 ≡ (if b then 5 else 1)) (links_none (link_register OfJalr section o) none) cj.function) (ap rd_of second_is ∙ eqb-true (link_register OfJalr section o) 0 (links_none (link_register OfJalr section o) none))
           (address_is _ target cj.goes))
   becomes place target n final small reach new same (jump len jal) name of =
       subst (λ m. CallIsAlike window (operands_of place target) m (instructions_in m) (landing m target) final name)
@@ -118,7 +131,7 @@ sites groups p is riscv i site of name of_call =
     let s = p.section in
     let o = site_offset p site in
     let code = site_bytes p site in
-    let final : RiscVBecomes s.bytes o (site_place p site) (site_target p site) code =
+    let final : RiscVBecomes false s.bytes o (site_place p site) (site_target p site) code =
     subst (λ m. SiteBecomes m s site code) riscv (site_becomes p is i site of) in
     let has = subst (λ m. HasItsInstructions m s.bytes s.base (Site site)) riscv of.there in
     becomes groups s.bytes o is.section_bytes has.3.0 (site_inside p i site of) (site_place p site)

@@ -65,7 +65,8 @@ pub use Rattle.linker_runs.specs.Packing.{address_of, is_fixed, kept_len, nops, 
 pub use Rattle.linker_runs.specs.Packing.{section_of}
 pub use Rattle.linker_runs.specs.Relaxing.{end_of, item_at, len_of, offset_of}
 pub use Rattle.linker_runs.specs.declared.packing.Machine.{Machine}
-pub use Rattle.linker_runs.specs.declared.packing.Machine.TheVariants.{LoongArch64, RiscV64}
+pub use Rattle.linker_runs.specs.Machines.{RiscV64}
+pub use Rattle.linker_runs.specs.declared.packing.Machine.TheVariants.{LoongArch64}
 pub use Rattle.linker_runs.specs.declared.relaxation.Alignment.{Alignment}
 pub use Rattle.linker_runs.specs.declared.relaxation.Item.{Item}
 pub use Rattle.linker_runs.specs.declared.relaxation.Item.TheVariants.{Aligned, Site}

@@ -5,13 +5,13 @@ use Rattle.std.specs.Prelude.{take, drop, slice_index, IsTrue, Ok, Some, true, f
 use Rattle.linker_base.specs.Deletions.{is_kept}
 use Rattle.linker_base.specs.declared.bit_misc.BitRange.{BitRange}
 use Rattle.linker_elf.specs.Applied.{IsApplied}
-use Rattle.linker_final.specs.Imports.{window_len, sum_64, value_of, RowInfo, Operands}
-use Rattle.linker_final.specs.Imports.{AreMoved, packed_offset, address_of, kept_len, IsPackedRun}
-use Rattle.linker_final.specs.Imports.{item_at, Machine, RiscV64, LoongArch64, Alignment, Item}
-use Rattle.linker_final.specs.Imports.{Aligned, relocation_in, offset_at, AreWritten, Addresses}
-use Rattle.linker_final.specs.Imports.{Symbol, IsRow, Architecture, IsMoved, Section, is_fixed}
-use Rattle.linker_final.specs.Imports.{nops, IsFirstRejected, IsInside, IsNotIn, len_of, offset_of}
-use Rattle.linker_final.specs.Imports.{Site, IsFirstFault}
+use Rattle.linker_final.specs.Imports.{window_len, sum_64, value_of, RowInfo, Operands, AreMoved}
+use Rattle.linker_final.specs.Imports.{packed_offset, address_of, kept_len, IsPackedRun, item_at}
+use Rattle.linker_final.specs.Imports.{Machine, LoongArch64, Alignment, Item, Aligned}
+use Rattle.linker_final.specs.Imports.{relocation_in, offset_at, AreWritten, Addresses, Symbol}
+use Rattle.linker_final.specs.Imports.{IsRow, Architecture, IsMoved, Section, is_fixed, nops}
+use Rattle.linker_final.specs.Imports.{IsFirstRejected, IsInside, IsNotIn, len_of, offset_of, Site}
+use Rattle.linker_final.specs.Imports.{IsFirstFault}
 use Rattle.linker_elf.specs.declared.elf.AnyForm.{AnyForm}
 use Rattle.linker_elf.specs.declared.elf.RowSize.TheVariants.{BitMasking}
 use Rattle.linker_final.specs.Final.{AreBytes}
@@ -21,6 +21,7 @@ use Rattle.linker_runs.specs.Origins.{HasItsInstructions}
 use Rattle.linker_runs.specs.declared.relaxation.Site.{Site as site}
 use Rattle.linker_section.specs.Sections.{IsInNoField}
 use Rattle.linker_section.specs.Values.{has_value, names_label, operands_of}
+use Rattle.linker_runs.specs.declared.packing.Machine.TheVariants as machines
 use Rattle.linker_elf.specs.declared.elf.architecture.Architecture.TheVariants as architectures
 
 -- What is passed to `pack_run` and then to `relocate_section`, and what they leave.
@@ -45,7 +46,7 @@ abbrev pub count : Packed → ℕ
 count p = length p.relocations_after / 24
 
 abbrev pub architecture_of : Machine → Architecture
-architecture_of RiscV64 = architectures.RiscV
+architecture_of (machines.RiscV is_32) = architectures.RiscV
 architecture_of LoongArch64 = architectures.LoongArch64
 
 -- where the byte at an offset of the section before goes

@@ -40,7 +40,7 @@ fn architecture_of(machine: Machine) -> Architecture
     ensures { result ≡ architecture_of machine }
 {
     match machine {
-        Machine::RiscV64 => Architecture::RiscV,
+        Machine::RiscV { .. } => Architecture::RiscV,
         Machine::LoongArch64 => Architecture::LoongArch64,
     }
 }

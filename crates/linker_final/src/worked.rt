@@ -444,7 +444,7 @@ pub fn riscv64(alloc: Global) -> Result<bool, OutOfMemory>
     });
     let mut items = [site; ITEMS];
     let Ok(2) = rewritten_items_into(
-        Machine::RiscV64,
+        Machine::RiscV { is_32: false },
         &section,
         0,
         &taken,
@@ -465,7 +465,7 @@ pub fn riscv64(alloc: Global) -> Result<bool, OutOfMemory>
     }
     let mut packed = [0; 28];
     let Ok(()) = pack_run(
-        Machine::RiscV64,
+        Machine::RiscV { is_32: false },
         &section,
         0,
         items,

@@ -5,7 +5,7 @@ use Rattle.linker_runs.specs.declared.items.Relocation.{Relocation}
 use Rattle.linker_runs.specs.RiscVItems.{IsNextAlignment}
 use Rattle.linker_runs.specs.Inner.Ahead.{IsAhead, MayBeAhead}
 use Rattle.linker_runs.specs.declared.packing.Machine.{Machine}
-use Rattle.linker_runs.specs.declared.packing.Machine.TheVariants.{RiscV64, LoongArch64}
+use Rattle.linker_runs.specs.declared.packing.Machine.TheVariants.{RiscV, LoongArch64}
 
 -- the next alignment after one relocation is that after the relocation after it, or this one
 pub next_on : (relocations : List Relocation) (i j : ℕ) → IsNextAlignment relocations i j → (j ≤ i + 1) ⊎ IsNextAlignment relocations (i + 1) j
@@ -21,5 +21,5 @@ next_on relocations i j next = ⊎_elim
 
 -- and so of what a walk knows
 pub ahead_on : (machine : Machine) (relocations : List Relocation) (i j : ℕ) → IsAhead machine relocations i j → MayBeAhead machine relocations (i + 1) j
-ahead_on RiscV64 relocations i j next = next_on relocations i j next
+ahead_on (RiscV is_32) relocations i j next = next_on relocations i j next
 ahead_on LoongArch64 relocations i j next = inr tt

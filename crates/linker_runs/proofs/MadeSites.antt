@@ -11,7 +11,7 @@ use Rattle.linker_runs.specs.declared.items.Relocation.{Relocation}
 use Rattle.linker_runs.specs.Origins.{HasItsInstructions}
 use Rattle.linker_runs.specs.SectionItems.{Makes, IsFormed}
 use Rattle.linker_runs.specs.declared.packing.Machine.{Machine}
-use Rattle.linker_runs.specs.declared.packing.Machine.TheVariants.{RiscV64, LoongArch64}
+use Rattle.linker_runs.specs.declared.packing.Machine.TheVariants.{RiscV, LoongArch64}
 use Rattle.linker_runs.specs.Writable.{MadeSitesHaveInstructions}
 use Rattle.linker_runs.proofs.RiscVMadeSites.{riscv_site}
 use Rattle.linker_runs.proofs.LoongArchMadeSites.{loongarch_site}
@@ -35,7 +35,7 @@ each_made Makes P (suc i) all all_makers (made {items = items} {makers = makers}
     pushed P items item (each_made Makes P i items makers before (λ k item h. each k item (omega arith))) (each i item (omega arith) is) j below
 
 pub site : (machine : Machine) (section : List ℕ) (base : ℕ) (relocations : List Relocation) (i : ℕ) (item : Item) → IsFormed machine section (relocation_at relocations i) → Makes machine section base relocations i item → HasItsInstructions machine section base item
-site RiscV64 section base relocations i item formed makes = riscv_site section base relocations i item formed makes
+site (RiscV is_32) section base relocations i item formed makes = riscv_site is_32 section base relocations i item formed makes
 site LoongArch64 section base relocations i item formed makes = loongarch_site section base relocations i item makes
 
 pub made_sites : MadeSitesHaveInstructions

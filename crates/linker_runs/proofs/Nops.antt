@@ -1,9 +1,9 @@
 -- Words that are repeated, and nops.
-use Rattle.std.proofs.Common.{◌≡◌, ℕ, zero, suc, ◌+◌, ◌*◌, ◌/◌, ◌%◌, ◌≤◌, List, [], ◌∷◌, ◌++◌, length, take, drop, refl, sym, ◌∙◌, ap, arith, inl, inr}
+use Rattle.std.proofs.Common.{Bool, ◌≡◌, ℕ, zero, suc, ◌+◌, ◌*◌, ◌/◌, ◌%◌, ◌≤◌, List, [], ◌∷◌, ◌++◌, length, take, drop, refl, sym, ◌∙◌, ap, arith, inl, inr}
 use Rattle.linker_runs.proofs.Imports.{if◌then◌else◌, ◌==◌, cases_Bool, eqb-true, nat_tests, append_assoc, append-nil, length-append, length-take, take_at, drop_at, drop-drop, take-append-drop}
 use Rattle.linker_runs.specs.Packing.{repeated, nops, nop_len}
 use Rattle.linker_runs.specs.declared.packing.Machine.{Machine}
-use Rattle.linker_runs.specs.declared.packing.Machine.TheVariants.{RiscV64, LoongArch64}
+use Rattle.linker_runs.specs.declared.packing.Machine.TheVariants.{RiscV, LoongArch64}
 
 pub repeated_none : (word : List ℕ) → repeated word 0 ≡ []
 unfolding repeated
@@ -51,7 +51,7 @@ put_nothing xs at =
 -- ---- nops
 
 pub nops_length : (machine : Machine) (n : ℕ) → n % nop_len machine ≡ 0 → length (nops machine n) ≡ n
-nops_length RiscV64 n even =
+nops_length (RiscV is_32) n even =
     let word : List ℕ = 0x13 ∷ 0x00 ∷ 0x00 ∷ 0x00 ∷ [] in
     let words = repeated_length word (n / 4) refl in
     let short : List ℕ = 0x01 ∷ 0x00 ∷ [] in
@@ -64,5 +64,5 @@ nops_length RiscV64 n even =
     length-append (repeated word (n / 4)) (if n % 4 == 2 then short else none) ∙ omega (arith, words, tail)
 nops_length LoongArch64 n even = repeated_length (0x00 ∷ 0x00 ∷ 0x40 ∷ 0x03 ∷ []) (n / 4) refl ∙ omega arith
 
-pub nops_two : (n : ℕ) → n % 4 ≡ 2 → nops RiscV64 n ≡ repeated (0x13 ∷ 0x00 ∷ 0x00 ∷ 0x00 ∷ []) (n / 4) ++ 0x01 ∷ 0x00 ∷ []
-nops_two n two = ap (λ k. repeated (0x13 ∷ 0x00 ∷ 0x00 ∷ 0x00 ∷ []) (n / 4) ++ (if k == 2 then 0x01 ∷ 0x00 ∷ [] else [])) two
+pub nops_two : (is_32 : Bool) (n : ℕ) → n % 4 ≡ 2 → nops (RiscV is_32) n ≡ repeated (0x13 ∷ 0x00 ∷ 0x00 ∷ 0x00 ∷ []) (n / 4) ++ 0x01 ∷ 0x00 ∷ []
+nops_two is_32 n two = ap (λ k. repeated (0x13 ∷ 0x00 ∷ 0x00 ∷ 0x00 ∷ []) (n / 4) ++ (if k == 2 then 0x01 ∷ 0x00 ∷ [] else [])) two

@@ -10,7 +10,7 @@ use Rattle.linker_runs.specs.Deleting.{deletions_of_run}
 use Rattle.linker_runs.specs.Origins.{HasItsInstructions}
 use Rattle.linker_runs.specs.Packing.{Section, section_of, is_fixed, IsUnwritable, IsCause, KeepsEnd}
 use Rattle.linker_runs.specs.declared.packing.Machine.{Machine}
-use Rattle.linker_runs.specs.declared.packing.Machine.TheVariants.{RiscV64, LoongArch64}
+use Rattle.linker_runs.specs.declared.packing.Machine.TheVariants.{RiscV, LoongArch64}
 use Rattle.linker_runs.specs.declared.packing.ItemError.{ItemError}
 use Rattle.linker_runs.specs.declared.packing.ItemError.TheVariants.{OutOfReach, DeletedOutside}
 use Rattle.linker_runs.specs.Writable.{IsShortened, IsNearCall36, IsNearAddress, IsNearSite, MayBePacked, NoneIsOutOfReach}
@@ -27,7 +27,7 @@ module _ (start base : ℕ) (items : List Item) (shapes kept freed bytes : List 
   -- a site that stays long
   near_site : (machine : Machine) → IsSite (item_at items i) → IsNearSite machine (item_at items i) → HasItsInstructions machine bytes base (item_at items i)
       → (error : ItemError) → IsUnwritable machine s (item_at items i) error → ⊥
-  near_site RiscV64 site near has = near_calls start base items shapes kept freed bytes are is i within site near has
+  near_site (RiscV is_32) site near has = near_calls is_32 start base items shapes kept freed bytes are is i within site near has
   near_site LoongArch64 site near has = ⊎_elim
       (λ (call : IsNearCall36 (item_at items i)). near_calls_36 start base items shapes kept freed bytes are is i within call has)
       (λ (pair : IsNearAddress (item_at items i)). near_addresses start base items shapes kept freed bytes are is i within pair has)

@@ -12,7 +12,7 @@ use Rattle.linker_runs.specs.Inner.Pieces.{piece_bytes, IsWhole, IsPieceOf}
 use Rattle.linker_base.specs.Inner.Packing.{IsFilledTo}
 use Rattle.linker_runs.specs.Inner.Packing.{AreReady, IsWrittenTo}
 use Rattle.linker_runs.specs.declared.packing.Machine.{Machine}
-use Rattle.linker_runs.specs.declared.packing.Machine.TheVariants.{RiscV64, LoongArch64}
+use Rattle.linker_runs.specs.declared.packing.Machine.TheVariants.{RiscV, LoongArch64}
 use Rattle.linker_runs.proofs.LoongArch.{loongarch_excludes}
 use Rattle.linker_runs.specs.declared.packing.Piece.{Piece}
 use Rattle.linker_runs.specs.declared.packing.ItemError.{ItemError}
@@ -22,13 +22,13 @@ use Rattle.linker_runs.proofs.RiscVExcluded.{riscv_excludes}
 -- ---- what is accepted isn't rejected
 
 item_excludes : (machine : Machine) (s : Section) (item : Item) (kept : ℕ) (error : ItemError) → ItemAccepts machine s item kept → ItemCause machine s item kept error → ⊥
-item_excludes RiscV64 s (Site site) kept NotItsInstructions a cause = riscv_excludes _ _ kept _ _ NotItsInstructions a.1 (cause a.0)
-item_excludes RiscV64 s (Site site) kept NoShape a cause = riscv_excludes _ _ kept _ _ NoShape a.1 cause.1
-item_excludes RiscV64 s (Site site) kept OutOfReach a cause = riscv_excludes _ _ kept _ _ OutOfReach a.1 cause.1
-item_excludes RiscV64 s (Site site) kept Overlaps a cause = cause.1
-item_excludes RiscV64 s (Site site) kept OutOfSection a cause = cause.1
-item_excludes RiscV64 s (Site site) kept DeletedOutside a cause = cause.1
-item_excludes RiscV64 s (Site site) kept NotItsFirstBytes a cause = cause.1
+item_excludes (RiscV is_32) s (Site site) kept NotItsInstructions a cause = riscv_excludes is_32 _ _ kept _ _ NotItsInstructions a.1 (cause a.0)
+item_excludes (RiscV is_32) s (Site site) kept NoShape a cause = riscv_excludes is_32 _ _ kept _ _ NoShape a.1 cause.1
+item_excludes (RiscV is_32) s (Site site) kept OutOfReach a cause = riscv_excludes is_32 _ _ kept _ _ OutOfReach a.1 cause.1
+item_excludes (RiscV is_32) s (Site site) kept Overlaps a cause = cause.1
+item_excludes (RiscV is_32) s (Site site) kept OutOfSection a cause = cause.1
+item_excludes (RiscV is_32) s (Site site) kept DeletedOutside a cause = cause.1
+item_excludes (RiscV is_32) s (Site site) kept NotItsFirstBytes a cause = cause.1
 item_excludes LoongArch64 s (Site site) kept NotItsInstructions a cause = loongarch_excludes _ _ kept _ _ NotItsInstructions a.1 (cause a.0)
 item_excludes LoongArch64 s (Site site) kept NoShape a cause = loongarch_excludes _ _ kept _ _ NoShape a.1 cause.1
 item_excludes LoongArch64 s (Site site) kept OutOfReach a cause = loongarch_excludes _ _ kept _ _ OutOfReach a.1 cause.1
@@ -55,7 +55,7 @@ writable_excludes machine s item DeletedOutside w u = item_excludes machine s it
 
 -- an item in its place that isn't written
 not_own : (machine : Machine) (s : Section) (item : Item) (kept : ℕ) → (ItemCause machine s item kept Overlaps → ⊥) × (ItemCause machine s item kept OutOfSection → ⊥) × (ItemCause machine s item kept DeletedOutside → ⊥)
-not_own RiscV64 s (Site site) kept = (λ c. c.1, λ c. c.1, λ c. c.1)
+not_own (RiscV is_32) s (Site site) kept = (λ c. c.1, λ c. c.1, λ c. c.1)
 not_own LoongArch64 s (Site site) kept = (λ c. c.1, λ c. c.1, λ c. c.1)
 not_own machine s (Aligned alignment) kept = (λ c. c, λ c. c, λ c. c)
 

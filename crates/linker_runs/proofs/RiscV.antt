@@ -1,17 +1,18 @@
 -- What calls of RISC-V become.
-use Rattle.std.proofs.Common.{◌≡◌, ℕ, ◌+◌, ◌-◌, ◌*◌, ◌%◌, ◌^◌, ◌<◌, List, [], length, take, drop, refl, subst, ◌∙◌, ap, arith, inl, inr, ℤ, pos, ◌+ℤ◌, Option, Some, None, Bool, true, false, int_lt}
-use Rattle.linker_runs.proofs.Imports.{◌==◌, if◌then◌else◌, IsSomeAnd, ◌*ℤ◌, w32, w64, from_le_bytes, to_le_bytes, cases_Bool, eqb-true, agree_below, and_parts, from_le_bytes-to_le_bytes_4, field, window_of, is_placed, BitRange, InstructionWritten, bits_taken, riscv_row, link_register, tail_to_cj, OfJalr, IsApplied, IsAddress, AreAddresses, whole}
+use Rattle.std.proofs.Common.{◌≡◌, ℕ, ◌+◌, ◌-◌, ◌*◌, ◌%◌, ◌^◌, ◌<◌, List, length, take, drop, refl, subst, ◌∙◌, ap, arith, inl, inr, ℤ, pos, ◌+ℤ◌, Option, Some, None, Bool, true, false, int_lt}
+use Rattle.linker_runs.proofs.Imports.{◌==◌, if◌then◌else◌, IsSomeAnd, ◌*ℤ◌, w32, w64, from_le_bytes, to_le_bytes, cases_Bool, eqb-true, agree_below, and_parts, from_le_bytes-to_le_bytes_4, field, window_of, is_placed, BitRange, InstructionWritten, bits_taken, riscv_row, link_register, OfJalr, IsApplied, IsAddress, AreAddresses, whole}
 use Rattle.std.specs.Prelude.{◌&&◌}
 use Rattle.std.specs.Int.{w16}
 use Rattle.linker_elf.specs.RiscV.{riscv_form}
 use Rattle.linker_elf.specs.declared.elf.AnyForm.TheVariants.{RiscV}
 use Rattle.linker_elf.specs.declared.riscv64.forms.RiscVInstruction.{RiscVInstruction}
 use Rattle.linker_elf.specs.declared.riscv64.forms.RiscVInstruction.TheVariants.{JType, CjType, UiType}
-use Rattle.linker_elf.specs.declared.riscv64.relocations.RiscVRelocation.TheVariants as r
 use Rattle.linker_laws.specs.RiscVRelocationLaws.{Jumps, Calls, without_bit_0}
 use Rattle.linker_runs.specs.Sites.{Template, operands_of}
-use Rattle.linker_runs.specs.RiscVSites.{IsCj, IsJal, IsFarCall, RiscVBecomes, short_jump, jump, call, riscv_template}
+use Rattle.linker_runs.specs.RiscVSites.{IsShortJump, short_bytes, IsJal, IsFarCall, RiscVBecomes, short_jump, jump, call, riscv_template}
 use Rattle.linker_runs.proofs.Sites.{kept_field, operands_small, unit_sum}
+use Rattle.linker_runs.specs.RiscVItems.{links_short}
+use Rattle.linker_elf.specs.declared.riscv64.relocations.RiscVRelocation.TheVariants as r
 
 -- what writing an immediate keeps: n bits from bit s up, of which none is placed
 riscv_kept : (f : RiscVInstruction) (bits : BitRange) (v : ℤ) (before after : List ℕ) (w : InstructionWritten (RiscV f) bits v before after)
@@ -27,18 +28,24 @@ abbrev pub IsRelocated : ℕ → ℕ → List ℕ → Option Template → Type 0
 IsRelocated place target written template =
     IsSomeAnd template (λ t. IsSomeAnd t.row (λ row. IsApplied row (operands_of place target) t.bytes written))
 
-module _ (section : List ℕ) (o place target : ℕ) (written : List ℕ) (jumps : Jumps) (calls : Calls)
+short_fields : (link : ℕ) → (field (window_of (riscv_form CjType) (short_bytes link)) 0 2 ≡ 1) × (field (window_of (riscv_form CjType) (short_bytes link)) 13 16 ≡ (if link == 0 then 5 else 1))
+short_fields link = elim (cases_Bool (link == 0)) [
+  | inl none ↦ rw none (refl, refl)
+  | inr some ↦ rw some (refl, refl)
+]
+
+module _ (is_32 : Bool) (section : List ℕ) (o place target : ℕ) (written : List ℕ) (jumps : Jumps) (calls : Calls)
     (p : place < 2 ^ 64) (t : target < 2 ^ 64) where
   small : AreAddresses (operands_of place target)
   small = operands_small place target p t
 
-  cj_is : IsRelocated place target written (Some (record { row = riscv_row r.R_RISCV_RVC_JUMP; bytes = tail_to_cj [] })) → IsCj (from_le_bytes w16 written) place target
-  cj_is applied = record {
-    quadrant = riscv_kept CjType (record { start = 0; end = 16 }) applied.value (tail_to_cj []) written applied.written (λ b w. refl) 0 2 refl;
-    function = riscv_kept CjType (record { start = 0; end = 16 }) applied.value (tail_to_cj []) written applied.written (λ b w. refl) 13 3 refl;
+  cj_is : (link : ℕ) → IsRelocated place target written (Some (record { row = riscv_row r.R_RISCV_RVC_JUMP; bytes = short_bytes link })) → IsShortJump (from_le_bytes w16 written) link place target
+  cj_is link applied = record {
+    quadrant = riscv_kept CjType (record { start = 0; end = 16 }) applied.value (short_bytes link) written applied.written (λ b w. refl) 0 2 refl ∙ (short_fields link).0;
+    function = riscv_kept CjType (record { start = 0; end = 16 }) applied.value (short_bytes link) written applied.written (λ b w. refl) 13 3 refl ∙ (short_fields link).1;
     goes = subst (λ s. IsAddress s target) (unit_sum (pos place) ((riscv_form CjType).machine (from_le_bytes w16 written)))
         (subst (λ a. IsAddress (pos place +ℤ ((riscv_form CjType).machine (from_le_bytes w16 written) *ℤ pos 1)) a) (whole target t)
-        (jumps.2 (operands_of place target) small place (tail_to_cj []) written applied tt));
+        (jumps.2 (operands_of place target) small place (short_bytes link) written applied tt));
   }
 
   jal_word : from_le_bytes w32 (to_le_bytes w32 (0x6f + link_register OfJalr section o * 2 ^ 7)) ≡ 0x6f + link_register OfJalr section o * 2 ^ 7
@@ -63,19 +70,19 @@ module _ (section : List ℕ) (o place target : ℕ) (written : List ℕ) (jumps
         (calls.1 (operands_of place target) small place (take 8 (drop o section)) written applied tt);
   }
 
-  pub becomes : (kept : ℕ) → length written ≡ kept → IsRelocated place target written (riscv_template section o kept) → RiscVBecomes section o place target written
+  pub becomes : (kept : ℕ) → length written ≡ kept → IsRelocated place target written (riscv_template is_32 section o kept) → RiscVBecomes is_32 section o place target written
   becomes kept len applied =
       let link = link_register OfJalr section o in
-      let cj : Option Template = Some (record { row = riscv_row r.R_RISCV_RVC_JUMP; bytes = tail_to_cj [] }) in
+      let cj : Option Template = Some (record { row = riscv_row r.R_RISCV_RVC_JUMP; bytes = short_bytes link }) in
       let jal : Option Template = Some (record { row = riscv_row r.R_RISCV_JAL; bytes = to_le_bytes w32 (0x6f + link * 2 ^ 7) }) in
       let far : Option Template = Some (record { row = riscv_row r.R_RISCV_CALL_PLT; bytes = take 8 (drop o section) }) in
       let others : Option Template = if kept == 8 then far else None in
       let longer : Option Template = if kept == 4 then jal else others in
-      elim (cases_Bool (kept == 2 && link == 0)) [
+      elim (cases_Bool (kept == 2 && links_short is_32 link)) [
         | inl two ↦
-            let a = and_parts (kept == 2) (link == 0) two in
-            short_jump (len ∙ eqb-true kept 2 a.0) (eqb-true link 0 a.1)
-            (cj_is (subst (IsRelocated place target written) (ap (λ b. if b then cj else longer) two) applied))
+            let a = and_parts (kept == 2) (links_short is_32 link) two in
+            short_jump (len ∙ eqb-true kept 2 a.0) a.1
+            (cj_is link (subst (IsRelocated place target written) (ap (λ b. if b then cj else longer) two) applied))
         | inr more ↦
             let rest = subst (IsRelocated place target written) (ap (λ b. if b then cj else longer) more) applied in
             elim (cases_Bool (kept == 4)) [

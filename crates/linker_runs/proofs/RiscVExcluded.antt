@@ -1,5 +1,5 @@
 -- What is accepted of a call of RISC-V isn't rejected.
-use Rattle.std.proofs.Common.{ℕ, List, subst}
+use Rattle.std.proofs.Common.{Bool, ℕ, List, subst}
 use Rattle.std.specs.Prelude.{IsSomeAnd}
 use Rattle.linker_runs.specs.Sites.{IsInReach}
 use Rattle.linker_runs.specs.RiscVSites.{riscv_template, RiscVAccepts, RiscVCause}
@@ -7,11 +7,11 @@ use Rattle.linker_runs.proofs.Sites.{both_some, in_reach}
 use Rattle.linker_runs.specs.declared.packing.ItemError.{ItemError}
 use Rattle.linker_runs.specs.declared.packing.ItemError.TheVariants.{Overlaps, OutOfSection, DeletedOutside, NotItsFirstBytes, NotItsInstructions, NoShape, OutOfReach}
 
-pub riscv_excludes : (section : List ℕ) (o kept place target : ℕ) (error : ItemError) → RiscVAccepts section o kept place target → RiscVCause section o kept place target error → ⊥
-riscv_excludes section o kept place target NotItsInstructions a cause = cause a.call
-riscv_excludes section o kept place target NoShape a cause = subst (λ t. IsSomeAnd t (λ t. IsInReach t place target)) cause.1 a.reached
-riscv_excludes section o kept place target OutOfReach a cause = both_some (riscv_template section o kept) _ _ a.reached cause.1 (λ t p q. in_reach t place target p q)
-riscv_excludes section o kept place target Overlaps a cause = cause
-riscv_excludes section o kept place target OutOfSection a cause = cause
-riscv_excludes section o kept place target DeletedOutside a cause = cause
-riscv_excludes section o kept place target NotItsFirstBytes a cause = cause
+pub riscv_excludes : (is_32 : Bool) (section : List ℕ) (o kept place target : ℕ) (error : ItemError) → RiscVAccepts is_32 section o kept place target → RiscVCause is_32 section o kept place target error → ⊥
+riscv_excludes is_32 section o kept place target NotItsInstructions a cause = cause a.call
+riscv_excludes is_32 section o kept place target NoShape a cause = subst (λ t. IsSomeAnd t (λ t. IsInReach t place target)) cause.1 a.reached
+riscv_excludes is_32 section o kept place target OutOfReach a cause = both_some (riscv_template is_32 section o kept) _ _ a.reached cause.1 (λ t p q. in_reach t place target p q)
+riscv_excludes is_32 section o kept place target Overlaps a cause = cause
+riscv_excludes is_32 section o kept place target OutOfSection a cause = cause
+riscv_excludes is_32 section o kept place target DeletedOutside a cause = cause
+riscv_excludes is_32 section o kept place target NotItsFirstBytes a cause = cause

@@ -1,26 +1,26 @@
 -- The sites that relocations of RISC-V make are of the section's bytes.
-use Rattle.std.proofs.Common.{◌≡◌, ℕ, ◌+◌, ◌-◌, List, subst, inl, inr, ⊎_elim, arith}
+use Rattle.std.proofs.Common.{◌≡◌, Bool, ℕ, ◌+◌, ◌-◌, List, subst, inl, inr, ⊎_elim, arith}
 use Rattle.linker_runs.specs.declared.relaxation.Item.{Item}
 use Rattle.linker_runs.specs.declared.relaxation.Item.TheVariants.{Site, Aligned}
 use Rattle.linker_runs.specs.declared.shapes.riscv64.TheConstants.{CALL, TAIL_C}
 use Rattle.linker_runs.specs.Relocations.{relocation_at}
-use Rattle.linker_runs.specs.RiscVItems.{RiscVMakes, IsRiscVFormed, MayBeCJ}
+use Rattle.linker_runs.specs.RiscVItems.{RiscVMakes, IsRiscVFormed, MayBeShort}
 use Rattle.linker_runs.specs.declared.items.Relocation.{Relocation}
 use Rattle.linker_runs.specs.Origins.{HasItsInstructions, HasRiscVShapes}
-use Rattle.linker_runs.specs.declared.packing.Machine.TheVariants.{RiscV64}
+use Rattle.linker_runs.specs.declared.packing.Machine.TheVariants.{RiscV}
 
-pub riscv_site : (section : List ℕ) (base : ℕ) (relocations : List Relocation) (i : ℕ) (item : Item) → IsRiscVFormed section (relocation_at relocations i) → RiscVMakes section base relocations i item → HasItsInstructions RiscV64 section base item
-riscv_site section base relocations i (Aligned alignment) formed makes = tt
-riscv_site section base relocations i (Site call) formed makes =
+pub riscv_site : (is_32 : Bool) (section : List ℕ) (base : ℕ) (relocations : List Relocation) (i : ℕ) (item : Item) → IsRiscVFormed section (relocation_at relocations i) → RiscVMakes is_32 section base relocations i item → HasItsInstructions (RiscV is_32) section base item
+riscv_site is_32 section base relocations i (Aligned alignment) formed makes = tt
+riscv_site is_32 section base relocations i (Site call) formed makes =
     let o = (relocation_at relocations i).offset in
     let within = formed.call makes.name in
     let place : call.offset ≡ base + o = makes.place in
     let at : o ≡ call.offset - base = omega (arith, place) in
-    let shapes : HasRiscVShapes section o call.shapes = (
+    let shapes : HasRiscVShapes is_32 section o call.shapes = (
       makes.is_call,
       ⊎_elim
-          (λ (short : MayBeCJ section relocations i × (call.shapes ≡ TAIL_C)). inr (short.1, short.0.links_none))
-          (λ (other : (MayBeCJ section relocations i → ⊥) × (call.shapes ≡ CALL)). inl other.1)
+          (λ (short : MayBeShort is_32 section relocations i × (call.shapes ≡ TAIL_C)). inr (short.1, short.0.links))
+          (λ (other : (MayBeShort is_32 section relocations i → ⊥) × (call.shapes ≡ CALL)). inl other.1)
           makes.shapes,
     ) in
-    (makes.len, omega (arith, place), omega (arith, place, within), subst (λ n. HasRiscVShapes section n call.shapes) at shapes)
+    (makes.len, omega (arith, place), omega (arith, place, within), subst (λ n. HasRiscVShapes is_32 section n call.shapes) at shapes)

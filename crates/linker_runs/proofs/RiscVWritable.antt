@@ -1,39 +1,46 @@
 -- Calls of RISC-V that a relaxation made shorter can be written.
-use Rattle.std.proofs.Common.{◌≡◌, ℕ, ◌+◌, ◌*◌, ◌^◌, ◌<◌, ◌≤◌, ◌∙◌, true, List, [], refl, ap, subst, ⊎_elim, arith, None}
-use Rattle.linker_runs.proofs.Imports.{IsSomeAnd, w32, to_le_bytes, cases_lt, false≢true, ints, sum_64, R_RISCV_JAL, R_RISCV_RVC_JUMP, riscv_fits, link_register, tail_to_cj, OfJalr}
+use Rattle.std.proofs.Common.{◌≡◌, Bool, ℕ, ◌+◌, ◌*◌, ◌^◌, ◌<◌, ◌≤◌, ◌∙◌, true, List, length, inl, inr, refl, ap, subst, ⊎_elim, arith, None}
+use Rattle.linker_runs.proofs.Imports.{IsSomeAnd, w32, to_le_bytes, cases_lt, false≢true, ints, sum_64, R_RISCV_JAL, R_RISCV_RVC_JUMP, riscv_fits, link_register, cases_Bool, OfJalr, ◌==◌}
 use Rattle.linker_runs.specs.declared.relaxation.Shapes.{Shapes}
 use Rattle.linker_runs.specs.declared.shapes.riscv64.TheConstants.{CALL, TAIL_C}
 use Rattle.linker_runs.specs.Relaxing.{short_shape, is_reached}
 use Rattle.linker_runs.proofs.RiscVReaches.{riscv_shapes}
 use Rattle.linker_runs.specs.Sites.{IsOutOfReach}
-use Rattle.linker_runs.specs.RiscVSites.{riscv_template, RiscVCause}
+use Rattle.linker_runs.specs.RiscVSites.{riscv_template, short_bytes, RiscVCause}
+use Rattle.linker_runs.specs.RiscVItems.{links_short}
 use Rattle.linker_runs.specs.Origins.{HasRiscVShapes}
 use Rattle.linker_runs.specs.declared.packing.ItemError.{ItemError}
 use Rattle.linker_runs.specs.declared.packing.ItemError.TheVariants.{Overlaps, OutOfSection, DeletedOutside, NotItsFirstBytes, NotItsInstructions, NoShape, OutOfReach}
 use Rattle.linker_runs.proofs.Distances.{not_rejected}
 
-module _ (section : List ℕ) (o start from to : ℕ) where
-  jal_near : is_reached (short_shape CALL 0) from to ≡ true → IsSomeAnd (riscv_template section o 4) (λ t. IsOutOfReach t (sum_64 start from) (sum_64 start to)) → ⊥
+short_long : (link : ℕ) → 2 ≤ length (short_bytes link)
+short_long link = elim (cases_Bool (link == 0)) [
+  | inl none ↦ rw none (omega arith)
+  | inr some ↦ rw some (omega arith)
+]
+
+module _ (is_32 : Bool) (section : List ℕ) (o start from to : ℕ) where
+  jal_near : is_reached (short_shape CALL 0) from to ≡ true → IsSomeAnd (riscv_template is_32 section o 4) (λ t. IsOutOfReach t (sum_64 start from) (sum_64 start to)) → ⊥
   jal_near reached far =
       not_rejected start from to _ (to_le_bytes w32 (0x6f + link_register OfJalr section o * 2 ^ 7)) (riscv_fits R_RISCV_JAL) (omega arith) (λ v. tt) (λ v e. absurd (false≢true e))
       (λ v w. (omega (arith, ints, w.0), omega (arith, ints, w.1))) refl
       ((((riscv_shapes.0).each 0 (omega arith)).reach from to).0 reached) far
 
-  cj_near : link_register OfJalr section o ≡ 0 → is_reached (short_shape TAIL_C 0) from to ≡ true → IsSomeAnd (riscv_template section o 2) (λ t. IsOutOfReach t (sum_64 start from) (sum_64 start to)) → ⊥
+  cj_near : links_short is_32 (link_register OfJalr section o) ≡ true → is_reached (short_shape TAIL_C 0) from to ≡ true → IsSomeAnd (riscv_template is_32 section o 2) (λ t. IsOutOfReach t (sum_64 start from) (sum_64 start to)) → ⊥
   cj_near link reached far =
-      not_rejected start from to _ (tail_to_cj []) (riscv_fits R_RISCV_RVC_JUMP) (omega arith) (λ v. tt) (λ v e. absurd (false≢true e))
+      not_rejected start from to _ (short_bytes (link_register OfJalr section o)) (riscv_fits R_RISCV_RVC_JUMP) (short_long (link_register OfJalr section o)) (λ v. tt) (λ v e. absurd (false≢true e))
       (λ v w. (omega (arith, ints, w.0), omega (arith, ints, w.1))) refl
       ((((riscv_shapes.1).each 0 (omega arith)).reach from to).0 reached) (rw link at far)
 
-  pub riscv_not : (kept : ℕ) (shapes : Shapes) (k : ℕ) → HasRiscVShapes section o shapes → k < shapes.count → kept ≡ (short_shape shapes k).kept → is_reached (short_shape shapes k) from to ≡ true
-      → (error : ItemError) → RiscVCause section o kept (sum_64 start from) (sum_64 start to) error → ⊥
+  pub riscv_not : (kept : ℕ) (shapes : Shapes) (k : ℕ) → HasRiscVShapes is_32 section o shapes → k < shapes.count → kept ≡ (short_shape shapes k).kept → is_reached (short_shape shapes k) from to ≡ true
+      → (error : ItemError) → RiscVCause is_32 section o kept (sum_64 start from) (sum_64 start to) error → ⊥
   riscv_not kept shapes k has short len reached error cause = ⊎_elim
       (λ (call : shapes ≡ CALL).
       let below : k < 1 = subst (λ s. k < s.count) call short in
       let first : k ≡ 0 = omega arith in
       jal_only (len ∙ ap (λ s. (short_shape s k).kept) call ∙ ap (λ n. (short_shape CALL n).kept) first)
       (subst (λ n. is_reached (short_shape CALL n) from to ≡ true) first (subst (λ s. is_reached (short_shape s k) from to ≡ true) call reached)) error cause)
-      (λ (tail : (shapes ≡ TAIL_C) × (link_register OfJalr section o ≡ 0)).
+      (λ (tail : (shapes ≡ TAIL_C) × (links_short is_32 (link_register OfJalr section o) ≡ true)).
       let below : k < 2 = subst (λ s. k < s.count) tail.0 short in
       let same = len ∙ ap (λ s. (short_shape s k).kept) tail.0 in
       let near = subst (λ s. is_reached (short_shape s k) from to ≡ true) tail.0 reached in
@@ -47,19 +54,19 @@ module _ (section : List ℕ) (o start from to : ℕ) where
       (cases_lt 0 k))
       has.1
     where
-      jal_only : kept ≡ 4 → is_reached (short_shape CALL 0) from to ≡ true → (error : ItemError) → RiscVCause section o kept (sum_64 start from) (sum_64 start to) error → ⊥
+      jal_only : kept ≡ 4 → is_reached (short_shape CALL 0) from to ≡ true → (error : ItemError) → RiscVCause is_32 section o kept (sum_64 start from) (sum_64 start to) error → ⊥
       jal_only four near NotItsInstructions cause = cause has.0
-      jal_only four near NoShape cause = let no = subst (λ n. riscv_template section o n ≡ None) four cause.1 in cc
-      jal_only four near OutOfReach cause = jal_near near (subst (λ n. IsSomeAnd (riscv_template section o n) (λ t. IsOutOfReach t (sum_64 start from) (sum_64 start to))) four cause.1)
+      jal_only four near NoShape cause = let no = subst (λ n. riscv_template is_32 section o n ≡ None) four cause.1 in cc
+      jal_only four near OutOfReach cause = jal_near near (subst (λ n. IsSomeAnd (riscv_template is_32 section o n) (λ t. IsOutOfReach t (sum_64 start from) (sum_64 start to))) four cause.1)
       jal_only four near Overlaps cause = cause
       jal_only four near OutOfSection cause = cause
       jal_only four near DeletedOutside cause = cause
       jal_only four near NotItsFirstBytes cause = cause
 
-      cj_only : link_register OfJalr section o ≡ 0 → kept ≡ 2 → is_reached (short_shape TAIL_C 0) from to ≡ true → (error : ItemError) → RiscVCause section o kept (sum_64 start from) (sum_64 start to) error → ⊥
+      cj_only : links_short is_32 (link_register OfJalr section o) ≡ true → kept ≡ 2 → is_reached (short_shape TAIL_C 0) from to ≡ true → (error : ItemError) → RiscVCause is_32 section o kept (sum_64 start from) (sum_64 start to) error → ⊥
       cj_only link two near NotItsInstructions cause = cause has.0
-      cj_only link two near NoShape cause = let no = subst (λ n. riscv_template section o n ≡ None) two cause.1 in let none = rw link at no in cc
-      cj_only link two near OutOfReach cause = cj_near link near (subst (λ n. IsSomeAnd (riscv_template section o n) (λ t. IsOutOfReach t (sum_64 start from) (sum_64 start to))) two cause.1)
+      cj_only link two near NoShape cause = let no = subst (λ n. riscv_template is_32 section o n ≡ None) two cause.1 in let none = rw link at no in cc
+      cj_only link two near OutOfReach cause = cj_near link near (subst (λ n. IsSomeAnd (riscv_template is_32 section o n) (λ t. IsOutOfReach t (sum_64 start from) (sum_64 start to))) two cause.1)
       cj_only link two near Overlaps cause = cause
       cj_only link two near OutOfSection cause = cause
       cj_only link two near DeletedOutside cause = cause

@@ -11,7 +11,7 @@ use Rattle.linker_runs.proofs.Translations.{translations_exact}
 use Rattle.linker_runs.specs.Origins.{HasItsInstructions}
 use Rattle.linker_runs.specs.Packing.{Section, section_of, kept_len, CodeCause, IsUnwritable}
 use Rattle.linker_runs.specs.declared.packing.Machine.{Machine}
-use Rattle.linker_runs.specs.declared.packing.Machine.TheVariants.{RiscV64, LoongArch64}
+use Rattle.linker_runs.specs.declared.packing.Machine.TheVariants.{RiscV, LoongArch64}
 use Rattle.linker_runs.specs.declared.packing.ItemError.{ItemError}
 use Rattle.linker_runs.specs.declared.packing.ItemError.TheVariants.{Overlaps, OutOfSection, DeletedOutside, NotItsFirstBytes, NotItsInstructions, NoShape, OutOfReach}
 use Rattle.linker_runs.specs.Writable.{IsShortened, ShortSitesAreWritable}
@@ -41,7 +41,7 @@ module _ (bytes : List ℕ) (base : ℕ) (d : List (ℕ × ℕ)) (start : ℕ) w
   code_not : (machine : Machine) (site : sites) (kept k : ℕ) → HasItsInstructions machine bytes base (Site site) → k < site.shapes.count → kept ≡ (short_shape site.shapes k).kept
       → is_reached (short_shape site.shapes k) (rank d site.offset) (rank d site.target) ≡ true
       → (error : ItemError) → CodeCause machine bytes (site.offset - base) kept (sum_64 start (rank d site.offset)) (sum_64 start (rank d site.target)) error → ⊥
-  code_not RiscV64 site kept k has short len near = riscv_not bytes (site.offset - base) start _ _ kept site.shapes k has.3 short len near
+  code_not (RiscV is_32) site kept k has short len near = riscv_not is_32 bytes (site.offset - base) start _ _ kept site.shapes k has.3 short len near
   code_not LoongArch64 site kept k has short len near = loongarch_not bytes (site.offset - base) start _ _ kept site.shapes k has.3 short len near
 
   -- the same of an item of a run, by its layout

@@ -1,5 +1,5 @@
 -- Sites whose shapes are those of the instructions that are there.
-use Rattle.std.specs.Prelude.{◌≡◌, ℕ, ◌+◌, ◌-◌, ◌≤◌, ◌⊎◌, List, length, ⊤}
+use Rattle.std.specs.Prelude.{◌≡◌, Bool, true, ℕ, ◌+◌, ◌-◌, ◌≤◌, ◌⊎◌, List, length, ⊤}
 use Rattle.linker_riscv64.specs.RiscVCalls.{link_register}
 use Rattle.linker_riscv64.specs.declared.calls.LinkRegister.TheVariants.{OfJalr}
 use Rattle.linker_runs.specs.declared.relaxation.Item.{Item}
@@ -7,15 +7,16 @@ use Rattle.linker_runs.specs.declared.relaxation.Item.TheVariants.{Site, Aligned
 use Rattle.linker_runs.specs.declared.relaxation.Shapes.{Shapes}
 use Rattle.linker_runs.specs.declared.shapes.loongarch64.TheConstants.{CALL36, PCALA}
 use Rattle.linker_runs.specs.declared.shapes.riscv64.TheConstants.{CALL, TAIL_C}
-use Rattle.linker_runs.specs.RiscVItems.{IsCallAt}
+use Rattle.linker_runs.specs.RiscVItems.{IsCallAt, links_short}
 use Rattle.linker_runs.specs.LoongArchSites.{IsCall36At, IsPcalaAt}
 use Rattle.linker_runs.specs.declared.packing.Machine.{Machine}
-use Rattle.linker_runs.specs.declared.packing.Machine.TheVariants.{RiscV64, LoongArch64}
+use Rattle.linker_runs.specs.declared.packing.Machine.TheVariants.{RiscV, LoongArch64}
 
--- A call of RISC-V is at the offset that can have the shapes. Only one that links x0 can be `c.j`.
-abbrev pub HasRiscVShapes : List ℕ → ℕ → Shapes → Type 0
-HasRiscVShapes section o shapes = IsCallAt section o
-    × ((shapes ≡ CALL) ⊎ ((shapes ≡ TAIL_C) × (link_register OfJalr section o ≡ 0)))
+-- A call of RISC-V is at the offset that can have the shapes. Only some can be
+-- two bytes long.
+abbrev pub HasRiscVShapes : Bool → List ℕ → ℕ → Shapes → Type 0
+HasRiscVShapes is_32 section o shapes = IsCallAt section o × ((shapes ≡ CALL)
+    ⊎ ((shapes ≡ TAIL_C) × (links_short is_32 (link_register OfJalr section o) ≡ true)))
 
 -- A site of LoongArch is at the offset, and has its shapes.
 abbrev pub HasLoongArchShapes : List ℕ → ℕ → Shapes → Type 0
@@ -23,7 +24,7 @@ HasLoongArchShapes section o shapes = (IsCall36At section o × (shapes ≡ CALL3
     ⊎ (IsPcalaAt section o × (shapes ≡ PCALA))
 
 abbrev pub HasShapes : Machine → List ℕ → ℕ → Shapes → Type 0
-HasShapes RiscV64 section o shapes = HasRiscVShapes section o shapes
+HasShapes (RiscV is_32) section o shapes = HasRiscVShapes is_32 section o shapes
 HasShapes LoongArch64 section o shapes = HasLoongArchShapes section o shapes
 
 -- A site is eight bytes of a section that begins at an input offset, of instructions that can have

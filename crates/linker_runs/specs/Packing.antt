@@ -12,7 +12,7 @@ use Rattle.linker_runs.specs.Relaxing.{offset_of, end_of, item_at}
 use Rattle.linker_runs.specs.RiscVSites.{RiscVBecomes, RiscVAccepts, RiscVCause}
 use Rattle.linker_runs.specs.LoongArchSites.{LoongArchBecomes, LoongArchAccepts, LoongArchCause}
 use Rattle.linker_runs.specs.declared.packing.Machine.{Machine}
-use Rattle.linker_runs.specs.declared.packing.Machine.TheVariants.{RiscV64, LoongArch64}
+use Rattle.linker_runs.specs.declared.packing.Machine.TheVariants.{RiscV, LoongArch64}
 use Rattle.linker_runs.specs.declared.packing.ItemError.{ItemError}
 use Rattle.linker_runs.specs.declared.packing.ItemError.TheVariants.{Overlaps, OutOfSection}
 use Rattle.linker_runs.specs.declared.packing.ItemError.TheVariants.{DeletedOutside}
@@ -101,13 +101,13 @@ repeated word (suc n) = word ++ repeated word n
 
 -- the length of the shortest nop
 abbrev pub nop_len : Machine → ℕ
-nop_len RiscV64 = 2
+nop_len (RiscV is_32) = 2
 nop_len LoongArch64 = 4
 
 -- n bytes of nops: of RISC-V `nop`, and at most one `c.nop` at the end; of LoongArch
 -- `andi zero, zero, 0`
 abbrev pub nops : Machine → ℕ → List ℕ
-nops RiscV64 n = repeated (0x13 ∷ 0x00 ∷ 0x00 ∷ 0x00 ∷ []) (n / 4)
+nops (RiscV is_32) n = repeated (0x13 ∷ 0x00 ∷ 0x00 ∷ 0x00 ∷ []) (n / 4)
     ++ (if n % 4 == 2 then 0x01 ∷ 0x00 ∷ [] else [])
 nops LoongArch64 n = repeated (0x00 ∷ 0x00 ∷ 0x40 ∷ 0x03 ∷ []) (n / 4)
 
@@ -115,7 +115,7 @@ nops LoongArch64 n = repeated (0x00 ∷ 0x00 ∷ 0x40 ∷ 0x03 ∷ []) (n / 4)
 
 -- what a site's instructions become
 abbrev pub SiteBecomes : Machine → Section → site → List ℕ → Type 0
-SiteBecomes RiscV64 s site written = RiscVBecomes s.bytes (site.offset - s.base)
+SiteBecomes (RiscV is_32) s site written = RiscVBecomes is_32 s.bytes (site.offset - s.base)
     (address_of s site.offset) (address_of s site.target) written
 SiteBecomes LoongArch64 s site written = LoongArchBecomes s.bytes (site.offset - s.base)
     (address_of s site.offset) (address_of s site.target) written
@@ -148,8 +148,8 @@ pub record IsPackedRun (machine : Machine) (s : Section) (items : List Item) (pa
 
 -- there are instructions for a site in the section of which n bytes stay
 abbrev pub SiteAccepts : Machine → Section → site → ℕ → Type 0
-SiteAccepts RiscV64 s site kept =
-    (site.len ≡ 8) × RiscVAccepts s.bytes (site.offset - s.base) kept (address_of s site.offset)
+SiteAccepts (RiscV is_32) s site kept =
+    (site.len ≡ 8) × RiscVAccepts is_32 s.bytes (site.offset - s.base) kept (address_of s site.offset)
     (address_of s site.target)
 SiteAccepts LoongArch64 s site kept =
     (site.len ≡ 8) × LoongArchAccepts s.bytes (site.offset - s.base) kept
@@ -174,7 +174,8 @@ pub record CanWrite (machine : Machine) (s : Section) (items : List Item) (i : �
 
 -- why the instructions at an offset aren't written, of which n bytes stay
 abbrev pub CodeCause : Machine → List ℕ → ℕ → ℕ → ℕ → ℕ → ItemError → Type 0
-CodeCause RiscV64 section o kept place target error = RiscVCause section o kept place target error
+CodeCause (RiscV is_32) section o kept place target error =
+    RiscVCause is_32 section o kept place target error
 CodeCause LoongArch64 section o kept place target error =
     LoongArchCause section o kept place target error
 

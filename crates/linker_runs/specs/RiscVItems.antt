@@ -1,7 +1,7 @@
 -- The items that RISC-V's relocations make (RISC-V ELF psABI, "Linker Relaxation": "Alignment
 -- Relaxation", "Function Call Relaxation" and "Compressed Tail Call Relaxation").
 use Rattle.std.specs.Prelude.{◌≡◌, ◌≢◌, ℕ, ◌+◌, ◌%◌, ◌^◌, ◌<◌, ◌≤◌, ◌⊎◌, List, length, pos, None}
-use Rattle.std.specs.Prelude.{Some, true, ◌-◌}
+use Rattle.std.specs.Prelude.{Some, Bool, true, ◌-◌, ◌==◌, ◌&&◌, ◌||◌}
 use Rattle.std.specs.Int.{IsNextPowerOfTwo}
 use Rattle.linker_base.specs.Bits.{field}
 use Rattle.linker_elf.specs.ElfNames.{r_type_of}
@@ -80,21 +80,26 @@ pub record IsCallAt (section : List ℕ) (o : ℕ) : Type 0 where
   pub pair : IsCallPair (word_at section o) (word_at section (o + 4))
   pub not_zero : field (word_at section o) 7 12 ≢ 0
 
--- Only `c.j` is short enough for two bytes. It needs the C extension, links no
--- register and frees six bytes.
-pub record MayBeCJ (section : List ℕ) (relocations : List Relocation) (i : ℕ) : Type 0 where
+-- the registers that a jump of two bytes links: x0 with `c.j`, and x1 with RV32's `c.jal`
+abbrev pub links_short : Bool → ℕ → Bool
+links_short is_32 link = link == 0 || is_32 && link == 1
+
+-- Only such a jump is short enough for two bytes. It needs the C extension and frees six bytes.
+pub record MayBeShort (is_32 : Bool) (section : List ℕ) (relocations : List Relocation) (i : ℕ)
+    : Type 0 where
   pub c_extension : (relocation_at relocations i).may_compress ≡ true
-  pub links_none : link_register OfJalr section (relocation_at relocations i).offset ≡ 0
+  pub links : links_short is_32 (link_register OfJalr section (relocation_at relocations i).offset) ≡ true
   pub frees : MayFree 6 relocations i
 
 -- what a call can become
-abbrev pub IsShapesOf : List ℕ → List Relocation → ℕ → Shapes → Type 0
-IsShapesOf section relocations i shapes = (MayBeCJ section relocations i × (shapes ≡ TAIL_C))
-    ⊎ (¬ MayBeCJ section relocations i × (shapes ≡ CALL))
+abbrev pub IsShapesOf : Bool → List ℕ → List Relocation → ℕ → Shapes → Type 0
+IsShapesOf is_32 section relocations i shapes =
+    (MayBeShort is_32 section relocations i × (shapes ≡ TAIL_C))
+    ⊎ (¬ MayBeShort is_32 section relocations i × (shapes ≡ CALL))
 
 -- `jal` frees four bytes
-pub record IsRiscVSite (section : List ℕ) (base : ℕ) (relocations : List Relocation) (i : ℕ)
-    (call : site) : Type 0 where
+pub record IsRiscVSite (is_32 : Bool) (section : List ℕ) (base : ℕ)
+    (relocations : List Relocation) (i : ℕ) (call : site) : Type 0 where
   pub name : IsOfCall (relocation_at relocations i)
   pub marked : IsMarked (r_type_of (riscv_name r.R_RISCV_RELAX)) relocations i
   pub frees : MayFree 4 relocations i
@@ -102,14 +107,15 @@ pub record IsRiscVSite (section : List ℕ) (base : ℕ) (relocations : List Rel
   pub is_call : IsCallAt section (relocation_at relocations i).offset
   pub len : call.len ≡ 8
   pub target : (relocation_at relocations i).target ≡ Some call.target
-  pub shapes : IsShapesOf section relocations i call.shapes
+  pub shapes : IsShapesOf is_32 section relocations i call.shapes
 
 -- ---- what a relocation makes
 
 -- the item that the relocation at an index makes, where the section begins at an input offset
-abbrev pub RiscVMakes : List ℕ → ℕ → List Relocation → ℕ → Item → Type 0
-RiscVMakes section base relocations i (Site call) = IsRiscVSite section base relocations i call
-RiscVMakes section base relocations i (Aligned alignment) =
+abbrev pub RiscVMakes : Bool → List ℕ → ℕ → List Relocation → ℕ → Item → Type 0
+RiscVMakes is_32 section base relocations i (Site call) =
+    IsRiscVSite is_32 section base relocations i call
+RiscVMakes is_32 section base relocations i (Aligned alignment) =
     IsRiscVAlignment section base (relocation_at relocations i) alignment
 
 -- A relocation is in the section, the eight bytes of a call are, and an `R_RISCV_ALIGN` has nops.

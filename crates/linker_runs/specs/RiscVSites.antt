@@ -1,6 +1,6 @@
 -- What calls of RISC-V become (RISC-V ELF psABI, "Function Call Relaxation", "Compressed Tail Call
 -- Relaxation"; the instructions by the RISC-V unprivileged ISA).
-use Rattle.std.specs.Prelude.{◌≡◌, ℕ, ◌+◌, ◌-◌, ◌*◌, ◌%◌, ◌^◌, List, [], length, take, drop}
+use Rattle.std.specs.Prelude.{◌≡◌, Bool, true, ◌∷◌, ℕ, ◌+◌, ◌-◌, ◌*◌, ◌%◌, ◌^◌, List, [], length, take, drop}
 use Rattle.std.specs.Prelude.{Option, Some, None, IsSomeAnd, ◌==◌, ◌&&◌, if◌then◌else◌, pos}
 use Rattle.std.specs.Prelude.{◌+ℤ◌}
 use Rattle.std.specs.Int.{w16, w32, w64, from_le_bytes, to_le_bytes}
@@ -11,12 +11,11 @@ use Rattle.linker_elf.specs.declared.riscv64.forms.RiscVInstruction.TheVariants.
 use Rattle.linker_elf.specs.declared.riscv64.forms.RiscVInstruction.TheVariants.{UiType}
 use Rattle.linker_elf.specs.declared.riscv64.relocations.RiscVRelocation.TheVariants as r
 use Rattle.linker_riscv64.specs.RiscVCalls.{link_register}
-use Rattle.linker_utils.specs.RiscVRewrites.{tail_to_cj}
 use Rattle.linker_riscv64.specs.declared.calls.LinkRegister.TheVariants.{OfJalr}
 use Rattle.linker_laws.specs.RiscVRelocationLaws.{without_bit_0}
 use Rattle.linker_elf.specs.Applied.{IsApplied}
 use Rattle.linker_laws.specs.Schemes.{IsAddress}
-use Rattle.linker_runs.specs.RiscVItems.{IsCallAt}
+use Rattle.linker_runs.specs.RiscVItems.{IsCallAt, links_short}
 use Rattle.linker_runs.specs.Sites.{Template, operands_of, IsInReach, IsOutOfReach}
 use Rattle.linker_runs.specs.declared.packing.ItemError.{ItemError}
 use Rattle.linker_runs.specs.declared.packing.ItemError.TheVariants.{NotItsInstructions, NoShape}
@@ -24,10 +23,11 @@ use Rattle.linker_runs.specs.declared.packing.ItemError.TheVariants.{OutOfReach}
 
 -- ---- what is written
 
--- The half is `c.j` to the target.
-pub record IsCj (half place target : ℕ) : Type 0 where
+-- The half is `c.j` to the target, which links x0, or else `c.jal`: RV32 sets x1 to the place plus 2,
+-- and jumps to the target.
+pub record IsShortJump (half link place target : ℕ) : Type 0 where
   pub quadrant : field half 0 2 ≡ 1
-  pub function : field half 13 16 ≡ 5
+  pub function : field half 13 16 ≡ (if link == 0 then 5 else 1)
   pub goes : IsAddress (pos place +ℤ (riscv_form CjType).machine half) target
 
 -- The word is `jal` to the target, and links a register.
@@ -46,24 +46,32 @@ pub record IsFarCall (section : List ℕ) (o place target : ℕ) (written : List
       (without_bit_0 (pos place +ℤ (riscv_form UiType).machine (from_le_bytes w64 written)))
       (target - target % 2)
 
--- What the call at an offset of a section becomes. Only one that links x0 becomes `c.j`.
-pub data RiscVBecomes (section : List ℕ) (o place target : ℕ) (written : List ℕ) : Type 0 where
-  short_jump : length written ≡ 2 → link_register OfJalr section o ≡ 0
-      → IsCj (from_le_bytes w16 written) place target
-      → RiscVBecomes section o place target written
+-- What the call at an offset of a section becomes. Only some become two bytes long.
+pub data RiscVBecomes (is_32 : Bool) (section : List ℕ) (o place target : ℕ) (written : List ℕ)
+    : Type 0 where
+  short_jump : length written ≡ 2 → links_short is_32 (link_register OfJalr section o) ≡ true
+      → IsShortJump (from_le_bytes w16 written) (link_register OfJalr section o) place target
+      → RiscVBecomes is_32 section o place target written
   jump : length written ≡ 4
       → IsJal (from_le_bytes w32 written) (link_register OfJalr section o) place target
-      → RiscVBecomes section o place target written
+      → RiscVBecomes is_32 section o place target written
   call : length written ≡ 8 → IsFarCall section o place target written
-      → RiscVBecomes section o place target written
+      → RiscVBecomes is_32 section o place target written
 
 -- ---- what is accepted and rejected
 
+-- `c.j` of distance 0, and `c.jal` of distance 0, which links x1
+abbrev pub short_bytes : ℕ → List ℕ
+short_bytes link = if link == 0 then 0x01 ∷ 0xa0 ∷ [] else 0x01 ∷ 0x20 ∷ []
+
 -- the instruction of n bytes before its relocation
-abbrev pub riscv_template : List ℕ → ℕ → ℕ → Option Template
-riscv_template section o kept =
-    if kept == 2 && link_register OfJalr section o == 0
-    then Some (record { row = riscv_row r.R_RISCV_RVC_JUMP; bytes = tail_to_cj [] })
+abbrev pub riscv_template : Bool → List ℕ → ℕ → ℕ → Option Template
+riscv_template is_32 section o kept =
+    if kept == 2 && links_short is_32 (link_register OfJalr section o)
+    then Some (record {
+      row = riscv_row r.R_RISCV_RVC_JUMP;
+      bytes = short_bytes (link_register OfJalr section o);
+    })
     else if kept == 4
     then Some (record {
       row = riscv_row r.R_RISCV_JAL;
@@ -77,16 +85,16 @@ riscv_template section o kept =
     else None
 
 -- A call is at the offset, and of n bytes there is an instruction that reaches the target.
-pub record RiscVAccepts (section : List ℕ) (o kept place target : ℕ) : Type 0 where
+pub record RiscVAccepts (is_32 : Bool) (section : List ℕ) (o kept place target : ℕ) : Type 0 where
   pub call : IsCallAt section o
-  pub reached : IsSomeAnd (riscv_template section o kept) (λ t. IsInReach t place target)
+  pub reached : IsSomeAnd (riscv_template is_32 section o kept) (λ t. IsInReach t place target)
 
 -- why nothing is written of the eight bytes at an offset of which n stay
-abbrev pub RiscVCause : List ℕ → ℕ → ℕ → ℕ → ℕ → ItemError → Type 0
-RiscVCause section o kept place target NotItsInstructions = ¬ IsCallAt section o
-RiscVCause section o kept place target NoShape =
-    IsCallAt section o × (riscv_template section o kept ≡ None)
-RiscVCause section o kept place target OutOfReach =
+abbrev pub RiscVCause : Bool → List ℕ → ℕ → ℕ → ℕ → ℕ → ItemError → Type 0
+RiscVCause is_32 section o kept place target NotItsInstructions = ¬ IsCallAt section o
+RiscVCause is_32 section o kept place target NoShape =
+    IsCallAt section o × (riscv_template is_32 section o kept ≡ None)
+RiscVCause is_32 section o kept place target OutOfReach =
     IsCallAt section o
-    × IsSomeAnd (riscv_template section o kept) (λ t. IsOutOfReach t place target)
-RiscVCause section o kept place target other = ⊥
+    × IsSomeAnd (riscv_template is_32 section o kept) (λ t. IsOutOfReach t place target)
+RiscVCause is_32 section o kept place target other = ⊥

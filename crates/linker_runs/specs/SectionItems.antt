@@ -4,15 +4,15 @@ use Rattle.linker_runs.specs.LoongArchItems.{LoongArchMakes, IsLoongArchFormed}
 use Rattle.linker_runs.specs.RiscVItems.{RiscVMakes, IsRiscVFormed}
 use Rattle.linker_runs.specs.declared.items.Relocation.{Relocation}
 use Rattle.linker_runs.specs.declared.packing.Machine.{Machine}
-use Rattle.linker_runs.specs.declared.packing.Machine.TheVariants.{RiscV64, LoongArch64}
+use Rattle.linker_runs.specs.declared.packing.Machine.TheVariants.{RiscV, LoongArch64}
 use Rattle.linker_runs.specs.declared.relaxation.Item.{Item}
 
 -- the item that the relocation at an index makes, where the section begins at an input offset
 abbrev pub Makes : Machine → List ℕ → ℕ → List Relocation → ℕ → Item → Type 0
-Makes RiscV64 section base relocations i item = RiscVMakes section base relocations i item
+Makes (RiscV is_32) section base relocations i item = RiscVMakes is_32 section base relocations i item
 Makes LoongArch64 section base relocations i item = LoongArchMakes section base relocations i item
 
 -- a relocation is what the psABI allows
 abbrev pub IsFormed : Machine → List ℕ → Relocation → Type 0
-IsFormed RiscV64 section relocation = IsRiscVFormed section relocation
+IsFormed (RiscV is_32) section relocation = IsRiscVFormed section relocation
 IsFormed LoongArch64 section relocation = IsLoongArchFormed section relocation

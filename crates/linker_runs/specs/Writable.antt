@@ -1,5 +1,5 @@
 -- What a relaxation made shorter can be written where the run is packed.
-use Rattle.std.specs.Prelude.{◌≡◌, ◌≢◌, ◌⊎◌, ⊤, ℕ, ◌-◌, ◌^◌, ◌<◌, List, length}
+use Rattle.std.specs.Prelude.{◌≡◌, Bool, ◌≢◌, ◌⊎◌, ⊤, ℕ, ◌-◌, ◌^◌, ◌<◌, List, length}
 use Rattle.linker_runs.specs.declared.relaxation.Shapes.{Shapes}
 use Rattle.linker_runs.specs.declared.relaxation.Item.{Item}
 use Rattle.linker_runs.specs.declared.relaxation.Item.TheVariants.{Site, Aligned}
@@ -13,7 +13,7 @@ use Rattle.linker_runs.specs.declared.items.Relocation.{Relocation}
 use Rattle.linker_runs.specs.Origins.{HasItsInstructions}
 use Rattle.linker_runs.specs.Packing.{section_of, IsUnwritable, IsFirstRejected}
 use Rattle.linker_runs.specs.declared.packing.Machine.{Machine}
-use Rattle.linker_runs.specs.declared.packing.Machine.TheVariants.{RiscV64, LoongArch64}
+use Rattle.linker_runs.specs.declared.packing.Machine.TheVariants.{RiscV, LoongArch64}
 use Rattle.linker_runs.specs.declared.packing.ItemError.{ItemError}
 use Rattle.linker_runs.specs.declared.packing.ItemError.TheVariants.{OutOfReach}
 use Rattle.linker_runs.specs.declared.packing.RejectedItem.{RejectedItem}
@@ -47,11 +47,11 @@ IsNear item = (offset_of item < 2 ^ 31 - 2 ^ 11) × (target_of item < 2 ^ 31 - 2
 
 -- Each such call of RISC-V can be written, whichever shape it has.
 abbrev pub NearCallsAreWritable : Type 0
-NearCallsAreWritable = (start base : ℕ) (items : List Item) (shapes kept freed bytes : List ℕ)
+NearCallsAreWritable = (is_32 : Bool) (start base : ℕ) (items : List Item) (shapes kept freed bytes : List ℕ)
     → AreItems start items → IsRelaxation start items shapes kept freed
     → (i : ℕ) → i < length items → IsSite (item_at items i) → IsNear (item_at items i)
-    → HasItsInstructions RiscV64 bytes base (item_at items i) → (error : ItemError)
-    → ¬ IsUnwritable RiscV64 (section_of bytes base (deletions_of_run items kept) start)
+    → HasItsInstructions (RiscV is_32) bytes base (item_at items i) → (error : ItemError)
+    → ¬ IsUnwritable (RiscV is_32) (section_of bytes base (deletions_of_run items kept) start)
     (item_at items i) error
 
 -- The site is an `R_LARCH_CALL36`. It and its target lie in the first 2 ^ 37 - 2 ^ 17 bytes of the
@@ -89,7 +89,7 @@ NearAddressesAreWritable = (start base : ℕ) (items : List Item) (shapes kept f
 
 -- what a site has to be where it stays long
 abbrev pub IsNearSite : Machine → Item → Type 0
-IsNearSite RiscV64 item = IsNear item
+IsNearSite (RiscV is_32) item = IsNear item
 IsNearSite LoongArch64 item = IsNearCall36 item ⊎ IsNearAddress item
 
 -- The item at an index of the run is an alignment, a site without short shapes, or a site that has

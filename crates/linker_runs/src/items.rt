@@ -176,7 +176,7 @@ fn is_formed(machine: Machine, section: &[u8], relocation: &Relocation) -> bool
     ensures { IsTrue result ↔ IsFormed machine section.now relocation.now }
 {
     match machine {
-        Machine::RiscV64 => riscv64::is_formed(section, relocation),
+        Machine::RiscV { .. } => riscv64::is_formed(section, relocation),
         Machine::LoongArch64 => loongarch64::is_formed(section, relocation),
     }
 }
@@ -216,7 +216,7 @@ fn ahead<R: AsRelocation>(machine: Machine, relocations: &[R], index: usize, kno
     ensures { IsAhead machine (map R.relocation relocations.now) index result }
 {
     match machine {
-        Machine::RiscV64 => {
+        Machine::RiscV { .. } => {
             if known <= index {
                 riscv64::next_alignment(relocations, index)
             } else {
@@ -247,7 +247,9 @@ fn item_at<R: AsRelocation>(
         (Makes machine section.now base (map R.relocation relocations.now) index) }
 {
     match machine {
-        Machine::RiscV64 => riscv64::item_at(section, base, relocations, index, ahead),
+        Machine::RiscV { is_32 } => {
+            riscv64::item_at(is_32, section, base, relocations, index, ahead)
+        }
         Machine::LoongArch64 => loongarch64::item_at(section, base, relocations, index),
     }
 }
@@ -267,10 +269,10 @@ pub struct SectionItems {
 ///
 /// **RISC-V.** `R_RISCV_CALL` and `R_RISCV_CALL_PLT` make a site where `R_RISCV_RELAX` is the next
 /// relocation, at the same offset, the target is in the run, and the bytes are `auipc` and `jalr`
-/// of one register. Its shapes are `TAIL_C` where the `jalr` links x0 and the relocation's
-/// `may_compress` is set, and else `CALL`. `R_RISCV_ALIGN` makes an alignment without a limit, if
-/// there are nops: the addend is how many bytes they have, and the next power of two above it what
-/// they align to (RISC-V ELF psABI, "Linker Relaxation").
+/// of one register. Its shapes are `TAIL_C` where the `jalr` links x0, or x1 on RV32, and the
+/// relocation's `may_compress` is set, and else `CALL`. `R_RISCV_ALIGN` makes an alignment without
+/// a limit, if there are nops: the addend is how many bytes they have, and the next power of two
+/// above it what they align to (RISC-V ELF psABI, "Linker Relaxation").
 ///
 /// Where fewer nops stand before an alignment than it may need at any even address, as the 12 bytes
 /// that assemblers write for `.balign 16` in code without the C extension, the calls between it and

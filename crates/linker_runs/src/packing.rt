@@ -39,8 +39,8 @@ use linker_utils::elf::Architecture;
 /// The architecture of a section's code.
 #[derive(Clone, Copy)]
 pub enum Machine {
-    /// RISC-V of 64 bits.
-    RiscV64,
+    /// RISC-V, whose code of 32 bits has `c.jal`.
+    RiscV { is_32: bool },
     /// LoongArch of 64 bits.
     LoongArch64,
 }
@@ -52,7 +52,7 @@ impl Machine {
         ensures { result ≡ machine_of architecture }
     {
         match architecture {
-            Architecture::RiscV => Some(Machine::RiscV64),
+            Architecture::RiscV => Some(Machine::RiscV { is_32: false }),
             Architecture::LoongArch64 => Some(Machine::LoongArch64),
             Architecture::AArch64 | Architecture::Ppc64 | Architecture::X86_64 => None,
         }
@@ -166,7 +166,9 @@ fn code_of_site(
     let place = start.wrapping_add(at.output_offset);
     let target = start.wrapping_add(position_of(deltas, site.target).output_offset);
     match machine {
-        Machine::RiscV64 => riscv64::code_of(section, site.offset - base, kept, place, target),
+        Machine::RiscV { is_32 } => {
+            riscv64::code_of(is_32, section, site.offset - base, kept, place, target)
+        }
         Machine::LoongArch64 => {
             loongarch64::code_of(section, site.offset - base, kept, place, target)
         }
@@ -180,7 +182,7 @@ fn nop_len(machine: Machine) -> u64
     ensures some { 0 < result }
 {
     match machine {
-        Machine::RiscV64 => 2,
+        Machine::RiscV { .. } => 2,
         Machine::LoongArch64 => 4,
     }
 }
@@ -400,7 +402,7 @@ fn put_nops(machine: Machine, packed: &mut [u8], at: u64, len: u64)
         → packed.new ≡ take at packed.old ++ nops machine len ++ drop (at + len) packed.old }
 {
     match machine {
-        Machine::RiscV64 => {
+        Machine::RiscV { .. } => {
             put_words(packed, at, [0x13, 0x00, 0x00, 0x00], len / 4);
             if len % 4 == 2 {
                 put_bytes(packed, at.wrapping_add(len - 2), &[0x01, 0x00]);
@@ -504,7 +506,7 @@ pub fn has_its_instructions(machine: Machine, section: &[u8], base: u64, item: &
     }
     let offset = site.offset - base;
     match machine {
-        Machine::RiscV64 => riscv64::has_shapes(section, offset, &site.shapes),
+        Machine::RiscV { is_32 } => riscv64::has_shapes(is_32, section, offset, &site.shapes),
         Machine::LoongArch64 => loongarch64::has_shapes(section, offset, &site.shapes),
     }
 }

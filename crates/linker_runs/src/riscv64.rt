@@ -7,7 +7,7 @@ ghost use Rattle.linker_runs.specs.declared.relaxation.Item.{Item as items};
 ghost use Rattle.linker_riscv64.specs.RiscVCalls.{link_register};
 ghost use Rattle.linker_riscv64.specs.declared.calls.LinkRegister.TheVariants.{OfJalr};
 ghost use Rattle.linker_runs.specs.Relocations.{relocation_at};
-ghost use Rattle.linker_runs.specs.RiscVItems.{HasRiscVName, IsOfCall, AreRiscVNops, IsCallAt};
+ghost use Rattle.linker_runs.specs.RiscVItems.{HasRiscVName, IsOfCall, AreRiscVNops, IsCallAt, links_short};
 ghost use Rattle.linker_runs.specs.RiscVItems.{Aligns, IsNextAlignment};
 ghost use Rattle.linker_runs.specs.RiscVItems.{AreEnoughAt, MayFree, IsShapesOf, IsRiscVSite};
 ghost use Rattle.linker_runs.specs.RiscVItems.{RiscVMakes, IsRiscVFormed};
@@ -133,9 +133,18 @@ pub(crate) fn link_at(section: &[u8], offset: u64) -> Option<u32>
     LinkRegister::OfJalr.named_at(section, offset)
 }
 
+/// Whether a jump of two bytes links a register: `c.j` none, and RV32's `c.jal` x1.
+#[inline(always)]
+pub(crate) fn links_short(is_32: bool, link: u32) -> bool
+    ensures { result ≡ links_short is_32 link }
+{
+    link == 0 || is_32 && link == 1
+}
+
 /// What a call at an index can become that links a register.
 #[inline]
 fn shapes_of<R: AsRelocation>(
+    is_32: bool,
     link: u32,
     section: &[u8],
     relocations: &[R],
@@ -146,10 +155,10 @@ fn shapes_of<R: AsRelocation>(
     requires link { link ≡ link_register OfJalr section.now
         (relocation_at (map R.relocation relocations.now) index).offset }
     requires next { IsNextAlignment (map R.relocation relocations.now) index next }
-    ensures { IsShapesOf section.now (map R.relocation relocations.now) index result }
+    ensures { IsShapesOf is_32 section.now (map R.relocation relocations.now) index result }
 {
     let may_compress = relocation_at(relocations, index).may_compress;
-    if may_compress && link == 0 && may_free(6, relocations, index, next) {
+    if may_compress && links_short(is_32, link) && may_free(6, relocations, index, next) {
         TAIL_C
     } else {
         CALL
@@ -159,6 +168,7 @@ fn shapes_of<R: AsRelocation>(
 /// The site of a call's relocation, if it may be relaxed.
 #[inline]
 fn site_at<R: AsRelocation>(
+    is_32: bool,
     section: &[u8],
     base: u64,
     relocations: &[R],
@@ -172,9 +182,9 @@ fn site_at<R: AsRelocation>(
         ≤ length section.now }
     requires next { IsNextAlignment (map R.relocation relocations.now) index next }
     ensures some { IfSome result
-        (IsRiscVSite section.now base (map R.relocation relocations.now) index) }
+        (IsRiscVSite is_32 section.now base (map R.relocation relocations.now) index) }
     ensures none { IfNone result ((item : items)
-        → ¬ RiscVMakes section.now base (map R.relocation relocations.now) index item) }
+        → ¬ RiscVMakes is_32 section.now base (map R.relocation relocations.now) index item) }
 {
     let relocation = relocation_at(relocations, index);
     if !is_marked(relocations, index, RiscVRelocation::R_RISCV_RELAX.r_type()) {
@@ -189,7 +199,7 @@ fn site_at<R: AsRelocation>(
         offset: base + relocation.offset,
         len: 8,
         target,
-        shapes: shapes_of(link, section, relocations, index, next),
+        shapes: shapes_of(is_32, link, section, relocations, index, next),
     })
 }
 
@@ -213,6 +223,7 @@ pub(crate) fn is_formed(section: &[u8], relocation: &Relocation) -> bool
 /// The item that the relocation at an index makes, if it makes one.
 #[inline]
 pub(crate) fn item_at<R: AsRelocation>(
+    is_32: bool,
     section: &[u8],
     base: u64,
     relocations: &[R],
@@ -225,12 +236,12 @@ pub(crate) fn item_at<R: AsRelocation>(
         (relocation_at (map R.relocation relocations.now) index) }
     requires next { IsNextAlignment (map R.relocation relocations.now) index next }
     ensures { MatchOption result ((item : items)
-        → ¬ RiscVMakes section.now base (map R.relocation relocations.now) index item)
-        (RiscVMakes section.now base (map R.relocation relocations.now) index) }
+        → ¬ RiscVMakes is_32 section.now base (map R.relocation relocations.now) index item)
+        (RiscVMakes is_32 section.now base (map R.relocation relocations.now) index) }
 {
     let relocation = relocation_at(relocations, index);
     if is_of_call(&relocation) {
-        let site = site_at(section, base, relocations, index, next)?;
+        let site = site_at(is_32, section, base, relocations, index, next)?;
         return Some(Item::Site(site));
     }
     if !aligns(&relocation) {

@@ -1,6 +1,6 @@
 -- Packed sections of a run, in the numbers that C sees.
 use Rattle.std.specs.Prelude.{◌≡◌, ◌≢◌, ◌+◌, ◌^◌, ◌<◌, ◌≤◌, ◌⊎◌, ◌↔◌, ℕ, List, [], ◌∷◌, length}
-use Rattle.std.specs.Prelude.{Option, None, Some}
+use Rattle.std.specs.Prelude.{Option, None, Some, true, ◌==◌, if◌then◌else◌}
 use Rattle.linker_base.specs.Deltas.{deletions_of}
 use Rattle.linker_base.specs.Listed.{AreValidDeltas}
 use Rattle.linker_base.specs.declared.relaxation.RelaxDelta.{RelaxDelta}
@@ -8,6 +8,7 @@ use Rattle.linker_elf.specs.Machines.{architecture_of}
 use Rattle.linker_elf.specs.declared.elf.architecture.Architecture.{Architecture}
 use Rattle.linker_runs.specs.declared.relaxation.Item.{Item}
 use Rattle.linker_runs.specs.declared.packing.Machine.{Machine}
+use Rattle.linker_runs.specs.declared.packing.Machine.TheVariants.{RiscV}
 use Rattle.linker_runs.specs.declared.packing.ItemError.{ItemError}
 use Rattle.linker_runs.specs.declared.packing.ItemError.TheVariants as errors
 use Rattle.linker_runs.specs.Machines.{machine_of}
@@ -30,9 +31,10 @@ abbrev pub packed_as : Option Architecture → Option Machine
 packed_as None = None
 packed_as (Some architecture) = machine_of architecture
 
--- the same by e_machine
+-- the same by e_machine, with a number of its own for RV32
 abbrev pub packing_machine : ℕ → Option Machine
-packing_machine machine = packed_as (architecture_of machine)
+packing_machine machine =
+    if machine == 0x80f3 then Some (RiscV true) else packed_as (architecture_of machine)
 
 -- the status of why an item isn't written
 abbrev pub item_status : ItemError → Status

@@ -16,11 +16,17 @@ use linker_runs::packing::{ItemError, Machine, has_its_instructions, pack_run, p
 use linker_utils::elf::Architecture;
 use linker_utils::relaxation::RelaxDelta;
 
-/// The machine whose code becomes shorter, by `e_machine`.
+/// `e_machine` of RISC-V and `LINKER_UTILS_CLASS32`, which is added for files of ELFCLASS32.
+const RISCV32: u16 = 0x80f3;
+
+/// The machine whose code becomes shorter, by `e_machine` and class.
 #[inline]
 pub(crate) fn packing_machine(machine: u16) -> Option<Machine>
     ensures { result ≡ packing_machine machine }
 {
+    if machine == RISCV32 {
+        return Some(Machine::RiscV { is_32: true });
+    }
     Machine::of(Architecture::from_machine(machine)?)
 }
 

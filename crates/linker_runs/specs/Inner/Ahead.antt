@@ -3,10 +3,10 @@ use Rattle.std.specs.Prelude.{ℕ, ◌≤◌, ◌⊎◌, List, ⊤}
 use Rattle.linker_runs.specs.RiscVItems.{IsNextAlignment}
 use Rattle.linker_runs.specs.declared.items.Relocation.{Relocation}
 use Rattle.linker_runs.specs.declared.packing.Machine.{Machine}
-use Rattle.linker_runs.specs.declared.packing.Machine.TheVariants.{RiscV64, LoongArch64}
+use Rattle.linker_runs.specs.declared.packing.Machine.TheVariants.{RiscV, LoongArch64}
 
 abbrev pub IsAhead : Machine → List Relocation → ℕ → ℕ → Type 0
-IsAhead RiscV64 relocations i known = IsNextAlignment relocations i known
+IsAhead (RiscV is_32) relocations i known = IsNextAlignment relocations i known
 IsAhead LoongArch64 relocations i known = ⊤
 
 -- of RISC-V it may also be what the walk has passed

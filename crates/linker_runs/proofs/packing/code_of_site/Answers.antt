@@ -11,7 +11,7 @@ use Rattle.linker_runs.specs.Inner.Pieces.{code_bytes}
 use Rattle.linker_runs.specs.declared.packing.ItemError.{ItemError}
 use Rattle.linker_runs.specs.declared.packing.ItemError.TheVariants.{NotItsInstructions}
 use Rattle.linker_runs.specs.declared.packing.Machine.{Machine}
-use Rattle.linker_runs.specs.declared.packing.Machine.TheVariants.{RiscV64, LoongArch64}
+use Rattle.linker_runs.specs.declared.packing.Machine.TheVariants.{RiscV, LoongArch64}
 use Rattle.linker_runs.specs.declared.relaxation.Site.{Site}
 use Rattle.linker_runs.proofs.packing.code_of_site.Goals as goal
 
@@ -34,32 +34,32 @@ with_len : (machine : Machine) (s : Section) (site : Site) (kept : ℕ) → site
 with_len machine s site kept len NotItsInstructions cause = λ same. cause
 with_len machine s site kept len error cause = (len, cause)
 
-pub returns-in-RiscV64-clause-becomes : goal.returns-in-RiscV64-clause-becomes
-returns-in-RiscV64-clause-becomes c = λ valid position.
+pub returns-in-RiscV-clause-becomes : goal.returns-in-RiscV-clause-becomes
+returns-in-RiscV-clause-becomes c = λ valid position.
     let s = section_of c.args.section.now c.args.base (deletions_of c.args.deltas.now) c.args.start in
     let site = c.args.site.now in
     let r = c.code_of.result in
-    subst (λ m. IfOk r (λ code. SiteBecomes m s site (code_bytes code))) (sym c.in-RiscV64.is)
-    (at_site (λ place target. IfOk r (λ code. RiscVBecomes s.bytes (site.offset - s.base) place target (code_bytes code))) c.args.deltas.now c.args.start site.offset site.target c.args.at.now c.position_of.result c.requires.at c.position_of.ensures.offset position (c.position_of.ensures.position valid) c.code_of.ensures.becomes)
+    subst (λ m. IfOk r (λ code. SiteBecomes m s site (code_bytes code))) (sym c.in-RiscV.is)
+    (at_site (λ place target. IfOk r (λ code. RiscVBecomes c.in-RiscV.is_32 s.bytes (site.offset - s.base) place target (code_bytes code))) c.args.deltas.now c.args.start site.offset site.target c.args.at.now c.position_of.result c.requires.at c.position_of.ensures.offset position (c.position_of.ensures.position valid) c.code_of.ensures.becomes)
 
-pub returns-in-RiscV64-clause-accepts : goal.returns-in-RiscV64-clause-accepts
-returns-in-RiscV64-clause-accepts c = λ valid position.
+pub returns-in-RiscV-clause-accepts : goal.returns-in-RiscV-clause-accepts
+returns-in-RiscV-clause-accepts c = λ valid position.
     let s = section_of c.args.section.now c.args.base (deletions_of c.args.deltas.now) c.args.start in
     let site = c.args.site.now in
     let r = c.code_of.result in
-    let accepts = λ (place target : ℕ). RiscVAccepts s.bytes (site.offset - s.base) c.args.kept place target in
-    subst (λ m. OnOk r (SiteAccepts m s site c.args.kept)) (sym c.in-RiscV64.is)
+    let accepts = λ (place target : ℕ). RiscVAccepts c.in-RiscV.is_32 s.bytes (site.offset - s.base) c.args.kept place target in
+    subst (λ m. OnOk r (SiteAccepts m s site c.args.kept)) (sym c.in-RiscV.is)
     (on_ok r (accepts (address_of s site.offset) (address_of s site.target)) ((site.len ≡ 8) × accepts (address_of s site.offset) (address_of s site.target)) (λ h. (c.if-site-ne8.false, h))
     (at_site (λ place target. OnOk r (accepts place target)) c.args.deltas.now c.args.start site.offset site.target c.args.at.now c.position_of.result c.requires.at c.position_of.ensures.offset position (c.position_of.ensures.position valid) c.code_of.ensures.accepts))
 
-pub returns-in-RiscV64-clause-rejected : goal.returns-in-RiscV64-clause-rejected
-returns-in-RiscV64-clause-rejected c = λ valid position.
+pub returns-in-RiscV-clause-rejected : goal.returns-in-RiscV-clause-rejected
+returns-in-RiscV-clause-rejected c = λ valid position.
     let s = section_of c.args.section.now c.args.base (deletions_of c.args.deltas.now) c.args.start in
     let site = c.args.site.now in
     let r = c.code_of.result in
-    let causes = λ (place target : ℕ) (error : ItemError). RiscVCause s.bytes (site.offset - s.base) c.args.kept place target error in
-    subst (λ m. IfErr r (SiteCause m s site c.args.kept)) (sym c.in-RiscV64.is)
-    (IfErr-weaker r (causes (address_of s site.offset) (address_of s site.target)) (SiteCause RiscV64 s site c.args.kept) (with_len RiscV64 s site c.args.kept c.if-site-ne8.false)
+    let causes = λ (place target : ℕ) (error : ItemError). RiscVCause c.in-RiscV.is_32 s.bytes (site.offset - s.base) c.args.kept place target error in
+    subst (λ m. IfErr r (SiteCause m s site c.args.kept)) (sym c.in-RiscV.is)
+    (IfErr-weaker r (causes (address_of s site.offset) (address_of s site.target)) (SiteCause (RiscV c.in-RiscV.is_32) s site c.args.kept) (with_len (RiscV c.in-RiscV.is_32) s site c.args.kept c.if-site-ne8.false)
     (at_site (λ place target. IfErr r (causes place target)) c.args.deltas.now c.args.start site.offset site.target c.args.at.now c.position_of.result c.requires.at c.position_of.ensures.offset position (c.position_of.ensures.position valid) c.code_of.ensures.rejected))
 
 pub returns-in-LoongArch64-clause-becomes : goal.returns-in-LoongArch64-clause-becomes

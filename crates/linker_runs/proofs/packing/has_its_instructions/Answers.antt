@@ -1,6 +1,6 @@
-use Rattle.std.proofs.Common.{true, false, [], sym, ◌∙◌, arith}
+use Rattle.std.proofs.Common.{[], sym, ◌∙◌, arith}
 use Rattle.std.proofs.lemmas.Bool.{false≢true}
-use Rattle.linker_runs.specs.declared.packing.Machine.TheVariants.{RiscV64, LoongArch64}
+use Rattle.linker_runs.specs.declared.packing.Machine.TheVariants.{RiscV, LoongArch64}
 use Rattle.linker_runs.proofs.Origins.{placed, has, has_not}
 use Rattle.linker_runs.proofs.packing.has_its_instructions.Goals as goal
 use Rattle.linker_runs.proofs.packing.has_its_instructions.Goals.{then-site-ne8-via-then-site-ne8, then-site-ne8-via-else-site-ne8+then-not-is_inside}
@@ -15,10 +15,10 @@ has_shapes-requires c =
     let len = c.if-site-ne8.false in
     omega (arith, at.0, at.1, len)
 
-pub returns-in-RiscV64 : goal.returns-in-RiscV64
-returns-in-RiscV64 c =
-    rw c.in-RiscV64.is
-    (has c.args.section.now c.args.base c.args.item.now c.in-Site.site c.in-Site.is RiscV64 c.has_shapes.result c.if-site-ne8.false ((c.is_inside.ensures [] 0).0 c.if-not-is_inside.false) c.has_shapes.ensures)
+pub returns-in-RiscV : goal.returns-in-RiscV
+returns-in-RiscV c =
+    rw c.in-RiscV.is
+    (has c.args.section.now c.args.base c.args.item.now c.in-Site.site c.in-Site.is (RiscV c.in-RiscV.is_32) c.has_shapes.result c.if-site-ne8.false ((c.is_inside.ensures [] 0).0 c.if-not-is_inside.false) c.has_shapes.ensures)
 
 pub returns-in-LoongArch64 : goal.returns-in-LoongArch64
 returns-in-LoongArch64 c =

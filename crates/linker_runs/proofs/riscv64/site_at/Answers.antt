@@ -1,4 +1,4 @@
-use Rattle.std.proofs.Common.{ℕ, ◌+◌, ⊎_elim, refl, ap, subst, arith, rules, map}
+use Rattle.std.proofs.Common.{Bool, ℕ, ◌+◌, ⊎_elim, refl, ap, subst, arith, rules, map}
 use Rattle.linker_elf.specs.declared.riscv64.relocations.RiscVRelocation.TheVariants as r
 use Rattle.linker_runs.specs.declared.relaxation.Item.{Item}
 use Rattle.linker_runs.specs.declared.relaxation.Item.TheVariants.{Site, Aligned}
@@ -9,9 +9,9 @@ use Rattle.std.specs.Prelude.{List}
 use Rattle.linker_runs.proofs.riscv64.site_at.Goals as goal
 
 -- a call's relocation makes no site where it may free nothing, and never an alignment
-no_item : (section : List ℕ) (base : ℕ) (relocations : List Relocation) (i : ℕ) → IsOfCall (relocation_at relocations i) → ¬ MayFree 4 relocations i → (item : Item) → ¬ RiscVMakes section base relocations i item
-no_item section base relocations i called not_free (Site call) made = not_free made.frees
-no_item section base relocations i called not_free (Aligned alignment) made =
+no_item : (is_32 : Bool) (section : List ℕ) (base : ℕ) (relocations : List Relocation) (i : ℕ) → IsOfCall (relocation_at relocations i) → ¬ MayFree 4 relocations i → (item : Item) → ¬ RiscVMakes is_32 section base relocations i item
+no_item is_32 section base relocations i called not_free (Site call) made = not_free made.frees
+no_item is_32 section base relocations i called not_free (Aligned alignment) made =
     let align = made.name in
     ⊎_elim
     (λ (call : HasRiscVName r.R_RISCV_CALL (relocation_at relocations i)). absurd (omega arith))
@@ -20,7 +20,7 @@ no_item section base relocations i called not_free (Aligned alignment) made =
 
 pub returns-then-not-may_free-clause-none : goal.returns-then-not-may_free-clause-none
 returns-then-not-may_free-clause-none g c =
-    no_item c.args.section.now c.args.base (map g.R.AsRelocation.relocation c.args.relocations.now) c.args.index c.requires.called
+    no_item c.args.is_32 c.args.section.now c.args.base (map g.R.AsRelocation.relocation c.args.relocations.now) c.args.index c.requires.called
     (λ free. (let h = c.may_free.ensures.1 free in let g = c.if-not-may_free.true in cc))
 
 pub returns-clause-some : goal.returns-clause-some

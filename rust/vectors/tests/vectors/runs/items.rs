@@ -2,9 +2,12 @@
 //! Relocations and bytes as assemblers make them.
 
 use super::{aligned, site};
-use linker_utils::runs::Machine::{self, LoongArch64, RiscV64};
+use linker_utils::runs::Machine::{self, LoongArch64};
 use linker_utils::runs::{self, Item, ItemsError, Relocation, SectionItems, are_items, shapes};
 use linker_utils::section::Section;
+
+/// RV64.
+const RISCV64: Machine = Machine::RiscV { is_32: false };
 
 /// The items of a section at an input offset.
 fn section_items(
@@ -60,7 +63,7 @@ fn riscv_calls_and_alignments_are_items() {
         site(0x110, 0x900, shapes::riscv64::CALL),
         aligned(0x118, 14, 16, None),
     ];
-    expect_items(RiscV64, &RISC_V, &relocations, &expected);
+    expect_items(RISCV64, &RISC_V, &relocations, &expected);
 }
 
 #[test]
@@ -69,7 +72,7 @@ fn riscv_code_of_four_byte_instructions_has_no_short_ones() {
     let relocations = [call, relocation(8, 51, 0, None), relocation(24, 43, 12, None)];
     let expected =
         [site(0x108, 0x900, shapes::riscv64::CALL_WITHOUT_C), aligned(0x118, 12, 16, None)];
-    expect_items(RiscV64, &RISC_V, &relocations, &expected);
+    expect_items(RISCV64, &RISC_V, &relocations, &expected);
 }
 
 /// `tail f`, `.option norvc` and `.balign 16`: assemblers write 12 bytes of nops, for a multiple of 4.
@@ -80,7 +83,7 @@ fn riscv_calls_leave_the_next_alignment_its_nops() {
     let tail = [relocation(8, 19, 0, Some(0x900)), relocation(8, 51, 0, None)];
     let run = |addends: [i64; 2]| {
         let [first, second] = addends.map(|addend| relocation(24, 43, addend, None));
-        section_items(RiscV64, &RISC_V, 0x100, &[tail[0], tail[1], first, second]).unwrap().items
+        section_items(RISCV64, &RISC_V, 0x100, &[tail[0], tail[1], first, second]).unwrap().items
     };
     let (call, c_j) = (shapes::riscv64::CALL, shapes::riscv64::TAIL_C);
     assert_eq!(run([12, 14])[0], site(0x108, 0x900, call));
@@ -108,7 +111,7 @@ fn riscv_calls_that_stay_are_left_out() {
         relocation(4, 51, 0, None),
         relocation(24, 43, 0, None),
     ];
-    expect_items(RiscV64, &RISC_V, &relocations, &[]);
+    expect_items(RISCV64, &RISC_V, &relocations, &[]);
 }
 
 #[test]
@@ -122,7 +125,7 @@ fn malformed_riscv_relocations_are_named() {
     ];
     for &malformed in &rows {
         let relocations = [relocation(38, 51, 0, None), malformed];
-        let items = section_items(RiscV64, &RISC_V, 0, &relocations);
+        let items = section_items(RISCV64, &RISC_V, 0, &relocations);
         assert_eq!(items.err(), Some(ItemsError::Malformed(1)), "{malformed:?}");
     }
 }
@@ -161,7 +164,7 @@ fn loongarch_calls_addresses_and_alignments_are_items() {
 #[test]
 fn alignments_alone_are_a_run() {
     let relocations = [relocation(24, 43, 14, None)];
-    let riscv = section_items(RiscV64, &[0; 40], 0x100, &relocations).unwrap();
+    let riscv = section_items(RISCV64, &[0; 40], 0x100, &relocations).unwrap();
     assert!(are_items(&riscv.items, 0));
     let relocations = [relocation(24, 102, 12, None)];
     let loongarch = section_items(LoongArch64, &[0; 40], 0x100, &relocations).unwrap();

@@ -8,12 +8,15 @@ use linker_utils::relaxation::DeltaSlice;
 use linker_utils::rewriting::{
     Decision, Phase, SymbolFacts, UnrelaxableGroups, rewrite_placed_section, survey_placed_section,
 };
-use linker_utils::runs::Machine::{self, LoongArch64, RiscV64};
+use linker_utils::runs::Machine::{self, LoongArch64};
 use linker_utils::runs::shapes::fixed;
 use linker_utils::runs::{Fault, Item, ItemFault, Relocation, RewrittenItemsError, Run, Site};
 use linker_utils::runs::{first_faulty, pack_run, packed_run_len, relax, rewritten_items_into};
 use linker_utils::section::{Link, Object, Section, Symbol};
 use linker_utils::section::{memory_len, relocate_section, relocations};
+
+/// RV64.
+const RISCV64: Machine = Machine::RiscV { is_32: false };
 
 /// Where the section begins in its run, and where the run does.
 const BASE: u64 = 0x100;
@@ -175,7 +178,7 @@ fn riscv_sections_without_thread_offsets_are_packed_as_by_ld_lld() {
         0x00, 0xc5, 0xbf, 0x82, 0x80,
     ];
     let types = [(0, 17), (4, 30), (8, 17), (16, 45)];
-    expect(RiscV64, Architecture::RiscV, &RISC_V, &RISC_V_ENTRIES, 42, &expected, &types);
+    expect(RISCV64, Architecture::RiscV, &RISC_V, &RISC_V_ENTRIES, 42, &expected, &types);
 }
 
 /// `call36 f`, `lu12i.w $a0, %le_hi20_r(x)`, `add.d $a0, $a0, $tp`, `ld.w $a0, $a0, %le_lo12_r(x)`,
@@ -223,7 +226,7 @@ fn items_without(
     let (mut items, mut makers) = (vec![aligned(0, 0, 1, None); room], vec![usize::MAX; room]);
     let section = Section { base: BASE, ..Section::new(&RISC_V, []) };
     let (listed, of) = (&mut items, &mut makers);
-    let count = rewritten_items_into(RiscV64, &section, relocations, deleted, listed, of)?;
+    let count = rewritten_items_into(RISCV64, &section, relocations, deleted, listed, of)?;
     assert!(makers[count..].iter().all(|&maker| maker == usize::MAX));
     items.truncate(count);
     makers.truncate(count);

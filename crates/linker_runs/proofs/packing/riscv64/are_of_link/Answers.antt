@@ -1,4 +1,4 @@
-use Rattle.std.proofs.Common.{false, true, inl, inr, ⊎_elim, sym, ◌∙◌}
+use Rattle.std.proofs.Common.{inl, inr, ⊎_elim, sym, ◌∙◌}
 use Rattle.std.proofs.lemmas.Bool.{false≢true}
 use Rattle.linker_runs.specs.declared.shapes.riscv64.TheConstants.{CALL, TAIL_C}
 use Rattle.linker_runs.proofs.Same.{shapes_decide}
@@ -9,10 +9,10 @@ returns-then-eq c =
     let call = shapes_decide c.args.shapes.now CALL c.eq.result c.eq.ensures in
     (λ is. inl (call.0 is), λ h. c.if-eq.true)
 
-pub returns-then-link-eq0 : goal.returns-then-link-eq0
-returns-then-link-eq0 c =
+pub returns-then-links_short : goal.returns-then-links_short
+returns-then-links_short c =
     let call = shapes_decide c.args.shapes.now CALL c.eq.result c.eq.ensures in
-    let tail = shapes_decide c.args.shapes.now TAIL_C c.eq-then-link-eq0.result c.eq-then-link-eq0.ensures in (
-      λ is. inr (tail.0 is, c.if-link-eq0.true),
+    let tail = shapes_decide c.args.shapes.now TAIL_C c.eq-then-links_short.result c.eq-then-links_short.ensures in (
+      λ is. inr (tail.0 is, sym c.links_short.ensures ∙ c.if-links_short.true),
       λ h. ⊎_elim (λ is. absurd (false≢true (sym c.if-eq.false ∙ call.1 is))) (λ is. tail.1 is.0) h,
     )
