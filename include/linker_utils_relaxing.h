@@ -205,8 +205,8 @@ struct linker_utils_item {
  * R_LARCH_ALIGN whose addend is below 0 or whose exponent is below 2 or above 32. It also is one
  * whose nops aren't a multiple of 4, reach past the section's end or have 2^32 bytes or more. */
 
-/* Is added to the machine of files of ELFCLASS32 where items are made, tested and packed: of RISC-V.
- * There a call may become c.jal, which RV64 lacks. */
+/* Is added to the machine of files of ELFCLASS32 where items are made, tested and packed: of
+ * RISC-V. There a call may become c.jal, which RV64 lacks. */
 #define LINKER_UTILS_CLASS32 0x8000
 
 /* Writes the items that the relocations of a section that wasn't rewritten make, in their order.
@@ -268,11 +268,12 @@ LINKER_UTILS_MUST_USE static inline uint32_t linker_utils_items_relaxable(
 
 /* Whether a site is eight bytes of a section, of instructions that can have its shapes. Of RISC-V
  * they are an auipc and a jalr with those of LINKER_UTILS_SHAPES_RISCV_CALL, or with those of
- * LINKER_UTILS_SHAPES_RISCV_TAIL_C where they link x0, or x1 on RV32. Of LoongArch they are a pcaddu18i and a jirl
- * with those of LINKER_UTILS_SHAPES_LOONGARCH_CALL36, or a pcalau12i and an addi.d of one register
- * with those of LINKER_UTILS_SHAPES_LOONGARCH_PCALA. An alignment has no instructions to be tested;
- * a site with one shape has none of these shapes. Where this is so of each site that
- * `linker_utils_relax` made shorter, `linker_utils_pack_run` rejects none of them for its reach.
+ * LINKER_UTILS_SHAPES_RISCV_TAIL_C where they link x0, or x1 on RV32. Of LoongArch they are a
+ * pcaddu18i and a jirl with those of LINKER_UTILS_SHAPES_LOONGARCH_CALL36, or a pcalau12i and an
+ * addi.d of one register with those of LINKER_UTILS_SHAPES_LOONGARCH_PCALA. An alignment has no
+ * instructions to be tested; a site with one shape has none of these shapes. Where this is so of
+ * each site that `linker_utils_relax` made shorter, `linker_utils_pack_run` rejects none of them
+ * for its reach.
  *
  * LINKER_UTILS_NOT_ITS_INSTRUCTIONS where it isn't so. O(1). */
 LINKER_UTILS_MUST_USE static inline uint32_t linker_utils_has_its_instructions(
@@ -284,9 +285,9 @@ LINKER_UTILS_MUST_USE static inline uint32_t linker_utils_has_its_instructions(
  * How many bytes of an item stay, which have to be its first ones, says what is written. Addresses
  * are modulo 2^64, and targets may lie anywhere in the run.
  * - RISC-V: in place of a call, which is an auipc and a jalr, c.j where 2 bytes stay and the jalr
- *   links x0, or RV32's c.jal where it links x1. Where 4 stay it is jal with the link register of the jalr, and where 8 stay the call
- *   with R_RISCV_CALL_PLT applied. In place of nops as many bytes of nop, and at most one c.nop at
- *   the end.
+ *   links x0, or RV32's c.jal where it links x1. Where 4 stay it is jal with the link register of
+ *   the jalr, and where 8 stay the call with R_RISCV_CALL_PLT applied. In place of nops as many
+ *   bytes of nop, and at most one c.nop at the end.
  * - LoongArch: where 4 bytes stay, b in place of a pcaddu18i and a jirl that links none, and bl in
  *   place of those that link ra. In place of a pcalau12i and an addi.d it is pcaddi with the
  *   register of the addi.d. Where 8 stay, the two with R_LARCH_CALL36, or R_LARCH_PCALA_HI20 and

@@ -1,8 +1,8 @@
 -- What calls of RISC-V become (RISC-V ELF psABI, "Function Call Relaxation", "Compressed Tail Call
 -- Relaxation"; the instructions by the RISC-V unprivileged ISA).
-use Rattle.std.specs.Prelude.{◌≡◌, Bool, true, ◌∷◌, ℕ, ◌+◌, ◌-◌, ◌*◌, ◌%◌, ◌^◌, List, [], length, take, drop}
+use Rattle.std.specs.Prelude.{◌≡◌, ℕ, ◌+◌, ◌-◌, ◌*◌, ◌%◌, ◌^◌, List, [], length, take, drop}
 use Rattle.std.specs.Prelude.{Option, Some, None, IsSomeAnd, ◌==◌, ◌&&◌, if◌then◌else◌, pos}
-use Rattle.std.specs.Prelude.{◌+ℤ◌}
+use Rattle.std.specs.Prelude.{◌+ℤ◌, Bool, true, ◌∷◌}
 use Rattle.std.specs.Int.{w16, w32, w64, from_le_bytes, to_le_bytes}
 use Rattle.linker_base.specs.Bits.{field}
 use Rattle.linker_elf.specs.RiscV.{riscv_form}
@@ -23,8 +23,8 @@ use Rattle.linker_runs.specs.declared.packing.ItemError.TheVariants.{OutOfReach}
 
 -- ---- what is written
 
--- The half is `c.j` to the target, which links x0, or else `c.jal`: RV32 sets x1 to the place plus 2,
--- and jumps to the target.
+-- The half is `c.j` to the target, which links x0, or else `c.jal`: RV32 sets x1 to the place plus
+-- 2, and jumps to the target.
 pub record IsShortJump (half link place target : ℕ) : Type 0 where
   pub quadrant : field half 0 2 ≡ 1
   pub function : field half 13 16 ≡ (if link == 0 then 5 else 1)
