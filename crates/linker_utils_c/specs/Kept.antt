@@ -9,6 +9,7 @@ use Rattle.linker_rewriting.specs.declared.kept.FactsSnapshot.{FactsSnapshot}
 use Rattle.linker_rewriting.specs.declared.kept.WritingError.{WritingError}
 use Rattle.linker_rewriting.specs.declared.kept.WritingError.TheVariants.{Contradiction, Changed}
 use Rattle.linker_rewriting.specs.declared.kept.WritingError.TheVariants.{NeedsStub, Section}
+use Rattle.linker_section.specs.Sections.{by_index}
 use Rattle.linker_section.specs.declared.facts.Addresses.{Addresses}
 use Rattle.linker_section.specs.declared.facts.Symbol.{Symbol}
 use Rattle.linker_elf.specs.declared.elf.architecture.Architecture.{Architecture}
@@ -28,8 +29,8 @@ IsRewrittenOutcome architecture output facts kept addresses bytes symbols before
     faulty status (Ok u) =
     Agree facts symbols bytes × AreAsKept output facts kept bytes (room_of bytes)
     × HaveStubs architecture facts symbols bytes (room_of bytes)
-    × IsSectionOutcome architecture addresses bytes symbols before after old_faulty faulty status
-    (Ok u)
+    × IsSectionOutcome architecture addresses bytes (by_index symbols) before after old_faulty
+    faulty status (Ok u)
 IsRewrittenOutcome architecture output facts kept addresses bytes symbols before after old_faulty
     faulty status (Err (Contradiction symbol)) =
     (status ≡ code FactsContradict) × (faulty ≡ symbol) × (after ≡ before)
@@ -47,8 +48,8 @@ IsRewrittenOutcome architecture output facts kept addresses bytes symbols before
     faulty status (Err (Section error)) =
     Agree facts symbols bytes × AreAsKept output facts kept bytes (room_of bytes)
     × HaveStubs architecture facts symbols bytes (room_of bytes)
-    × IsSectionOutcome architecture addresses bytes symbols before after old_faulty faulty status
-    (Err error)
+    × IsSectionOutcome architecture addresses bytes (by_index symbols) before after old_faulty
+    faulty status (Err error)
 
 pub record IsRewrittenReturned (architecture : Architecture) (output : OutputFacts)
     (facts : List SymbolFacts) (kept : List FactsSnapshot) (addresses : Addresses) (bytes : List ℕ)

@@ -1,10 +1,8 @@
 -- What relocations require, their values and all of them written, in the numbers that C sees.
 use Rattle.std.specs.Prelude.{◌≡◌, ℕ, ◌/◌, ◌<◌, ◌≤◌, List, length, ℤ, pos, Bool, true, false}
 use Rattle.std.specs.Prelude.{Option, None, Some, Result, Ok, Err}
-use Rattle.linker_section.specs.Resolved.{by_lookup, by_relocation}
-use Rattle.linker_section.specs.Sections.{AreAllRelocated, AreAllRelocatedBy, IsFirstRejected}
-use Rattle.linker_section.specs.Sections.{IsFirstRejectedBy}
-use Rattle.linker_section.specs.WrittenFields.{AreWritten, IsFirstFault}
+use Rattle.linker_section.specs.Sections.{AreAllRelocatedBy, IsFirstRejectedBy, Values}
+use Rattle.linker_section.specs.WrittenFields.{AreWrittenBy, IsFirstFaultBy}
 use Rattle.linker_section.specs.Values.{IsValue}
 use Rattle.linker_section.specs.declared.facts.Addresses.{Addresses}
 use Rattle.linker_section.specs.declared.facts.Symbol.{Symbol}
@@ -15,7 +13,6 @@ use Rattle.linker_section.specs.declared.needed.EntryClass.TheVariants.{ModuleOf
 use Rattle.linker_section.specs.declared.needed.EntryClass.TheVariants.{Descriptor}
 use Rattle.linker_section.specs.declared.needed.Requirements.{Requirements}
 use Rattle.linker_section.specs.declared.relocations.Rela.{Rela}
-use Rattle.linker_section.specs.declared.resolved.Resolved.{Resolved}
 use Rattle.linker_section.specs.declared.sections.RelocationError.{RelocationError}
 use Rattle.linker_section.specs.declared.sections.RelocationError.TheVariants.{Value, Write}
 use Rattle.linker_section.specs.declared.sections.RelocationError.TheVariants.{Overlaps, Uleb128}
@@ -115,44 +112,23 @@ abbrev pub room_of : List ℕ → ℕ
 room_of bytes = length bytes / 24
 
 -- all are written, or none is, and the status and the index are those of the first that can't be
-abbrev pub IsSectionOutcome : Architecture → Addresses → List ℕ → List Symbol → List ℕ → List ℕ → ℕ
-    → ℕ → ℕ → Result Unit SectionError → Type 0
-IsSectionOutcome architecture addresses bytes symbols before after old_faulty faulty status (Ok u) =
+abbrev pub IsSectionOutcome : Architecture → Addresses → List ℕ → Values → List ℕ → List ℕ → ℕ → ℕ
+    → ℕ → Result Unit SectionError → Type 0
+IsSectionOutcome architecture addresses bytes values before after old_faulty faulty status (Ok u) =
     (status ≡ code Success) × (faulty ≡ old_faulty)
-    × AreAllRelocated architecture addresses bytes symbols before after
-    × AreWritten architecture addresses bytes symbols before after
-IsSectionOutcome architecture addresses bytes symbols before after old_faulty faulty status
+    × AreAllRelocatedBy architecture addresses bytes values before after
+    × AreWrittenBy architecture addresses bytes values before after
+IsSectionOutcome architecture addresses bytes values before after old_faulty faulty status
     (Err error) =
     (status ≡ code (relocation_status error.error)) × (faulty ≡ error.index) × (after ≡ before)
-    × IsFirstRejected architecture addresses bytes symbols before error
-    × IsFirstFault architecture addresses bytes symbols before error
+    × IsFirstRejectedBy architecture addresses bytes values before error
+    × IsFirstFaultBy architecture addresses bytes values before error
 
 pub record IsSectionReturned (architecture : Architecture) (addresses : Addresses) (bytes : List ℕ)
-    (symbols : List Symbol) (before after memory : List ℕ) (old_faulty faulty status : ℕ) : Type 0
+    (values : Values) (before after memory : List ℕ) (old_faulty faulty status : ℕ) : Type 0
   where
     pub short : length memory < room_of bytes → (status ≡ code ShortMemory) × (after ≡ before)
         × (faulty ≡ old_faulty)
     pub long : room_of bytes ≤ length memory → (outcome : Result Unit SectionError)
-        × IsSectionOutcome architecture addresses bytes symbols before after
+        × IsSectionOutcome architecture addresses bytes values before after
         old_faulty faulty status outcome
-
--- ---- by what is known for each relocation
-
-abbrev pub IsResolvedOutcome : Architecture → Addresses → List ℕ → List Resolved → List ℕ → List ℕ
-    → ℕ → ℕ → ℕ → Result Unit SectionError → Type 0
-IsResolvedOutcome architecture addresses bytes known before after old_faulty faulty status (Ok u) =
-    (status ≡ code Success) × (faulty ≡ old_faulty)
-    × AreAllRelocatedBy architecture addresses bytes (by_lookup (by_relocation known)) before after
-IsResolvedOutcome architecture addresses bytes known before after old_faulty faulty status
-    (Err error) =
-    (status ≡ code (relocation_status error.error)) × (faulty ≡ error.index) × (after ≡ before)
-    × IsFirstRejectedBy architecture addresses bytes (by_lookup (by_relocation known)) before error
-
-pub record IsResolvedReturned (architecture : Architecture) (addresses : Addresses)
-    (bytes : List ℕ) (known : List Resolved) (before after memory : List ℕ)
-    (old_faulty faulty status : ℕ) : Type 0 where
-  pub short : length memory < room_of bytes → (status ≡ code ShortMemory) × (after ≡ before)
-      × (faulty ≡ old_faulty)
-  pub long : room_of bytes ≤ length memory → (outcome : Result Unit SectionError)
-      × IsResolvedOutcome architecture addresses bytes known before after old_faulty faulty status
-      outcome

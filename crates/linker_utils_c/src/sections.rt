@@ -12,8 +12,9 @@ ghost use Rattle.linker_elf.specs.Machines.{architecture_of};
 ghost use Rattle.linker_utils_c.specs.Sections.{class_number, IsNeedsReturned, IsValueAt};
 ghost use Rattle.linker_utils_c.specs.Sections.{value_status, relocation_status, room_of};
 ghost use Rattle.linker_utils_c.specs.Sections.{requirements_in, IsSectionReturned};
-ghost use Rattle.linker_utils_c.specs.Sections.{IsResolvedReturned};
 ghost use Rattle.linker_utils_c.specs.Status.{code};
+ghost use Rattle.linker_section.specs.Resolved.{by_lookup, by_relocation};
+ghost use Rattle.linker_section.specs.Sections.{by_index};
 
 use crate::relocate::{status_of, uleb_status_of};
 use crate::status::Status;
@@ -211,8 +212,8 @@ pub extern "C" fn linker_utils_relocate_section_nonnull(
         ((result ≡ code Status.UnknownArchitecture) × (section.new ≡ section.old)
         × (faulty.new ≡ faulty.old))
         (λ architecture.
-        IsSectionReturned architecture addresses.now relocations.now symbols.now section.old
-        section.new memory.old faulty.old faulty.new result) }
+        IsSectionReturned architecture addresses.now relocations.now (by_index symbols.now)
+        section.old section.new memory.old faulty.old faulty.new result) }
 {
     let Some(architecture) = Architecture::from_machine(machine) else {
         return Status::UnknownArchitecture as u32;
@@ -254,8 +255,9 @@ pub extern "C" fn linker_utils_relocate_resolved_nonnull(
         ((result ≡ code Status.UnknownArchitecture) × (section.new ≡ section.old)
         × (faulty.new ≡ faulty.old))
         (λ architecture.
-        IsResolvedReturned architecture addresses.now relocations.now resolved.now section.old
-        section.new memory.old faulty.old faulty.new result) }
+        IsSectionReturned architecture addresses.now relocations.now
+        (by_lookup (by_relocation resolved.now)) section.old section.new memory.old faulty.old
+        faulty.new result) }
 {
     let Some(architecture) = Architecture::from_machine(machine) else {
         return Status::UnknownArchitecture as u32;
