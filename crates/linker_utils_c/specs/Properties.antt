@@ -9,7 +9,6 @@ use Rattle.linker_output.specs.declared.properties.PropertyError.{PropertyError}
 use Rattle.linker_output.specs.declared.properties.PropertyError.TheVariants as errors
 use Rattle.linker_elf.specs.declared.elf.architecture.Architecture.{Architecture}
 use Rattle.linker_utils_c.specs.Status.{code}
-use Rattle.linker_utils_c.specs.declared.properties.LandingNumbers.{LandingNumbers}
 use Rattle.linker_utils_c.specs.declared.status.Status.{Status}
 use Rattle.linker_utils_c.specs.declared.status.Status.TheVariants.{Success, NotProperties, CutOff}
 use Rattle.linker_utils_c.specs.declared.status.Status.TheVariants.{WrongSize, NotAscending}
@@ -77,10 +76,8 @@ IsNoteWritten architecture properties before =
     (RejectsNote architecture properties (length before)) before
 
 -- what says that code is protected
-abbrev pub landing_numbers : LandingProperty → LandingNumbers
-landing_numbers landing = record { bit = landing.bit; kind = landing.kind }
-
-abbrev pub IsLandingReturned : Option LandingProperty → LandingNumbers → LandingNumbers → ℕ → Type 0
+abbrev pub IsLandingReturned : Option LandingProperty → LandingProperty → LandingProperty → ℕ
+    → Type 0
 IsLandingReturned None old new status = (status ≡ code NotProvided) × (new ≡ old)
 IsLandingReturned (Some landing) old new status =
-    (status ≡ code Success) × (new ≡ landing_numbers landing)
+    (status ≡ code Success) × (new ≡ landing)

@@ -11,19 +11,10 @@ ghost use Rattle.linker_utils_c.specs.Status.{code};
 use crate::status::Status;
 use linker_output::description::Target;
 use linker_output::properties::{
-    Property, PropertyError, merge_properties, property_rule, read_properties, write_properties,
+    LandingProperty, Property, PropertyError, merge_properties, property_rule, read_properties,
+    write_properties,
 };
 use linker_utils::elf::Architecture;
-
-/// The bit of a property that says that code is protected, as `LandingProperty`.
-#[repr(C)]
-#[derive(Clone, Copy)]
-pub struct LandingNumbers {
-    /// The bit, as a mask of the property's value.
-    pub bit: u64,
-    /// The property's type.
-    pub kind: u32,
-}
 
 /// The status of a call, which also writes how many there are or are needed, or what an error is
 /// about.
@@ -136,7 +127,7 @@ pub extern "C" fn linker_utils_write_properties_nonnull(
 #[unsafe(no_mangle)]
 pub extern "C" fn linker_utils_get_landing_property(
     machine: u16,
-    landing: &mut LandingNumbers,
+    landing: &mut LandingProperty,
 ) -> u32
     ensures { MatchOption (architecture_of machine)
         ((result ≡ code Status.UnknownArchitecture) × (landing.new ≡ landing.old))
@@ -149,9 +140,6 @@ pub extern "C" fn linker_utils_get_landing_property(
     let Some(property) = Target::of(architecture).landing_property else {
         return Status::NotProvided as u32;
     };
-    *landing = LandingNumbers {
-        bit: property.bit,
-        kind: property.kind,
-    };
+    *landing = property;
     Status::Success as u32
 }

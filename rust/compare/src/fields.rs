@@ -3,7 +3,7 @@
 // build.rs writes.
 
 use linker_utils::elf::{Operands, RelocationNumbers, RewriteWindow};
-use linker_utils::output::{DynamicEntry, DynamicFacts, LazyEntry, Origins, Property};
+use linker_utils::output::{DynamicEntry, DynamicFacts, LandingProperty, LazyEntry, Origins, Property};
 use linker_utils::placement::{Branch, StubShape};
 use linker_utils::recognise::FieldBits;
 use linker_utils::relaxation::{BlockHead, Call, RelaxDelta};
@@ -29,6 +29,7 @@ fields! { OutputFacts: is_executable, is_fixed, has_near_symbols, }
 fields! { UnrelaxableGroups: initial_exec, general_dynamic, local_dynamic, descriptor, got_load, }
 fields! { FactsSnapshot: bits, }
 fields! { Property: kind, value, version, }
+fields! { LandingProperty: bit, kind, }
 fields! { Origins: thread_pointer, module_block, }
 fields! { LazyEntry: address, word, header, index, }
 fields! {
