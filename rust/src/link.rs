@@ -1254,10 +1254,10 @@ pub fn relocate_rewritten_section<B: AsMut<[u8]>, R: AsRef<[u8]>>(
 ///
 /// **RISC-V.** `R_RISCV_CALL` and `R_RISCV_CALL_PLT` make a site where `R_RISCV_RELAX` is the next
 /// relocation, at the same offset, the target is in the run, and the bytes are `auipc` and `jalr`
-/// of one register. Its shapes are `TAIL_C` where the `jalr` links x0 and the relocation's
-/// `may_compress` is set, and else `CALL`. `R_RISCV_ALIGN` makes an alignment without a limit, if
-/// there are nops: the addend is how many bytes they have, and the next power of two above it what
-/// they align to (RISC-V ELF psABI, "Linker Relaxation").
+/// of one register. Its shapes are `TAIL_C` where the `jalr` links x0, or x1 on RV32, and the
+/// relocation's `may_compress` is set, and else `CALL`. `R_RISCV_ALIGN` makes an alignment without
+/// a limit, if there are nops: the addend is how many bytes they have, and the next power of two
+/// above it what they align to (RISC-V ELF psABI, "Linker Relaxation").
 ///
 /// Where fewer nops stand before an alignment than it may need at any even address, as the 12 bytes
 /// that assemblers write for `.balign 16` in code without the C extension, the calls between it and
@@ -1451,7 +1451,7 @@ impl<I: AsItem> Run<'_, I> {
     /// let plan = relax(&items, 0x1000).unwrap();
     /// let run = Run { start: 0x1000, items: &items[1..], deltas: plan.deletions.deltas() };
     /// let ret = Section { base: 8, ..Section::new([0x67, 0x80, 0, 0], []) };
-    /// let packed = run.pack(Machine::RiscV64, ret, [0; 4]).unwrap();
+    /// let packed = run.pack(Machine::RiscV { is_32: false }, ret, [0; 4]).unwrap();
     /// assert_eq!((packed.address, packed.bytes), (0x1004, [0x67, 0x80, 0, 0]));
     /// ```
     #[inline]

@@ -15,7 +15,6 @@ use crate::output::StubNumbers;
 use crate::output::SymbolNumbers;
 use crate::output::WordNumbers;
 use crate::placement::PlacedStub;
-use crate::properties::LandingNumbers;
 use crate::reading::FieldValueNumbers;
 use crate::recognising::DestinationNumbers;
 use crate::recognising::RecognisedNumbers;
@@ -35,6 +34,7 @@ use linker_utils::relaxation::RelaxDelta;
 use linker_utils::riscv64::Call;
 use linker_utils::source::output::DynamicEntry;
 use linker_utils::source::output::DynamicFacts;
+use linker_utils::source::output::LandingProperty;
 use linker_utils::source::output::LazyEntry;
 use linker_utils::source::output::Origins;
 use linker_utils::source::output::Property;
@@ -1373,7 +1373,7 @@ unsafe extern "C" fn linker_utils_write_properties_nonnull(
 #[unsafe(no_mangle)]
 unsafe extern "C" fn linker_utils_get_landing_property(
     machine: u16,
-    landing: *mut LandingNumbers,
+    landing: *mut LandingProperty,
 ) -> u32 {
     // SAFETY: the arguments are as the head of the header says.
     unsafe {

@@ -9,9 +9,15 @@ use linker_utils::source::runs::{ItemError, Machine, has_its_instructions, pack_
 use linker_utils::elf::Architecture;
 use linker_utils::relaxation::RelaxDelta;
 
-/// The machine whose code becomes shorter, by `e_machine`.
+/// `e_machine` of RISC-V and `LINKER_UTILS_CLASS32`, which is added for files of ELFCLASS32.
+const RISCV32: u16 = 0x80f3;
+
+/// The machine whose code becomes shorter, by `e_machine` and class.
 #[inline]
 pub(crate) fn packing_machine(machine: u16) -> Option<Machine> {
+    if machine == RISCV32 {
+        return Some(Machine::RiscV { is_32: true });
+    }
     Machine::of(Architecture::from_machine(machine)?)
 }
 

@@ -5,19 +5,10 @@
 use crate::status::Status;
 use linker_utils::source::output::Target;
 use linker_utils::source::output::{
-    Property, PropertyError, merge_properties, property_rule, read_properties, write_properties,
+    LandingProperty, Property, PropertyError, merge_properties, property_rule, read_properties,
+    write_properties,
 };
 use linker_utils::elf::Architecture;
-
-/// The bit of a property that says that code is protected, as `LandingProperty`.
-#[repr(C)]
-#[derive(Clone, Copy)]
-pub struct LandingNumbers {
-    /// The bit, as a mask of the property's value.
-    pub bit: u64,
-    /// The property's type.
-    pub kind: u32,
-}
 
 /// The status of a call, which also writes how many there are or are needed, or what an error is
 /// about.
@@ -101,7 +92,7 @@ pub fn linker_utils_write_properties_nonnull(
 /// `UnknownArchitecture`; `NotProvided`, where the architecture has no such code.
 pub fn linker_utils_get_landing_property(
     machine: u16,
-    landing: &mut LandingNumbers,
+    landing: &mut LandingProperty,
 ) -> u32 {
     let Some(architecture) = Architecture::from_machine(machine) else {
         return Status::UnknownArchitecture as u32;
@@ -109,9 +100,6 @@ pub fn linker_utils_get_landing_property(
     let Some(property) = Target::of(architecture).landing_property else {
         return Status::NotProvided as u32;
     };
-    *landing = LandingNumbers {
-        bit: property.bit,
-        kind: property.kind,
-    };
+    *landing = property;
     Status::Success as u32
 }

@@ -50,12 +50,13 @@ pub struct Property {
 /// for them: x86-64's IBT or AArch64's BTI. The output's property has it if all inputs' have it, or
 /// if the linker adds it to them (ld.lld's `-z force-ibt` and `-z force-bti`). Then stubs to which
 /// indirect branches go are of the kind `LandingLoad`, and lazy PLTs of a form for such code.
+#[repr(C)]
 #[derive(Clone, Copy, Debug, PartialEq, Eq, Hash)]
 pub struct LandingProperty {
-    /// The property's type. Its rule is [`PropertyRule::All`](crate::output::PropertyRule::All).
-    pub kind: u32,
     /// The bit, as a mask of the property's value.
     pub bit: u64,
+    /// The property's type. Its rule is [`PropertyRule::All`](crate::output::PropertyRule::All).
+    pub kind: u32,
 }
 
 /// Why properties aren't read, merged or written.

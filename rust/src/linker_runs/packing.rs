@@ -21,9 +21,9 @@ use crate::elf::Architecture;
 /// The architecture of a section's code.
 #[derive(Clone, Copy, Debug, PartialEq, Eq, Hash)]
 pub enum Machine {
-    /// RISC-V of 64 bits.
+    /// RISC-V, whose code of 32 bits has `c.jal`.
     #[cfg(feature = "riscv64")]
-    RiscV64,
+    RiscV { is_32: bool },
     /// LoongArch of 64 bits.
     #[cfg(feature = "loongarch64")]
     LoongArch64,
@@ -36,7 +36,7 @@ impl Machine {
     pub fn of(architecture: Architecture) -> Option<Machine> {
         match architecture {
             #[cfg(feature = "riscv64")]
-            Architecture::RiscV => Some(Machine::RiscV64),
+            Architecture::RiscV => Some(Machine::RiscV { is_32: false }),
             #[cfg(feature = "loongarch64")]
             Architecture::LoongArch64 => Some(Machine::LoongArch64),
             #[cfg(feature = "aarch64")]
@@ -129,7 +129,9 @@ fn code_of_site(
     let target = start.wrapping_add(position_of(deltas, site.target).output_offset);
     match machine {
         #[cfg(feature = "riscv64")]
-        Machine::RiscV64 => riscv64::code_of(section, site.offset - base, kept, place, target),
+        Machine::RiscV { is_32 } => {
+            riscv64::code_of(is_32, section, site.offset - base, kept, place, target)
+        }
         #[cfg(feature = "loongarch64")]
         Machine::LoongArch64 => {
             loongarch64::code_of(section, site.offset - base, kept, place, target)
@@ -142,7 +144,7 @@ fn code_of_site(
 fn nop_len(machine: Machine) -> u64 {
     match machine {
         #[cfg(feature = "riscv64")]
-        Machine::RiscV64 => 2,
+        Machine::RiscV { .. } => 2,
         #[cfg(feature = "loongarch64")]
         Machine::LoongArch64 => 4,
     }
@@ -294,7 +296,7 @@ fn put_words(packed: &mut [u8], at: u64, word: [u8; 4], count: u64) {
 fn put_nops(machine: Machine, packed: &mut [u8], at: u64, len: u64) {
     match machine {
         #[cfg(feature = "riscv64")]
-        Machine::RiscV64 => {
+        Machine::RiscV { .. } => {
             put_words(packed, at, [0x13, 0x00, 0x00, 0x00], len / 4);
             if len % 4 == 2 {
                 put_bytes(packed, at.wrapping_add(len - 2), &[0x01, 0x00]);
@@ -383,7 +385,7 @@ pub fn has_its_instructions(machine: Machine, section: &[u8], base: u64, item: &
     let offset = site.offset - base;
     match machine {
         #[cfg(feature = "riscv64")]
-        Machine::RiscV64 => riscv64::has_shapes(section, offset, &site.shapes),
+        Machine::RiscV { is_32 } => riscv64::has_shapes(is_32, section, offset, &site.shapes),
         #[cfg(feature = "loongarch64")]
         Machine::LoongArch64 => loongarch64::has_shapes(section, offset, &site.shapes),
     }

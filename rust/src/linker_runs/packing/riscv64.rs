@@ -5,7 +5,7 @@
 use crate::linker_runs::packing::ItemError;
 use crate::linker_runs::packing::code::{Code, Template, pair_at, relocated};
 use crate::linker_runs::relaxation::Shapes;
-use crate::linker_runs::riscv64::link_at;
+use crate::linker_runs::riscv64::{link_at, links_short};
 use crate::linker_runs::shapes::riscv64::{CALL, TAIL_C};
 use crate::linker_elf::elf::Row;
 use crate::riscv64::{self, RiscVRelocation};
@@ -25,13 +25,23 @@ fn jal(link: u32) -> [u8; 4] {
     (0x6f + link * 128).to_le_bytes()
 }
 
+/// `c.j` of distance 0, or `c.jal`, which links x1.
+#[inline(always)]
+fn short_jump(link: u32) -> [u8; 2] {
+    if link == 0 {
+        [0x01, 0xa0]
+    } else {
+        [0x01, 0x20]
+    }
+}
+
 /// The instruction of which n bytes stay of a call that links a register.
 #[inline(always)]
-fn template_of(section: &[u8], offset: u64, link: u32, kept: u64) -> Option<Template> {
+fn template_of(is_32: bool, section: &[u8], offset: u64, link: u32, kept: u64) -> Option<Template> {
     match kept {
-        2 if link == 0 => Some(Template {
+        2 if links_short(is_32, link) => Some(Template {
             row: row_of(RiscVRelocation::R_RISCV_RVC_JUMP),
-            code: Code::Half([0x01, 0xa0]),
+            code: Code::Half(short_jump(link)),
         }),
         4 => Some(Template {
             row: row_of(RiscVRelocation::R_RISCV_JAL),
@@ -48,6 +58,7 @@ fn template_of(section: &[u8], offset: u64, link: u32, kept: u64) -> Option<Temp
 /// What a call becomes of which n bytes stay, at an address and for a target's.
 #[inline(always)]
 pub(crate) fn code_of(
+    is_32: bool,
     section: &[u8],
     offset: u64,
     kept: u64,
@@ -57,7 +68,7 @@ pub(crate) fn code_of(
     let Some(link) = link_at(section, offset) else {
         return Err(ItemError::NotItsInstructions);
     };
-    let Some(template) = template_of(section, offset, link, kept) else {
+    let Some(template) = template_of(is_32, section, offset, link, kept) else {
         return Err(ItemError::NoShape);
     };
     match relocated(template, place, target) {
@@ -67,14 +78,14 @@ pub(crate) fn code_of(
 }
 
 /// Whether a call that links a register can have the shapes.
-fn are_of_link(link: u32, shapes: &Shapes) -> bool {
-    *shapes == CALL || (link == 0 && *shapes == TAIL_C)
+fn are_of_link(is_32: bool, link: u32, shapes: &Shapes) -> bool {
+    *shapes == CALL || (links_short(is_32, link) && *shapes == TAIL_C)
 }
 
 /// Whether a call at an offset can have the shapes.
-pub(crate) fn has_shapes(section: &[u8], offset: u64, shapes: &Shapes) -> bool {
+pub(crate) fn has_shapes(is_32: bool, section: &[u8], offset: u64, shapes: &Shapes) -> bool {
     match link_at(section, offset) {
-        Some(link) => are_of_link(link, shapes),
+        Some(link) => are_of_link(is_32, link, shapes),
         None => false,
     }
 }
