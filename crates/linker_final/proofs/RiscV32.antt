@@ -1,5 +1,5 @@
 -- RV32: values once addends are wrapped.
-use Rattle.std.proofs.Common.{◌≡◌, ℕ, ℤ, pos, negsuc, ◌+◌, ◌-◌, ◌/◌, ◌%◌, ◌^◌, ◌<◌, ◌≤◌, refl, sym, ap, subst, ◌∙◌, arith, Bool, true, false, ltb, List, length, Option, Some, None, Result, Ok, Err, ◌+ℤ◌, neg_ℤ, ◌≤ℤ◌, ◌<ℤ◌, FitsSigned}
+use Rattle.std.proofs.Common.{◌≡◌, ℕ, suc, ℤ, pos, negsuc, ◌+◌, ◌-◌, ◌/◌, ◌%◌, ◌^◌, ◌<◌, ◌≤◌, refl, sym, ap, subst, ◌∙◌, arith, Bool, true, false, ltb, List, length, Option, Some, None, Result, Ok, Err, ◌+ℤ◌, neg_ℤ, ◌≤ℤ◌, ◌<ℤ◌, FitsSigned, unsigned_abs}
 use Rattle.std.proofs.Math.Facts.{sfits_to_z}
 use Rattle.std.proofs.lemmas.Bool.{lt-ltb}
 use Rattle.std.proofs.lemmas.Int.{to_z-of_z}
@@ -13,7 +13,7 @@ use Rattle.linker_elf.specs.declared.elf.RelocationKind.TheVariants as kinds
 use Rattle.linker_elf.specs.declared.elf.RowSize.{RowSize}
 use Rattle.linker_elf.specs.declared.elf.RowSize.TheVariants.{ByteSize}
 use Rattle.linker_elf.specs.declared.riscv64.relocations.RiscVRelocation.TheVariants as riscv64
-use Rattle.linker_final.proofs.Imports.{and_parts, cond-true, ltb-true, ints, of_z-to_z, w64, cast_signed, cast_unsigned, if◌then◌else◌, slice_get, ◌&&◌, IsRow, IsWithin, riscv_relocation, sum_64, difference_64, value_of, loads_plt_word, RelocationKind, RowInfo, BitMasking, RiscV, Operands, RiscVRelocation, one_row, entry_of, relocation_in, IsValueBy, IsValueIn, entry_address, has_value, lacks_origin, names_label, operands_by, operands_in, operands_of, operands_with, value_by, Addresses, Symbol, Rela, ValueError}
+use Rattle.linker_final.proofs.Imports.{and_parts, cond-true, ltb-true, ints, of_z-to_z, w64, cast_signed, cast_unsigned, int_rem_euclid, if◌then◌else◌, slice_get, ◌&&◌, IsRow, IsWithin, riscv_relocation, sum_64, difference_64, value_of, loads_plt_word, RelocationKind, RowInfo, BitMasking, RiscV, Operands, RiscVRelocation, one_row, entry_of, relocation_in, IsValueBy, IsValueIn, entry_address, has_value, lacks_origin, names_label, operands_by, operands_in, operands_of, operands_with, value_by, Addresses, Symbol, Rela, ValueError}
 use Rattle.linker_laws.proofs.Sums.{sum_below}
 use Rattle.linker_section.proofs.QuickValues.{when_true}
 use Rattle.linker_section.specs.Inner.Facts.{When}
@@ -32,59 +32,38 @@ unsigned_small z fits = omega (arith, ints)
 abbrev IsLeast : ℤ → Type 0
 IsLeast least = (neg_ℤ (pos (2 ^ 40)) ≤ℤ least) × (least ≤ℤ pos 0)
 
-record IsLeastSame (least value w : ℤ) : Type 0 where
-  same : IsSame32 w value
-  least_is : least ≤ℤ w
-  below : w <ℤ (least +ℤ pos (2 ^ 32))
-  fits : FitsSigned w64 w
-
--- a number near one of them
-near_fits : (least w : ℤ) → IsLeast least → least ≤ℤ w → w <ℤ (least +ℤ pos (2 ^ 32)) → FitsSigned w64 w
-near_fits least (pos n) is low high = record { sfits = omega (arith, ints) }
-near_fits least (negsuc n) is low high = record { sfits = omega (arith, ints) }
+fits_near : (least z : ℤ) → IsLeast least → least ≤ℤ z → z <ℤ (least +ℤ pos (2 ^ 32)) → FitsSigned w64 z
+fits_near least (pos n) is low high = record { sfits = omega (arith, ints) }
+fits_near least (negsuc n) is low high = record { sfits = omega (arith, ints) }
 
 low_bits : (z : ℤ) → FitsSigned w64 z → int_rem_euclid z (pos (2 ^ 32)) ≡ pos (cast_unsigned w64 z % 2 ^ 32)
 low_bits (pos n) fits = refl
-low_bits (negsuc n) fits = ap pos (omega (arith, fits.sfits))
+low_bits (negsuc n) fits =
+    let small : n < 2 ^ 63 = fits.sfits in
+    ap pos (let e : 2 ^ 32 - 1 - n % 2 ^ 32 ≡ (2 ^ 64 - suc n) % 2 ^ 32 = omega arith in e)
 
-is_wrapped : (least value w : ℤ) → IsLeast least → FitsSigned w64 value → IsLeastFrom least value w
-    → IsLeastSame least value w
-is_wrapped least value w is small from =
-    let fits = near_fits least w is from.from from.below in
-    record {
-      same = ap unsigned_abs (sym (low_bits w fits) ∙ (from.same ∙ low_bits value small));
-      least_is = from.from;
-      below = from.below;
-      fits = fits;
-    }
+same_32 : (a b : ℤ) → FitsSigned w64 a → FitsSigned w64 b
+    → int_rem_euclid a (pos (2 ^ 32)) ≡ int_rem_euclid b (pos (2 ^ 32)) → IsSame32 a b
+same_32 a b small small' same = ap unsigned_abs (sym (low_bits a small) ∙ (same ∙ low_bits b small'))
 
 -- no other such number is below it
-least_one : (least w v : ℤ) → IsLeast least → IsSame32 w v → least ≤ℤ w
-    → w <ℤ (least +ℤ pos (2 ^ 32)) → least ≤ℤ v → v <ℤ pos (2 ^ 40) → w ≤ℤ v
-least_one least w v is same low below there high = omega (arith, ints)
+least_one : (least end w v : ℤ) → IsLeast least → end ≤ℤ pos (2 ^ 40) → IsSame32 w v → least ≤ℤ w
+    → w <ℤ (least +ℤ pos (2 ^ 32)) → least ≤ℤ v → v <ℤ end → w <ℤ end
+least_one least end w v is small same low below there high = omega (arith, ints)
 
 abbrev AreNear : Bounds → Type 0
 AreNear None = Unit
 AreNear (Some bounds) = IsLeast bounds.0 × (bounds.1 ≤ℤ pos (2 ^ 40))
 
-wrapped_within : (bounds : ℤ × ℤ) (value w : ℤ) → AreNear (Some bounds) → IsLeastSame bounds.0 value w
-    → IsWrappedWithin (Some bounds) value w
-wrapped_within bounds value w near is =
-    record {
-      same = is.same;
-      within = λ v same inside. (
-        is.least_is,
-        up_to w v bounds.1
-            (least_one bounds.0 w v near.0 (is.same ∙ sym same) is.least_is is.below inside.0
-            (below v bounds.1 (pos (2 ^ 40)) inside.1 near.1)) inside.1,
-      );
-    }
-  where
-    up_to : (w v z : ℤ) → w ≤ℤ v → v <ℤ z → w <ℤ z
-    up_to w v z a b = omega (arith, ints)
-
-    below : (v y z : ℤ) → v <ℤ y → y ≤ℤ z → v <ℤ z
-    below v y z a b = omega (arith, ints)
+wrapped_within : (bounds : ℤ × ℤ) (value number : ℤ) → AreNear (Some bounds) → IsLeastFrom bounds.0 value number
+    → IsSame32 number value → IsWrappedWithin (Some bounds) value number
+wrapped_within bounds value number near is here = record {
+  same = here;
+  within = λ v same inside. (
+    is.from,
+    least_one bounds.0 bounds.1 number v near.0 near.1 (here ∙ sym same) is.from is.below inside.0 inside.1,
+  );
+}
 
 pub pairs_reach_all : PairsReachAll
 pairs_reach_all value after is =
@@ -237,15 +216,15 @@ abbrev Value : Type 0
 Value = Result (Option ℤ) ValueError
 
 -- a relocation with another addend, and the value that it then has
-record HasMoved (r after : Rela) (least value wanted : ℤ) (result : Value) : Type 0 where
+record HasMoved (r after : Rela) (value wanted : ℤ) (result : Value) : Type 0 where
+  same : IsSame32 wanted value
   addend : IsSame32 after.addend r.addend
   is : result ≡ Ok (Some wanted)
-  from : IsLeastSame least value wanted
 
-module _ (row : RowInfo) (sum : IsSum row) (addresses : Addresses) (r : Rela) (least value wanted : ℤ)
-    (near : IsLeast least) (wrapped : IsLeastFrom least value wanted) where
+module _ (row : RowInfo) (sum : IsSum row) (addresses : Addresses) (r : Rela) (value wanted : ℤ)
+    (fits : FitsSigned w64 wanted) (same_rest : int_rem_euclid wanted (pos (2 ^ 32)) ≡ int_rem_euclid value (pos (2 ^ 32))) where
   abbrev HasMovedTo : Value → Type 0
-  HasMovedTo result = HasMoved r (with_value r value wanted) least value wanted result
+  HasMovedTo result = HasMoved r (with_value r value wanted) value wanted result
 
   with_addend : has_value row.kind ≡ true → (o : Operands) (a : ℤ)
       → value_of row (record o { addend = a })
@@ -274,22 +253,22 @@ module _ (row : RowInfo) (sum : IsSum row) (addresses : Addresses) (r : Rela) (l
       let w = cast_unsigned w64 wanted in
       let of : Some (cast_signed w64 n) ≡ Some value =
       sym (with_addend valued o r.addend) ∙ (ap (value_of row) (sym (operands_are symbol entry r.addend)) ∙ is) in
-      let read : cast_signed w64 n ≡ value = cc in
-      let number : cast_unsigned w64 value ≡ n = sym (ap (cast_unsigned w64) read) ∙ of_z-to_z w64 n small in
-      let from = is_wrapped least value wanted near (subst (FitsSigned w64) read (sfits_to_z (record { fits = small }))) wrapped in
+      let is_value : cast_signed w64 n ≡ value = cc in
+      let number : cast_unsigned w64 value ≡ n = sym (ap (cast_unsigned w64) is_value) ∙ of_z-to_z w64 n small in
+      let same = same_32 wanted value fits (subst (FitsSigned w64) is_value (sfits_to_z (record { fits = small }))) same_rest in
       let b = sum_64 a (difference_64 w n) in
       let addend : (with_value r value wanted).addend ≡ cast_signed w64 b =
       ap (λ v. cast_signed w64 (sum_64 a (difference_64 w v))) number in
       let there : cast_unsigned w64 (cast_signed w64 b) ≡ b = of_z-to_z w64 b (sum_below a (difference_64 w n)) in
       record {
+        same = same;
         addend = ap (λ z. cast_unsigned w64 z % 2 ^ 32) addend
-            ∙ (ap (λ y. y % 2 ^ 32) there ∙ moved_low a w n small (from.same ∙ ap (λ v. v % 2 ^ 32) number));
+            ∙ (ap (λ y. y % 2 ^ 32) there ∙ moved_low a w n small (same ∙ ap (λ v. v % 2 ^ 32) number));
         is = ap Ok (ap (value_of row) (operands_are symbol entry (with_value r value wanted).addend)
             ∙ (with_addend valued o (with_value r value wanted).addend
             ∙ ap Some (ap (λ z. cast_signed w64 (made base less (cast_unsigned w64 z))) addend
             ∙ (ap (λ y. cast_signed w64 (made base less y)) there
-            ∙ (ap (cast_signed w64) (moved base less a w (unsigned_small wanted from.fits)) ∙ to_z-of_z w64 wanted from.fits)))));
-        from = from;
+            ∙ (ap (cast_signed w64) (moved base less a w (unsigned_small wanted fits)) ∙ to_z-of_z w64 wanted fits)))));
       }
 
   by_entry : has_value row.kind ≡ true → (lacks : Bool) (symbol : Symbol) (entry : Option ℕ)
@@ -338,49 +317,50 @@ module _ (addresses : Addresses) (symbols : List Symbol) (row : RowInfo) (sum : 
 
   becomes : (bounds : Bounds) → AreNear bounds → (result : Value) → own_value RiscV addresses symbols row r ≡ result
       → (after : Rela) → IsWrappedTo (least_in bounds) r result after → Becomes bounds result after
-  becomes None are result is after same =
-      subst (Becomes None result) (sym same) (unchanged r, subst (λ x. IsWrappedValue None result x) (sym is) (unbounded result))
-  becomes (Some bounds) are (Err error) is after same = subst (Becomes (Some bounds) (Err error)) (sym same) (unchanged r, is)
-  becomes (Some bounds) are (Ok None) is after same = subst (Becomes (Some bounds) (Ok None)) (sym same) (unchanged r, is)
-  becomes (Some bounds) are (Ok (Some value)) is after given =
-      let done = own_moved row sum addresses r bounds.0 value given.0 are.0 given.1 symbols (has_value row.kind) refl is in
-      subst (Becomes (Some bounds) (Ok (Some value))) (sym given.2) (
-        record { others = refl; addend = done.addend },
-        (given.0, done.is, wrapped_within bounds value given.0 are done.from),
-      )
+  becomes None are result is after to =
+      subst (Becomes None result) (sym to) (unchanged r, subst (λ x. IsWrappedValue None result x) (sym is) (unbounded result))
+  becomes (Some bounds) are (Err error) is after to = subst (Becomes (Some bounds) (Err error)) (sym to) (unchanged r, is)
+  becomes (Some bounds) are (Ok None) is after to = subst (Becomes (Some bounds) (Ok None)) (sym to) (unchanged r, is)
+  becomes (Some bounds) are (Ok (Some value)) is after to =
+      let number = to.0 in
+      let least = to.1 in
+      let fits = fits_near bounds.0 number are.0 least.from least.below in
+      let done = own_moved row sum addresses r value number fits least.same symbols (has_value row.kind) refl is in
+      subst (Becomes (Some bounds) (Ok (Some value))) (sym to.2)
+      (record { others = refl; addend = done.addend }, (number, done.is, wrapped_within bounds value number are least done.same))
 
   -- a low part stays
   by_label : (labelled : Bool) → names_label row.size row.kind ≡ labelled → (after : Rela)
       → IsWrappedTo (if labelled then None else least_in (reach_of row)) r (own_value RiscV addresses symbols row r) after
       → HasWrappedAddend r after
-  by_label true is after same = subst (HasWrappedAddend r) (sym same) (unchanged r)
-  by_label false is after given =
-      (becomes (reach_of row) (near (reach_of row) sum.near) (own_value RiscV addresses symbols row r) refl after given).0
+  by_label true is after to = subst (HasWrappedAddend r) (sym to) (unchanged r)
+  by_label false is after to = (becomes (reach_of row) (near (reach_of row) sum.near) (own_value RiscV addresses symbols row r) refl after to).0
 
   alone : names_label row.size row.kind ≡ false → (after : Rela) → IsWrappedBy addresses symbols r (Some row) after
       → Becomes (reach_of row) (own_value RiscV addresses symbols row r) after
-  alone isnt after given =
+  alone isnt after to =
       becomes (reach_of row) (near (reach_of row) sum.near) (own_value RiscV addresses symbols row r) refl after
-      (subst (λ labelled. IsWrappedTo (if labelled then None else least_in (reach_of row)) r (own_value RiscV addresses symbols row r) after) isnt given)
+      (subst (λ labelled. IsWrappedTo (if labelled then None else least_in (reach_of row)) r (own_value RiscV addresses symbols row r) after)
+      isnt to)
 
-addend_by : (addresses : Addresses) (symbols : List Symbol) (r : Rela) (row : Option RowInfo)
-    → IsRow RiscV r.r_type row → (after : Rela) → IsWrappedBy addresses symbols r row after → HasWrappedAddend r after
-addend_by addresses symbols r None of after same = subst (HasWrappedAddend r) (sym same) (unchanged r)
-addend_by addresses symbols r (Some row) of after given =
-    by_label addresses symbols row (is_sum r.r_type row of) r (names_label row.size row.kind) refl after given
+addend_by : (addresses : Addresses) (symbols : List Symbol) (r after : Rela) (row : Option RowInfo)
+    → IsRow RiscV r.r_type row → IsWrappedBy addresses symbols r row after → HasWrappedAddend r after
+addend_by addresses symbols r after None of to = subst (HasWrappedAddend r) (sym to) (unchanged r)
+addend_by addresses symbols r after (Some row) of to =
+    by_label addresses symbols row (is_sum r.r_type row of) r (names_label row.size row.kind) refl after to
 
 pub addends : Addends
 addends addresses symbols before after are n below =
     let each = are.each n below in
-    addend_by addresses symbols (relocation_in before n) each.0 each.1 (relocation_in after n) each.2
+    addend_by addresses symbols (relocation_in before n) (relocation_in after n) each.0 each.1 each.2
 
 -- the value of a relocation that is no low part
 own_wrapped : (addresses : Addresses) (symbols : List Symbol) (row : RowInfo) (r after : Rela)
     → IsRow RiscV r.r_type (Some row) → IsWrapped addresses symbols r after → names_label row.size row.kind ≡ false
     → IsWrappedValue (reach_of row) (own_value RiscV addresses symbols row r) (own_value RiscV addresses symbols row after)
 own_wrapped addresses symbols row r after of each isnt =
-    let given = subst (λ x. IsWrappedBy addresses symbols r x after) (one_row RiscV r.r_type each.0 (Some row) each.1 of) each.2 in
-    (alone addresses symbols row (is_sum r.r_type row of) r isnt after given).1
+    (alone addresses symbols row (is_sum r.r_type row of) r isnt after
+    (subst (λ x. IsWrappedBy addresses symbols r x after) (one_row RiscV r.r_type each.0 (Some row) each.1 of) each.2)).1
 
 -- ---- a low part
 
