@@ -1,6 +1,5 @@
 -- Sequences of TLS descriptors of AArch64, of which local-exec or initial-exec is made, are groups.
 use Rattle.linker_final.proofs.Imports.{◌≡◌, ℕ, ◌+◌, ◌<◌, ◌^◌, List, [], ◌∷◌, refl, sym, ap, subst, ◌∙◌, inl, inr, true, Some, None, cond, slice_get, insn_row, entry, entry_pages, paged_row, signed_row, sum_64, value_of, Adr, AArch64Relocation, GotTpOff, GotTpOffGot, RowInfo, AArch64, Choice, Operands, Code, Stands, link, following, Group, Kinds, State, of_link, relocation_in, is_there, operands_by, operands_with, ThreadOffset, AArch64Entry, nop, Relaxation, Condition, aligned_row, LdrRegister, ComesTo, HoldsOffset, IsDescriptorLeft, IsRewrittenOf, object, IsWrittenByNoOther, Linked, UntouchedInstruction, instruction_at, IsDescriptorRewritten}
-use Rattle.linker_elf.specs.declared.aarch64.relocations.AArch64Relocation.TheVariants as names
 use Rattle.linker_final.proofs.AArch64Alone.{high_after, high_row, low_after, low_row}
 use Rattle.linker_final.proofs.InstructionFields.{of_bits}
 use Rattle.linker_final.proofs.AArch64Written.{IsAfter, IsNew, IsOfEntry, IsOfOne, after, becomes, entry_there, has_after, named_after, of_one, of_part, place_of, stands_left}
@@ -9,6 +8,7 @@ use Rattle.linker_laws.specs.AArch64Groups.{Descriptor, EndsInNops, Groups}
 use Rattle.linker_laws.specs.AArch64RewriteLaws.{thread_offset, with_entry}
 use Rattle.linker_utils.specs.AArch64Rewrites.{to_initial_exec, to_local_exec}
 use Rattle.linker_utils.specs.declared.aarch64.rewrites.RewriteKind.{RewriteKind}
+use Rattle.linker_elf.specs.declared.aarch64.relocations.AArch64Relocation.TheVariants as names
 use Rattle.linker_utils.specs.declared.aarch64.rewrites.RewriteKind.TheVariants as kinds
 use Rattle.linker_utils.specs.declared.architecture.Relaxation.TheVariants as relaxations
 
@@ -97,7 +97,6 @@ pub local_is_group : Groups → (l : Linked) (c : Code) (new : IsNew l c) (i : �
     → Descriptor c o (thread_offset o) k s k' s' (object l i) (object l (i + 1)) (object l (i + 2)) (object l (i + 3))
     → Group (of_link (link c)) 4 k s k' s'
 local_is_group laws l c new i of k k' s s' o at left described =
-    let r2 = relocation_in l.relocations (i + 1) in
     let are : o ≡ operands_with AArch64 l.addresses high_row at.symbol (relocation_in l.relocations i) o.got_entry = at.are in
     let place : o.place ≡ sum_64 l.addresses.section (offset_of l i) = ap (λ (x : Operands). x.place) are in
     let page = names.R_AARCH64_TLSDESC_ADR_PAGE21 in
@@ -146,7 +145,6 @@ pub initial_is_group : Groups → (l : Linked) (c : Code) (new : IsNew l c) (i :
     → Group (of_link (link c)) 4 k s k' s'
 initial_is_group laws l c new i of k k' s s' o offset at left small holds described =
     let r = relocation_in l.relocations i in
-    let r2 = relocation_in l.relocations (i + 1) in
     let symbol = at.symbol in
     let e = symbol.thread_entry in
     let are : o ≡ operands_with AArch64 l.addresses high_row symbol r o.got_entry = at.are in

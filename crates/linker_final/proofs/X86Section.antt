@@ -142,7 +142,6 @@ module _ (laws : Groups) (l : Linked) (linked : IsLinked l) (x86 : l.context.arc
   by_decision i below Kept is = inl (spared l i Kept is refl b)
   by_decision i below Consumed is = inl (spared l i Consumed is refl b)
   by_decision i below (Rewritten chosen) is =
-      let o = offset_of l i in
       let t = has_table l linked x86 i chosen below is in
       elim ((by_name laws l linked x86 i chosen below is t.name t.is_name t.is).1) [
         | inl found ↦ in_window i chosen below is t.name t.is_name (found.0) (found.1)
