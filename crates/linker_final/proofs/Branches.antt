@@ -1,5 +1,5 @@
 -- Branches that stay, in the final bytes of a packed section.
-use Rattle.linker_final.proofs.Imports.{◌≡◌, ℕ, take, drop, refl, sym, ap, subst, ◌∙◌, true, false, Option, Some, None, Ok, pos, IsSomeAnd, ⊤, BitRange, loongarch_form, loongarch_row, window_len, riscv_form, riscv_row, bytes_row, sum_64, value_of, AnyForm, RowInfo, BitMasking, Operands, Branch26, Shift10, LoongArch64Relocation, RiscVRelocation, IsAddress, plt_address, symbol_address, Machine, RiscV64, relocation_in, has_value, names_label, offset_at, operands_in, operands_of, operands_with, Addresses, Symbol, Rela, ℤ, ◌+ℤ◌, ◌*ℤ◌, Branch21, Shift5, BType, CbType, CjType, JType, address_at, architecture_of, place_of}
+use Rattle.linker_final.proofs.Imports.{◌≡◌, ℕ, take, drop, refl, sym, ap, subst, ◌∙◌, true, false, Option, Some, None, Ok, pos, IsSomeAnd, ⊤, BitRange, loongarch_form, loongarch_row, window_len, riscv_form, riscv_row, bytes_row, sum_64, value_of, AnyForm, RowInfo, BitMasking, Operands, Branch26, Shift10, LoongArch64Relocation, RiscVRelocation, IsAddress, plt_address, symbol_address, Machine, relocation_in, has_value, names_label, offset_at, operands_in, operands_of, operands_with, Addresses, Symbol, Rela, ℤ, ◌+ℤ◌, ◌*ℤ◌, Branch21, Shift5, BType, CbType, CjType, JType, address_at, architecture_of, place_of}
 use Rattle.linker_elf.specs.declared.elf.RelocationKind.TheVariants.{None as NoValue}
 use Rattle.linker_elf.specs.declared.loongarch64.relocations.LoongArch64Relocation.TheVariants as loongarch_names
 use Rattle.linker_elf.specs.declared.riscv64.relocations.RiscVRelocation.TheVariants as riscv_names
@@ -10,7 +10,7 @@ use Rattle.linker_final.specs.Branches.{Goes, LoongArchBranchesGo, RiscVBranches
 use Rattle.linker_laws.specs.LoongArchRelocationLaws as loongarch_laws
 use Rattle.linker_laws.specs.RiscVRelocationLaws as riscv_laws
 use Rattle.linker_laws.specs.Schemes.{Adds, here, place}
-use Rattle.linker_runs.specs.declared.packing.Machine.TheVariants.{LoongArch64}
+use Rattle.linker_runs.specs.declared.packing.Machine.TheVariants.{LoongArch64, RiscV}
 
 -- by a row of an instruction that takes no entry
 goes : (machine : Machine) (row : RowInfo) (bits : BitRange) (insn : AnyForm)
@@ -58,10 +58,10 @@ loongarch name = the_row (loongarch_row name)
 
 pub riscv_branches : riscv_laws.Jumps → RiscVBranchesGo
 riscv_branches law = (
-  goes RiscV64 (riscv riscv_names.R_RISCV_JAL) _ _ (riscv_form JType).machine 1 symbol_address refl refl refl (λ a symbol r. refl) (λ y. tt) law.0,
-  goes RiscV64 (riscv riscv_names.R_RISCV_BRANCH) _ _ (riscv_form BType).machine 1 symbol_address refl refl refl (λ a symbol r. refl) (λ y. tt) law.1,
-  goes RiscV64 (riscv riscv_names.R_RISCV_RVC_JUMP) _ _ (riscv_form CjType).machine 1 symbol_address refl refl refl (λ a symbol r. refl) (λ y. tt) law.2,
-  goes RiscV64 (riscv riscv_names.R_RISCV_RVC_BRANCH) _ _ (riscv_form CbType).machine 1 symbol_address refl refl refl (λ a symbol r. refl) (λ y. tt) law.3,
+  λ is_32. goes (RiscV is_32) (riscv riscv_names.R_RISCV_JAL) _ _ (riscv_form JType).machine 1 symbol_address refl refl refl (λ a symbol r. refl) (λ y. tt) law.0,
+  λ is_32. goes (RiscV is_32) (riscv riscv_names.R_RISCV_BRANCH) _ _ (riscv_form BType).machine 1 symbol_address refl refl refl (λ a symbol r. refl) (λ y. tt) law.1,
+  λ is_32. goes (RiscV is_32) (riscv riscv_names.R_RISCV_RVC_JUMP) _ _ (riscv_form CjType).machine 1 symbol_address refl refl refl (λ a symbol r. refl) (λ y. tt) law.2,
+  λ is_32. goes (RiscV is_32) (riscv riscv_names.R_RISCV_RVC_BRANCH) _ _ (riscv_form CbType).machine 1 symbol_address refl refl refl (λ a symbol r. refl) (λ y. tt) law.3,
 )
 
 pub loongarch_branches : loongarch_laws.Branches → LoongArchBranchesGo

@@ -2,14 +2,15 @@
 use Rattle.std.proofs.Common.{◌≡◌, ℕ, ℤ, pos, ◌%◌, ◌^◌, ◌+◌, ◌+ℤ◌, ◌*ℤ◌, refl, sym, ap, ◌∙◌, arith, List, [], ◌∷◌, Option, Some, None}
 use Rattle.std.specs.Prelude.{IsSomeAnd}
 use Rattle.linker_elf.proofs.Agreement.{rem_rem}
+use Rattle.linker_elf.specs.RiscVRelocations.{clui_row}
 use Rattle.linker_elf.specs.declared.riscv64.forms.RiscVInstruction.{RiscVInstruction}
-use Rattle.linker_elf.specs.declared.riscv64.forms.RiscVInstruction.TheVariants.{BType, CbType, CjType, JType, SType, UiType}
+use Rattle.linker_elf.specs.declared.riscv64.forms.RiscVInstruction.TheVariants.{BType, CbType, CjType, CluiType, JType, SType, UiType}
 use Rattle.linker_elf.specs.declared.riscv64.relocations.RiscVRelocation.TheVariants as names
-use Rattle.linker_final.proofs.Imports.{number_of_bytes, riscv_form, riscv_row, Operands, IType, UType, RiscVRelocation, AreAddresses, plt_address, symbol_address}
+use Rattle.linker_final.proofs.Imports.{number_of_bytes, riscv_form, riscv_row, RowInfo, Operands, IType, UType, RiscVRelocation, AreAddresses, plt_address, symbol_address}
 use Rattle.linker_laws.specs.RiscVRelocationLaws as laws
 use Rattle.linker_laws.specs.RiscVRelocationLaws.{even, low_load, low_store, of_entry, upper_and_low, without_bit_0}
 use Rattle.linker_laws.specs.Schemes.{Step, Computed, Reaches, Law, HoldsDistance, entry_and_addend, here, number_at, place, tls_base, zero}
-use Rattle.linker_final.specs.RiscV32.{AbsoluteAddresses, Branches, Call, Entries, IsSame32, Jump, Law32, Pairs, Reaches32, RelativeAddresses, ThreadAddresses, Word, Words}
+use Rattle.linker_final.specs.RiscV32.{AbsoluteAddresses, Branches, Call, Descriptor, DescriptorAddresses, Entries, IsSame32, Jump, Law32, Pairs, Reaches32, RelativeAddresses, ThreadAddresses, Word, Words}
 
 some_and : {T : Type 0} {P Q : T → Type 0} (x : Option T) → ((y : T) → P y → Q y) → IsSomeAnd x P → IsSomeAnd x Q
 some_and None f there = there
@@ -55,32 +56,52 @@ law_32 steps computed target moves law = λ o a small same.
     let p : Operands = record o { addend = a } in
     weaker steps p (computed p) (target o) (target p) (moves o a same) (law p (with_addend o a small))
 
-pairs : (begin : Operands → ℕ) (name : RiscVRelocation) (load store : Step) (target : Operands → ℕ) → IsTarget32 target
-    → laws.Pairs begin UType (riscv_row name) load store target → Pairs begin name load store target
-pairs begin name load store target moves law = (
-  law_32 (here (riscv_row name) ∷ load ∷ []) (upper_and_low begin UType IType) target moves law.0,
-  law_32 (here (riscv_row name) ∷ store ∷ []) (upper_and_low begin UType SType) target moves law.1,
+pairs : (begin : Operands → ℕ) (upper : RiscVInstruction) (high : Option RowInfo) (load store : Step)
+    (target : Operands → ℕ) → IsTarget32 target
+    → laws.Pairs begin upper high load store target → Pairs begin upper high load store target
+pairs begin upper high load store target moves law = (
+  law_32 (here high ∷ load ∷ []) (upper_and_low begin upper IType) target moves law.0,
+  law_32 (here high ∷ store ∷ []) (upper_and_low begin upper SType) target moves law.1,
 )
 
 entries : (name : RiscVRelocation) → laws.Entries name → Entries name
-entries name = pairs place name (of_entry low_load) (of_entry low_store) entry_and_addend entry_32
+entries name = pairs place UType (riscv_row name) (of_entry low_load) (of_entry low_store) entry_and_addend entry_32
 
 pub absolute : laws.AbsoluteAddresses → AbsoluteAddresses
-absolute law =
-    pairs zero names.R_RISCV_HI20 (here (riscv_row names.R_RISCV_LO12_I)) (here (riscv_row names.R_RISCV_LO12_S))
-    symbol_address symbol_32 law.0
+absolute law = (upper UType (riscv_row names.R_RISCV_HI20) law.0, upper CluiType (Some clui_row) law.1)
+  where
+    load : Step
+    load = here (riscv_row names.R_RISCV_LO12_I)
+
+    store : Step
+    store = here (riscv_row names.R_RISCV_LO12_S)
+
+    upper : (f : RiscVInstruction) (high : Option RowInfo) → laws.Pairs zero f high load store symbol_address
+        → Pairs zero f high load store symbol_address
+    upper f high = pairs zero f high load store symbol_address symbol_32
 
 pub relative : laws.RelativeAddresses → laws.EntryAddresses → RelativeAddresses
 relative law of_entries = (
-  pairs place names.R_RISCV_PCREL_HI20 low_load low_store symbol_address symbol_32 law,
+  pairs place UType (riscv_row names.R_RISCV_PCREL_HI20) low_load low_store symbol_address symbol_32 law,
   entries names.R_RISCV_GOT_HI20 of_entries.0,
   entries names.R_RISCV_TLS_GOT_HI20 of_entries.1,
   entries names.R_RISCV_TLS_GD_HI20 of_entries.2,
 )
 
+descriptor : (low : RiscVRelocation) → laws.Descriptor low → Descriptor low
+descriptor low =
+    law_32 (here (riscv_row names.R_RISCV_TLSDESC_HI20) ∷ here (riscv_row low) ∷ []) (upper_and_low place UType IType)
+    entry_and_addend entry_32
+
+pub descriptors : laws.DescriptorAddresses → DescriptorAddresses
+descriptors law = (
+  descriptor names.R_RISCV_TLSDESC_LOAD_LO12 law.0,
+  descriptor names.R_RISCV_TLSDESC_ADD_LO12 law.1,
+)
+
 pub thread : laws.ThreadAddresses → ThreadAddresses
 thread law =
-    pairs tls_base names.R_RISCV_TPREL_HI20 (here (riscv_row names.R_RISCV_TPREL_LO12_I))
+    pairs tls_base UType (riscv_row names.R_RISCV_TPREL_HI20) (here (riscv_row names.R_RISCV_TPREL_LO12_I))
     (here (riscv_row names.R_RISCV_TPREL_LO12_S)) symbol_address symbol_32 law
 
 call : (name : RiscVRelocation) → laws.Call name → Call name

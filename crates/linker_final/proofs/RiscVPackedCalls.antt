@@ -151,7 +151,7 @@ long_calls groups p is riscv i name stays symbol symbol_is small other_name of =
     let y = operands_with RiscV p.addresses call_row symbol r 0 in
     let arch = architecture_of p.machine in
     let row_is = row_of_call name stays.of_call in
-    let machine : RiscV ≡ arch = sym (ap architecture_of riscv) in
+    let machine : RiscV ≡ arch = sym riscv in
     let value = some_value (value_of call_row y) tt in
     let applied = instructions p is i call_row y
     (record {

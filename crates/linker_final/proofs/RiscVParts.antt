@@ -1,6 +1,6 @@
 -- What new has of rewritten instructions of RISC-V, in the final bytes or once they are packed, is
 -- what the rewrites left, with the values of their relocations.
-use Rattle.linker_final.proofs.Imports.{◌≡◌, ℕ, ◌+◌, ◌/◌, ◌<◌, ◌≤◌, List, length, refl, sym, ap, subst, ◌∙◌, arith, Option, Some, Ok, IsSomeAnd, slice_get, BitRange, IsApplied, IsRow, IsNamed, r_type_of, Choice, addend_after, offset_after, pair_row, riscv_name, riscv_relocation, riscv_row, difference_64, value_of, Relative, RelativeRiscVLow12, RowInfo, Architecture, RiscV, Operands, IType, UType, RiscVRelocation, after_rewrite, decision_at, Rewritten, RewrittenWithSymbol, Subject, riscv_entries, riscv_rewrite, Relaxation, RiscV64, relocation_in, offset_at, operands_in, operands_of, operands_with, AreWritten, Addresses, Symbol, Rela, AreBytes, AreRewritten, IsLinked, Linked, UntouchedInstruction, count, instruction_at, IsKeptInstruction, IsRewrittenAndPacked, Packed, architecture_of, place_of, HasLow, HasNamed, HasOwn, HasValue, IsNamedAs, New, anywhere, final, packed}
+use Rattle.linker_final.proofs.Imports.{◌≡◌, ℕ, ◌+◌, ◌/◌, ◌<◌, ◌≤◌, List, length, refl, sym, ap, subst, ◌∙◌, arith, Option, Some, Ok, IsSomeAnd, slice_get, BitRange, IsApplied, IsRow, IsNamed, r_type_of, Choice, addend_after, offset_after, pair_row, riscv_name, riscv_relocation, riscv_row, difference_64, value_of, Relative, RelativeRiscVLow12, RowInfo, Architecture, RiscV, Operands, IType, UType, RiscVRelocation, after_rewrite, decision_at, Rewritten, RewrittenWithSymbol, Subject, riscv_entries, riscv_rewrite, Relaxation, relocation_in, offset_at, operands_in, operands_of, operands_with, AreWritten, Addresses, Symbol, Rela, AreBytes, AreRewritten, IsLinked, Linked, UntouchedInstruction, count, instruction_at, IsKeptInstruction, IsRewrittenAndPacked, Packed, architecture_of, place_of, HasLow, HasNamed, HasOwn, HasValue, IsNamedAs, New, anywhere, final, packed}
 use Rattle.linker_elf.specs.declared.elf.AnyForm.TheVariants as insns
 use Rattle.linker_elf.specs.declared.riscv64.relocations.RiscVRelocation.TheVariants as names
 use Rattle.linker_final.proofs.InstructionFields.{applied, applied_found, of_bits}
@@ -222,11 +222,11 @@ module _ (l : Linked) (riscv : l.context.architecture ≡ RiscV) where
         bytes = linked.final_bytes;
       }
 
-  abbrev packed_output : (p : Packed) → IsRewrittenAndPacked l p → p.machine ≡ RiscV64 → Output
+  abbrev packed_output : (p : Packed) → IsRewrittenAndPacked l p → architecture_of p.machine ≡ RiscV → Output
   packed_output p joined machine =
       record {
         architecture = architecture_of p.machine;
-        riscv = ap architecture_of machine;
+        riscv = machine;
         addresses = p.addresses;
         symbols = p.symbols;
         relocations = p.relocations_after;
@@ -255,7 +255,7 @@ module _ (l : Linked) (riscv : l.context.architecture ≡ RiscV) where
           old_bytes = part.bytes linked;
         }
 
-    in_packed : (p : Packed) (joined : IsRewrittenAndPacked l p) (machine : p.machine ≡ RiscV64) → IsKeptInstruction p n
+    in_packed : (p : Packed) (joined : IsRewrittenAndPacked l p) (machine : architecture_of p.machine ≡ RiscV) → IsKeptInstruction p n
         → UntouchedInstruction l n → IsIn l (packed_output p joined machine) name n (place_of p (offset_of l n))
     in_packed p joined machine kept left =
         let code = r_type_of (riscv_name name) in

@@ -2,12 +2,12 @@
 -- its relocation's formula. So does the one of a site that became shorter, by the type that its
 -- relocation has then.
 use Rattle.std.specs.Prelude.{◌≡◌, ◌<◌, ◌≤◌, length, ℕ, ℤ, pos, ◌+ℤ◌, ◌*ℤ◌, take, drop, slice_get}
-use Rattle.std.specs.Prelude.{IsSomeAnd, Option, Some}
+use Rattle.std.specs.Prelude.{IsSomeAnd, Option, Some, Bool}
 use Rattle.linker_final.specs.Imports.{loongarch_form, loongarch_row, symbol_address, relocation_in}
 use Rattle.linker_final.specs.Imports.{window_len, riscv_form, riscv_row, offset_at, IsAddress}
 use Rattle.linker_final.specs.Imports.{RowInfo, LoongArch64Relocation, RiscVRelocation}
 use Rattle.linker_final.specs.Imports.{Operands, Branch21, Branch26, Shift10, Machine, number_at}
-use Rattle.linker_final.specs.Imports.{Shift5, JType, CbType, CjType, RiscV64, Symbol, IsRow}
+use Rattle.linker_final.specs.Imports.{Shift5, JType, CbType, CjType, Symbol, IsRow}
 use Rattle.linker_final.specs.Imports.{BType, AreAddresses, plt_address, LoongArch64, operands_with}
 use Rattle.linker_elf.specs.declared.loongarch64.forms.LoongArch64Instruction.{LoongArch64Instruction}
 use Rattle.linker_elf.specs.declared.loongarch64.relocations.LoongArch64Relocation.TheVariants as loongarch_names
@@ -15,6 +15,7 @@ use Rattle.linker_elf.specs.declared.riscv64.forms.RiscVInstruction.{RiscVInstru
 use Rattle.linker_elf.specs.declared.riscv64.relocations.RiscVRelocation.TheVariants as riscv_names
 use Rattle.linker_final.specs.Packed.{Packed, IsPacked, address_at, architecture_of, count}
 use Rattle.linker_final.specs.Packed.{place_of}
+use Rattle.linker_runs.specs.declared.packing.Machine.TheVariants.{RiscV}
 
 -- The relocation at an index, whose place is in the section, has a row where it is written.
 pub record IsOfRow (p : Packed) (i : ℕ) (row : RowInfo) : Type 0 where
@@ -46,7 +47,9 @@ Goes machine row reads unit target =
 
 -- RISC-V (RISC-V unprivileged ISA, "JAL", "Conditional Branches", "Control Transfer Instructions")
 abbrev pub RiscVGoes : RiscVRelocation → RiscVInstruction → Type 0
-RiscVGoes name f = Goes RiscV64 (riscv_row name) (riscv_form f).machine 1 symbol_address
+RiscVGoes name f =
+    (is_32 : Bool)
+    → Goes (RiscV is_32) (riscv_row name) (riscv_form f).machine 1 symbol_address
 
 -- each jump and branch of RISC-V that has a relocation, but for calls by two instructions
 abbrev pub RiscVBranchesGo : Type 0

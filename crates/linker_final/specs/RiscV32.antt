@@ -10,7 +10,8 @@ use Rattle.linker_elf.specs.Relocate.{number_of_bytes}
 use Rattle.linker_elf.specs.Rows.{Bounds}
 use Rattle.linker_elf.specs.declared.riscv64.forms.RiscVInstruction.{RiscVInstruction}
 use Rattle.linker_elf.specs.declared.riscv64.forms.RiscVInstruction.TheVariants.{IType, SType}
-use Rattle.linker_elf.specs.declared.riscv64.forms.RiscVInstruction.TheVariants.{UType}
+use Rattle.linker_elf.specs.declared.riscv64.forms.RiscVInstruction.TheVariants.{UType, CluiType}
+use Rattle.linker_elf.specs.RiscVRelocations.{clui_row}
 use Rattle.linker_elf.specs.declared.riscv64.relocations.RiscVRelocation.TheVariants as names
 use Rattle.linker_final.specs.Imports.{IsRow, riscv_row, riscv_form, RowInfo, RiscV}
 use Rattle.linker_final.specs.Imports.{Operands, BType, CbType, CjType, JType, UiType}
@@ -90,29 +91,44 @@ Law32 steps computed target =
     in Reaches32 steps wrapped (computed wrapped) (target o)
 
 -- an upper part, and the low part of a load or an `addi` and that of a store
-abbrev pub Pairs : (Operands → ℕ) → RiscVRelocation → Step → Step → (Operands → ℕ) → Type 0
-Pairs begin name load store target =
-    Law32 (here (riscv_row name) ∷ load ∷ []) (upper_and_low begin UType IType) target
-    × Law32 (here (riscv_row name) ∷ store ∷ []) (upper_and_low begin UType SType) target
+abbrev pub Pairs : (Operands → ℕ) → RiscVInstruction → Option RowInfo → Step → Step
+    → (Operands → ℕ) → Type 0
+Pairs begin upper high load store target =
+    Law32 (here high ∷ load ∷ []) (upper_and_low begin upper IType) target
+    × Law32 (here high ∷ store ∷ []) (upper_and_low begin upper SType) target
 
 abbrev pub AbsoluteAddresses : Type 0
 AbsoluteAddresses =
-    Pairs zero names.R_RISCV_HI20 (here (riscv_row names.R_RISCV_LO12_I))
+    Pairs zero UType (riscv_row names.R_RISCV_HI20) (here (riscv_row names.R_RISCV_LO12_I))
+    (here (riscv_row names.R_RISCV_LO12_S)) symbol_address
+    × Pairs zero CluiType (Some clui_row) (here (riscv_row names.R_RISCV_LO12_I))
     (here (riscv_row names.R_RISCV_LO12_S)) symbol_address
 
 abbrev pub Entries : RiscVRelocation → Type 0
-Entries name = Pairs place name (of_entry low_load) (of_entry low_store) entry_and_addend
+Entries name =
+    Pairs place UType (riscv_row name) (of_entry low_load) (of_entry low_store) entry_and_addend
 
 abbrev pub RelativeAddresses : Type 0
 RelativeAddresses =
-    Pairs place names.R_RISCV_PCREL_HI20 low_load low_store symbol_address
+    Pairs place UType (riscv_row names.R_RISCV_PCREL_HI20) low_load low_store symbol_address
     × Entries names.R_RISCV_GOT_HI20 × Entries names.R_RISCV_TLS_GOT_HI20
     × Entries names.R_RISCV_TLS_GD_HI20
 
+-- a descriptor, by its load and by the address that is passed on
+abbrev pub Descriptor : RiscVRelocation → Type 0
+Descriptor low =
+    Law32 (here (riscv_row names.R_RISCV_TLSDESC_HI20) ∷ here (riscv_row low) ∷ [])
+    (upper_and_low place UType IType) entry_and_addend
+
+abbrev pub DescriptorAddresses : Type 0
+DescriptorAddresses =
+    Descriptor names.R_RISCV_TLSDESC_LOAD_LO12 × Descriptor names.R_RISCV_TLSDESC_ADD_LO12
+
 abbrev pub ThreadAddresses : Type 0
 ThreadAddresses =
-    Pairs tls_base names.R_RISCV_TPREL_HI20 (here (riscv_row names.R_RISCV_TPREL_LO12_I))
-    (here (riscv_row names.R_RISCV_TPREL_LO12_S)) symbol_address
+    Pairs tls_base UType (riscv_row names.R_RISCV_TPREL_HI20)
+    (here (riscv_row names.R_RISCV_TPREL_LO12_I)) (here (riscv_row names.R_RISCV_TPREL_LO12_S))
+    symbol_address
 
 abbrev pub Call : RiscVRelocation → Type 0
 Call name =

@@ -12,7 +12,7 @@ use Rattle.linker_elf.specs.declared.elf.RelocationKind.TheVariants.{PltRelative
 use Rattle.linker_elf.specs.declared.riscv64.relocations.RiscVRelocation.TheVariants as names
 use Rattle.linker_final.specs.Packed.{Packed, AreDeleted, IsBefore, IsPacked, IsSiteOf}
 use Rattle.linker_final.specs.Packed.{StayTogether, count, place_of, site_bytes, site_len}
-use Rattle.linker_final.specs.Packed.{site_offset, site_place, site_target}
+use Rattle.linker_final.specs.Packed.{site_offset, site_place, site_target, architecture_of}
 use Rattle.linker_laws.specs.RiscVGroups.{IsCall, IsLeftOut}
 use Rattle.linker_utils.specs.RiscVRewrites.{IsAddTp, tp}
 use Rattle.linker_runs.specs.RiscVItems.{IsCallAt}
@@ -50,8 +50,8 @@ instructions_in kept = if kept == 8 then 2 else 1
 abbrev pub landing : ℕ → ℕ → ℕ
 landing kept target = if kept == 8 then target - target % 2 else target
 
--- Each call that a run may make shorter goes in the final section to the address where its target
--- goes, whichever instruction it has become.
+-- RV64: each call that a run may make shorter goes in the final section to the address where its
+-- target goes, whichever instruction it has become. RV32's `c.jal` is no instruction of RV64.
 abbrev pub SitesCallTheSame : Type 0
 SitesCallTheSame =
     (p : Packed) → IsPacked p → p.machine ≡ RiscV64 → (i : ℕ) (call : site) → IsSiteOf p i call
@@ -73,7 +73,7 @@ pub record StaysCall (p : Packed) (i : ℕ) (name : RiscVRelocation) : Type 0 wh
 
 abbrev pub LongCallsStay : Type 0
 LongCallsStay =
-    (p : Packed) → IsPacked p → p.machine ≡ RiscV64 → (i : ℕ) (name : RiscVRelocation)
+    (p : Packed) → IsPacked p → architecture_of p.machine ≡ RiscV → (i : ℕ) (name : RiscVRelocation)
     → StaysCall p i name → let r = relocation_in p.relocations_after i in
     (symbol : Symbol) → slice_get p.symbols r.symbol ≡ Some symbol
     → let y = operands_with RiscV p.addresses call_row symbol r 0 in
@@ -89,7 +89,8 @@ LongCallsStay =
 -- of which new has nothing.
 abbrev pub LuiIsLeftOut : RiscVRelocation → (Operands → Type 0) → Type 0
 LuiIsLeftOut name IsLow =
-    (p : Packed) → IsPacked p → p.machine ≡ RiscV64 → (o : ℕ) → HasWord p.section.bytes o IsLui
+    (p : Packed) → IsPacked p → architecture_of p.machine ≡ RiscV → (o : ℕ)
+    → HasWord p.section.bytes o IsLui
     → AreDeleted p o 4 → (x : Operands) → IsLow x → (c : Code) (k : Kinds) (s : State)
     → IsBefore p o c.moved s.pc → Has 4 c.old s.pc (riscv_row name) x (drop o p.section.bytes)
     → IsLeftOut c k s (rd_of (word_at p.section.bytes o)) 0
@@ -97,7 +98,8 @@ LuiIsLeftOut name IsLow =
 -- So is an `add` of the thread pointer to a register with 0.
 abbrev pub SumIsLeftOut : Type 0
 SumIsLeftOut =
-    (p : Packed) → IsPacked p → p.machine ≡ RiscV64 → (o : ℕ) → HasWord p.section.bytes o IsAddTp
+    (p : Packed) → IsPacked p → architecture_of p.machine ≡ RiscV → (o : ℕ)
+    → HasWord p.section.bytes o IsAddTp
     → AreDeleted p o 4 → (c : Code) (k : Kinds) (s : State) → IsBefore p o c.moved s.pc
     → register (seen s) (rs1_of (word_at p.section.bytes o)) ≡ 0 → s.registers tp < 2 ^ 64
     → Stands 4 c.old s.pc (drop o p.section.bytes)

@@ -6,13 +6,13 @@ use Rattle.linker_final.specs.Imports.{RiscVRelocation, Code, Has, Stands, link,
 use Rattle.linker_final.specs.Imports.{IsLowOffset, action_at, offset_row, AreAddresses, Group}
 use Rattle.linker_final.specs.Imports.{Kinds, State, of_link, decision_at, Decision, Kept}
 use Rattle.linker_final.specs.Imports.{Rewritten, RewrittenWithSymbol, Subject, NotRelaxable}
-use Rattle.linker_final.specs.Imports.{RiscV64, relocation_in, operands_with, Addresses, Symbol}
+use Rattle.linker_final.specs.Imports.{relocation_in, operands_with, Addresses, Symbol}
 use Rattle.linker_final.specs.Imports.{Relaxation, riscv_scope_in, Grouped}
 use Rattle.linker_elf.specs.declared.riscv64.relocations.RiscVRelocation.TheVariants as names
 use Rattle.linker_final.specs.Final.{AreRewritten, IsLinked, Linked, count, instruction_at}
 use Rattle.linker_final.specs.Final.{IsRewrittenByNoOther, IsWrittenByNoOther, UntouchedInstruction}
 use Rattle.linker_final.specs.Joined.{IsKeptInstruction, IsRewrittenAndPacked, final_instruction}
-use Rattle.linker_final.specs.Packed.{IsUnwritten, Packed, StayTogether, place_of}
+use Rattle.linker_final.specs.Packed.{IsUnwritten, Packed, StayTogether, architecture_of, place_of}
 use Rattle.linker_final.specs.RiscVFinal.{IsRewrittenOf}
 use Rattle.linker_final.specs.RiscVFinal.{AddressIsAlike, AreOfPair, IsOfDescriptor, LowPartIsAlike}
 use Rattle.linker_final.specs.RiscVFinal.{HighPartGoes, IsAddiOfLoad, IsLuiOfLoad, OffsetIsAlike}
@@ -93,7 +93,7 @@ RelocationsAreLeft =
 pub data New (l : Linked) : Type 0 where
   anywhere : New l
   final : IsLinked l → New l
-  packed : (p : Packed) → IsRewrittenAndPacked l p → p.machine ≡ RiscV64 → New l
+  packed : (p : Packed) → IsRewrittenAndPacked l p → architecture_of p.machine ≡ RiscV → New l
 
 -- At an address is what the rewrite left of the instruction of the relocation at an index, with the
 -- value of operands by a row. Final bytes are that, if later phases leave it alone, packing keeps

@@ -117,12 +117,13 @@ pub fn riscv32_values()
 
 /// RV32: what instructions and words compute whose relocations are applied with an addend that is
 /// the file's modulo 2^32, as each of `wrap_addends` is (`riscv32_values`). It is the target with
-/// the file's addend, modulo 2^32, as RV32's registers and addresses are. These are `lui` or
-/// `auipc` with a low part, also through the GOT and for each model of TLS, calls, jumps, branches,
-/// and words of 4 bytes. By `worked::riscv32` the premises of a pair can hold.
+/// the file's addend, modulo 2^32, as RV32's registers and addresses are. These are `lui`, `c.lui`
+/// or `auipc` with a low part, also through the GOT and for each model of TLS, calls, jumps,
+/// branches, and words of 4 bytes. By `worked::riscv32` the premises of a pair can hold.
 pub fn riscv32_instructions()
     ensures absolute { riscv32.AbsoluteAddresses }
     ensures relative { riscv32.RelativeAddresses }
+    ensures descriptors { riscv32.DescriptorAddresses }
     ensures thread { riscv32.ThreadAddresses }
     ensures branches { riscv32.Branches }
     ensures words { riscv32.Words }

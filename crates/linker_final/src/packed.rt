@@ -203,11 +203,11 @@ pub fn shorter_sections()
     ensures section_starts { relaxed.SectionsAreAligned }
 {}
 
-/// RISC-V: each call that a run may make shorter, `c.j`, `jal` or still `auipc` and `jalr`, is a
-/// group of `linker_laws::simulation`. It goes to where its target goes, as the object's call does
-/// in its own layout. So does a call that stays as it is, by the value of its relocation. Other
-/// jumps and branches go where their relocation's formula says. Where a `lui` of 12 bits or an
-/// `add` of the thread pointer is deleted, that is a group of which new has nothing.
+/// RISC-V: on RV64 each call that a run may make shorter, `c.j`, `jal` or still `auipc` and `jalr`,
+/// is a group of `linker_laws::simulation`. It goes to where its target goes, as the object's call
+/// does in its own layout. So does a call that stays as it is, by the value of its relocation.
+/// Other jumps and branches go where their relocation's formula says. Where a `lui` of 12 bits or
+/// an `add` of the thread pointer is deleted, that is a group of which new has nothing.
 pub fn shorter_riscv64()
     ensures sites { riscv_packed.SitesCallTheSame }
     ensures long_calls { riscv_packed.LongCallsStay }

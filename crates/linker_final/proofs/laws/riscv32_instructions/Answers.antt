@@ -1,4 +1,4 @@
-use Rattle.linker_final.proofs.RiscV32Sums.{absolute, branches, relative, thread, words}
+use Rattle.linker_final.proofs.RiscV32Sums.{absolute, branches, descriptors, relative, thread, words}
 use Rattle.linker_final.proofs.laws.riscv32_instructions.Goals as goal
 
 pub returns : goal.returns
@@ -7,6 +7,7 @@ returns c =
     record {
       absolute = absolute laws.absolute;
       relative = relative laws.relative laws.entries;
+      descriptors = descriptors laws.descriptors;
       thread = thread laws.thread;
       branches = branches laws.calls laws.jumps;
       words = words laws.fields;
