@@ -237,12 +237,14 @@ struct linker_utils_resolved {
     /* S, of a thread-local symbol its address in the TLS segment's image; of R_X86_64_SIZE32 and
      * R_X86_64_SIZE64 Z, the symbol's size; of a merged string its address less the addend. */
     uint64_t address;
-    uint64_t entry; /* of the entry that `linker_utils_needs` requires; 0 if there is none */
+    uint64_t entry; /* of the entry that `linker_utils_needs` requires, of S, of S + A or of the
+                     * module (local-dynamic); 0 if there is none */
     uint64_t stub; /* of the stub or PLT entry by which a branch goes; 0 if it goes to `address` */
     uint8_t other; /* `st_other`, of which PowerPC64's branches take the local entry point */
-    bool is_undefined_weak; /* weak, and nothing defines it: `address` isn't read */
-    /* Nothing is written, as where a dynamic relocation takes its place; nothing else is read. Of a
-     * pair at a ULEB128 number it isn't read. */
+    /* Weak, and nothing defines it: `address` is read of a symbol's size and of a label alone. */
+    bool is_undefined_weak;
+    /* Nothing is written, as where a dynamic relocation takes its place. Of a high part of RISC-V
+     * the rest is still read for its low parts. Not read of a pair at a ULEB128 number. */
     bool is_left_out;
 };
 
@@ -251,7 +253,7 @@ struct linker_utils_resolved {
  * of RISC-V reads its own, for the label's address, and that of its high part's relocation. The
  * field of a relocation that is left out counts: LINKER_UTILS_OVERLAPS of one that overlaps it, and
  * LINKER_UTILS_TOO_SHORT where it isn't in the section. LINKER_UTILS_NO_SYMBOL of a relocation
- * without an element. */
+ * that has a value, without an element. */
 LINKER_UTILS_MUST_USE static inline uint32_t linker_utils_relocate_resolved(
     const struct linker_utils_link *link, const struct linker_utils_section *section,
     uint64_t *memory, size_t memory_len, size_t *faulty);
