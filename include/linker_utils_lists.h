@@ -993,7 +993,7 @@ enum linker_utils_link_register {
 /* The shapes of an architecture's instructions, by number. */
 enum linker_utils_shapes_name {
     LINKER_UTILS_SHAPES_RISCV_CALL = 0, /* auipc and jalr: jal */
-    LINKER_UTILS_SHAPES_RISCV_TAIL_C = 1, /* the same where the jalr links x0: c.j, jal */
+    LINKER_UTILS_SHAPES_RISCV_TAIL_C = 1, /* if it links x0, or x1 on RV32: c.j or c.jal; jal */
     LINKER_UTILS_SHAPES_RISCV_CALL_WITHOUT_C = 2, /* both where the C extension isn't used: jal */
     LINKER_UTILS_SHAPES_LOONGARCH_CALL36 = 3, /* pcaddu18i and jirl: b, bl */
     LINKER_UTILS_SHAPES_LOONGARCH_PCALA = 4 /* pcalau12i and addi.d of one register: pcaddi */

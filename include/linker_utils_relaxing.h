@@ -180,14 +180,15 @@ struct linker_utils_item {
  *
  * RISC-V: R_RISCV_CALL and R_RISCV_CALL_PLT make a site where R_RISCV_RELAX is the next relocation,
  * at the same offset, and the target is in the run. The bytes have to be an auipc and a jalr of one
- * register, which isn't x0. It can become c.j where the jalr links x0 and `may_compress` is set,
- * and jal. R_RISCV_ALIGN makes an alignment without a limit to the next power of two above its
- * addend, which is how many bytes of nops there are, unless it is 0.
+ * register, which isn't x0. It can become jal, and where `may_compress` is set two bytes: c.j where
+ * the jalr links x0, and RV32's c.jal where it links x1. R_RISCV_ALIGN makes an alignment without a
+ * limit to the next power of two above its addend, which is how many bytes of nops there are,
+ * unless it is 0.
  *
  * An alignment may have fewer nops than it may need at an even address, as the 12 bytes for
- * `.balign 16` in code without the C extension. Then no call before it becomes c.j, back to the
- * alignment before that. None becomes jal where the nops are enough only at multiples of more than
- * 4.
+ * `.balign 16` in code without the C extension. Then no call before it becomes two bytes long, back
+ * to the alignment before that. None becomes jal where the nops are enough only at multiples of
+ * more than 4.
  *
  * LoongArch, where R_LARCH_RELAX is the relocation that has to be next: R_LARCH_CALL36 makes a site
  * if the bytes are a pcaddu18i and a jirl of one register that links ra or none. R_LARCH_PCALA_HI20
@@ -205,8 +206,8 @@ struct linker_utils_item {
  * R_LARCH_ALIGN whose addend is below 0 or whose exponent is below 2 or above 32. It also is one
  * whose nops aren't a multiple of 4, reach past the section's end or have 2^32 bytes or more. */
 
-/* Is added to the machine of files of ELFCLASS32 where items are made, tested and packed: of
- * RISC-V. There a call may become c.jal, which RV64 lacks. */
+/* Is added to EM_RISCV of files of ELFCLASS32 for `linker_utils_section_items`, `_rewritten_items`,
+ * `_has_its_instructions` and `_pack_run`: a call may become c.jal, which RV64 lacks. */
 #define LINKER_UTILS_CLASS32 0x8000
 
 /* Writes the items that the relocations of a section that wasn't rewritten make, in their order.
