@@ -2,7 +2,7 @@
 use Rattle.std.proofs.Common.{◌≡◌, ℕ, ℤ, pos, ◌%◌, ◌^◌, ◌+◌, ◌+ℤ◌, ◌*ℤ◌, refl, sym, ap, ◌∙◌, arith, List, [], ◌∷◌, Option, Some, None}
 use Rattle.std.specs.Prelude.{IsSomeAnd}
 use Rattle.linker_elf.proofs.Agreement.{rem_rem}
-use Rattle.linker_elf.specs.RiscVRelocations.{clui_row}
+use Rattle.linker_elf.specs.RiscVRelocations.{clui_row, riscv_relocation}
 use Rattle.linker_elf.specs.declared.riscv64.forms.RiscVInstruction.{RiscVInstruction}
 use Rattle.linker_elf.specs.declared.riscv64.forms.RiscVInstruction.TheVariants.{BType, CbType, CjType, CluiType, JType, SType, UiType}
 use Rattle.linker_elf.specs.declared.riscv64.relocations.RiscVRelocation.TheVariants as names
@@ -90,8 +90,8 @@ relative law of_entries = (
 
 descriptor : (low : RiscVRelocation) → laws.Descriptor low → Descriptor low
 descriptor low =
-    law_32 (here (riscv_row names.R_RISCV_TLSDESC_HI20) ∷ here (riscv_row low) ∷ []) (upper_and_low place UType IType)
-    entry_and_addend entry_32
+    law_32 (here ((riscv_relocation names.R_RISCV_TLSDESC_HI20).row) ∷ here ((riscv_relocation low).row) ∷ [])
+    (upper_and_low place UType IType) entry_and_addend entry_32
 
 pub descriptors : laws.DescriptorAddresses → DescriptorAddresses
 descriptors law = (

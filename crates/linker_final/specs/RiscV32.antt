@@ -11,7 +11,7 @@ use Rattle.linker_elf.specs.Rows.{Bounds}
 use Rattle.linker_elf.specs.declared.riscv64.forms.RiscVInstruction.{RiscVInstruction}
 use Rattle.linker_elf.specs.declared.riscv64.forms.RiscVInstruction.TheVariants.{IType, SType}
 use Rattle.linker_elf.specs.declared.riscv64.forms.RiscVInstruction.TheVariants.{UType, CluiType}
-use Rattle.linker_elf.specs.RiscVRelocations.{clui_row}
+use Rattle.linker_elf.specs.RiscVRelocations.{clui_row, riscv_relocation}
 use Rattle.linker_elf.specs.declared.riscv64.relocations.RiscVRelocation.TheVariants as names
 use Rattle.linker_final.specs.Imports.{IsRow, riscv_row, riscv_form, RowInfo, RiscV}
 use Rattle.linker_final.specs.Imports.{Operands, BType, CbType, CjType, JType, UiType}
@@ -117,8 +117,9 @@ RelativeAddresses =
 -- a descriptor, by its load and by the address that is passed on
 abbrev pub Descriptor : RiscVRelocation → Type 0
 Descriptor low =
-    Law32 (here (riscv_row names.R_RISCV_TLSDESC_HI20) ∷ here (riscv_row low) ∷ [])
-    (upper_and_low place UType IType) entry_and_addend
+    Law32
+    (here ((riscv_relocation names.R_RISCV_TLSDESC_HI20).row)
+    ∷ here ((riscv_relocation low).row) ∷ []) (upper_and_low place UType IType) entry_and_addend
 
 abbrev pub DescriptorAddresses : Type 0
 DescriptorAddresses =
