@@ -1,13 +1,7 @@
 -- Addresses of AArch64 by two instructions, of which `nop` and `adr` are made, are groups.
-use Rattle.linker_final.proofs.Imports.{◌≡◌, ℕ, ◌+◌, ◌-◌, ◌≤◌, length, take, drop, false, refl, sym, ap, subst, ◌∙◌, arith, Some, cond-false, take-take, slice_get, replaces, insn_row, entry, paged_row, place_pages, signed_row, sum_64, Adr, Relative, RowInfo, AArch64, Operands, Code, Has, Leaves, Stands, IsPair, following, word_of, symbol_address, Kinds, State, IsDone, IsMade, relocation_after, relocation_in, operands_with, Symbol, AArch64Entry, AreOfOneRegister, relaxation_rewrite, IsWrittenByNoOther, Linked, UntouchedInstructions, instruction_at, two_at, IsAddressRewritten, IsAdd64, nop_adr, to_adr}
+use Rattle.linker_final.proofs.AArch64Imports.{◌≡◌, ℕ, ◌+◌, ◌-◌, ◌≤◌, length, take, drop, false, refl, sym, ap, subst, ◌∙◌, arith, Some, cond-false, take-take, slice_get, replaces, insn_row, entry, paged_row, place_pages, signed_row, sum_64, Adr, Relative, RowInfo, AArch64, Operands, Code, Has, Leaves, Stands, IsPair, following, word_of, symbol_address, Kinds, State, IsDone, IsMade, relocation_after, relocation_in, operands_with, Symbol, AArch64Entry, AreOfOneRegister, relaxation_rewrite, IsWrittenByNoOther, Linked, UntouchedInstructions, instruction_at, two_at, IsAddressRewritten, IsAdd64, nop_adr, to_adr, ComesTo, IsRewrittenOf, object, register, offset_of, Groups, seen, IsRewritten, of_bits, first_same, second_same, word_same}
 use Rattle.linker_elf.specs.declared.aarch64.relocations.AArch64Relocation.TheVariants as names
-use Rattle.linker_final.proofs.InstructionFields.{of_bits}
 use Rattle.linker_final.proofs.AArch64Written.{IsAfter, IsNamedAs, IsNew, IsOfEntry, after, has_after, of_entry, of_part, place_of, same_value, stands_left}
-use Rattle.linker_final.proofs.Written.{first_same, second_same, word_same}
-use Rattle.linker_final.specs.AArch64Section.{ComesTo, IsRewrittenOf, object, register}
-use Rattle.linker_final.specs.SectionRuns.{offset_of}
-use Rattle.linker_laws.specs.AArch64Groups.{Groups, seen}
-use Rattle.linker_laws.specs.AArch64RewriteLaws.{IsRewritten}
 use Rattle.linker_utils.specs.declared.aarch64.rewrites.RewriteKind.TheVariants as kinds
 
 abbrev pub page_row : RowInfo
@@ -47,18 +41,13 @@ module _ {l : Linked} {c : Code} (new : IsNew l c) (i : ℕ) (of : IsAddressRewr
       take-take 8 8 (drop o l.rewritten) (omega arith)
       ∙ (here ∙ ap nop_adr (sym (take-take 8 8 (drop o l.section) (omega arith))))
 
-  second_of : drop 4 (two_at l.section (offset_of l i)) ≡ object l (i + 1)
-  second_of = second_same l.section (offset_of l i) ∙ ap (instruction_at l.section) (sym of.low.offset)
-
   module _ (left : UntouchedInstructions l i (i + 1)) (alone : IsWrittenByNoOther l i (offset_of l i))
       (o : Operands) (place : o.place ≡ sum_64 l.addresses.section (offset_of l i)) where
     pub nop_there : Stands c.new o (two_at l.rewritten (offset_of l i))
     nop_there =
         let gone : IsNamedAs names.R_AARCH64_NONE l i =
         new.linked.relocations i of.page.below ∙ ap (λ d. relocation_after d (relocation_in l.relocations i)) of.page_decided in
-        let next = of.low.offset in
-        let low_inside = inside in
-        stands_left new i of.page.below gone (left.0) alone (omega (arith, next, low_inside)) o place
+        stands_left new i of.page.below gone (left.0) alone (omega (arith, of.low.offset, inside)) o place
         ∙ sym (first_same l.rewritten (offset_of l i))
 
     pub adr_there : (symbol : Symbol) → slice_get l.symbols (relocation_in l.relocations i).symbol ≡ Some symbol
@@ -87,7 +76,7 @@ address_is_group laws l c new i of left alone k s o at defined page low =
     let p = offset_of l i in
     let are : o ≡ operands_with AArch64 l.addresses page_row at.symbol (relocation_in l.relocations i) o.got_entry = at.are in
     let place : o.place ≡ sum_64 l.addresses.section p = ap (λ (x : Operands). x.place) are in
-    let second = second_of new i of in
+    let second = second_same l.section p ∙ ap (instruction_at l.section) (sym of.low.offset) in
     let word_first : word_of (drop p l.section) ≡ word_of (two_at l.section p) = word_same l.section p ∙ sym (first_same l.section p) in
     let word_second : word_of (drop (offset_of l (i + 1)) l.section) ≡ word_of (drop 4 (two_at l.section p)) =
     word_same l.section (offset_of l (i + 1)) ∙ ap word_of (sym second) in

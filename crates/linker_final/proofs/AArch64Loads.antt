@@ -1,14 +1,9 @@
 -- Loads of AArch64 from the GOT, of which a sum is made, or in two phases `nop` and `adr`, are
 -- groups.
-use Rattle.linker_final.proofs.Imports.{◌≡◌, ℕ, ◌+◌, ◌-◌, ◌≤◌, length, drop, false, refl, sym, ap, subst, ◌∙◌, arith, cond-false, slice_get, field, insn_row, entry, entry_pages, paged_row, signed_row, sum_64, Adr, AbsoluteLowPart, GotRelative, RowInfo, AArch64, Operands, Code, Has, Leaves, load_64, IsPair, following, word_of, symbol_address, Kinds, State, IsLoadRewritten, relocation_in, operands_with, Rela, AArch64Entry, AreOfOneRegister, IsLdr64, relaxation_rewrite, Add, IsRewrittenByNoOther, Linked, UntouchedInstructions, instruction_at, two_at, is_ldr64, to_address}
+use Rattle.linker_final.proofs.AArch64Imports.{◌≡◌, ℕ, ◌+◌, ◌-◌, ◌≤◌, length, drop, false, refl, sym, ap, subst, ◌∙◌, arith, cond-false, slice_get, field, insn_row, entry, entry_pages, paged_row, signed_row, sum_64, Adr, AbsoluteLowPart, GotRelative, RowInfo, AArch64, Operands, Code, Has, Leaves, load_64, IsPair, following, word_of, symbol_address, Kinds, State, IsLoadRewritten, relocation_in, operands_with, Rela, AArch64Entry, AreOfOneRegister, IsLdr64, relaxation_rewrite, Add, IsRewrittenByNoOther, Linked, UntouchedInstructions, instruction_at, two_at, is_ldr64, to_address, ComesTo, IsRewrittenAgain, IsRewrittenOf, object, register, Section, offset_of, Groups, seen, of_bits, first_same, stays, word_same}
 use Rattle.linker_elf.specs.declared.aarch64.relocations.AArch64Relocation.TheVariants as names
 use Rattle.linker_final.proofs.AArch64Addresses.{adr_there, made_two, nop_there, page_row}
-use Rattle.linker_final.proofs.InstructionFields.{of_bits}
 use Rattle.linker_final.proofs.AArch64Written.{IsAfter, IsNew, IsOfEntry, after, becomes, has_after, named_after, of_entry, of_part, place_of, same_value}
-use Rattle.linker_final.proofs.Written.{first_same, stays, word_same}
-use Rattle.linker_final.specs.AArch64Section.{ComesTo, IsRewrittenAgain, IsRewrittenOf, object, register}
-use Rattle.linker_final.specs.SectionRuns.{Section, offset_of}
-use Rattle.linker_laws.specs.AArch64Groups.{Groups, seen}
 use Rattle.linker_utils.specs.declared.aarch64.rewrites.RewriteKind.TheVariants as kinds
 
 abbrev pub got_row : RowInfo
@@ -46,9 +41,6 @@ module _ (laws : Groups) {l : Linked} {c : Code} (new : IsNew l c) (i : ℕ)
   low_inside : offset_of l (i + 1) + 4 ≤ length l.section
   low_inside = low_entry.meant.1.1.1.0
 
-  page_inside : offset_of l i + 4 ≤ length l.section
-  page_inside = let next = of.low.offset in let inside = low_inside in omega (arith, next, inside)
-
   stayed : instruction_at l.rewritten (offset_of l i) ≡ object l i
   stayed =
       stays l new.linked.made i page_of.chosen page_of.below page_of.decided (ap relaxation_rewrite page_entry.kind_is) alone
@@ -71,8 +63,7 @@ module _ (laws : Groups) {l : Linked} {c : Code} (new : IsNew l c) (i : ℕ)
 
     together : IsPair IsLdr64 o (seen s) (object l i) (object l (i + 1))
     together =
-        let next = of.low.offset in
-        let back : offset_of l (i + 1) - 4 ≡ offset_of l i = omega (arith, next) in
+        let back : offset_of l (i + 1) - 4 ≡ offset_of l i = omega (arith, of.low.offset) in
         let second = word_same l.section (offset_of l (i + 1)) in
         record {
           small = at.small;
@@ -98,7 +89,7 @@ module _ (laws : Groups) {l : Linked} {c : Code} (new : IsNew l c) (i : ℕ)
         (same_value page_row (λ w v. refl) o
         (operands_with AArch64 l.addresses page_row at.symbol (after l i names.R_AARCH64_ADR_PREL_PG_HI21) 0)
         (symbol_is ∙ sym (cond-false at.symbol.is_undefined_weak _ at.symbol.address defined)) addend_is place)
-        place page_inside))
+        place (omega (arith, of.low.offset, low_inside))))
         (has_after new names.R_AARCH64_LD64_GOT_LO12_NC (i + 1) low_of to_add low_entry (λ o. refl) (λ a. refl) low_after (left.1)
         at.symbol (ap (slice_get l.symbols) of.low.symbol ∙ at.is_symbol) 0 refl (following 4 o)
         (same_value low_row (λ w v. refl) (following 4 o)

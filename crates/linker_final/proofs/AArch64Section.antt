@@ -1,17 +1,12 @@
 -- The rewrites of a section of AArch64: each is of instructions that are rewritten together, and
 -- these are groups.
-use Rattle.linker_final.proofs.Imports.{◌≡◌, ◌≢◌, ℕ, ◌+◌, ◌-◌, ◌*◌, ◌<◌, ◌≤◌, inl, inr, ap, sym, subst, ◌∙◌, arith, refl, eq-eqb, aarch64_name, IsNameOf, AArch64Relocation, AArch64, Operands, Code, link, with_register, Group, Kinds, State, of_link, in_phase, sequences_are_whole, IsScopeDecision, decision_at, group_stays, Kept, Grouped, Independent, Phase, relocation_in, IsLinked, Linked, count, is_b, is_bl, anything, of_group, of_option, scope_there, aarch64_scope_in, IsWholeBy}
+use Rattle.linker_final.proofs.AArch64Imports.{◌≡◌, ◌≢◌, ℕ, ◌+◌, ◌-◌, ◌*◌, ◌<◌, ◌≤◌, inl, inr, ap, sym, subst, ◌∙◌, arith, refl, eq-eqb, aarch64_name, IsNameOf, AArch64Relocation, AArch64, Operands, Code, link, with_register, Group, Kinds, State, of_link, in_phase, sequences_are_whole, IsScopeDecision, decision_at, group_stays, Kept, Grouped, Independent, Phase, relocation_in, IsLinked, Linked, count, is_b, is_bl, anything, of_group, of_option, scope_there, aarch64_scope_in, IsWholeBy, Begins, HasFinal, IsRewrittenOf, Rewrites, address, at_address, at_call, at_high, at_initial, at_jump, at_load, at_local, at_low, call, high, jump, load, low, rewriting, span, to_initial, to_local, AreCalled, IsPhase, RewritesAreGroups, Section, offset_of, Groups, go_and_link, go_to, AreIn, beside_or, final_in, is_linked, is_of}
 use Rattle.linker_elf.specs.declared.aarch64.relocations.AArch64Relocation.TheVariants as names
 use Rattle.linker_final.proofs.AArch64Addresses.{address_is_group}
 use Rattle.linker_final.proofs.AArch64Alone.{branch_is_group, high_is_group, low_is_group}
 use Rattle.linker_final.proofs.AArch64Descriptors.{initial_is_group, local_is_group}
 use Rattle.linker_final.proofs.AArch64Loads.{load_again_is_group, load_is_group}
 use Rattle.linker_final.proofs.AArch64Written.{IsNew}
-use Rattle.linker_final.proofs.SectionRuns.{AreIn, beside_or, final_in, is_linked, is_of}
-use Rattle.linker_final.specs.AArch64Section.{Begins, HasFinal, IsRewrittenOf, Rewrites, address, at_address, at_call, at_high, at_initial, at_jump, at_load, at_local, at_low, call, high, jump, load, low, rewriting, span, to_initial, to_local}
-use Rattle.linker_final.specs.SectionRuns.{AreCalled, IsPhase, RewritesAreGroups, Section, offset_of}
-use Rattle.linker_laws.specs.AArch64Groups.{Groups, go_and_link}
-use Rattle.linker_laws.specs.Changes.{go_to}
 use Rattle.linker_rewriting.specs.declared.groups.Group.TheVariants as groups
 use Rattle.linker_rewriting.specs.declared.phases.Phase.TheVariants as phases
 
@@ -115,8 +110,7 @@ module _ (l : Linked) (linked : IsLinked l) (aarch64 : l.context.architecture �
       in_at i (i - 0) 0 (omega arith) (load (i - 0) w) (omega arith) w.page.offset
   late_in i below changed late names.R_AARCH64_LD64_GOT_LO12_NC is_name =
       let w = whole i names.R_AARCH64_LD64_GOT_LO12_NC below changed is_name in
-      let le = w.0 in
-      in_at i (i - 1 + 1) 1 (omega (arith, le)) (load (i - 1) (w.1)) (omega arith) (w.1).low.offset
+      in_at i (i - 1 + 1) 1 (omega (arith, w.0)) (load (i - 1) (w.1)) (omega arith) (w.1).low.offset
   late_in i below changed late name is_name =
       absurd (changed (decision_in i name phases.GotToPcRel below is_name late))
 
@@ -127,8 +121,7 @@ module _ (l : Linked) (linked : IsLinked l) (aarch64 : l.context.architecture �
       in_at i (i - 0) 0 (omega arith) (address (i - 0) w) (omega arith) w.page.offset
   short_in i below changed short names.R_AARCH64_ADD_ABS_LO12_NC is_name =
       let w = whole i names.R_AARCH64_ADD_ABS_LO12_NC below changed is_name in
-      let le = w.0 in
-      in_at i (i - 1 + 1) 1 (omega (arith, le)) (address (i - 1) (w.1)) (omega arith) (w.1).low.offset
+      in_at i (i - 1 + 1) 1 (omega (arith, w.0)) (address (i - 1) (w.1)) (omega arith) (w.1).low.offset
   short_in i below changed short name is_name =
       absurd (changed (decision_in i name phases.ShortPcRel below is_name short))
 

@@ -1,23 +1,14 @@
 -- The groups of AArch64's program that the calls link.
-use Rattle.linker_final.proofs.Imports.{◌≡◌, ℕ, zero, suc, ◌+◌, ◌-◌, ◌/◌, ◌<◌, ◌≤◌, ◌⊎◌, inl, inr, List, [], ◌∷◌, length, Bool, true, false, eqb, eqb-true, refl, sym, ap, subst, ◌∙◌, arith, lit<, lit≤, pos, Some, slice_get, replicate, cases_lt, ints, window_of_rewrite, RewriteWindow, aarch64_name, entry, IsNamed, IsNameOf, r_type_of, sum_64, AArch64Relocation, AArch64, Operands, Has, following, word_of, put, with_register, loaded, Kinds, State, half, in_phase, sequences_are_whole, IsGroupDecision, decision_at, window_of, group_stays, IsLoadRewritten, IsRewrittenBy, relocation_after, Decision, Kept, Rewritten, relocation_in, operands_with, Addresses, Symbol, Rela, AArch64Entry, halves_to_local_exec, relaxation_rewrite, All-nil, All-cons, AreLinked, IsLinked, IsOutside, IsRewrittenByNoOther, Linked, RewritingPhase, UntouchedInPhase, UntouchedInstruction, count, instruction_at, linked_by, AARCH64_OBJECT, AARCH64_RELOCATIONS, same, named_at, Phase, IsScopeDecision, Grouped, aarch64_scope_in, and_parts}
+use Rattle.linker_final.proofs.AArch64Imports.{IsPhase, Rewrites, span, ◌≡◌, ℕ, zero, suc, ◌+◌, ◌-◌, ◌/◌, ◌<◌, ◌≤◌, ◌⊎◌, inl, inr, List, [], ◌∷◌, length, Bool, true, false, eqb, eqb-true, refl, sym, ap, subst, ◌∙◌, arith, lit<, lit≤, pos, Some, slice_get, replicate, cases_lt, ints, window_of_rewrite, RewriteWindow, aarch64_name, entry, IsNamed, IsNameOf, r_type_of, sum_64, AArch64Relocation, AArch64, Operands, Has, following, word_of, put, with_register, loaded, Kinds, State, half, in_phase, sequences_are_whole, IsGroupDecision, decision_at, window_of, group_stays, IsLoadRewritten, IsRewrittenBy, relocation_after, Decision, Kept, Rewritten, relocation_in, operands_with, Addresses, Symbol, Rela, AArch64Entry, halves_to_local_exec, relaxation_rewrite, All-nil, All-cons, AreLinked, IsLinked, IsOutside, IsRewrittenByNoOther, Linked, RewritingPhase, UntouchedInPhase, UntouchedInstruction, count, instruction_at, linked_by, AARCH64_OBJECT, AARCH64_RELOCATIONS, same, named_at, Phase, IsScopeDecision, Grouped, aarch64_scope_in, and_parts, Begins, ComesTo, HasFinal, IsRewrittenOf, at_high, at_load, at_low, high, load, low, object, register, rewriting, Section, offset_of, all_below, HasGroups, IsGroupOf, IsPhaseOf, code_at, halves, none_stays, addresses as small, relocated, known, starting, IsRelocated, RewriteKind, same_windows, rela}
 use Rattle.linker_base.specs.Form.{place_sum}
+use Rattle.linker_laws.specs.Schemes.{AreAddresses}
+use Rattle.linker_rewriting.specs.declared.groups.Group.{Group}
 use Rattle.linker_elf.specs.declared.aarch64.relocations.AArch64Relocation.TheVariants as names
 use Rattle.linker_final.proofs.AArch64Alone.{high_row}
 use Rattle.linker_final.proofs.AArch64Loads.{got_row}
 use Rattle.linker_final.proofs.AArch64Written.{IsNew, IsOfEntry, named_after, of_entry}
-use Rattle.linker_final.proofs.PutBack.{same_windows}
-use Rattle.linker_final.proofs.Written.{rela}
-use Rattle.linker_final.specs.AArch64Section.{Begins, ComesTo, HasFinal, IsRewrittenOf, at_high, at_load, at_low, high, load, low, object, register, rewriting}
-use Rattle.linker_final.specs.SectionRuns.{Section, offset_of}
-use Rattle.linker_final.specs.Steps.{all_below}
-use Rattle.linker_final.specs.Worked.{HasGroups, IsGroupOf, IsPhaseOf, code_at, halves, none_stays}
-use Rattle.linker_laws.proofs.Relocated.{addresses as small, relocated}
-use Rattle.linker_laws.specs.AArch64GroupsWorked.{known, starting}
-use Rattle.linker_laws.specs.AArch64RewriteLaws.{IsRelocated}
-use Rattle.linker_rewriting.specs.declared.groups.Group.{Group}
 use Rattle.linker_rewriting.specs.declared.groups.Group.TheVariants as groups
 use Rattle.linker_rewriting.specs.declared.phases.Phase.TheVariants as phases
-use Rattle.linker_utils.specs.declared.aarch64.rewrites.RewriteKind.{RewriteKind}
 use Rattle.linker_utils.specs.declared.aarch64.rewrites.RewriteKind.TheVariants as kinds
 use Rattle.linker_utils.specs.declared.architecture.Relaxation.TheVariants as relaxations
 
@@ -365,6 +356,10 @@ module _ (p q : RewritingPhase) (relocations_last last final : List ℕ) (symbol
       (λ at from less. linked_l.others at (outside_l at (omega (arith, less, inside))))
       ∙ ap (λ bytes. instruction_at bytes (relocation i).offset) are.0.same_section))
 
+  group_at : (phase : Linked) → IsPhase x phase → (n : ℕ) (k k' : Kinds) (t t' : State) (g : Rewrites phase)
+      → n ≡ (span phase g).1 → Begins x phase halves k t g k' t' → IsGroupOf rewriting x halves n k t k' t'
+  group_at phase is n k k' t t' g long begins = (phase, is, g, (long, has_final, begins))
+
   abbrev load_comes : ComesTo m s0 names.R_AARCH64_ADR_GOT_PAGE 0 of_load
   load_comes =
       record {
@@ -381,78 +376,50 @@ module _ (p q : RewritingPhase) (relocations_last last final : List ℕ) (symbol
       outside_m at (inl (omega (arith, less, o))) j below
 
   load_group : IsGroupOf rewriting x halves 2 known s0 k1 s1
-  load_group = (
-    m,
-    inr (inl refl),
-    load 0 load_of,
-    (
-      refl,
-      has_final,
-      subst (λ r. Begins x m halves known s0 (load 0 load_of) (with_register r same known) (put r 0x420120 0x400008 s0))
-          (ap register (object_m 1 load_there (lit≤ tt)))
-          (at_load 0 load_of of_load load_comes refl alone (inl (All-nil _, All-nil _)) refl
-          (subst (Has halves.old names.R_AARCH64_ADR_GOT_PAGE of_load) (sym (object_m 0 page_there (lit≤ tt))) page_has)
-          (subst (Has halves.old names.R_AARCH64_LD64_GOT_LO12_NC (following 4 of_load)) (sym (object_m 1 load_there (lit≤ tt))) rest_has)),
-    ),
-  )
+  load_group =
+      group_at m (inr (inl refl)) 2 known k1 s0 s1 (load 0 load_of) refl
+      (subst (λ r. Begins x m halves known s0 (load 0 load_of) (with_register r same known) (put r 0x420120 0x400008 s0))
+      (ap register (object_m 1 load_there (lit≤ tt)))
+      (at_load 0 load_of of_load load_comes refl alone (inl (All-nil _, All-nil _)) refl
+      (subst (Has halves.old names.R_AARCH64_ADR_GOT_PAGE of_load) (sym (object_m 0 page_there (lit≤ tt))) page_has)
+      (subst (Has halves.old names.R_AARCH64_LD64_GOT_LO12_NC (following 4 of_load)) (sym (object_m 1 load_there (lit≤ tt))) rest_has)))
 
-  high_comes : ComesTo l s1 high_after 2 of_high
-  high_comes =
+  -- old comes to a half
+  half_comes : (i : ℕ) (t : State)
+      → let o = operands_with AArch64 addresses high_row thread_variable (relocation i) 0x411018 in
+      t.pc ≡ o.place → AreAddresses o → slice_get symbols (relocation i).symbol ≡ Some thread_variable → ComesTo l t high_after i o
+  half_comes i t at are_small is =
       record {
-        pc = refl;
-        small = small of_high (lit< tt) (lit< tt) (lit< tt) (lit< tt) (lit< tt) (lit< tt);
+        pc = at;
+        small = are_small;
         symbol = thread_variable;
-        is_symbol = ap (λ (r : Rela). slice_get symbols r.symbol) (there 2) ∙ y_is;
-        are = ap (λ r. operands_with AArch64 addresses high_row thread_variable r 0x411018) (sym (there 2));
+        is_symbol = ap (λ (r : Rela). slice_get symbols r.symbol) (there i) ∙ is;
+        are = ap (λ r. operands_with AArch64 addresses high_row thread_variable r 0x411018) (sym (there i));
       }
 
   high_register : register (object l 2) ≡ 1
   high_register = ap register (object_l 2)
 
   high_group : IsGroupOf rewriting x halves 1 k1 s1 (with_register 1 (half 0) k1) (put 1 0x411000 0x40000c s1)
-  high_group = (
-    l,
-    inl refl,
-    high 2 high_of,
-    (
-      refl,
-      has_final,
-      subst (λ r. Begins x l halves k1 s1 (high 2 high_of) (with_register r (half 0) k1) (put r 0x411000 0x40000c s1))
-          high_register
-          (at_high 2 0 high_of of_high high_comes (untouched 2 high_stays (lit≤ tt)) refl refl
-          (λ e. let f : 1 ≡ 31 = sym high_register ∙ e in omega (arith, f))
-          (subst (Has halves.old high_name of_high) (sym (object_l 2)) high_has)),
-    ),
-  )
-
-  low_comes : ComesTo l s3 high_after 3 of_low
-  low_comes =
-      record {
-        pc = refl;
-        small = small of_low (lit< tt) (lit< tt) (lit< tt) (lit< tt) (lit< tt) (lit< tt);
-        symbol = thread_variable;
-        is_symbol = ap (λ (r : Rela). slice_get symbols r.symbol) (there 3) ∙ y_is;
-        are = ap (λ r. operands_with AArch64 addresses high_row thread_variable r 0x411018) (sym (there 3));
-      }
+  high_group =
+      group_at l (inl refl) 1 k1 (with_register 1 (half 0) k1) s1 (put 1 0x411000 0x40000c s1) (high 2 high_of) refl
+      (subst (λ r. Begins x l halves k1 s1 (high 2 high_of) (with_register r (half 0) k1) (put r 0x411000 0x40000c s1))
+      high_register
+      (at_high 2 0 high_of of_high (half_comes 2 s1 refl (small of_high (lit< tt) (lit< tt) (lit< tt) (lit< tt) (lit< tt) (lit< tt)) y_is) (untouched 2 high_stays (lit≤ tt)) refl refl
+      (λ e. let f : 1 ≡ 31 = sym high_register ∙ e in omega (arith, f))
+      (subst (Has halves.old high_name of_high) (sym (object_l 2)) high_has)))
 
   low_register : register (object l 3) ≡ 2
   low_register = ap register (object_l 3)
 
   low_group : IsGroupOf rewriting x halves 1 k3 s3 (with_register 2 same k3) (put 2 0x12344 0x400014 s3)
-  low_group = (
-    l,
-    inl refl,
-    low 3 low_of,
-    (
-      refl,
-      has_final,
-      subst (λ r. Begins x l halves k3 s3 (low 3 low_of) (with_register r same k3) (put r 0x12344 0x400014 s3))
-          low_register
-          (at_low 3 0 low_of of_low low_comes (untouched 3 low_stays (lit≤ tt)) refl refl refl
-          (ap k3.registers low_register) (ap s3.registers low_register)
-          (subst (Has halves.old low_name of_low) (sym (object_l 3)) low_has)),
-    ),
-  )
+  low_group =
+      group_at l (inl refl) 1 k3 (with_register 2 same k3) s3 (put 2 0x12344 0x400014 s3) (low 3 low_of) refl
+      (subst (λ r. Begins x l halves k3 s3 (low 3 low_of) (with_register r same k3) (put r 0x12344 0x400014 s3))
+      low_register
+      (at_low 3 0 low_of of_low (half_comes 3 s3 refl (small of_low (lit< tt) (lit< tt) (lit< tt) (lit< tt) (lit< tt) (lit< tt)) y_is) (untouched 3 low_stays (lit≤ tt)) refl refl refl
+      (ap k3.registers low_register) (ap s3.registers low_register)
+      (subst (Has halves.old low_name of_low) (sym (object_l 3)) low_has)))
 
   pub has_groups : HasGroups x
   has_groups = (load_group, high_group, low_group)

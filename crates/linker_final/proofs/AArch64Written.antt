@@ -1,15 +1,7 @@
 -- Rewritten instructions of AArch64 in a phase, and in code that has the final bytes.
-use Rattle.linker_final.proofs.Imports.{◌≡◌, ℕ, ℤ, ◌+◌, ◌<◌, ◌≤◌, List, [], ◌∷◌, length, sym, ap, subst, ◌∙◌, refl, arith, Some, Ok, Bool, true, IsSomeAnd, slice_get, addend_after, offset_after, aarch64_name, IsRow, IsNamed, r_type_of, bytes_row, sum_64, value_of, AArch64Relocation, RowInfo, AArch64, Choice, Operands, Code, Has, Stands, loaded, chosen_at, decision_at, IsScopeIn, IsRewrittenBy, entry_of, relocation_in, entry_address, is_there, operands_by, operands_with, Symbol, Entry, Rela, AArch64Entry, aarch64_entries, IsArchitectureChoice, relaxation_rewrite, Relaxation, aarch64_row, HasFinal, IsRewrittenOf, object, IsLinked, IsWrittenByNoOther, Linked, UntouchedInstruction, count, instruction_at, unlabelled, IsPartAt}
-use Rattle.linker_elf.specs.declared.aarch64.relocations.AArch64Relocation.TheVariants as names
+use Rattle.linker_final.proofs.AArch64Imports.{◌≡◌, ℕ, ℤ, ◌+◌, ◌<◌, ◌≤◌, List, [], ◌∷◌, length, sym, ap, subst, ◌∙◌, refl, arith, Some, Ok, Bool, true, IsSomeAnd, slice_get, addend_after, offset_after, aarch64_name, IsRow, IsNamed, r_type_of, bytes_row, sum_64, value_of, AArch64Relocation, RowInfo, AArch64, Choice, Operands, Code, Has, Stands, loaded, chosen_at, decision_at, IsScopeIn, IsRewrittenBy, entry_of, relocation_in, entry_address, is_there, operands_by, operands_with, Symbol, Entry, Rela, AArch64Entry, aarch64_entries, IsArchitectureChoice, relaxation_rewrite, Relaxation, aarch64_row, HasFinal, IsRewrittenOf, object, IsLinked, IsWrittenByNoOther, Linked, UntouchedInstruction, count, instruction_at, unlabelled, IsPartAt, offset_of, BeginsRewritten, IsRewritten, IsOfEntry as IsOfEntryIn, IsOfOne as IsOfOneIn, of_entry as of_entry_in, of_one as of_one_in, AArch64Applies, HasPattern, aarch64_matches, aarch64_rewrite, rewrites_where, RewriteKind, IsOfInstruction, last_length, relocation_left, IsRowOf, applied_after, by_name, entry_is_there, made_there, rela, relocation_named, unwritten_without}
 use Rattle.linker_elf.specs.declared.elf.RelocationKind.TheVariants.{None as NoValue}
-use Rattle.linker_final.proofs.InstructionFields.{IsOfInstruction}
-use Rattle.linker_final.proofs.Phases.{last_length, relocation_left}
-use Rattle.linker_final.proofs.Written.{IsRowOf, applied_after, by_name, entry_is_there, made_there, rela, relocation_named, unwritten_without}
-use Rattle.linker_final.specs.SectionRuns.{offset_of}
-use Rattle.linker_laws.specs.AArch64RewriteLaws.{BeginsRewritten, IsRewritten}
-use Rattle.linker_rewriting.proofs.Entries.{IsOfEntry as IsOfEntryIn, IsOfOne as IsOfOneIn, of_entry as of_entry_in, of_one as of_one_in}
-use Rattle.linker_utils.specs.AArch64Rewrites.{AArch64Applies, HasPattern, aarch64_matches, aarch64_rewrite, rewrites_where}
-use Rattle.linker_utils.specs.declared.aarch64.rewrites.RewriteKind.{RewriteKind}
+use Rattle.linker_elf.specs.declared.aarch64.relocations.AArch64Relocation.TheVariants as names
 use Rattle.linker_utils.specs.declared.aarch64.rewrites.RewriteKind.TheVariants as kinds
 use Rattle.linker_utils.specs.declared.architecture.Relaxation.TheVariants as relaxations
 

@@ -1,16 +1,14 @@
 -- Branches that stay, in the final bytes of a packed section.
-use Rattle.linker_final.proofs.Imports.{◌≡◌, ℕ, take, drop, refl, sym, ap, subst, ◌∙◌, true, false, Option, Some, None, Ok, pos, IsSomeAnd, ⊤, BitRange, loongarch_form, loongarch_row, window_len, riscv_form, riscv_row, bytes_row, sum_64, value_of, AnyForm, RowInfo, BitMasking, Operands, Branch26, Shift10, LoongArch64Relocation, RiscVRelocation, IsAddress, plt_address, symbol_address, Machine, relocation_in, has_value, names_label, offset_at, operands_in, operands_of, operands_with, Addresses, Symbol, Rela, ℤ, ◌+ℤ◌, ◌*ℤ◌, Branch21, Shift5, BType, CbType, CjType, JType, address_at, architecture_of, place_of}
+use Rattle.linker_final.proofs.Imports.{◌≡◌, ℕ, take, drop, refl, sym, ap, subst, ◌∙◌, true, false, Option, Some, None, Ok, pos, IsSomeAnd, ⊤, BitRange, loongarch_form, loongarch_row, window_len, riscv_form, riscv_row, bytes_row, sum_64, value_of, AnyForm, RowInfo, BitMasking, Operands, Branch26, Shift10, LoongArch64Relocation, RiscVRelocation, IsAddress, plt_address, symbol_address, Machine, relocation_in, has_value, names_label, offset_at, operands_in, operands_of, operands_with, Addresses, Symbol, Rela, ℤ, ◌+ℤ◌, ◌*ℤ◌, Branch21, Shift5, BType, CbType, CjType, JType, address_at, architecture_of, place_of, Goes, LoongArchBranchesGo, RiscVBranchesGo, final_number, Adds, here, place}
 use Rattle.linker_elf.specs.declared.elf.RelocationKind.TheVariants.{None as NoValue}
-use Rattle.linker_elf.specs.declared.loongarch64.relocations.LoongArch64Relocation.TheVariants as loongarch_names
-use Rattle.linker_elf.specs.declared.riscv64.relocations.RiscVRelocation.TheVariants as riscv_names
 use Rattle.linker_final.proofs.InstructionFields.{some_value}
 use Rattle.linker_final.proofs.PackedBytes.{addresses}
 use Rattle.linker_final.proofs.PackedInstructions.{places}
-use Rattle.linker_final.specs.Branches.{Goes, LoongArchBranchesGo, RiscVBranchesGo, final_number}
+use Rattle.linker_runs.specs.declared.packing.Machine.TheVariants.{LoongArch64, RiscV}
+use Rattle.linker_elf.specs.declared.loongarch64.relocations.LoongArch64Relocation.TheVariants as loongarch_names
+use Rattle.linker_elf.specs.declared.riscv64.relocations.RiscVRelocation.TheVariants as riscv_names
 use Rattle.linker_laws.specs.LoongArchRelocationLaws as loongarch_laws
 use Rattle.linker_laws.specs.RiscVRelocationLaws as riscv_laws
-use Rattle.linker_laws.specs.Schemes.{Adds, here, place}
-use Rattle.linker_runs.specs.declared.packing.Machine.TheVariants.{LoongArch64, RiscV}
 
 -- by a row of an instruction that takes no entry
 goes : (machine : Machine) (row : RowInfo) (bits : BitRange) (insn : AnyForm)

@@ -1,7 +1,6 @@
 -- The field of a plain row in the final bytes of a section.
-use Rattle.linker_final.proofs.Imports.{◌≡◌, ℕ, ℤ, pos, ◌+◌, ◌*◌, ◌/◌, ◌%◌, ◌^◌, ◌<◌, ◌≤◌, ◌⊎◌, List, [], ◌∷◌, length, take, drop, get_or, cond, sym, ap, subst, ◌∙◌, inl, inr, arith, Some, Ok, unsigned_abs, cond-true, cond-false, cases_lt, length-drop, length-take-le, get_or-take, get_or-drop, get_or_past, w64, cast_unsigned, int_rem_euclid, byte_at, number_of_bytes, low_bytes, window_len, size_len, value_of, RowInfo, Operands, IsField, field_len, field_end, is_of_pair, uleb_len, relocation_in, IsRowValue, has_value, offset_at, operands_of, AreWritten, HoldsValue, HoldsNumber, composed, field_bytes, Addresses, Symbol, IsRow, Architecture, IsAccepted}
+use Rattle.linker_final.proofs.Imports.{◌≡◌, ℕ, ℤ, pos, ◌+◌, ◌*◌, ◌/◌, ◌%◌, ◌^◌, ◌<◌, ◌≤◌, ◌⊎◌, List, [], ◌∷◌, length, take, drop, get_or, cond, sym, ap, subst, ◌∙◌, inl, inr, arith, Some, Ok, unsigned_abs, cond-true, cond-false, cases_lt, length-drop, length-take-le, get_or-take, get_or-drop, get_or_past, w64, cast_unsigned, int_rem_euclid, byte_at, number_of_bytes, low_bytes, window_len, size_len, value_of, RowInfo, Operands, IsField, field_len, field_end, is_of_pair, uleb_len, relocation_in, IsRowValue, has_value, offset_at, operands_of, AreWritten, HoldsValue, HoldsNumber, composed, field_bytes, Addresses, Symbol, IsRow, Architecture, IsAccepted, HasValue}
 use Rattle.linker_final.proofs.PlainRows.{IsPlain, found_is, composed_alone}
-use Rattle.linker_section.specs.Sections.{HasValue}
 
 -- ---- bytes that hold a number
 
@@ -13,31 +12,22 @@ AreLowest n =
 
 pub four_bytes : AreLowest 4
 four_bytes (a ∷ b ∷ c ∷ d ∷ []) number long small is =
-    let sa : a < 256 = small 0 in
-    let sb : b < 256 = small 1 in
-    let sc : c < 256 = small 2 in
-    let sd : d < 256 = small 3 in
+    let sa : a < 256 = small 0 in let sb : b < 256 = small 1 in
+    let sc : c < 256 = small 2 in let sd : d < 256 = small 3 in
     let sum : a + b * 256 + c * 65536 + d * 16777216 ≡ number % 2 ^ 32 = omega (arith, is) in
     let ea : a ≡ byte_at 0 number = omega (arith, sum, sa, sb, sc, sd) in
     let eb : b ≡ byte_at 1 number = omega (arith, sum, sa, sb, sc, sd) in
     let ec : c ≡ byte_at 2 number = omega (arith, sum, sa, sb, sc, sd) in
     let ed : d ≡ byte_at 3 number = omega (arith, sum, sa, sb, sc, sd) in
-    ap (λ x. x ∷ b ∷ c ∷ d ∷ []) ea
-    ∙ (ap (λ x. byte_at 0 number ∷ x ∷ c ∷ d ∷ []) eb
-    ∙ (ap (λ x. byte_at 0 number ∷ byte_at 1 number ∷ x ∷ d ∷ []) ec
-    ∙ ap (λ x. byte_at 0 number ∷ byte_at 1 number ∷ byte_at 2 number ∷ x ∷ []) ed))
+    rw (ea, eb, ec, ed)
 four_bytes xs number long small is = absurd (omega (arith, long))
 
 pub eight_bytes : AreLowest 8
 eight_bytes (a ∷ b ∷ c ∷ d ∷ e ∷ f ∷ g ∷ h ∷ []) number long small is =
-    let sa : a < 256 = small 0 in
-    let sb : b < 256 = small 1 in
-    let sc : c < 256 = small 2 in
-    let sd : d < 256 = small 3 in
-    let se : e < 256 = small 4 in
-    let sf : f < 256 = small 5 in
-    let sg : g < 256 = small 6 in
-    let sh : h < 256 = small 7 in
+    let sa : a < 256 = small 0 in let sb : b < 256 = small 1 in
+    let sc : c < 256 = small 2 in let sd : d < 256 = small 3 in
+    let se : e < 256 = small 4 in let sf : f < 256 = small 5 in
+    let sg : g < 256 = small 6 in let sh : h < 256 = small 7 in
     let sum : a + b * 2 ^ 8 + c * 2 ^ 16 + d * 2 ^ 24 + e * 2 ^ 32 + f * 2 ^ 40 + g * 2 ^ 48 + h * 2 ^ 56
     ≡ number % 2 ^ 64 = omega (arith, is) in
     let ea : a ≡ byte_at 0 number = omega (arith, sum, sa, sb, sc, sd, se, sf, sg, sh) in
@@ -48,14 +38,7 @@ eight_bytes (a ∷ b ∷ c ∷ d ∷ e ∷ f ∷ g ∷ h ∷ []) number long sma
     let ef : f ≡ byte_at 5 number = omega (arith, sum, sa, sb, sc, sd, se, sf, sg, sh) in
     let eg : g ≡ byte_at 6 number = omega (arith, sum, sa, sb, sc, sd, se, sf, sg, sh) in
     let eh : h ≡ byte_at 7 number = omega (arith, sum, sa, sb, sc, sd, se, sf, sg, sh) in
-    ap (λ x. x ∷ b ∷ c ∷ d ∷ e ∷ f ∷ g ∷ h ∷ []) ea
-    ∙ (ap (λ x. byte_at 0 number ∷ x ∷ c ∷ d ∷ e ∷ f ∷ g ∷ h ∷ []) eb
-    ∙ (ap (λ x. byte_at 0 number ∷ byte_at 1 number ∷ x ∷ d ∷ e ∷ f ∷ g ∷ h ∷ []) ec
-    ∙ (ap (λ x. byte_at 0 number ∷ byte_at 1 number ∷ byte_at 2 number ∷ x ∷ e ∷ f ∷ g ∷ h ∷ []) ed
-    ∙ (ap (λ x. byte_at 0 number ∷ byte_at 1 number ∷ byte_at 2 number ∷ byte_at 3 number ∷ x ∷ f ∷ g ∷ h ∷ []) ee
-    ∙ (ap (λ x. byte_at 0 number ∷ byte_at 1 number ∷ byte_at 2 number ∷ byte_at 3 number ∷ byte_at 4 number ∷ x ∷ g ∷ h ∷ []) ef
-    ∙ (ap (λ x. byte_at 0 number ∷ byte_at 1 number ∷ byte_at 2 number ∷ byte_at 3 number ∷ byte_at 4 number ∷ byte_at 5 number ∷ x ∷ h ∷ []) eg
-    ∙ ap (λ x. byte_at 0 number ∷ byte_at 1 number ∷ byte_at 2 number ∷ byte_at 3 number ∷ byte_at 4 number ∷ byte_at 5 number ∷ byte_at 6 number ∷ x ∷ []) eh))))))
+    rw (ea, eb, ec, ed, ee, ef, eg, eh)
 eight_bytes xs number long small is = absurd (omega (arith, long))
 
 -- ---- the field of a relocation
@@ -100,10 +83,8 @@ module _ (n : ℕ) (there : 0 < n) (are : AreLowest n) (architecture : Architect
         let accepted_at = (written.can.accepted i row v below mine.is).0 plain.alone in
         let accepted = accepted_at.accepted in
         let wide : window_len row ≡ n = ap size_len plain.size in
-        let fits = accepted.long in
         let ld = length-drop o before in
-        let within = accepted_at.inside in
-        let inside : o + n ≤ length before = omega (arith, fits, wide, ld, within) in
+        let inside : o + n ≤ length before = omega (arith, accepted.long, wide, ld, accepted_at.inside) in
         let held = (written.fields i row v below mine.is some).value plain.alone in
         let old = field_bytes bytes before i row before in
         let new = field_bytes bytes before i row after in
@@ -116,9 +97,8 @@ module _ (n : ℕ) (there : 0 < n) (are : AreLowest n) (architecture : Architect
         plain.holds n _ old new number
         ∙ (ap (λ z. int_rem_euclid z (pos (2 ^ (8 * n)))) composed_is ∙ plain.remainder operands v mine.value_is accepted.reached.0) in
         let new_is : new ≡ take n (drop o after) = ap (λ m. take m (drop o after)) len in
-        let same = written.same_length in
         let la = length-drop o after in
-        let lt = length-take-le n (drop o after) (omega (arith, same, la, inside)) in
+        let lt = length-take-le n (drop o after) (omega (arith, written.same_length, la, inside)) in
         record {
           value = v;
           value_is = mine.value_is;

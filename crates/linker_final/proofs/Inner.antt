@@ -1,8 +1,5 @@
 -- What a rewrite changes lies in its instruction.
-use Rattle.std.proofs.Common.{◌≡◌, ℕ, suc, ℤ, ◌+◌, ◌-◌, ◌<◌, ◌≤◌, ◌⊎◌, List, [], ◌∷◌, ◌++◌, length, take, drop, get_or, true, refl, sym, ap, subst, ◌∙◌, inl, inr, arith, Option, Some, append_assoc, drop-cons}
-use Rattle.std.proofs.lemmas.List.{take_more}
-use Rattle.linker_base.specs.Rewrite.{Rewrite, rewritten, rewrite_window}
-use Rattle.linker_utils.specs.X86Rewrites.{absolute, operand, prefixed_operand, puts, x86_64_rewrite}
+use Rattle.linker_final.proofs.Imports.{◌≡◌, ℕ, suc, ℤ, ◌+◌, ◌-◌, ◌<◌, ◌≤◌, ◌⊎◌, List, [], ◌∷◌, ◌++◌, length, take, drop, get_or, true, refl, sym, ap, subst, ◌∙◌, inl, inr, arith, Option, Some, append_assoc, drop-cons, take_more, Rewrite, rewritten, rewrite_window, absolute, operand, prefixed_operand, puts, x86_64_rewrite}
 use Rattle.linker_utils.specs.declared.x86_64.rewrites.RewriteKind.TheVariants as kinds
 
 -- Another rewrite does the same, whose window is in an instruction or a sequence: from at most n

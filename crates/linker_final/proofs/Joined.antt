@@ -53,15 +53,11 @@ module _ (l : Linked) (p : Packed) (joined : IsRewrittenAndPacked l p) (i : ℕ)
   pub rewritten_inside : o + 4 ≤ length l.rewritten
   rewritten_inside =
       let inside = stay_inside p joined.packed o 4 (omega arith) stay in
-      let len = ap length joined.bytes in
-      let same = later_length l joined.later in
-      omega (arith, inside, len, same)
+      omega (arith, inside, ap length joined.bytes, later_length l joined.later)
 
   pub final_inside : place_of p o + 4 ≤ length p.final
   final_inside =
-      let inside = places_inside p joined.packed o 4 (omega arith) stay in
-      let len = joined.packed.written.same_length in
-      omega (arith, inside, len)
+      omega (arith, places_inside p joined.packed o 4 (omega arith) stay, joined.packed.written.same_length)
 
   pub same_kept : instruction_at p.packed (place_of p o) ≡ instruction_at l.rewritten o
   same_kept =

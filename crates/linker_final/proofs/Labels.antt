@@ -1,9 +1,8 @@
 -- The value of a low part of RISC-V in the final bytes of a section: that of the high part at its
 -- label.
-use Rattle.linker_final.proofs.Imports.{◌≡◌, ℕ, ℤ, ◌/◌, ◌<◌, List, length, take, drop, Bool, true, false, cond, refl, sym, ap, subst, ◌∙◌, inl, inr, arith, ltb, Option, Some, None, Ok, Err, Result, IsSomeAnd, cases_eq, cases_lt, cond-true, cond-false, ltb-true, slice_get, ⊤, size_len, window_len, value_of, difference_64, RelocationKind, RowInfo, BitMasking, Operands, UType, one_info, Composes, IsField, begins_pair, continues, ends_pair, field_len, is_of_pair, of_number, of_pair, uleb_len, relocation_in, IsRowValue, IsValueBy, IsValueIn, has_value, names_label, offset_at, operands_of, Addresses, Symbol, Rela, ValueError, IsRow, Architecture, AreApart, relocation_at, IsHighPartAt, IsLowValue, is_auipc, is_high_kind, is_high_part, low_by, low_operands, low_value, NoHighPart, and_parts, or_from}
+use Rattle.linker_final.proofs.Imports.{◌≡◌, ℕ, ℤ, ◌/◌, ◌<◌, List, length, take, drop, Bool, true, false, cond, refl, sym, ap, subst, ◌∙◌, inl, inr, arith, ltb, Option, Some, None, Ok, Err, Result, IsSomeAnd, cases_eq, cases_lt, cond-true, cond-false, ltb-true, slice_get, ⊤, size_len, window_len, value_of, difference_64, RelocationKind, RowInfo, BitMasking, Operands, UType, one_info, Composes, IsField, begins_pair, continues, ends_pair, field_len, is_of_pair, of_number, of_pair, uleb_len, relocation_in, IsRowValue, IsValueBy, IsValueIn, has_value, names_label, offset_at, operands_of, Addresses, Symbol, Rela, ValueError, IsRow, Architecture, AreApart, relocation_at, IsHighPartAt, IsLowValue, is_auipc, is_high_kind, is_high_part, low_by, low_operands, low_value, NoHighPart, and_parts, or_from, RowSize}
 use Rattle.linker_elf.specs.declared.elf.AnyForm.TheVariants.{RiscV}
 use Rattle.linker_elf.specs.declared.elf.RelocationKind.TheVariants as kinds
-use Rattle.linker_elf.specs.declared.elf.RowSize.{RowSize}
 use Rattle.linker_final.proofs.PlainRows.{IsFoundOf, found_by}
 
 -- ---- high parts
@@ -70,7 +69,7 @@ there_by bytes i r true within is =
     let both : Some (relocation_in bytes i) ≡ Some r = is in record { within = ltb-true i (length bytes / 24) within; is = cc }
 there_by bytes i r false within is = absurd (let e : None ≡ Some r = is in cc)
 
-there_is : (bytes : List ℕ) (i : ℕ) (r : Rela) → relocation_at bytes i ≡ Some r → IsRelocationAt bytes i r
+pub there_is : (bytes : List ℕ) (i : ℕ) (r : Rela) → relocation_at bytes i ≡ Some r → IsRelocationAt bytes i r
 there_is bytes i r is = there_by bytes i r (ltb i (length bytes / 24)) refl is
 
 -- ---- the high part at an offset
@@ -143,21 +142,15 @@ module _ (architecture : Architecture) (addresses : Addresses) (bytes : List ℕ
       ∙ ap (low_by low row) taken) in
       let both : Ok (value_of low (low_operands row operands)) ≡ Ok value = sym takes ∙ (sym is ∙ ok) in cc
 
-  by_label : (result : Result (Option ℤ) ValueError) (value : Option ℤ) → result ≡ Ok value
-      → IsLowValue architecture addresses bytes symbols low (Some label) result
-      → value_of low (low_operands row operands) ≡ value
-  by_label result value ok is =
-      by_high (is.0)
-      (subst (λ at. IsHighPartAt architecture bytes kinds.RelativeRiscVLow12 at (is.0)) labels
-      (subst (λ kind. IsHighPartAt architecture bytes kind (difference_64 label.address addresses.section) (is.0)) of_low (is.1)))
-      result value ok (is.2)
-
   by_row : (value : Option ℤ) → IsValueIn architecture addresses bytes symbols r (Some low) (Ok value)
       → value_of low (low_operands row operands) ≡ value
   by_row value is =
-      by_label (Ok value) value refl
-      (subst (λ s. IsLowValue architecture addresses bytes symbols low s (Ok value)) is_label
-      (subst (λ labels. IsValueBy labels architecture addresses bytes symbols low r (Ok value)) labelled is))
+      let of = subst (λ s. IsLowValue architecture addresses bytes symbols low s (Ok value)) is_label
+      (subst (λ labels. IsValueBy labels architecture addresses bytes symbols low r (Ok value)) labelled is) in
+      by_high (of.0)
+      (subst (λ at. IsHighPartAt architecture bytes kinds.RelativeRiscVLow12 at (of.0)) labels
+      (subst (λ kind. IsHighPartAt architecture bytes kind (difference_64 label.address addresses.section) (of.0)) of_low (of.1)))
+      (Ok value) value refl (of.2)
 
   pub low_found : (found : Option (RowInfo × ℤ))
       → IsRowValue architecture addresses bytes symbols r (Ok found)

@@ -1,6 +1,7 @@
 pub mod AArch64Addresses
 pub mod AArch64Alone
 pub mod AArch64Descriptors
+pub mod AArch64Imports
 pub mod AArch64Loads
 pub mod AArch64Section
 pub mod AArch64Worked
@@ -15,6 +16,7 @@ pub mod Labels
 pub mod LoongArchAlone
 pub mod LoongArchChosen
 pub mod LoongArchDescriptors
+pub mod LoongArchImports
 pub mod LoongArchJoined
 pub mod LoongArchLoads
 pub mod LoongArchPackedDeletions
@@ -34,6 +36,7 @@ pub mod PlainRows
 pub mod Ppc64Again
 pub mod Ppc64Chosen
 pub mod Ppc64Groups
+pub mod Ppc64Imports
 pub mod Ppc64Section
 pub mod Ppc64Written
 pub mod PutBack
@@ -44,6 +47,7 @@ pub mod RiscV32Sums
 pub mod RiscVAddresses
 pub mod RiscVChosen
 pub mod RiscVDescriptors
+pub mod RiscVImports
 pub mod RiscVLoads
 pub mod RiscVNear
 pub mod RiscVNops
@@ -60,8 +64,8 @@ pub mod Written
 pub mod X86Chosen
 pub mod X86Descriptors
 pub mod X86Finals
+pub mod X86Imports
 pub mod X86Lawful
-pub mod X86Names
 pub mod X86Patterns
 pub mod X86Rows
 pub mod X86Section

@@ -1,16 +1,9 @@
 -- Instructions of LoongArch that are rewritten each by itself are groups with what new has: those
 -- of initial-exec and of local-exec.
-use Rattle.linker_final.proofs.Imports.{◌≡◌, ℕ, ◌+◌, ◌*◌, ◌-◌, ◌/◌, ◌^◌, ◌<◌, List, IsTrue, Ok, Some, refl, subst, ⊤, field, IsNamed, IsNameOf, loongarch_name, low_row, TpOff, LoongArch64, Choice, Operands, LoongArch64Relocation, IsRewritten, isnt, decision_at, Rewritten, relocation_in, operands_in, operands_with, Addresses, Symbol, Rela, IsLd, loongarch_rewrite, rd_of, rewrites_word, rj_of, Relaxation, high_row, AreRewritten, Linked, count, instruction_at}
+use Rattle.linker_final.proofs.LoongArchImports.{◌≡◌, ℕ, ◌+◌, ◌*◌, ◌-◌, ◌/◌, ◌^◌, ◌<◌, List, IsTrue, Ok, Some, refl, subst, ⊤, field, IsNamed, IsNameOf, loongarch_name, low_row, TpOff, LoongArch64, Choice, Operands, LoongArch64Relocation, IsRewritten, isnt, decision_at, Rewritten, relocation_in, operands_in, operands_with, Addresses, Symbol, Rela, IsLd, loongarch_rewrite, rd_of, rewrites_word, rj_of, Relaxation, high_row, AreRewritten, Linked, count, instruction_at, HasEntry, IsAlone, IsLeft, IsMade, Law, Left, applied, entry_by as entry_of_name, law_of, named_as, offset_of, Groups, IsAddTp, IsLu12i, IsPcalau12i, adds_low12, tp, RewriteKind, of_bits, word_same}
 use Rattle.linker_elf.specs.declared.loongarch64.relocations.LoongArch64Relocation.TheVariants as names
-use Rattle.linker_final.proofs.InstructionFields.{of_bits}
 use Rattle.linker_final.proofs.LoongArchChosen.{IsByTable, IsEntry, by_table, entry_by, shown}
 use Rattle.linker_final.proofs.LoongArchWritten.{IsAfter, becomes, named_after}
-use Rattle.linker_final.proofs.Written.{word_same}
-use Rattle.linker_final.specs.LoongArchSection.{HasEntry, IsAlone, IsLeft, IsMade, Law, Left, applied, entry_by as entry_of_name, law_of, named_as}
-use Rattle.linker_final.specs.SectionRuns.{offset_of}
-use Rattle.linker_laws.specs.LoongArchGroups.{Groups}
-use Rattle.linker_utils.specs.LoongArchRewrites.{IsAddTp, IsLu12i, IsPcalau12i, adds_low12, tp}
-use Rattle.linker_utils.specs.declared.loongarch64.rewrites.RewriteKind.{RewriteKind}
 use Rattle.linker_utils.specs.declared.loongarch64.rewrites.RewriteKind.TheVariants as kinds
 
 -- ---- what is left

@@ -1,7 +1,5 @@
 -- The rewrite that is chosen for a relocation of LoongArch is one of its table.
-use Rattle.linker_final.proofs.Imports.{◌≡◌, ℕ, ◌<◌, List, Bool, true, false, refl, sym, ap, subst, ◌∙◌, IsNamed, IsNameOf, r_type_of, loongarch_name, Choice, LinkFacts, LoongArch64Relocation, IsChosen, chosen_at, listed_at, IsOfEntry, LoongArchApplies, LoongArchEntry, AreDecidedIn, decision_at, IsScopeIn, loongarch_scope_in, Rewritten, Scope, Grouped, Independent, Labelled, NotRelaxable, Phase, relocation_in, Rela, IsArchitectureChoice, Relaxation, LoongArch64, Ppc64, AreEarly, IsListed, are_early, IsOfOne, of_one, Linked, count, [], ◌∷◌, ⊤, inl, inr}
-use Rattle.linker_utils.specs.LoongArchRewrites.{HasPattern, loongarch_entries}
-use Rattle.linker_utils.specs.declared.loongarch64.rewrites.RewriteKind.{RewriteKind}
+use Rattle.linker_final.proofs.LoongArchImports.{◌≡◌, ℕ, ◌<◌, List, Bool, true, false, refl, sym, ap, subst, ◌∙◌, IsNamed, IsNameOf, r_type_of, loongarch_name, Choice, LinkFacts, LoongArch64Relocation, IsChosen, chosen_at, listed_at, IsOfEntry, LoongArchApplies, LoongArchEntry, AreDecidedIn, decision_at, IsScopeIn, loongarch_scope_in, Rewritten, Scope, Grouped, Independent, Labelled, NotRelaxable, Phase, relocation_in, Rela, IsArchitectureChoice, Relaxation, LoongArch64, Ppc64, AreEarly, IsListed, are_early, IsOfOne, of_one, Linked, count, [], ◌∷◌, ⊤, inl, inr, HasPattern, loongarch_entries, RewriteKind}
 use Rattle.linker_elf.specs.declared.loongarch64.relocations.LoongArch64Relocation.TheVariants as names
 use Rattle.linker_utils.specs.declared.loongarch64.rewrites.RewriteKind.TheVariants as kinds
 use Rattle.linker_rewriting.specs.declared.phases.Phase.TheVariants as phases

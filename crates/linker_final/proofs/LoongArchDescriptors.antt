@@ -1,15 +1,9 @@
 -- Instructions of TLS descriptors of LoongArch that became those of local-exec or of initial-exec
 -- are groups, each by itself.
-use Rattle.linker_final.proofs.Imports.{◌≡◌, ◌⊎◌, ℕ, ◌+◌, ◌<◌, List, refl, sym, ap, subst, inl, inr, Some, None, cond, field, IsNameOf, loongarch_name, low_row, rounded_row, entry_pages, paged_row, GotTpOff, GotTpOffGot, LoongArch64, Choice, LoongArch64Relocation, IsRelocated, isnt, decision_at, Rewritten, relocation_in, operands_by, rd_of, relaxation_rewrite, Relaxation, AreRewritten, Linked, count, law_of}
+use Rattle.linker_final.proofs.LoongArchImports.{◌≡◌, ◌⊎◌, ℕ, ◌+◌, ◌<◌, List, refl, sym, ap, subst, inl, inr, Some, None, cond, field, IsNameOf, loongarch_name, low_row, rounded_row, entry_pages, paged_row, GotTpOff, GotTpOffGot, LoongArch64, Choice, LoongArch64Relocation, IsRelocated, isnt, decision_at, Rewritten, relocation_in, operands_by, rd_of, relaxation_rewrite, Relaxation, AreRewritten, Linked, count, law_of, offset_of, CallOfDescriptor, Groups, LoadOfDescriptor, word_of, IsCallOfDescriptor, IsLoadOfDescriptor, IsLowOfDescriptor, IsPageOfDescriptor, of_bits, stays, word_same}
 use Rattle.linker_elf.specs.declared.loongarch64.relocations.LoongArch64Relocation.TheVariants as names
-use Rattle.linker_final.proofs.InstructionFields.{of_bits}
 use Rattle.linker_final.proofs.LoongArchAlone.{IsLawful, Takes, becomes_by, before, high_offset, left_by, low_offset, rewritten, table}
 use Rattle.linker_final.proofs.LoongArchChosen.{IsEntry, entry_by, shown}
-use Rattle.linker_final.proofs.Written.{stays, word_same}
-use Rattle.linker_final.specs.SectionRuns.{offset_of}
-use Rattle.linker_laws.specs.LoongArchGroups.{CallOfDescriptor, Groups, LoadOfDescriptor}
-use Rattle.linker_laws.specs.LoongArchRewriteLaws.{word_of}
-use Rattle.linker_utils.specs.LoongArchRewrites.{IsCallOfDescriptor, IsLoadOfDescriptor, IsLowOfDescriptor, IsPageOfDescriptor}
 use Rattle.linker_utils.specs.declared.architecture.Relaxation.TheVariants as relaxations
 use Rattle.linker_utils.specs.declared.loongarch64.rewrites.RewriteKind.TheVariants as kinds
 

@@ -1,13 +1,9 @@
 -- LoongArch: what a rewrite left of an instruction is in the final bytes, also of a section that
 -- was packed then.
-use Rattle.linker_final.proofs.Imports.{◌≡◌, ◌<◌, ℕ, List, sym, ap, subst, Some, Ok, IsSomeAnd, slice_get, IsRow, r_type_of, loongarch_name, value_of, LoongArch64, Operands, LoongArch64Relocation, IsRelocated, relocation_in, operands_in, operands_with, Symbol, Rela, IsLinked, Linked, UntouchedInstruction, count, instruction_at, IsKeptInstruction, IsRewrittenAndPacked, final_instruction, Packed, architecture_of}
-use Rattle.linker_final.proofs.Joined.{r_type_is, own_there, unwritten_there, within}
+use Rattle.linker_final.proofs.LoongArchImports.{◌≡◌, ◌<◌, ℕ, List, sym, ap, subst, Some, Ok, IsSomeAnd, slice_get, IsRow, r_type_of, loongarch_name, value_of, LoongArch64, Operands, LoongArch64Relocation, IsRelocated, relocation_in, operands_in, operands_with, Symbol, Rela, IsLinked, Linked, UntouchedInstruction, count, instruction_at, IsKeptInstruction, IsRewrittenAndPacked, final_instruction, Packed, architecture_of, AreOf, IsFinal, IsKept, IsLeft, IsMade, IsNew, Left, anywhere, applied, entry_by, final, named_as, none, packed, without_law, offset_of, r_type_is, own_there, unwritten_there, within, IsRowOf, row_in}
+use Rattle.linker_runs.specs.declared.packing.Machine.TheVariants.{LoongArch64 as loongarch64}
 use Rattle.linker_final.proofs.LoongArchAlone.{IsWritable}
 use Rattle.linker_final.proofs.LoongArchWritten.{IsAfter, as_named, relocated_there, row_of, unwritten_nop}
-use Rattle.linker_final.proofs.Written.{IsRowOf, row_in}
-use Rattle.linker_final.specs.LoongArchSection.{AreOf, IsFinal, IsKept, IsLeft, IsMade, IsNew, Left, anywhere, applied, entry_by, final, named_as, none, packed, without_law}
-use Rattle.linker_final.specs.SectionRuns.{offset_of}
-use Rattle.linker_runs.specs.declared.packing.Machine.TheVariants.{LoongArch64 as loongarch64}
 
 -- ---- an instruction that stays
 

@@ -1,14 +1,9 @@
 -- Rewritten loads from the GOT of LoongArch are groups in the final bytes.
-use Rattle.linker_final.proofs.Imports.{◌≡◌, ℕ, ℤ, ◌+◌, ◌<◌, drop, refl, sym, ap, subst, ◌∙◌, IsSomeAnd, slice_get, field, IsApplied, IsNameOf, r_type_of, loongarch_name, loongarch_row, low_row, rounded_row, paged_row, place_pages, entry_pages, value_of, Relative, AbsoluteLowPart, GotRelative, RowInfo, Choice, LoongArch64Relocation, isnt, IsRewritten, IsLd, decision_at, RelaxContext, Rewritten, relocation_in, operands_with, Addresses, Symbol, Rela, relaxation_rewrite, Relaxation, LoongArch64, UntouchedInstructions, Linked, IsLinked, IsRewrittenByNoOther, count, instruction_at, IsLoad, LoadsTheSame}
+use Rattle.linker_final.proofs.LoongArchImports.{◌≡◌, ℕ, ◌+◌, ◌<◌, drop, refl, sym, ap, subst, ◌∙◌, IsSomeAnd, slice_get, field, IsApplied, IsNameOf, r_type_of, loongarch_name, loongarch_row, low_row, rounded_row, paged_row, place_pages, entry_pages, value_of, Relative, AbsoluteLowPart, GotRelative, RowInfo, Choice, LoongArch64Relocation, isnt, IsRewritten, IsLd, decision_at, RelaxContext, Rewritten, relocation_in, operands_with, Rela, relaxation_rewrite, Relaxation, LoongArch64, UntouchedInstructions, Linked, IsLinked, IsRewrittenByNoOther, count, instruction_at, IsLoad, LoadsTheSame, Groups, IsPair, following, word_of, AreOfOneRegister, of_bits, rela, stays, word_same}
 use Rattle.linker_elf.specs.declared.loongarch64.relocations.LoongArch64Relocation.TheVariants as names
-use Rattle.linker_final.proofs.InstructionFields.{of_bits}
 use Rattle.linker_final.proofs.LoongArchChosen.{IsEntry, by_table, entry_by, shown}
 use Rattle.linker_final.proofs.LoongArchPairs.{AreOfLoad, load_of}
 use Rattle.linker_final.proofs.LoongArchWritten.{IsAfter, becomes, named_after, relocated_there}
-use Rattle.linker_final.proofs.Written.{rela, stays, word_same}
-use Rattle.linker_laws.specs.LoongArchGroups.{Groups}
-use Rattle.linker_laws.specs.LoongArchRewriteLaws.{IsPair, following, word_of}
-use Rattle.linker_utils.specs.LoongArchRewrites.{AreOfOneRegister}
 use Rattle.linker_utils.specs.declared.loongarch64.rewrites.RewriteKind.TheVariants as kinds
 
 -- ---- rows
@@ -33,16 +28,6 @@ low_after =
       named = tt;
       of = of_bits refl refl refl refl refl (λ o. tt);
     }
-
--- ---- operands
-
--- the low part is that of the first one's S + A, wherever the second one is
-low_value : (addresses : Addresses) (symbol : Symbol) (r : Rela) (got offset code index : ℕ) (addend : ℤ)
-    → addend ≡ r.addend
-    → value_of low_after.row (following 4 (operands_with LoongArch64 addresses got_row symbol r got))
-    ≡ value_of low_after.row (operands_with LoongArch64 addresses low_after.row symbol (rela offset code index addend) 0)
-low_value addresses symbol r got offset code index addend same =
-    ap (λ x. value_of low_after.row (operands_with LoongArch64 addresses low_after.row symbol (rela offset code index x) 0)) (sym same)
 
 -- ---- a pair
 
@@ -96,7 +81,7 @@ module _ (groups : Groups) (l : Linked) (linked : IsLinked l) (loongarch : l.con
       (relocated_there l linked loongarch j of.low_below names.R_LARCH_PCALA_LO12 low_after
       (named_after l linked.made j of.low_chosen of.low_below of.low_decided kinds.LdToAddi low.kind_is names.R_LARCH_PCALA_LO12 low.r_type_is)
       (left.1) symbol 0 refl (ap (slice_get l.symbols) of.same_symbol ∙ is_symbol) (following 4 w)
-      (low_value l.addresses symbol first got second.offset low_r_type second.symbol second.addend of.same_addend)) in
+      (ap (λ x. value_of low_after.row (operands_with LoongArch64 l.addresses low_after.row symbol (rela second.offset low_r_type second.symbol x) 0)) (sym of.same_addend))) in
       let added : IsRewritten kinds.LdToAddi (instruction_at l.section (o + 4)) (instruction_at l.rewritten (o + 4)) =
       subst (λ n. IsRewritten kinds.LdToAddi (instruction_at l.section n) (instruction_at l.rewritten n)) next
       (becomes l linked.made j of.low_chosen of.low_below of.low_decided kinds.LdToAddi low.kind_is

@@ -1,10 +1,6 @@
 -- LoongArch: instructions that are deleted, and the run without them.
-use Rattle.std.proofs.Common.{ℕ, drop, take, sym, ◌∙◌}
-use Rattle.linker_final.proofs.PackedBytes.{no_place}
-use Rattle.linker_final.specs.LoongArchPacked.{HighPartIsLeftOut, SumIsLeftOut}
-use Rattle.linker_final.specs.Packed.{AreDeleted as IsGone, IsBefore, Packed}
-use Rattle.linker_laws.specs.LoongArchGroups.{AreDeleted, Code, Groups}
-use Rattle.linker_laws.specs.Simulation.{State}
+use Rattle.linker_final.proofs.LoongArchImports.{ℕ, drop, take, sym, ◌∙◌, HighPartIsLeftOut, SumIsLeftOut, IsBefore, Packed, AreDeleted, Code, Groups, State, no_place}
+use Rattle.linker_final.specs.Packed.{AreDeleted as IsGone}
 
 -- new has nothing of the bytes
 gone_in : (p : Packed) (o : ℕ) (c : Code) (s : State) → IsGone p o 4 → IsBefore p o c.moved s.pc → AreDeleted c 4 s

@@ -1,26 +1,13 @@
 -- LoongArch: what sites do in the final bytes of a packed section.
-use Rattle.linker_final.proofs.Imports.{◌≡◌, ◌≢◌, ℕ, ◌+◌, ◌/◌, ◌^◌, ◌<◌, ◌≤◌, inl, inr, Bool, true, false, not, eqb, if◌then◌else◌, List, [], ◌∷◌, length, take, drop, IsSomeAnd, refl, sym, ap, subst, ◌∙◌, arith, pos, ◌+ℤ◌, ◌*ℤ◌, ℤ, Some, cond-false, or_parts, drop-drop, length-drop, All-drop, All-take, field, signed, IsApplied, loongarch_form, loongarch_row, IsWritten, sum_64, AbsoluteLowPart, BitMasking, Operands, Branch26, Shift10, word_below, Fits32, IsRelocated, IsRewritten, pair, Relocated, loaded, wrapped, AreAddresses, IsAddress, plt_address, symbol_address, IsLd, rd_of, rj_of, destination, SiteBecomes, word_of_front, ne_eqb, ◌==◌, ValueIsWithin, pcalau12i, InstructionWritten, is_jirl, AreBytes, CallsTheSame, AddressesAreMade, LoadedAddressesAreMade, words_in, Packed, IsPacked, IsSiteOf, site_after, site_bytes, site_len, site_offset, site_place, site_target, entry_and_addend, IsBranch, IsCall36At, IsFarCall, IsPcalaAt, IsPcaddi, LoongArchBecomes}
-use Rattle.linker_elf.proofs.Relocated.{plain_written}
+use Rattle.linker_final.proofs.LoongArchImports.{◌≡◌, ◌≢◌, ℕ, ◌+◌, ◌/◌, ◌^◌, ◌<◌, ◌≤◌, inl, inr, Bool, true, false, not, eqb, if◌then◌else◌, List, [], ◌∷◌, length, take, drop, IsSomeAnd, refl, sym, ap, subst, ◌∙◌, arith, pos, ◌+ℤ◌, ◌*ℤ◌, ℤ, Some, cond-false, or_parts, drop-drop, length-drop, All-drop, All-take, field, signed, IsApplied, loongarch_form, loongarch_row, IsWritten, sum_64, AbsoluteLowPart, BitMasking, Operands, Branch26, Shift10, word_below, Fits32, IsRelocated, IsRewritten, pair, Relocated, loaded, wrapped, AreAddresses, IsAddress, plt_address, symbol_address, IsLd, rd_of, rj_of, destination, SiteBecomes, word_of_front, ne_eqb, ◌==◌, ValueIsWithin, pcalau12i, InstructionWritten, is_jirl, AreBytes, CallsTheSame, AddressesAreMade, LoadedAddressesAreMade, words_in, Packed, IsPacked, IsSiteOf, site_after, site_bytes, site_len, site_offset, site_place, site_target, entry_and_addend, IsBranch, IsCall36At, IsFarCall, IsPcalaAt, IsPcaddi, LoongArchBecomes, plain_written, word_made, address_is, call_is, new_first, new_second, target_is, decodes_far, decodes_jirl, decodes_b, decodes_bl, Loads, adds, loads, nears, ends_so, loaded_of, read_back, run_pair, set, high_after, low_after, HaveCalled, HaveMade, LoadsEntry, following, no_register, word_of, AreOfOneRegister, IsAddi, IsCall, signed_32, word_at, jump, call, far_call, address, far_address as far_pair, are_addresses, site_becomes, site_inside, site_length, site_small, window_length, back_of_pair, front_of_pair}
 use Rattle.linker_elf.specs.declared.elf.AnyForm.TheVariants.{LoongArch64 as of_loongarch}
-use Rattle.linker_elf.specs.declared.loongarch64.relocations.LoongArch64Relocation.TheVariants as names
-use Rattle.linker_final.proofs.PackedSites.{site_becomes, site_inside, site_length, site_small}
-use Rattle.linker_final.proofs.PutBack.{window_length}
-use Rattle.linker_laws.proofs.AArch64Pairs.{word_made}
-use Rattle.linker_laws.proofs.AArch64Steps.{address_is}
-use Rattle.linker_laws.proofs.LoongArchCalls.{call_is, new_first, new_second, target_is, decodes_far, decodes_jirl, decodes_b, decodes_bl}
-use Rattle.linker_laws.proofs.LoongArchPairs.{Loads, adds, loads, nears}
-use Rattle.linker_laws.proofs.LoongArchSteps.{ends_so, loaded_of, read_back, run_pair, set}
-use Rattle.linker_laws.proofs.LoongArchWords.{high_after, low_after}
 use Rattle.linker_laws.specs.LoongArchMachine.{AreAlikeBut, EndSo, State, branch_target, execute, far_address, go_on, go_to, near_address, next_pc, page_address, read, register_target, run, step, sum_of, with_register, write}
-use Rattle.linker_laws.specs.LoongArchRelocationLaws as relocation_laws
-use Rattle.linker_laws.specs.LoongArchRewriteLaws.{HaveCalled, HaveMade, LoadsEntry, following, no_register, word_of}
-use Rattle.linker_utils.specs.LoongArchRewrites.{AreOfOneRegister, IsAddi, IsCall, signed_32, word_at}
-use Rattle.linker_utils.specs.declared.loongarch64.rewrites.RewriteKind.TheVariants as kinds
-use Rattle.linker_final.proofs.Written.{back_of_pair, front_of_pair}
-use Rattle.linker_runs.specs.LoongArchSites.LoongArchBecomes.{jump, call, far_call, address, far_address as far_pair}
 use Rattle.linker_runs.specs.Sites.{operands_of}
 use Rattle.linker_runs.specs.declared.packing.Machine.TheVariants.{LoongArch64}
 use Rattle.linker_runs.specs.declared.relaxation.Site.{Site as sites}
+use Rattle.linker_elf.specs.declared.loongarch64.relocations.LoongArch64Relocation.TheVariants as names
+use Rattle.linker_laws.specs.LoongArchRelocationLaws as relocation_laws
+use Rattle.linker_utils.specs.declared.loongarch64.rewrites.RewriteKind.TheVariants as kinds
 
 -- ---- registers
 
@@ -146,11 +133,9 @@ module _ (code : List ℕ) (bytes : AreBytes code) (len : length code ≡ 4) (pl
       → Called (word_of code ∷ []) 0 base back target t
   near_jump is base back t at =
       let word = word_of code in
-      let small = below in
-      let op = is.opcode_is in
       record {
         end = go_to (branch_target word t) t;
-        runs = ap (λ i. execute i word t) (decodes_b word (omega (arith, small, op)));
+        runs = ap (λ i. execute i word t) (decodes_b word (omega (arith, below, is.opcode_is)));
         keeps = λ m e f. refl;
         floats = refl;
         memory = refl;
@@ -162,11 +147,9 @@ module _ (code : List ℕ) (bytes : AreBytes code) (len : length code ≡ 4) (pl
       → Called (word_of code ∷ []) 1 base (sum_64 place 4) target t
   near_call is base t at =
       let word = word_of code in
-      let small = below in
-      let op = is.opcode_is in
       record {
         end = go_to (branch_target word t) (write 1 (next_pc t) t);
-        runs = ap (λ i. execute i word t) (decodes_bl word (omega (arith, small, op)));
+        runs = ap (λ i. execute i word t) (decodes_bl word (omega (arith, below, is.opcode_is)));
         keeps = λ m e f. write_others 1 (next_pc t) m t e;
         floats = refl;
         memory = refl;
@@ -179,10 +162,8 @@ module _ (code : List ℕ) (bytes : AreBytes code) (len : length code ≡ 4) (pl
       → Made (word_of code ∷ []) n target (sum_64 place 4) t
   near_pcaddi n some is t at =
       let word = word_of code in
-      let small = below in
-      let op = is.opcode in
       let m = nears (operands_of place target) n word target t
-      (record { opcode = omega (arith, small, op); rd_is = is.register_is }) some at is.computes in
+      (record { opcode = omega (arith, below, is.opcode); rd_is = is.register_is }) some at is.computes in
       record {
         end = set n (near_address word t) t;
         runs = m.only;
@@ -311,8 +292,7 @@ module _ (calls : relocation_laws.Calls) (section : List ℕ) (o : ℕ) (bytes :
       → (s : State) → s.pc ≡ x.place
       → Called (pair code (drop 4 code)) link base (sum_64 x.place 8) (plt_address x) s
   from_there is =
-      let len = length-drop o section in
-      either is (drop o section) (omega (arith, len, inside)) refl (second_at section o)
+      either is (drop o section) (omega (arith, length-drop o section, inside)) refl (second_at section o)
 
   -- that of 8 bytes which go to a target
   of_window : (place target : ℕ) (code : List ℕ) → place < 2 ^ 64 → target < 2 ^ 64 → AreBytes code
@@ -323,15 +303,6 @@ module _ (calls : relocation_laws.Calls) (section : List ℕ) (o : ℕ) (bytes :
       let there = drop o section in
       let y = operands_of place target in
       let wide = window_length o 8 section inside in
-      let addresses : AreAddresses y =
-      record {
-        symbol = reach;
-        place = small;
-        got_entry = omega arith;
-        got_base = omega arith;
-        plt_entry = reach;
-        tls_base = omega arith;
-      } in
       let same : plt_address y ≡ target = omega (arith, reach) in
       subst (λ n. Called (pair code (drop 4 code)) link base (sum_64 place 8) n t) same
       (either is (take 8 there) (omega (arith, wide)) (front_of_pair there) (back_of_pair there ∙ second_at section o) y code
@@ -340,17 +311,13 @@ module _ (calls : relocation_laws.Calls) (section : List ℕ) (o : ℕ) (bytes :
         len = len ∙ sym wide;
         old_bytes = All-take (λ byte. byte < 2 ^ 8) 8 there (All-drop (λ byte. byte < 2 ^ 8) o section bytes);
         bytes = new;
-      }) addresses t at)
+      }) (are_addresses place target small reach) t at)
 
   no_pair : IsPcalaAt section o → IsCall36At section o → ⊥
   no_pair pcala (inl is) =
-      let a = pcala.one_register.first in
-      let c = is.first in
-      omega (arith, a, c)
+      omega (arith, pcala.one_register.first, is.first)
   no_pair pcala (inr is) =
-      let a = pcala.one_register.first in
-      let c = is.first in
-      omega (arith, a, c)
+      omega (arith, pcala.one_register.first, is.first)
 
   -- what a call becomes
   becomes_call : (place target : ℕ) (code : List ℕ) → place < 2 ^ 64 → target < 2 ^ 64
@@ -383,9 +350,8 @@ module _ (calls : relocation_laws.Calls) (section : List ℕ) (o : ℕ) (bytes :
       (near_pcaddi code new len place target link is.one_register.into_own_source.not_zero near t at)
   becomes_address place target code new pcala (far_pair is len both) t at =
       let second = word_of_front (drop (o + 4) section) in
-      let front = word_of_front code in
       subst (λ n. Made (words_in n code) link target (sum_64 place n) t) (sym len)
-      (subst (λ w. Made (w ∷ word_of (drop 4 code) ∷ []) link target (sum_64 place 8) t) front
+      (subst (λ w. Made (w ∷ word_of (drop 4 code) ∷ []) link target (sum_64 place 8) t) (word_of_front code)
       (sum_run (operands_of place target) (operands_of (sum_64 place 4) target) link target
       (take 4 (drop o section)) (take 4 (drop (o + 4) section)) (take 4 code) (drop 4 code)
       (of_front section o is)

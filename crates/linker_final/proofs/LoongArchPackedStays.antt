@@ -1,18 +1,10 @@
 -- LoongArch: calls and addresses that stay, in the final bytes of a packed section.
-use Rattle.linker_final.proofs.Imports.{◌≡◌, ℕ, ◌+◌, ◌^◌, ◌<◌, take, drop, refl, sym, ap, subst, ◌∙◌, arith, true, false, Some, Ok, IsSomeAnd, All-drop, All-take, ⊤, slice_get, BitRange, IsApplied, loongarch_row, window_len, sum_64, value_of, AnyForm, RowInfo, BitMasking, Operands, LoongArch64Relocation, Fits32, pair, AreAddresses, plt_address, symbol_address, rd_of, destination, relocation_in, has_value, names_label, offset_at, operands_in, operands_of, Symbol, IsRow, LongAddressesStay, LongCallsStay, LongLoadedAddressesStay, IsPairOf, StaysAs, operands_at, Packed, IsPacked, architecture_of, place_of}
-use Rattle.linker_elf.specs.declared.loongarch64.relocations.LoongArch64Relocation.TheVariants as names
-use Rattle.linker_final.proofs.Branches.{the_row}
-use Rattle.linker_final.proofs.InstructionFields.{some_value}
-use Rattle.linker_final.proofs.LoongArchPackedSites.{Made, both_call, both_make, by_addi, by_ld, either, from_there, second_at}
-use Rattle.linker_final.proofs.Written.{back_of_pair, front_of_pair}
-use Rattle.linker_final.proofs.PackedBytes.{place_after, places_inside, stay_inside}
-use Rattle.linker_final.proofs.PackedInstructions.{instructions}
-use Rattle.linker_final.proofs.PutBack.{window_length}
+use Rattle.linker_final.proofs.LoongArchImports.{◌≡◌, ℕ, ◌+◌, ◌^◌, ◌<◌, take, drop, refl, sym, ap, subst, ◌∙◌, arith, true, false, Some, Ok, IsSomeAnd, All-drop, All-take, ⊤, slice_get, BitRange, IsApplied, loongarch_row, window_len, sum_64, value_of, AnyForm, RowInfo, BitMasking, Operands, LoongArch64Relocation, Fits32, pair, AreAddresses, plt_address, symbol_address, rd_of, destination, relocation_in, has_value, names_label, offset_at, operands_in, operands_of, Symbol, IsRow, LongAddressesStay, LongCallsStay, LongLoadedAddressesStay, IsPairOf, StaysAs, operands_at, Packed, IsPacked, architecture_of, place_of, following, word_at, the_row, some_value, back_of_pair, front_of_pair, place_after, places_inside, stay_inside, instructions, window_length}
 use Rattle.linker_laws.specs.LoongArchMachine.{State}
-use Rattle.linker_laws.specs.LoongArchRelocationLaws as relocation_laws
-use Rattle.linker_laws.specs.LoongArchRewriteLaws.{following}
-use Rattle.linker_utils.specs.LoongArchRewrites.{word_at}
 use Rattle.linker_runs.specs.declared.packing.Machine.TheVariants.{LoongArch64}
+use Rattle.linker_elf.specs.declared.loongarch64.relocations.LoongArch64Relocation.TheVariants as names
+use Rattle.linker_final.proofs.LoongArchPackedSites.{Made, both_call, both_make, by_addi, by_ld, either, from_there, second_at}
+use Rattle.linker_laws.specs.LoongArchRelocationLaws as relocation_laws
 use Rattle.linker_elf.specs.declared.elf.architecture.Architecture.TheVariants as architectures
 
 abbrev call_row : RowInfo
@@ -71,7 +63,6 @@ long_calls law p is machine i stays at symbol symbol_is small x small_x original
     let code = take 8 (drop (place_of p o) p.final) in
     let inside = stay_inside p is o 8 (omega arith) stays.stays in
     let fits = places_inside p is o 8 (omega arith) stays.stays in
-    let same = is.written.same_length in
     let wide = window_length o 8 section inside in
     both_call (pair original (drop 4 original)) (pair code (drop 4 code)) link base
     (sum_64 x.place 8) (sum_64 y.place 8) (plt_address x) (plt_address y) s t alike
@@ -80,7 +71,7 @@ long_calls law p is machine i stays at symbol symbol_is small x small_x original
     (back_of_pair there ∙ second_at section o) y code
     (record {
       applied = applied p is machine i names.R_LARCH_CALL36 8 stays call_row _ _ refl refl refl refl refl symbol symbol_is y refl tt;
-      len = window_length (place_of p o) 8 p.final (omega (arith, fits, same)) ∙ sym wide;
+      len = window_length (place_of p o) 8 p.final (omega (arith, fits, is.written.same_length)) ∙ sym wide;
       old_bytes = All-take (λ byte. byte < 2 ^ 8) 8 there (All-drop (λ byte. byte < 2 ^ 8) o section is.section_bytes);
       bytes = All-take (λ byte. byte < 2 ^ 8) 8 (drop (place_of p o) p.final) (All-drop (λ byte. byte < 2 ^ 8) (place_of p o) p.final is.final_bytes);
     }) small t ht)
@@ -106,9 +97,7 @@ module _ (relative : relocation_laws.RelativeAddresses) (p : Packed) (is : IsPac
   low_place =
       let first = (is.moved i of.high.within).offset (omega (arith, (of.high.stays 0 (omega arith)).inside)) in
       let second = (is.moved j of.low.within).offset (omega (arith, (of.low.stays 0 (omega arith)).inside)) in
-      let next = next_place in
-      let e = ap (place_of p) of.next in
-      omega (arith, first, second, next, e)
+      omega (arith, first, second, next_place, ap (place_of p) of.next)
 
   low_applied : IsApplied low_row (following 4 y) (take 4 (drop (o + 4) p.section.bytes))
       (take 4 (drop (place_of p o + 4) p.final))

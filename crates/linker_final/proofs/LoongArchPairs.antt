@@ -1,11 +1,7 @@
 -- The relocations of a load from the GOT of LoongArch stand next to each other, and both are
 -- rewritten.
-use Rattle.linker_final.proofs.Imports.{◌≡◌, ℕ, suc, ◌∙◌, ◌+◌, ◌-◌, ◌<◌, inl, inr, List, ap, sym, subst, arith, refl, true, false, Option, Some, None, cases_Bool, IsNamed, IsNameOf, r_type_of, loongarch_name, Choice, LinkFacts, LoongArch64Relocation, IsCandidateWith, AreDecidedIn, IsDecidedAfter, IsScopeDecision, decision_at, decision_of, is_taken, takes_next, RelaxContext, pre_layout, link_facts, IsScopeIn, loongarch_scope_in, Decision, Kept, Rewritten, Consumed, relocation_in, Rela, Relaxation, LoongArch64, Linked, count, IsCandidate, IsDecidedAlone}
-use Rattle.linker_rewriting.proofs.LoongArchLoads.{loads_are_whole}
-use Rattle.linker_rewriting.specs.Rewritten.{IsLoadAt, IsRewritten}
-use Rattle.linker_rewriting.proofs.SequenceMembers.{among, are_there}
-use Rattle.linker_rewriting.specs.Sequences.{IsWhole, are_members, is_marked_in, is_whole, marked_load}
-use Rattle.linker_rewriting.specs.declared.phases.Phase.TheVariants.{PreLayout}
+use Rattle.linker_final.proofs.LoongArchImports.{◌≡◌, ℕ, suc, ◌∙◌, ◌+◌, ◌-◌, ◌<◌, inl, inr, List, ap, sym, subst, arith, refl, true, false, Option, Some, None, cases_Bool, IsNamed, IsNameOf, r_type_of, loongarch_name, Choice, LinkFacts, LoongArch64Relocation, IsCandidateWith, AreDecidedIn, IsDecidedAfter, IsScopeDecision, decision_at, decision_of, is_taken, takes_next, RelaxContext, pre_layout, link_facts, IsScopeIn, loongarch_scope_in, Decision, Kept, Rewritten, Consumed, relocation_in, Rela, Relaxation, LoongArch64, Linked, count, IsCandidate, IsDecidedAlone, loads_are_whole, IsLoadAt, among, are_there, IsWhole, are_members, is_marked_in, is_whole, marked_load, PreLayout}
+use Rattle.linker_rewriting.specs.Rewritten.{IsRewritten}
 use Rattle.linker_elf.specs.declared.loongarch64.relocations.LoongArch64Relocation.TheVariants as names
 
 -- The relocations at two indexes are those of a `pcalau12i` and of the `ld.d` after it, of one S +
@@ -132,14 +128,13 @@ load_of l all context i chosen below is_name decided =
     let second = load.1.1.0 in
     let within = second.below in
     let mark : i + 1 < count l = omega (arith, within) in
-    let low_r_type = second.r_type_is in
     let taken_low : is_taken l.decisions (i + 2) ≡ false =
     subst (λ k. is_taken l.decisions k ≡ false) (let e : suc (i + 1) ≡ i + 2 = omega arith in e)
     (mark_takes l all context (i + 1) mark (load.1.0).r_type_is) in
     let both = loads_are_whole l.context.output l.context.symbols l.kept l.relocations l.section l.decisions (count l) i
     (subst (λ x. AreDecidedIn x l.kept l.relocations l.section l.decisions (count l)) context all)
     within (omega arith) is taken taken_low in
-    let by = by_scope l all context (i + 2) within names.R_LARCH_GOT_PC_LO12 tt low_r_type taken_low in
+    let by = by_scope l all context (i + 2) within names.R_LARCH_GOT_PC_LO12 tt second.r_type_is taken_low in
     let made = of_candidate (decision_at l.decisions (i + 2)) (by.1.0) (by.1.2)
     (both.0 (subst IsRewritten (sym decided) tt)) in
     record {

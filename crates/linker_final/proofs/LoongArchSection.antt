@@ -1,6 +1,6 @@
 -- The rewrites of a section of LoongArch: each is of an instruction of its relocation, and those
 -- that have a law are groups.
-use Rattle.linker_final.proofs.Imports.{◌≡◌, ◌≢◌, ℕ, zero, suc, ◌+◌, ◌<◌, ◌≤◌, Bool, true, false, Option, Some, None, ap, sym, subst, ◌∙◌, refl, arith, is_some, IsNameOf, loongarch_name, LoongArch64, Choice, LoongArch64Relocation, listed_at, IsDecidedAfter, IsGroupDecision, IsScopeDecision, decision_at, decision_of, is_taken, takes_next, IsScopeIn, group_stays, Decision, Consumed, Kept, Rewritten, RewrittenWithSymbol, Scope, Grouped, Independent, NotRelaxable, relocation_in, relaxation_skipped, Relaxation, AreRewritten, Linked, count}
+use Rattle.linker_final.proofs.LoongArchImports.{◌≡◌, ◌≢◌, ℕ, zero, suc, ◌+◌, ◌<◌, ◌≤◌, Bool, true, false, Option, Some, None, ap, sym, subst, ◌∙◌, refl, arith, is_some, IsNameOf, loongarch_name, LoongArch64, Choice, LoongArch64Relocation, listed_at, IsDecidedAfter, IsGroupDecision, IsScopeDecision, decision_at, decision_of, is_taken, takes_next, IsScopeIn, group_stays, Decision, Consumed, Kept, Rewritten, RewrittenWithSymbol, Scope, Grouped, Independent, NotRelaxable, relocation_in, relaxation_skipped, Relaxation, AreRewritten, Linked, count, RelocationsAreLeft, by_itself, law_of, load, rewriting, RewritesAreGroups, offset_of, Groups, AreIn, IsIn, beside_or, is_linked, without_label}
 use Rattle.linker_elf.specs.declared.loongarch64.relocations.LoongArch64Relocation.TheVariants as names
 use Rattle.linker_final.proofs.LoongArchAlone as alone
 use Rattle.linker_final.proofs.LoongArchAlone.{IsLawful}
@@ -8,10 +8,6 @@ use Rattle.linker_final.proofs.LoongArchChosen.{choice_there, is_plain, plain, u
 use Rattle.linker_final.proofs.LoongArchDescriptors as descriptors
 use Rattle.linker_final.proofs.LoongArchJoined.{is_made}
 use Rattle.linker_final.proofs.LoongArchLoads.{load_is}
-use Rattle.linker_final.proofs.SectionRuns.{AreIn, IsIn, beside_or, is_linked, without_label}
-use Rattle.linker_final.specs.LoongArchSection.{RelocationsAreLeft, by_itself, law_of, load, rewriting}
-use Rattle.linker_final.specs.SectionRuns.{RewritesAreGroups, offset_of}
-use Rattle.linker_laws.specs.LoongArchGroups.{Groups}
 
 -- ---- what stands at a place
 

@@ -1,10 +1,7 @@
 -- Instructions of LoongArch and their relocations in the final bytes of a section.
-use Rattle.linker_final.proofs.Imports.{◌≡◌, ℕ, ℤ, ◌<◌, List, sym, ap, subst, ◌∙◌, arith, Some, Ok, refl, IsSomeAnd, slice_get, offset_after, addend_after, IsApplied, IsNamed, r_type_of, loongarch_name, loongarch_row, bytes_row, value_of, RowInfo, Choice, Operands, LoongArch64Relocation, IsRelocated, IsRewritten, loongarch_rewrite, rewrites_word, decision_at, Rewritten, relocation_in, operands_with, operands_in, Symbol, Rela, IsRow, relaxation_rewrite, Relaxation, Architecture, LoongArch64, AreRewritten, UntouchedInstruction, Linked, IsLinked, IsWrittenByNoOther, count, instruction_at, named_as, BeginsRewritten}
+use Rattle.linker_final.proofs.LoongArchImports.{◌≡◌, ℕ, ℤ, ◌<◌, List, sym, ap, subst, ◌∙◌, arith, Some, Ok, refl, IsSomeAnd, slice_get, offset_after, addend_after, IsApplied, IsNamed, r_type_of, loongarch_name, loongarch_row, bytes_row, value_of, RowInfo, Choice, Operands, LoongArch64Relocation, IsRelocated, IsRewritten, loongarch_rewrite, rewrites_word, decision_at, Rewritten, relocation_in, operands_with, operands_in, Symbol, Rela, IsRow, relaxation_rewrite, Relaxation, Architecture, LoongArch64, AreRewritten, UntouchedInstruction, Linked, IsLinked, IsWrittenByNoOther, count, instruction_at, named_as, BeginsRewritten, RewriteKind, IsOfInstruction, IsRowOf, applied_after, by_name, made_there, relocation_named, unwritten_without}
 use Rattle.linker_elf.specs.declared.elf.RelocationKind.TheVariants.{None as NoValue}
 use Rattle.linker_elf.specs.declared.loongarch64.relocations.LoongArch64Relocation.TheVariants as names
-use Rattle.linker_final.proofs.InstructionFields.{IsOfInstruction}
-use Rattle.linker_final.proofs.Written.{IsRowOf, applied_after, by_name, made_there, relocation_named, unwritten_without}
-use Rattle.linker_utils.specs.declared.loongarch64.rewrites.RewriteKind.{RewriteKind}
 use Rattle.linker_utils.specs.declared.loongarch64.rewrites.RewriteKind.TheVariants as kinds
 use Rattle.linker_utils.specs.declared.architecture.Relaxation.TheVariants as relaxations
 

@@ -1,7 +1,7 @@
 -- The numbers before a row's instruction, with the powers of 2 written out, since `2 ^ n` takes n
 -- steps.
-use Rattle.linker_final.proofs.Imports.{◌≡◌, ℕ, ◌+◌, ◌*◌, ◌/◌, ◌%◌, ◌^◌, ◌==◌, Bool, List, sym, subst, if◌then◌else◌}
-use Rattle.linker_final.specs.Steps.{AllPass, Executed, Group, Numbers, at, pc}
+use Rattle.linker_final.proofs.Imports.{◌≡◌, ℕ, ◌+◌, ◌*◌, ◌/◌, ◌%◌, ◌^◌, ◌==◌, Bool, List, sym, subst, if◌then◌else◌, AllPass, Executed, Numbers, at, pc}
+use Rattle.linker_final.specs.Steps.{Group}
 
 abbrev noise_64 : ℕ → ℕ
 noise_64 k =

@@ -1,7 +1,5 @@
 -- Programs that the calls link.
-use Rattle.linker_final.specs.SectionRuns.{Rewriting, Section}
-use Rattle.linker_final.specs.Worked.{IsLinkedAs, IsOfCalls, code_at}
-use Rattle.linker_final.proofs.Imports.{◌≡◌, ℕ, List, [], ◌∷◌, length, inl, inr, refl, ap, subst, ◌∙◌, Phase, Architecture, AreMoved, IsPackedRun, section_of, Machine, Item, AreWritten, Addresses, Symbol, IsLinked, Linked}
+use Rattle.linker_final.proofs.Imports.{Rewriting, Section, IsLinkedAs, IsOfCalls, code_at, ◌≡◌, ℕ, List, [], ◌∷◌, length, inl, inr, refl, ap, subst, ◌∙◌, Phase, Architecture, AreMoved, IsPackedRun, section_of, Machine, Item, AreWritten, Addresses, Symbol, IsLinked, Linked}
 
 abbrev pub of_calls : (r : Rewriting) (phase : Phase) (addresses : Addresses) (symbols : List Symbol)
     (relocations object final : List ℕ) (old new : ℕ → ℕ) → ((l : Linked) → IsLinked l → r.Ensured l)

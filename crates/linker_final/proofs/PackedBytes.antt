@@ -1,17 +1,14 @@
 -- The final bytes of a packed section: those that stay, padding, and where each is.
-use Rattle.linker_final.proofs.Imports.{◌≡◌, ℕ, zero, suc, ◌+◌, ◌-◌, ◌^◌, ◌<◌, ◌≤◌, List, [], ◌∷◌, length, map, take, drop, get_or, false, refl, sym, ap, subst, ◌∙◌, inl, inr, arith, cases_lt, cases_Bool, All-from_get_or, IsTrue, rank-mono, rank, sum_64, ItemBecomes, is_fixed, kept_len, packed_offset, offset_of, end_of, Item, Aligned, rank_kept, rank_gone, rank_all_kept, selected_once, is_kept, AreBytes, Packed, AreDeleted, address_at, IsPacked, Stays, StayTogether, IsUnwritten, place_of, KeptBytesStay, PaddingIsNops, DeletedBytesAreGone, ItemsAreDeleted, PlacesHaveAddresses}
+use Rattle.linker_final.proofs.Imports.{◌≡◌, ℕ, zero, suc, ◌+◌, ◌-◌, ◌^◌, ◌<◌, ◌≤◌, List, length, take, drop, get_or, false, refl, sym, ap, subst, ◌∙◌, inl, inr, arith, cases_lt, cases_Bool, All-from_get_or, IsTrue, rank-mono, rank, sum_64, ItemBecomes, is_fixed, kept_len, packed_offset, Item, Aligned, rank_kept, rank_gone, rank_all_kept, selected_once, is_kept, AreBytes, Packed, AreDeleted, address_at, IsPacked, Stays, StayTogether, IsUnwritten, place_of, KeptBytesStay, PaddingIsNops, DeletedBytesAreGone, ItemsAreDeleted, PlacesHaveAddresses, IsInside, nops}
+use Rattle.linker_runs.specs.Relaxing.{offset_of, end_of}
+use Rattle.linker_runs.specs.Packing.{Section}
 use Rattle.linker_final.proofs.PutBack.{same_windows, window_length, windows}
-use Rattle.linker_runs.specs.Packing.{Section, IsInside, nops}
 
 -- ---- lists
 
 -- what slices have
 pub are_bytes : (bytes : List ℕ) → ((i : ℕ) → get_or bytes i 0 < 2 ^ 8) → AreBytes bytes
 are_bytes bytes small = All-from_get_or (λ b. b < 2 ^ 8) bytes 0 (λ i below. small i)
-
-pub same_items : (items : List Item) → map (λ i. i) items ≡ items
-same_items [] = refl
-same_items (i ∷ items) = ap (λ xs. i ∷ xs) (same_items items)
 
 -- ---- single bytes
 
@@ -39,13 +36,9 @@ pub item_inside : (p : Packed) → IsPacked p → (item : Item) → IsInside p.s
 item_inside p is item inside =
     let s = p.section in
     let d = s.deletions in
-    let from = inside.0 in
-    let to = inside.1 in
-    let a = rank-mono d s.base (offset_of item) from in
+    let a = rank-mono d s.base (offset_of item) inside.0 in
     let b = rank-mono d (offset_of item) (end_of item) (omega arith) in
-    let c = rank-mono d (end_of item) (s.base + length s.bytes) to in
-    let len = is.run.len in
-    omega (arith, a, b, c, len)
+    omega (arith, a, b, rank-mono d (end_of item) (s.base + length s.bytes) inside.1, is.run.len)
 
 -- ---- bytes that stay together
 
@@ -57,38 +50,32 @@ module _ (p : Packed) (is : IsPacked p) (o n : ℕ) (some : 0 < n) (stay : StayT
       let b = p.section.base in
       let all = rank_all_kept d (b + o) k (λ m low.
       subst (λ q. IsTrue (is_kept d q)) (let e : b + (o + m) ≡ b + o + m = omega arith in e) (stay m (omega (arith, low, below))).kept) in
-      let low = rank-mono d b (b + o) (omega arith) in
       let e = ap (rank d) (let far : b + (o + k) ≡ b + o + k = omega arith in far) in
-      omega (arith, all, low, e)
+      omega (arith, all, rank-mono d b (b + o) (omega arith), e)
 
   -- and what is after them goes after them
   pub place_after : place_of p (o + n) ≡ place_of p o + n
   place_after =
       let d = p.section.deletions in
       let b = p.section.base in
-      let last = next_place (n - 1) (omega (arith, some)) in
       let counted = rank_kept d (b + (o + (n - 1))) (stay (n - 1) (omega (arith, some))).kept in
       let low = rank-mono d b (b + (o + (n - 1))) (omega arith) in
       let e = ap (rank d) (let far : b + (o + n) ≡ suc (b + (o + (n - 1))) = omega (arith, some) in far) in
-      omega (arith, last, counted, low, e, some)
+      omega (arith, next_place (n - 1) (omega (arith, some)), counted, low, e, some)
 
   pub stay_inside : o + n ≤ length p.section.bytes
   stay_inside =
-      let last = (stay (n - 1) (omega (arith, some))).inside in
-      omega (arith, some, last)
+      omega (arith, some, (stay (n - 1) (omega (arith, some))).inside)
 
   pub places_inside : place_of p o + n ≤ length p.packed
   places_inside =
       let d = p.section.deletions in
       let b = p.section.base in
       let last = stay (n - 1) (omega (arith, some)) in
-      let next = next_place (n - 1) (omega (arith, some)) in
       let counted = rank_kept d (b + (o + (n - 1))) last.kept in
-      let within = last.inside in
-      let mono = rank-mono d (suc (b + (o + (n - 1)))) (b + length p.section.bytes) (omega (arith, within)) in
+      let mono = rank-mono d (suc (b + (o + (n - 1)))) (b + length p.section.bytes) (omega (arith, last.inside)) in
       let low = rank-mono d b (b + (o + (n - 1))) (omega arith) in
-      let len = is.run.len in
-      omega (arith, some, next, counted, mono, low, len)
+      omega (arith, some, next_place (n - 1) (omega (arith, some)), counted, mono, low, is.run.len)
 
   pub same_there : take n (drop (place_of p o) p.packed) ≡ take n (drop o p.section.bytes)
   same_there =
@@ -105,12 +92,11 @@ padding p is i alignment below here inside free =
     let d = p.section.deletions in
     let kept = kept_len d item in
     let place = packed_offset p.section (offset_of item) in
-    let fits = item_inside p is item inside in
     let written = subst (λ x. is_fixed x ≡ false
     → ItemBecomes p.machine p.section x (take (kept_len d x) (drop (packed_offset p.section (offset_of x)) p.packed)))
     here (is.run.written i below) refl in
     packed_there p is place kept free
-    ∙ (written ∙ ap (nops p.machine) (window_length place kept p.packed fits))
+    ∙ (written ∙ ap (nops p.machine) (window_length place kept p.packed (item_inside p is item inside)))
 
 -- ---- places
 
@@ -132,11 +118,9 @@ module _ (p : Packed) where
         | inl less ↦ let f = find place n less in (f.0, let l = f.1 in omega (arith, l), f.2, f.3)
         | inr most ↦ elim (cases_Bool (is_kept d (s.base + n))) [
           | inl kept ↦
-              let c = rank_kept d (s.base + n) kept in
-              (n, omega arith, kept, omega (arith, c, most, below, next))
+              (n, omega arith, kept, omega (arith, rank_kept d (s.base + n) kept, most, below, next))
           | inr gone ↦
-              let c = rank_gone d (s.base + n) gone in
-              absurd (omega (arith, c, most, below, next))
+              absurd (omega (arith, rank_gone d (s.base + n) gone, most, below, next))
         ]
       ]
 
@@ -145,9 +129,7 @@ deleted_bytes p is = (
   λ place below.
       let s = p.section in
       let d = s.deletions in
-      let len = is.run.len in
-      let same = is.written.same_length in
-      let found = find p place (length s.bytes) (omega (arith, below, len, same)) in
+      let found = find p place (length s.bytes) (omega (arith, below, is.run.len, is.written.same_length)) in
       let o = found.0 in
       let ranked = found.3 in (
         o,
@@ -166,20 +148,15 @@ deleted_bytes p is = (
   λ o below stays.
       let s = p.section in
       let d = s.deletions in
-      let len = is.run.len in
-      let same = is.written.same_length in
-      let counted = rank_kept d (s.base + o) stays in
       let low = rank-mono d s.base (s.base + o) (omega arith) in
       let high = rank-mono d (suc (s.base + o)) (s.base + length s.bytes) (omega (arith, below)) in
-      omega (arith, counted, low, high, len, same),
+      omega (arith, rank_kept d (s.base + o) stays, low, high, is.run.len, is.written.same_length),
 )
 
 pub addresses : PlacesHaveAddresses
 addresses p is o =
     let s = p.section in
-    let at = is.address in
-    let low = rank-mono s.deletions s.base (s.base + o) (omega arith) in
-    omega (arith, at, low)
+    omega (arith, is.address, rank-mono s.deletions s.base (s.base + o) (omega arith))
 
 -- what is deleted takes no place
 pub no_place : (p : Packed) (o n : ℕ) → AreDeleted p o n → address_at p (o + n) ≡ address_at p o
@@ -198,9 +175,8 @@ deleted_items p item from none k below =
     let there : q ≡ offset_of item + k = omega (arith, from) in
     elim (cases_Bool (is_kept d q)) [
       | inl kept ↦
-          let counted = rank_kept d q kept in
           let low = rank-mono d (offset_of item) q (omega (arith, there)) in
           let high = rank-mono d (suc q) (end_of item) (omega (arith, there, below)) in
-          absurd (omega (arith, counted, low, high, none))
+          absurd (omega (arith, rank_kept d q kept, low, high, none))
       | inr gone ↦ gone
     ]

@@ -175,19 +175,14 @@ module _ (architecture : Architecture) (addresses : Addresses) (bytes : List ℕ
       (value_by (lacks_origin addresses symbols row r) row (operands_of architecture addresses symbols row r))
       (Ok None) valued
 
-  no_error : (value : Option ℤ) (error : ValueError)
-      → operands_of architecture addresses symbols row r ≡ Err error
-      → Ok value ≡ value_by (lacks_origin addresses symbols row r) row (operands_of architecture addresses symbols row r) → ⊥
-  no_error value error is same =
-      let e : Ok value ≡ Err error = same ∙ ap (value_by (lacks_origin addresses symbols row r) row) is in cc
-
   -- it has what its formula takes
   pub are_there : (found : Option (RowInfo × ℤ))
       → IsRowValue architecture addresses bytes symbols r (Ok found) → (error : ValueError)
       → operands_of architecture addresses symbols row r ≡ Err error → ⊥
   are_there found has error is =
       let own = of_row architecture addresses bytes symbols r row is_row found has in
-      no_error (own.0) error is (of_operands (Ok (own.0)) (own.2))
+      let e : Ok (own.0) ≡ Err error =
+      of_operands (Ok (own.0)) (own.2) ∙ ap (value_by (lacks_origin addresses symbols row r) row) is in cc
 
 module _ (architecture : Architecture) (addresses : Addresses) (bytes : List ℕ)
     (symbols : List Symbol) (r : Rela) (row : RowInfo) (operands : Operands)
@@ -201,14 +196,12 @@ module _ (architecture : Architecture) (addresses : Addresses) (bytes : List ℕ
   of_value true value same = absurd (let e : Ok value ≡ Err NoTlsBase = same in cc)
   of_value false value same = let both : Ok value ≡ Ok (value_of row operands) = same in cc
 
-  by_row : (value : Option ℤ) → IsValueIn architecture addresses bytes symbols r (Some row) (Ok value)
-      → value ≡ value_of row operands
-  by_row value is =
-      of_value (lacks_origin addresses symbols row r) value
-      (of_operands architecture addresses bytes symbols r row is_row valued unlabelled (Ok value) is
-      ∙ ap (value_by (lacks_origin addresses symbols row r) row) taken)
-
   pub found_is : (found : Option (RowInfo × ℤ))
       → IsRowValue architecture addresses bytes symbols r (Ok found)
       → IsFoundOf row operands found
-  found_is = found_by architecture addresses bytes symbols r row is_row operands by_row some
+  found_is =
+      found_by architecture addresses bytes symbols r row is_row operands
+      (λ value is.
+      of_value (lacks_origin addresses symbols row r) value
+      (of_operands architecture addresses bytes symbols r row is_row valued unlabelled (Ok value) is
+      ∙ ap (value_by (lacks_origin addresses symbols row r) row) taken)) some

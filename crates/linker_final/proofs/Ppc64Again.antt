@@ -1,26 +1,21 @@
 -- In which phase alone PowerPC64's relocations of a name are rewritten.
-use Rattle.linker_final.proofs.Imports.{◌≡◌, ◌⊎◌, ℕ, List, Bool, true, false, refl, sym, ap, subst, ◌∙◌, inl, inr, IsNamed, r_type_of, ppc64_name, Choice, Ppc64Relocation, IsDecidedAfter, IsScopeDecision, decision_at, is_taken, RelaxContext, IsScopeIn, ppc64_scope_in, Decision, Kept, Rewritten, Consumed, UnrelaxableGroups, Scope, NotRelaxable, Phase, relocation_in, Relaxation, Ppc64, AreRewritten, Linked}
-use Rattle.linker_elf.specs.declared.ppc64.relocations.Ppc64Relocation.TheVariants as names
+use Rattle.linker_final.proofs.Ppc64Imports.{◌≡◌, ◌⊎◌, ℕ, List, Bool, true, false, refl, sym, ap, subst, ◌∙◌, inl, inr, IsNamed, r_type_of, ppc64_name, Choice, Ppc64Relocation, IsDecidedAfter, IsScopeDecision, decision_at, is_taken, RelaxContext, IsScopeIn, ppc64_scope_in, Decision, Kept, Rewritten, Consumed, UnrelaxableGroups, Scope, NotRelaxable, Phase, relocation_in, Relaxation, Ppc64, AreRewritten, Linked}
 use Rattle.linker_final.specs.Ppc64Section.{IsOfNoPhase, Rewrites, RewrittenAgain}
+use Rattle.linker_elf.specs.declared.ppc64.relocations.Ppc64Relocation.TheVariants as names
 use Rattle.linker_rewriting.specs.declared.phases.Phase.TheVariants as phases
 
 -- a scope in a phase that decides so
 module _ (s : RelaxContext) (kept : List UnrelaxableGroups) (bytes section : List ℕ) (n : ℕ) (decision : Decision)
     (chosen : Choice Relaxation ℕ) (by : decision ≡ Rewritten chosen) where
-  isnt_kept : decision ≡ Kept → ⊥
-  isnt_kept same = let e : Rewritten chosen ≡ Kept = sym by ∙ same in cc
-
-  isnt_taken : decision ≡ Consumed → ⊥
-  isnt_taken same = let e : Rewritten chosen ≡ Consumed = sym by ∙ same in cc
-
   listed : (scope : Scope) → IsScopeDecision s kept bytes section n (relocation_in bytes n) scope decision
       → scope ≡ NotRelaxable → ⊥
   listed scope is unlisted =
-      isnt_kept (subst (λ x. IsScopeDecision s kept bytes section n (relocation_in bytes n) x decision) unlisted is)
+      let same : decision ≡ Kept = subst (λ x. IsScopeDecision s kept bytes section n (relocation_in bytes n) x decision) unlisted is in
+      let e : Rewritten chosen ≡ Kept = sym by ∙ same in cc
 
   of_scope : (taken : Bool) → IsDecidedAfter s kept bytes section n taken decision
       → (scope : Scope) × IsScopeIn s.architecture s.phase (relocation_in bytes n).r_type scope × (scope ≡ NotRelaxable → ⊥)
-  of_scope true is = absurd (isnt_taken is)
+  of_scope true is = absurd (let e : Rewritten chosen ≡ Consumed = sym by ∙ is in cc)
   of_scope false is = (is.0, is.1, listed (is.0) (is.2))
 
 -- the name has one in the phase that rewrites it

@@ -1,8 +1,6 @@
 -- The rewrite that is chosen for a relocation of PowerPC64.
-use Rattle.linker_final.proofs.Imports.{◌≡◌, ℕ, ◌<◌, List, [], ◌∷◌, true, false, refl, sym, ap, subst, ◌∙◌, inl, inr, choice, IsNameOf, r_type_of, ppc64_name, Choice, LinkFacts, Ppc64Relocation, chosen_at, IsOfApplied, of_first, ppc64_entries, ppc64_matches, decision_at, IsScopeIn, is_labelled, Rewritten, Scope, Labelled, Phase, relocation_in, IsArchitectureChoice, relaxation_no_op, Relaxation, Ppc64, IsLinked, Linked, count, Ppc64Applies, ppc64_none}
+use Rattle.linker_final.proofs.Ppc64Imports.{◌≡◌, ℕ, ◌<◌, List, [], ◌∷◌, true, false, refl, sym, ap, subst, ◌∙◌, inl, inr, choice, IsNameOf, r_type_of, ppc64_name, Choice, LinkFacts, Ppc64Relocation, chosen_at, IsOfApplied, of_first, ppc64_entries, ppc64_matches, decision_at, IsScopeIn, is_labelled, Rewritten, Scope, Labelled, Phase, relocation_in, IsArchitectureChoice, relaxation_no_op, Relaxation, Ppc64, IsLinked, Linked, count, Ppc64Applies, ppc64_none, IsOfEntry as IsOfEntryIn, IsOfOne as IsOfOneIn, RewriteKind}
 use Rattle.linker_elf.specs.Choices.{Entry}
-use Rattle.linker_rewriting.proofs.Entries.{IsOfEntry as IsOfEntryIn, IsOfOne as IsOfOneIn}
-use Rattle.linker_utils.specs.declared.ppc64.rewrites.RewriteKind.{RewriteKind}
 use Rattle.linker_utils.specs.declared.ppc64.rewrites.RewriteKind.TheVariants as kinds
 use Rattle.linker_utils.specs.declared.architecture.Relaxation.TheVariants as relaxations
 
@@ -12,9 +10,7 @@ use Rattle.linker_utils.specs.declared.architecture.Relaxation.TheVariants as re
 pub unlabelled : (phase : Phase) (code : ℕ) (scope : Scope) → IsScopeIn Ppc64 phase code scope
     → scope ≡ Labelled → ⊥
 unlabelled phase code scope is labelled =
-    let no : is_labelled scope ≡ false = ap is_labelled is.value_is ∙ ppc64_none phase is.name in
-    let yes : is_labelled scope ≡ true = ap is_labelled labelled in
-    let e : true ≡ false = sym yes ∙ no in cc
+    let e : true ≡ false = sym (ap is_labelled labelled) ∙ (ap is_labelled is.value_is ∙ ppc64_none phase is.name) in cc
 
 -- ---- the entry
 

@@ -1,20 +1,12 @@
 -- Each rewritten instruction of PowerPC64 is a group.
-use Rattle.linker_final.proofs.Imports.{◌≡◌, ◌⊎◌, ℕ, Bool, ◌+◌, ◌-◌, ◌*◌, ◌^◌, ◌<◌, ◌≤◌, List, [], ◌∷◌, length, drop, take, get_or, refl, sym, ap, subst, ◌∙◌, arith, inl, inr, Some, not, eqb, IsSomeAnd, None, and_parts, cases_lt, drop-drop, length-drop, take-take, All-drop, All-take, IsTrue, ◌&&◌, slice_get, w32, from_le_bytes, to_le_bytes, byte_at, Rewrite, replaces, entry, IsNamed, IsNameOf, r_type_of, ppc64_name, ppc64_row, sum_64, Ppc64, Choice, Ppc64Relocation, word_below, window_of_rewrite, decision_at, Rewritten, relocation_in, operands_with, Symbol, Rela, HasTest, ppc64_entries, ppc64_matches, ppc64_rewrite, rewrites_marked, relaxation_rewrite, Relaxation, word_of_front, le_bytes_4, changed_toc, AreBytes, AreRewritten, IsLinked, IsOutside, IsRewrittenByNoOther, IsWrittenByNoOther, Linked, UntouchedByOthers, UntouchedBytes, count, instruction_at, two_at}
+use Rattle.linker_final.proofs.Ppc64Imports.{◌≡◌, ◌⊎◌, ℕ, Bool, ◌+◌, ◌-◌, ◌*◌, ◌^◌, ◌<◌, ◌≤◌, List, [], ◌∷◌, length, drop, take, get_or, refl, sym, ap, subst, ◌∙◌, arith, inl, inr, Some, not, eqb, IsSomeAnd, None, and_parts, cases_lt, drop-drop, length-drop, take-take, All-drop, All-take, IsTrue, ◌&&◌, slice_get, w32, from_le_bytes, to_le_bytes, byte_at, Rewrite, replaces, entry, IsNamed, IsNameOf, r_type_of, ppc64_name, ppc64_row, sum_64, Ppc64, Choice, Ppc64Relocation, word_below, window_of_rewrite, decision_at, Rewritten, relocation_in, operands_with, Symbol, Rela, HasTest, ppc64_entries, ppc64_matches, ppc64_rewrite, rewrites_marked, relaxation_rewrite, Relaxation, word_of_front, le_bytes_4, changed_toc, AreBytes, AreRewritten, IsLinked, IsOutside, IsRewrittenByNoOther, IsWrittenByNoOther, Linked, UntouchedByOthers, UntouchedBytes, count, instruction_at, two_at, offset_of, AreGroup, CallTo, Code, Groups, Has, IsPrefixed, LowOverBase, Rewrites, RewritesBoth, Stands, WordOverBase, IsRelocated, from_thread, from_toc, word_of, Conditions, HasTwo, addis_of_thread, by_displacement, by_word_displacement, called_to_initial_exec, called_to_local_exec, called_to_module, direct, is_addi, is_addis_of_toc, is_add_of_thread, is_addis_over, is_call, is_indexed, is_indexed_any, is_indexed_word, is_ld, is_pla, is_pld, nop, over_base, paddi, paddi_of_thread, pld, registers_of, restores_toc, rewrites_call, rewrites_word, rt_of, to_distance, to_initial_exec, to_local_exec, to_local_exec_words, to_module, to_move, to_near_initial_exec, to_prefixed_initial_exec, to_prefixed_local_exec, to_toc_distance, two_words, without_high_offset, without_high_part, RewriteKind, left_within, window_byte, window_length, first_same, mapped, outside_of, second_same, small_byte, spared, stays, word_same}
+use Rattle.linker_final.specs.Ppc64Section.{AreLeftAlone, HasApplied, IsMade, IsOfNoPhase, Law, Left, Restores, applied, entry_by, law, law_of, name_of, none, of_call, shape, to_second}
 use Rattle.linker_elf.specs.declared.ppc64.relocations.Ppc64Relocation.TheVariants as names
-use Rattle.linker_final.proofs.Phases.{left_within}
 use Rattle.linker_final.proofs.Ppc64Again.{of_none}
 use Rattle.linker_final.proofs.Ppc64Chosen.{IsOfEntry, IsOfOne}
 use Rattle.linker_final.proofs.Ppc64Written.{Writes, after_is, becomes, becomes_marked, call_after, distance, entry_high, entry_low, entry_prefixed, left_alone, left_beside, made_after, marked_offset, near_entry, test_at, thread, thread_high, thread_low, thread_low_after, thread_low_words, thread_prefixed, thread_words, toc, toc_high, toc_low, toc_words}
-use Rattle.linker_final.proofs.PutBack.{window_byte, window_length}
-use Rattle.linker_final.proofs.Written.{first_same, mapped, outside_of, second_same, small_byte, spared, stays, word_same}
-use Rattle.linker_final.specs.Ppc64Section.{AreLeftAlone, HasApplied, IsMade, IsOfNoPhase, Law, Left, Restores, applied, entry_by, law, law_of, name_of, none, of_call, shape, to_second}
-use Rattle.linker_final.specs.SectionRuns.{offset_of}
 use Rattle.linker_laws.specs.Ppc64Groups as groups
-use Rattle.linker_laws.specs.Ppc64Groups.{AreGroup, CallTo, Code, Groups, Has, IsPrefixed, LowOverBase, Rewrites, RewritesBoth, Stands, WordOverBase}
-use Rattle.linker_laws.specs.Ppc64RewriteLaws.{IsRelocated, from_thread, from_toc, word_of}
-use Rattle.linker_utils.specs.Ppc64Rewrites.{Conditions, HasTwo, addis_of_thread, by_displacement, by_word_displacement, called_to_initial_exec, called_to_local_exec, called_to_module, direct, is_addi, is_addis_of_toc, is_add_of_thread, is_addis_over, is_call, is_indexed, is_indexed_any, is_indexed_word, is_ld, is_pla, is_pld, nop, over_base, paddi, paddi_of_thread, pld, registers_of, restores_toc, rewrites_call, rewrites_word, rt_of, to_distance, to_initial_exec, to_local_exec, to_local_exec_words, to_module, to_move, to_near_initial_exec, to_prefixed_initial_exec, to_prefixed_local_exec, to_toc_distance, two_words, without_high_offset, without_high_part}
 use Rattle.linker_utils.specs.declared.architecture.Relaxation.TheVariants as relaxations
-use Rattle.linker_utils.specs.declared.ppc64.rewrites.RewriteKind.{RewriteKind}
 use Rattle.linker_utils.specs.declared.ppc64.rewrites.RewriteKind.TheVariants as kinds
 
 -- ---- the bytes of the call
@@ -26,10 +18,7 @@ first_bytes a small =
     let e1 : byte_at 1 n ≡ byte_at 1 a = omega (arith, small) in
     let e2 : byte_at 2 n ≡ byte_at 2 a = omega (arith, small) in
     let e3 : byte_at 3 n ≡ byte_at 3 a = omega (arith, small) in
-    ap (λ x. x ∷ byte_at 1 n ∷ byte_at 2 n ∷ byte_at 3 n ∷ []) e0
-    ∙ (ap (λ x. byte_at 0 a ∷ x ∷ byte_at 2 n ∷ byte_at 3 n ∷ []) e1
-    ∙ (ap (λ x. byte_at 0 a ∷ byte_at 1 a ∷ x ∷ byte_at 3 n ∷ []) e2
-    ∙ ap (λ x. byte_at 0 a ∷ byte_at 1 a ∷ byte_at 2 a ∷ x ∷ []) e3))
+    rw (e0, e1, e2, e3)
 
 -- the `bl` stays
 pub call_stays : (before after : List ℕ) (o : ℕ) → AreBytes before → o + 4 ≤ length before
@@ -63,9 +52,6 @@ second_in : (bytes : List ℕ) (o : ℕ) → take 4 (drop 4 (two_at bytes o)) �
 second_in bytes o = ap (take 4) (second_same bytes o) ∙ take-take 4 4 (drop (o + 4) bytes) (omega arith)
 
 -- ---- what a rewrite leaves
-
-abbrev is_load : ℕ → Bool
-is_load word = is_ld word && not (eqb (rt_of word) 0)
 
 -- n words from an offset on, where the final bytes stand in new and are left alone
 abbrev pub Final : Linked → ℕ → ℕ → ℕ → Left → Type 0
@@ -200,13 +186,12 @@ module _ (l : Linked) (linked : IsLinked l) (ppc64 : l.context.architecture ≡ 
       → (o + 4 ≤ length l.section) × IsTrue (test (word_of (instruction_at l.section o))))
       → IsOfEntry (entry kind (name_of a.left) conditions) l.section o chosen → IsLawful l i chosen kind o 1 (law a.left AreSo)
   word kind a conditions test AreSo so new is meant by =
-      let there = meant by.meant in
       let left = made_after l rewriting i chosen below decided kind by.kind_is (name_of a.left) by.r_type_is (rewrites_word new) is in
       record {
         kind_is = by.kind_is;
         r_type_is = by.r_type_is;
         group = λ alone.
-            so (instruction_at l.section o) (instruction_at l.rewritten o) (there.1)
+            so (instruction_at l.section o) (instruction_at l.rewritten o) ((meant by.meant).1)
             (becomes l rewriting i chosen below decided kind by.kind_is (rewrites_word new) is refl);
         final = a.final o (ap (λ (r : Rela). r.offset) left) (ap (λ (r : Rela). r.r_type) left);
         others = λ b apart. inl (others_at kind by.kind_is (rewrites_word new) is refl b apart);
@@ -227,7 +212,7 @@ module _ (l : Linked) (linked : IsLinked l) (ppc64 : l.context.architecture ≡ 
       let w = word_of (instruction_at l.section o) in
       word kinds.LdToAddisThread (named names.R_PPC64_TPREL16_HA thread_high) to_local_exec is_ld AreSo so
       (λ word. addis_of_thread (rt_of word)) refl
-      (λ m. (m.0, (and_parts (is_ld w) (not (eqb (rt_of w) 0)) (test_at l o is_load m)).0))
+      (λ m. (m.0, (and_parts (is_ld w) (not (eqb (rt_of w) 0)) (test_at l o (λ word. is_ld word && not (eqb (rt_of word) 0)) m)).0))
 
   kept : (a : After 1) (conditions : Conditions) (AreSo : AreGroup) → groups.Stays AreSo
       → IsOfEntry (entry kinds.KeepAddis (name_of a.left) conditions) l.section o chosen
@@ -275,13 +260,12 @@ module _ (l : Linked) (linked : IsLinked l) (ppc64 : l.context.architecture ≡ 
       → (ppc64_matches kind l.section o → HasTwo test l.section o)
       → IsOfEntry (entry kind (name_of a.left) conditions) l.section o chosen → IsLawful l i chosen kind o 2 (law a.left AreSo)
   of_two kind a conditions test AreSo so bytes is meant by =
-      let there = meant by.meant in
       let left = made_after l rewriting i chosen below decided kind by.kind_is (name_of a.left) by.r_type_is (replaces 0 8 bytes) is in
       record {
         kind_is = by.kind_is;
         r_type_is = by.r_type_is;
         group = λ alone.
-            so (two_at l.section o) (two_at l.rewritten o) (both test there)
+            so (two_at l.section o) (two_at l.rewritten o) (both test (meant by.meant))
             (becomes l rewriting i chosen below decided kind by.kind_is (replaces 0 8 bytes) is refl);
         final = a.final o (ap (λ (r : Rela). r.offset) left) (ap (λ (r : Rela). r.r_type) left);
         others = λ b apart. inl (others_at kind by.kind_is (replaces 0 8 bytes) is refl b apart);

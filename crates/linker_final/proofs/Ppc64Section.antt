@@ -1,13 +1,9 @@
 -- The rewrites of a section of PowerPC64: each is of words that are rewritten together, and these
 -- are groups.
-use Rattle.linker_final.proofs.Imports.{◌≡◌, ℕ, ◌+◌, ◌*◌, ◌<◌, ◌≤◌, ◌⊎◌, get_or, sym, ap, subst, ◌∙◌, refl, arith, inl, inr, cases_lt, IsNameOf, ppc64_name, Ppc64, Choice, Ppc64Relocation, decision_at, Decision, Kept, Rewritten, Consumed, RewrittenWithSymbol, relocation_in, Relaxation, IsLinked, IsOutside, Linked, count}
+use Rattle.linker_final.proofs.Ppc64Imports.{◌≡◌, ℕ, ◌+◌, ◌*◌, ◌<◌, ◌≤◌, ◌⊎◌, get_or, sym, ap, subst, ◌∙◌, refl, arith, inl, inr, cases_lt, IsNameOf, ppc64_name, Ppc64, Choice, Ppc64Relocation, decision_at, Decision, Kept, Rewritten, Consumed, RewrittenWithSymbol, relocation_in, Relaxation, IsLinked, IsOutside, Linked, count, RewritesAreGroups, offset_of, Groups, AreIn, IsIn, each_or, is_linked, without_label, spared}
+use Rattle.linker_final.specs.Ppc64Section.{NamesAreLeft, kind_at, kind_by, kind_of, law_of, rewriting, shape, span}
 use Rattle.linker_final.proofs.Ppc64Chosen.{has_entry, unlabelled}
 use Rattle.linker_final.proofs.Ppc64Groups.{IsLawful, by_name}
-use Rattle.linker_final.proofs.SectionRuns.{AreIn, IsIn, each_or, is_linked, without_label}
-use Rattle.linker_final.proofs.Written.{spared}
-use Rattle.linker_final.specs.Ppc64Section.{NamesAreLeft, kind_at, kind_by, kind_of, law_of, rewriting, shape, span}
-use Rattle.linker_final.specs.SectionRuns.{RewritesAreGroups, offset_of}
-use Rattle.linker_laws.specs.Ppc64Groups.{Groups}
 
 -- the law of a rewrite, by its name
 law_there : Groups → (l : Linked) → IsLinked l → l.context.architecture ≡ Ppc64 → (i : ℕ) (chosen : Choice Relaxation ℕ)
@@ -50,11 +46,8 @@ module _ (laws : Groups) (l : Linked) (linked : IsLinked l) (ppc64 : l.context.a
         ]
       ]
 
-  abbrev Same : Type 0
-  Same = get_or l.rewritten b 0 ≡ get_or l.section b 0
-
   outside : (i : ℕ) → i < count l → (b < (span l i).0) ⊎ ((span l i).1 ≤ b) → (d : Decision) → decision_at l.decisions i ≡ d
-      → IsOutside l.relocations l.decisions i b ⊎ Same
+      → IsOutside l.relocations l.decisions i b ⊎ (get_or l.rewritten b 0 ≡ get_or l.section b 0)
   outside i below apart Kept is = inl (spared l i Kept is refl b)
   outside i below apart Consumed is = inl (spared l i Consumed is refl b)
   outside i below apart (Rewritten chosen) is =

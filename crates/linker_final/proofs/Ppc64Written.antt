@@ -1,15 +1,7 @@
 -- Instructions of PowerPC64 and their relocations in the final bytes of a section.
-use Rattle.linker_final.proofs.Imports.{true, ◌≡◌, ◌⊎◌, ℕ, ◌+◌, ◌-◌, ◌<◌, ◌≤◌, take, drop, sym, ap, subst, ◌∙◌, refl, arith, Some, None, Ok, IsSomeAnd, cond, take-take, IsTrue, slice_get, Rewrite, addend_after, offset_after, IsNamed, r_type_of, ppc64_name, ppc64_row, bytes_row, signed_row, value_of, GotTpOff, Relative, TpOff, RowInfo, Choice, Operands, Ppc64Relocation, HasTest, ppc64_rewrite, rewrites_marked, decision_at, IsDone, IsMade, Rewritten, entry_of, relocation_in, entry_address, is_there, operands_by, operands_with, Symbol, Entry, ThreadOffset, Rela, IsRow, relaxation_rewrite, Relaxation, Ppc64, UntouchedBytes, AreRewritten, Linked, IsLinked, IsWrittenByNoOther, count, instruction_at}
-use Rattle.linker_elf.specs.Ppc64Relocations.{branch_row, high_adjusted_row, low_ds_row, low_row, prefixed_row}
-use Rattle.linker_elf.specs.declared.elf.RelocationKind.TheVariants.{None as NoValue, GotTpOffGotBase, SymRelGotBase}
-use Rattle.linker_elf.specs.declared.ppc64.forms.Ppc64Form.TheVariants.{Branch24}
+use Rattle.linker_final.proofs.Ppc64Imports.{true, ◌≡◌, ◌⊎◌, ℕ, ◌+◌, ◌-◌, ◌<◌, ◌≤◌, take, drop, sym, ap, subst, ◌∙◌, refl, arith, Some, None, Ok, IsSomeAnd, cond, take-take, IsTrue, slice_get, Rewrite, addend_after, offset_after, IsNamed, r_type_of, ppc64_name, ppc64_row, bytes_row, signed_row, value_of, GotTpOff, Relative, TpOff, RowInfo, Choice, Operands, Ppc64Relocation, HasTest, ppc64_rewrite, rewrites_marked, decision_at, IsDone, IsMade, Rewritten, entry_of, relocation_in, entry_address, is_there, operands_by, operands_with, Symbol, Entry, ThreadOffset, Rela, IsRow, relaxation_rewrite, Relaxation, Ppc64, UntouchedBytes, AreRewritten, Linked, IsLinked, IsWrittenByNoOther, count, instruction_at, branch_row, high_adjusted_row, low_ds_row, low_row, prefixed_row, GotTpOffGotBase, SymRelGotBase, Branch24, offset_of, IsRelocated, IsRewritten, word_of, RewriteKind, IsOfInstruction, of_bits, relocation_left, IsRowOf, apart_with, applied_after, by_name, entry_is_there, made_there, rela, relocation_is, unwritten_but, unwritten_without, word_same}
+use Rattle.linker_elf.specs.declared.elf.RelocationKind.TheVariants.{None as NoValue}
 use Rattle.linker_elf.specs.declared.ppc64.relocations.Ppc64Relocation.TheVariants as names
-use Rattle.linker_final.proofs.InstructionFields.{IsOfInstruction, of_bits}
-use Rattle.linker_final.proofs.Phases.{relocation_left}
-use Rattle.linker_final.proofs.Written.{IsRowOf, apart_with, applied_after, by_name, entry_is_there, made_there, rela, relocation_is, unwritten_but, unwritten_without, word_same}
-use Rattle.linker_final.specs.SectionRuns.{offset_of}
-use Rattle.linker_laws.specs.Ppc64RewriteLaws.{IsRelocated, IsRewritten, word_of}
-use Rattle.linker_utils.specs.declared.ppc64.rewrites.RewriteKind.{RewriteKind}
 use Rattle.linker_utils.specs.declared.architecture.Relaxation.TheVariants as relaxations
 
 -- ---- relocations that rewrites leave

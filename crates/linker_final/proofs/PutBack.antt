@@ -1,6 +1,6 @@
 -- Bytes in which a window is another's, and what a rewrite makes of them.
-use Rattle.linker_final.proofs.Imports.{◌≡◌, ℕ, ◌+◌, ◌-◌, ◌<◌, ◌≤◌, ◌⊎◌, inl, inr, List, ◌++◌, length, take, drop, get_or, ap, sym, ◌∙◌, arith, refl, Some, cases_lt, length-drop, length-take-le, get_or-drop, get_or-take, ext_get_or, Rewrite, rewritten, rewrite_window, length-append, put_back, length-take}
-use Rattle.linker_section.proofs.Windows.{IsReplaced, in_window, outside_window}
+use Rattle.linker_final.proofs.Imports.{◌≡◌, ℕ, ◌+◌, ◌-◌, ◌<◌, ◌≤◌, ◌⊎◌, inl, inr, List, ◌++◌, length, take, drop, get_or, ap, sym, ◌∙◌, arith, refl, Some, cases_lt, length-drop, length-take-le, get_or-drop, get_or-take, ext_get_or, Rewrite, rewritten, rewrite_window, length-append, length-take, IsReplaced, in_window, outside_window}
+use Rattle.linker_final.specs.X86Section.{put_back}
 
 -- a byte of n from a start on
 pub window_byte : (start len at : ℕ) (bytes : List ℕ) → start ≤ at → at < start + len
@@ -59,8 +59,7 @@ pub windows : (a b len : ℕ) (xs ys : List ℕ) → length (take len (drop a xs
 windows a b len xs ys long each =
     ext_get_or 0 (take len (drop a xs)) (take len (drop b ys)) long
     (λ k below.
-    let lx = length-take len (drop a xs) in
-    let within : k < len = omega (arith, below, lx) in
+    let within : k < len = omega (arith, below, length-take len (drop a xs)) in
     get_or-take len (drop a xs) k 0 within
     ∙ (get_or-drop a xs k 0
     ∙ (each k within ∙ (sym (get_or-drop b ys k 0) ∙ sym (get_or-take len (drop b ys) k 0 within)))))
@@ -69,11 +68,10 @@ pub same_windows : (start len : ℕ) (xs ys : List ℕ) → length ys ≡ length
     → ((at : ℕ) → start ≤ at → at < start + len → get_or xs at 0 ≡ get_or ys at 0)
     → take len (drop start xs) ≡ take len (drop start ys)
 same_windows start len xs ys same each =
-    let lx = length-take len (drop start xs) in
     let ly = length-take len (drop start ys) in
     let dx = length-drop start xs in
     let dy = length-drop start ys in
-    windows start start len xs ys (omega (arith, lx, ly, dx, dy, same))
+    windows start start len xs ys (omega (arith, length-take len (drop start xs), ly, dx, dy, same))
     (λ k within. each (start + k) (omega arith) (omega (arith, within)))
 
 -- ---- a rewrite of a window in bytes that were put back
@@ -99,18 +97,14 @@ module _ (start len : ℕ) (r : Rewrite) (o : ℕ) (section middle final : List 
   back_rewritten =
       let a = o - r.back in
       let before = put_back start len section final in
-      let s = put_back_is start len section final inside section_length in
-      let m = put_back_is start len middle final inside middle_length in
       let bytes = r.bytes (rewrite_window r before o) in
       let bytes_are : bytes ≡ rewrite_window r middle o = ap r.bytes back_window ∙ sym made in
       let long : length bytes ≡ r.len =
       ap length bytes_are ∙ window_length a r.len middle (omega (arith, middle_length, inside, last)) in
-      let ls = s.same_len in
-      let lm = m.same_len in
+      let ls = (put_back_is start len section final inside section_length).same_len in
       let x = replaced a r.len bytes before (omega (arith, ls, inside, last)) long in
-      let lx = x.same_len in
       ext_get_or 0 (rewritten (Some r) before o) (put_back start len middle final)
-      (omega (arith, lx, ls, lm))
+      (omega (arith, x.same_len, ls, (put_back_is start len middle final inside middle_length).same_len))
       (λ at below. elim (cases_lt at a) [
         | inl ahead ↦ outside_window x at (inl ahead) ∙ unchanged at (inl ahead)
         | inr from ↦ elim (cases_lt at (a + r.len)) [

@@ -1,19 +1,7 @@
 -- The alignments of a relaxed run, in the final bytes of its sections.
-use Rattle.std.proofs.Math.Nat.{mod-lt, mod-eq_of_lt, mod_self}
-use Rattle.linker_final.proofs.Imports.{◌≡◌, ◌≢◌, ℕ, ◌+◌, ◌-◌, ◌*◌, ◌/◌, ◌%◌, ◌^◌, ◌<◌, ◌≤◌, List, length, get_or, refl, sym, ap, subst, ◌∙◌, inl, inr, arith, cases_lt, rank-mono, rank, sum_64, deletions_of_run, kept_len, packed_offset, end_of, offset_of, Item, Aligned, Addresses, Symbol, ◌⊎◌, MatchOption, Option, None, Some, div-add-mod', mod-mul-add, rank-le, IsValid, RecordsDeletions, Packed, IsPacked}
-use Rattle.linker_base.specs.Listed.{AreValidDeltas}
-use Rattle.linker_base.specs.declared.relaxation.RelaxDelta.{RelaxDelta}
+use Rattle.linker_final.proofs.Imports.{mod-lt, mod-eq_of_lt, mod_self, ◌≡◌, ◌≢◌, ℕ, ◌+◌, ◌-◌, ◌*◌, ◌/◌, ◌%◌, ◌^◌, ◌<◌, ◌≤◌, List, length, get_or, refl, sym, ap, subst, ◌∙◌, inl, inr, arith, cases_lt, rank-mono, rank, sum_64, deletions_of_run, kept_len, packed_offset, Item, Aligned, Addresses, Symbol, ◌⊎◌, MatchOption, Option, None, Some, div-add-mod', mod-mul-add, rank-le, IsValid, RecordsDeletions, Packed, IsPacked, AreValidDeltas, RelaxDelta, AreRelaxedAndPacked, packed_of, Run, AlignmentsHold, HoldsIn, IsAligned, IsOfRun, IsSkipped, SectionsAreAligned, padding_at, padding_len, RunSection, first_bytes, freed_fits, needed_fills, no_rest, translations_exact, AreItems, IsExact, IsExactItem, IsRelaxation, address_of, Alignment}
+use Rattle.linker_runs.specs.Relaxing.{end_of, offset_of, IsSound, choice_of, freed_before, item_at, needed}
 use Rattle.linker_final.proofs.PackedBytes.{addresses}
-use Rattle.linker_final.specs.Relaxed.{AreRelaxedAndPacked, packed_of, Run, AlignmentsHold, AlignmentHolds, HoldsIn, IsAligned, IsOfRun, IsSkipped, SectionsAreAligned, padding_at, padding_len}
-use Rattle.linker_final.specs.declared.packed.RunSection.{RunSection}
-use Rattle.linker_runs.proofs.First.{first_bytes}
-use Rattle.linker_runs.proofs.Layouts.{freed_fits}
-use Rattle.linker_runs.proofs.Multiples.{needed_fills, no_rest}
-use Rattle.linker_runs.proofs.Translations.{translations_exact}
-use Rattle.linker_runs.specs.Choosing.{AreItems, IsExact, IsExactItem, IsRelaxation}
-use Rattle.linker_runs.specs.Packing.{address_of}
-use Rattle.linker_runs.specs.Relaxing.{IsSound, choice_of, freed_before, item_at, needed}
-use Rattle.linker_runs.specs.declared.relaxation.Alignment.{Alignment}
 
 -- ---- what an alignment needs
 
@@ -22,12 +10,11 @@ needed_least : (power address n : ℕ) → 0 < power → n < needed power addres
     → (address + n) % power ≢ 0
 needed_least power address n some fewer none =
     let r = address % power in
-    let whole = div-add-mod' address power in
     let below = mod-lt address some in
     elim (cases_lt 0 r) [
       | inl rest ↦
           let need : needed power address ≡ power - r = mod-eq_of_lt (omega (arith, rest, below)) in
-          let split : address + n ≡ address / power * power + (r + n) = omega (arith, whole) in
+          let split : address + n ≡ address / power * power + (r + n) = omega (arith, div-add-mod' address power) in
           let is : (address + n) % power ≡ r + n =
           ap (λ m. m % power) split
           ∙ mod-mul-add (address / power) power (r + n) (omega (arith, fewer, need, below)) in
@@ -73,20 +60,12 @@ by_limit power address padding (Some most) some exact =
           inl (aligned power address padding some e, omega (arith, few, e))
     ]
 
-exact_holds : (alignment : Alignment) (address padding : ℕ) → 0 < alignment.alignment
-    → IsExact alignment (needed alignment.alignment address) padding → AlignmentHolds alignment address padding
-exact_holds alignment address padding some exact =
-    by_limit alignment.alignment address padding alignment.max_skip some exact
-
 -- ---- one alignment of the run
 
 module _ (p : Packed) (is : IsPacked p) (run : Run) (of : IsOfRun p run) (i : ℕ) (alignment : Alignment)
     (below : i < length run.items) (here : item_at run.items i ≡ Aligned alignment) where
   abbrev freed : ℕ
   freed = freed_before p.section.start run.items (choice_of run.shapes) i
-
-  power_some : 0 < alignment.alignment
-  power_some = subst IsSound here (of.accepted.in_order.sound i below)
 
   fits : p.section.start + end_of (Aligned alignment) < 2 ^ 64
   fits = subst (λ x. p.section.start + end_of x < 2 ^ 64) here (of.accepted.in_order.ends i below)
@@ -110,10 +89,7 @@ module _ (p : Packed) (is : IsPacked p) (run : Run) (of : IsOfRun p run) (i : �
 
   begins : padding_at p alignment ≡ p.section.start + alignment.offset - freed
   begins =
-      let e = ap (sum_64 p.section.start) translated in
-      let few = freed_few in
-      let small = fits in
-      omega (arith, e, few, small)
+      omega (arith, ap (sum_64 p.section.start) translated, freed_few, fits)
 
   exact : IsExact alignment (needed alignment.alignment (padding_at p alignment)) (padding_len p alignment)
   exact =
@@ -121,23 +97,18 @@ module _ (p : Packed) (is : IsPacked p) (run : Run) (of : IsOfRun p run) (i : �
       (subst (IsExact alignment (needed alignment.alignment (p.section.start + alignment.offset - freed))) (sym kept)
       (subst (λ x. IsExactItem x p.section.start freed (get_or run.kept i 0)) here (of.relaxed.aligned i below)))
 
-  ascends : rank p.section.deletions alignment.offset ≤ rank p.section.deletions (end_of (Aligned alignment))
-  ascends = rank-mono p.section.deletions alignment.offset (end_of (Aligned alignment)) (omega arith)
-
   holds : HoldsIn p alignment
   holds =
       let s = p.section in
-      let low = ascends in
-      let small = fits in
+      let low = rank-mono s.deletions alignment.offset (end_of (Aligned alignment)) (omega arith) in
       record {
-        holds = exact_holds alignment (padding_at p alignment) (padding_len p alignment) power_some exact;
-        next = let high = rank-le s.deletions (end_of (Aligned alignment)) in omega (arith, low, high, small);
+        holds = by_limit alignment.alignment (padding_at p alignment) (padding_len p alignment) alignment.max_skip
+            (subst IsSound here (of.accepted.in_order.sound i below)) exact;
+        next = let high = rank-le s.deletions (end_of (Aligned alignment)) in omega (arith, low, high, fits);
         inside = λ leads.
             let first = rank-mono s.deletions s.base (end_of (Aligned alignment)) leads.lower in
             let last = rank-mono s.deletions (end_of (Aligned alignment)) (s.base + length s.bytes) leads.upper in
-            let len = is.run.len in
-            let same = is.written.same_length in
-            omega (arith, first, last, len, same);
+            omega (arith, first, last, is.run.len, is.written.same_length);
         there = λ leads.
             let lower = leads.lower in
             let e : s.base + (end_of (Aligned alignment) - s.base) ≡ end_of (Aligned alignment) = omega (arith, lower) in
@@ -148,19 +119,16 @@ module _ (p : Packed) (is : IsPacked p) (run : Run) (of : IsOfRun p run) (i : �
       }
 
 pub alignments : AlignmentsHold
-alignments p is run of i alignment below here = holds p is run of i alignment below here
+alignments = holds
 
 -- ---- the first byte of a section
-
-limited : (most : ℕ) → Some most ≡ None → ⊥
-limited most e = cc
 
 unlimited : (power address padding : ℕ) (limit : Option ℕ) → limit ≡ None
     → MatchOption limit (IsAligned power address padding)
     (λ most. (IsAligned power address padding × (padding ≤ most)) ⊎ IsSkipped power address padding most)
     → IsAligned power address padding
 unlimited power address padding None e is = is
-unlimited power address padding (Some most) e is = absurd (limited most e)
+unlimited power address padding (Some most) e is = absurd (cc)
 
 pub sections : SectionsAreAligned
 sections p is run of i alignment below here no_limit ends =

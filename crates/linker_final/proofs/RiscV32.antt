@@ -1,27 +1,7 @@
 -- RV32: values once addends are wrapped.
-use Rattle.std.proofs.Common.{◌≡◌, ℕ, suc, ℤ, pos, negsuc, ◌+◌, ◌-◌, ◌/◌, ◌%◌, ◌^◌, ◌<◌, ◌≤◌, refl, sym, ap, subst, ◌∙◌, arith, Bool, true, false, ltb, List, length, Option, Some, None, Result, Ok, Err, ◌+ℤ◌, neg_ℤ, ◌≤ℤ◌, ◌<ℤ◌, FitsSigned, unsigned_abs}
-use Rattle.std.proofs.Math.Facts.{sfits_to_z}
-use Rattle.std.proofs.lemmas.Bool.{lt-ltb}
-use Rattle.std.proofs.lemmas.Int.{to_z-of_z}
-use Rattle.std.specs.Int.Signed.{le_z}
-use Rattle.std.specs.Prelude.{◌==◌}
-use Rattle.linker_elf.proofs.Agreement.{le_yes}
-use Rattle.linker_elf.specs.Reach.{reach_of, riscv_pair_bounds}
-use Rattle.linker_elf.specs.Rows.{Bounds}
-use Rattle.linker_elf.specs.Value.{formula, read_signed, is_offset}
+use Rattle.linker_final.proofs.RiscVImports.{◌≡◌, ℕ, suc, ℤ, pos, negsuc, ◌+◌, ◌-◌, ◌/◌, ◌%◌, ◌^◌, ◌<◌, refl, sym, ap, subst, ◌∙◌, arith, Bool, true, false, ltb, List, length, Option, Some, None, Result, Ok, Err, ◌+ℤ◌, neg_ℤ, ◌≤ℤ◌, ◌<ℤ◌, FitsSigned, unsigned_abs, sfits_to_z, lt-ltb, to_z-of_z, le_z, ◌==◌, le_yes, reach_of, riscv_pair_bounds, Bounds, formula, read_signed, is_offset, RowSize, ByteSize, and_parts, cond-true, ints, of_z-to_z, w64, cast_signed, cast_unsigned, int_rem_euclid, if◌then◌else◌, slice_get, ◌&&◌, IsRow, IsWithin, riscv_relocation, sum_64, difference_64, value_of, loads_plt_word, RelocationKind, RowInfo, BitMasking, RiscV, Operands, RiscVRelocation, one_row, entry_of, relocation_in, IsValueBy, IsValueIn, entry_address, has_value, lacks_origin, names_label, operands_by, operands_in, operands_of, operands_with, value_by, Addresses, Symbol, Rela, ValueError, sum_below, when_true, When, relocation_at, AreWrapped, IsLeastFrom, IsWrapped, IsWrappedBy, IsWrappedTo, least_in, with_value, IsHighPartAt, IsLowValue, IsNoHighPart, IsValue, is_high_part, low_by, low_operands, low_value, own_value, NoSymbol, Addends, HasWrappedAddend, IsSame32, IsWrappedValue, IsWrappedWithin, PairsReachAll, Values, there_is}
 use Rattle.linker_elf.specs.declared.elf.RelocationKind.TheVariants as kinds
-use Rattle.linker_elf.specs.declared.elf.RowSize.{RowSize}
-use Rattle.linker_elf.specs.declared.elf.RowSize.TheVariants.{ByteSize}
 use Rattle.linker_elf.specs.declared.riscv64.relocations.RiscVRelocation.TheVariants as riscv64
-use Rattle.linker_final.proofs.Imports.{and_parts, cond-true, ltb-true, ints, of_z-to_z, w64, cast_signed, cast_unsigned, int_rem_euclid, if◌then◌else◌, slice_get, ◌&&◌, IsRow, IsWithin, riscv_relocation, sum_64, difference_64, value_of, loads_plt_word, RelocationKind, RowInfo, BitMasking, RiscV, Operands, RiscVRelocation, one_row, entry_of, relocation_in, IsValueBy, IsValueIn, entry_address, has_value, lacks_origin, names_label, operands_by, operands_in, operands_of, operands_with, value_by, Addresses, Symbol, Rela, ValueError}
-use Rattle.linker_laws.proofs.Sums.{sum_below}
-use Rattle.linker_section.proofs.QuickValues.{when_true}
-use Rattle.linker_section.specs.Inner.Facts.{When}
-use Rattle.linker_section.specs.Relocations.{relocation_at}
-use Rattle.linker_section.specs.RiscV32.{AreWrapped, IsLeastFrom, IsWrapped, IsWrappedBy, IsWrappedTo, least_in, with_value}
-use Rattle.linker_section.specs.Values.{IsHighPartAt, IsLowValue, IsNoHighPart, IsValue, is_high_part, low_by, low_operands, low_value, own_value}
-use Rattle.linker_section.specs.declared.values.ValueError.TheVariants.{NoSymbol}
-use Rattle.linker_final.specs.RiscV32.{Addends, HasWrappedAddend, IsSame32, IsWrappedValue, IsWrappedWithin, PairsReachAll, Values}
 
 -- ---- numbers
 
@@ -373,14 +353,11 @@ module _ (addresses : Addresses) (symbols : List Symbol) (row high : RowInfo) (l
       (sym (when_true (names_label row.size row.kind) row.kind (low_kind (is_of_descriptor row.kind)) low.kind labelled))
       ∙ is_high
 
-  result_is : (o : Operands) → value_of row (low_operands high o) ≡ value_of high o
-  result_is o =
-      when_true (names_label row.size row.kind) (value_of row (low_operands high o)) _ (low.value (low_operands high o)) labelled
-      ∙ when_true (is_high_part (low_kind (is_of_descriptor row.kind)) (Some high)) _ (value_of high o) (upper.value o) high_part
-
   by_operands : (operands : Result Operands ValueError) → low_by row high operands ≡ value_by false high operands
   by_operands (Err error) = refl
-  by_operands (Ok o) = ap Ok (result_is o)
+  by_operands (Ok o) =
+      ap Ok (when_true (names_label row.size row.kind) (value_of row (low_operands high o)) _ (low.value (low_operands high o)) labelled
+      ∙ when_true (is_high_part (low_kind (is_of_descriptor row.kind)) (Some high)) _ (value_of high o) (upper.value o) high_part)
 
   -- its value is that of the high part alone
   as_alone : (r : Rela) → low_value RiscV addresses symbols row (Some (r, high)) ≡ own_value RiscV addresses symbols high r
@@ -403,22 +380,6 @@ module _ (addresses : Addresses) (symbols : List Symbol) (row high : RowInfo) (l
   low_wrapped r after of each =
       rw (as_alone r, as_alone after, ← same_reach) (own_wrapped addresses symbols high r after of each unlabelled)
 
-record IsIn (bytes : List ℕ) (i : ℕ) (r : Rela) : Type 0 where
-  below : i < length bytes / 24
-  is : relocation_in bytes i ≡ r
-
-abbrev first_of : {A : Type 0} → A → Option A → A
-first_of x None = x
-first_of x (Some y) = y
-
-in_by : (bytes : List ℕ) (i : ℕ) (r : Rela) (within : Bool) → ltb i (length bytes / 24) ≡ within
-    → (if within then Some (relocation_in bytes i) else None) ≡ Some r → IsIn bytes i r
-in_by bytes i r true within is = record { below = ltb-true i (length bytes / 24) within; is = ap (first_of r) is }
-in_by bytes i r false within is = absurd (cc)
-
-is_in : (bytes : List ℕ) (i : ℕ) (r : Rela) → relocation_at bytes i ≡ Some r → IsIn bytes i r
-is_in bytes i r is = in_by bytes i r (ltb i (length bytes / 24)) refl is
-
 at_below : (bytes : List ℕ) (i : ℕ) → i < length bytes / 24 → relocation_at bytes i ≡ Some (relocation_in bytes i)
 at_below bytes i below = cond-true (ltb i (length bytes / 24)) (Some (relocation_in bytes i)) None (lt-ltb i (length bytes / 24) below)
 
@@ -429,10 +390,10 @@ module _ (addresses : Addresses) (symbols : List Symbol) (before after : List �
 
   none_was : (kind : RelocationKind) (at : ℕ) → IsHighPartAt RiscV after kind at None → IsHighPartAt RiscV before kind at None
   none_was kind at none i r is =
-      let there = is_in before i r is in
+      let there = there_is before i r is in
       let new = relocation_in after i in
-      let becomes = addends addresses symbols before after are i there.below in
-      let now : relocation_at after i ≡ Some new = at_below after i (subst (λ n. i < n) (sym same_count) there.below) in
+      let becomes = addends addresses symbols before after are i there.within in
+      let now : relocation_at after i ≡ Some new = at_below after i (subst (λ n. i < n) (sym same_count) there.within) in
       let old : new ≡ record r { addend = new.addend } = becomes.others ∙ ap (λ (x : Rela). record x { addend = new.addend }) there.is in
       subst (IsNoHighPart RiscV kind at) old (none i new now)
 
@@ -443,8 +404,8 @@ module _ (addresses : Addresses) (symbols : List Symbol) (before after : List �
   low_was row sum labelled at None none = (None, none_was row.kind at none, refl)
   low_was row sum labelled at (Some (new, high)) part =
       let i = part.index in
-      let there = is_in after i new part.is_there in
-      let below : i < length before / 24 = subst (λ n. i < n) same_count there.below in
+      let there = there_is after i new part.is_there in
+      let below : i < length before / 24 = subst (λ n. i < n) same_count there.within in
       let r = relocation_in before i in
       let becomes = addends addresses symbols before after are i below in
       let is : new ≡ record r { addend = new.addend } =
@@ -492,8 +453,7 @@ module _ (addresses : Addresses) (symbols : List Symbol) (before after : List �
       → Was row (relocation_in before n) result
   by_kind n below row of true labelled result value =
       let r = relocation_in before n in
-      let new = relocation_in after n in
-      label_was row (is_sum r.r_type row of) r of labelled (slice_get symbols new.symbol)
+      label_was row (is_sum r.r_type row of) r of labelled (slice_get symbols (relocation_in after n).symbol)
       (sym (ap (λ (x : Rela). slice_get symbols x.symbol) (addends addresses symbols before after are n below).others)) result value
   by_kind n below row of false isnt result value =
       let r = relocation_in before n in
@@ -508,9 +468,8 @@ module _ (addresses : Addresses) (symbols : List Symbol) (before after : List �
 pub values : Values
 values addresses symbols before after are n below row of result value =
     let r = relocation_in before n in
-    let new = relocation_in after n in
     let now : IsRow RiscV r.r_type value.0 =
     subst (λ (x : Rela). IsRow RiscV x.r_type value.0) (addends addresses symbols before after are n below).others value.1 in
     let same : value.0 ≡ Some row = one_row RiscV r.r_type value.0 (Some row) now of in
     by_kind addresses symbols before after are n below row of (names_label row.size row.kind) refl result
-    (subst (λ x. IsValueIn RiscV addresses after symbols new x result) same value.2)
+    (subst (λ x. IsValueIn RiscV addresses after symbols (relocation_in after n) x result) same value.2)

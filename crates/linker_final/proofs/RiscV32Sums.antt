@@ -1,27 +1,20 @@
 -- RV32's instructions by RV64's laws: a sum modulo 2^64 is one modulo 2^32.
-use Rattle.std.proofs.Common.{◌≡◌, ℕ, ℤ, pos, ◌%◌, ◌^◌, ◌+◌, ◌+ℤ◌, ◌*ℤ◌, refl, sym, ap, ◌∙◌, arith, List, [], ◌∷◌, Option, Some, None}
-use Rattle.std.specs.Prelude.{IsSomeAnd}
-use Rattle.linker_elf.proofs.Agreement.{rem_rem}
 use Rattle.linker_elf.specs.RiscVRelocations.{clui_row, riscv_relocation}
-use Rattle.linker_elf.specs.declared.riscv64.forms.RiscVInstruction.{RiscVInstruction}
-use Rattle.linker_elf.specs.declared.riscv64.forms.RiscVInstruction.TheVariants.{BType, CbType, CjType, CluiType, JType, SType, UiType}
-use Rattle.linker_elf.specs.declared.riscv64.relocations.RiscVRelocation.TheVariants as names
-use Rattle.linker_final.proofs.Imports.{number_of_bytes, riscv_form, riscv_row, RowInfo, Operands, IType, UType, RiscVRelocation, AreAddresses, plt_address, symbol_address}
-use Rattle.linker_laws.specs.RiscVRelocationLaws as laws
+use Rattle.linker_elf.specs.declared.riscv64.forms.RiscVInstruction.TheVariants.{CluiType}
+use Rattle.linker_final.proofs.Imports.{RowInfo}
 use Rattle.linker_laws.specs.RiscVRelocationLaws.{even, low_load, low_store, of_entry, upper_and_low, without_bit_0}
-use Rattle.linker_laws.specs.Schemes.{Step, Computed, Reaches, Law, HoldsDistance, entry_and_addend, here, number_at, place, tls_base, zero}
-use Rattle.linker_final.specs.RiscV32.{AbsoluteAddresses, Branches, Call, Descriptor, DescriptorAddresses, Entries, IsSame32, Jump, Law32, Pairs, Reaches32, RelativeAddresses, ThreadAddresses, Word, Words}
-
-some_and : {T : Type 0} {P Q : T → Type 0} (x : Option T) → ((y : T) → P y → Q y) → IsSomeAnd x P → IsSomeAnd x Q
-some_and None f there = there
-some_and (Some y) f there = f y there
+use Rattle.linker_laws.specs.Schemes.{zero}
+use Rattle.linker_final.specs.RiscV32.{Descriptor, DescriptorAddresses}
+use Rattle.linker_final.proofs.RiscVImports.{mapped, ◌≡◌, ℕ, ℤ, pos, ◌%◌, ◌^◌, ◌+◌, ◌+ℤ◌, ◌*ℤ◌, refl, sym, ap, ◌∙◌, arith, List, [], ◌∷◌, rem_rem, RiscVInstruction, BType, CbType, CjType, JType, SType, UiType, number_of_bytes, riscv_form, riscv_row, Operands, IType, UType, RiscVRelocation, AreAddresses, plt_address, symbol_address, Step, Computed, Reaches, Law, HoldsDistance, entry_and_addend, here, number_at, place, tls_base, AbsoluteAddresses, Branches, Call, Entries, IsSame32, Jump, Law32, Pairs, Reaches32, RelativeAddresses, ThreadAddresses, Word, Words}
+use Rattle.linker_elf.specs.declared.riscv64.relocations.RiscVRelocation.TheVariants as names
+use Rattle.linker_laws.specs.RiscVRelocationLaws as laws
 
 weaker : (steps : List Step) (o : Operands) (c : Computed steps) (t t' : ℕ) → t' % 2 ^ 32 ≡ t % 2 ^ 32
     → Reaches steps o c t' → Reaches32 steps o c t
 weaker [] o c t t' same is = sym (rem_rem c t' 64 32 (omega arith) (sym is)) ∙ ap pos same
 weaker (step ∷ steps) o c t t' same is =
-    some_and step.row (λ row law at before after applied holds.
-    weaker steps o (c (number_at row.size after)) t t' same (law at before after applied holds)) is
+    mapped (λ row law at before after applied holds.
+    weaker steps o (c (number_at row.size after)) t t' same (law at before after applied holds)) step.row is
 
 with_addend : (o : Operands) (a : ℤ) → AreAddresses o → AreAddresses (record o { addend = a })
 with_addend o a small = record {
@@ -41,14 +34,8 @@ IsTarget32 target =
 symbol_32 : IsTarget32 symbol_address
 symbol_32 o a same = omega (arith, same)
 
-plt_32 : IsTarget32 plt_address
-plt_32 o a same = omega (arith, same)
-
 entry_32 : IsTarget32 entry_and_addend
 entry_32 o a same = omega (arith, same)
-
-even_plt_32 : IsTarget32 (even plt_address)
-even_plt_32 o a same = omega (arith, same)
 
 law_32 : (steps : List Step) (computed : Operands → Computed steps) (target : Operands → ℕ)
     → IsTarget32 target → Law steps computed target → Law32 steps computed target
@@ -107,7 +94,7 @@ thread law =
 call : (name : RiscVRelocation) → laws.Call name → Call name
 call name =
     law_32 (here (riscv_row name) ∷ []) (λ o x. without_bit_0 (pos o.place +ℤ (riscv_form UiType).machine x))
-    (even plt_address) even_plt_32
+    (even plt_address) (λ o a same. omega (arith, same))
 
 jump : (name : RiscVRelocation) (f : RiscVInstruction) → laws.Jump name f → Jump name f
 jump name f =
@@ -127,14 +114,14 @@ word : (name : RiscVRelocation) (begin target : Operands → ℕ)
     → ((o : Operands) (a : ℤ) → begin (record o { addend = a }) ≡ begin o) → IsTarget32 target
     → HoldsDistance 4 (riscv_row name) begin target → Word name begin target
 word name begin target keeps moves =
-    some_and (riscv_row name) (λ row is o a small same before after applied.
+    mapped (λ row is o a small same before after applied.
     ap (λ b. (b + number_of_bytes 4 after) % 2 ^ 32) (sym (keeps o a))
-    ∙ (is (record o { addend = a }) (with_addend o a small) before after applied ∙ moves o a same))
+    ∙ (is (record o { addend = a }) (with_addend o a small) before after applied ∙ moves o a same)) (riscv_row name)
 
 pub words : laws.Fields → Words
 words law = (
   word names.R_RISCV_32 zero symbol_address (λ o a. refl) symbol_32 law.0,
   word names.R_RISCV_32_PCREL place symbol_address (λ o a. refl) symbol_32 law.2,
-  word names.R_RISCV_PLT32 place plt_address (λ o a. refl) plt_32 law.3,
+  word names.R_RISCV_PLT32 place plt_address (λ o a. refl) (λ o a same. omega (arith, same)) law.3,
   word names.R_RISCV_GOT32_PCREL place entry_and_addend (λ o a. refl) entry_32 law.4,
 )

@@ -1,12 +1,10 @@
 -- Loads of fixed addresses from the GOT of RISC-V that became `lui` and `addi`, or `addi` alone,
 -- are groups, with what new has.
-use Rattle.linker_final.proofs.Imports.{◌≡◌, ℕ, ◌+◌, ◌≤◌, List, length, refl, inl, inr, pair_row, sum_64, Absolute, RiscV, Choice, IType, UType, Groups, Rewritten, RewrittenWithSymbol, load_to_addi, riscv_entries, Relaxation, AreRewritten, Linked, instruction_at, IsAddiOfLoad, IsDeleted, IsLuiOfLoad, IsOfDescriptor, New, fixed, law, low_address, of_destination}
+use Rattle.linker_final.proofs.RiscVImports.{◌≡◌, ℕ, ◌+◌, ◌≤◌, List, length, refl, inl, inr, pair_row, sum_64, Absolute, RiscV, Choice, IType, UType, Groups, Rewritten, RewrittenWithSymbol, load_to_addi, riscv_entries, Relaxation, AreRewritten, Linked, instruction_at, IsAddiOfLoad, IsDeleted, IsLuiOfLoad, IsOfDescriptor, New, fixed, law, low_address, of_destination, offset_of, of_bits}
 use Rattle.linker_elf.specs.declared.riscv64.relocations.RiscVRelocation.TheVariants as names
-use Rattle.linker_final.proofs.InstructionFields.{of_bits}
 use Rattle.linker_final.proofs.RiscVChosen.{IsOfSome, becomes_of, of_some}
 use Rattle.linker_final.proofs.RiscVParts.{MadePart, has_named, part_alone, part_by, part_of}
 use Rattle.linker_final.proofs.RiscVWritten.{IsOwn, own_row}
-use Rattle.linker_final.specs.SectionRuns.{offset_of}
 use Rattle.linker_utils.specs.declared.riscv64.rewrites.RewriteKind.TheVariants as kinds
 
 ld_inside : (section : List ℕ) (o : ℕ) (chosen : Choice Relaxation ℕ)

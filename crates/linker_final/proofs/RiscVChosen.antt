@@ -1,7 +1,5 @@
 -- The rewrite that is chosen for a relocation of RISC-V.
-use Rattle.linker_final.proofs.Imports.{◌≡◌, ℕ, ◌+◌, ◌<◌, ◌≤◌, length, Bool, true, false, List, [], ◌∷◌, refl, sym, ap, subst, ◌∙◌, inl, inr, ◌⊎◌, Option, Some, None, IsNamed, IsNameOf, r_type_of, riscv_name, Choice, LinkFacts, RiscVRelocation, choice_of, chosen_or_labelled, AppliesToRiscV, HasPattern, RiscVEntry, riscv_entries, IsCandidateWith, IsScopeIn, Labelled, Architecture, decision_at, RelaxContext, Decision, RewrittenWithSymbol, Rewritten, Subject, Phase, relocation_in, Rela, IsArchitectureChoice, Relaxation, RiscV, AreRewritten, Linked, count, IsLabelDecision, label_decision, rewritten_by, takes_symbol, one_index, IsHighIn, IsLabelCandidate, label_facts, IsUnchanged}
-use Rattle.linker_rewriting.proofs.Entries.{IsOfEntry as IsOfEntryIn, IsOfOne as IsOfOneIn, of_entry as of_entry_in, of_one}
-use Rattle.linker_utils.specs.declared.riscv64.rewrites.RewriteKind.{RewriteKind}
+use Rattle.linker_final.proofs.RiscVImports.{◌≡◌, ℕ, ◌+◌, ◌<◌, ◌≤◌, length, Bool, true, false, List, [], ◌∷◌, refl, sym, ap, subst, ◌∙◌, inl, inr, ◌⊎◌, Option, Some, None, IsNamed, IsNameOf, r_type_of, riscv_name, Choice, LinkFacts, RiscVRelocation, choice_of, chosen_or_labelled, AppliesToRiscV, HasPattern, RiscVEntry, riscv_entries, IsCandidateWith, IsScopeIn, Labelled, Architecture, decision_at, RelaxContext, Decision, RewrittenWithSymbol, Rewritten, Subject, Phase, relocation_in, Rela, IsArchitectureChoice, Relaxation, RiscV, AreRewritten, Linked, count, IsLabelDecision, label_decision, rewritten_by, takes_symbol, one_index, IsHighIn, IsLabelCandidate, label_facts, IsUnchanged, IsOfEntry as IsOfEntryIn, IsOfOne as IsOfOneIn, of_entry as of_entry_in, of_one, RewriteKind}
 use Rattle.linker_utils.specs.declared.riscv64.rewrites.RewriteKind.TheVariants as kinds
 use Rattle.linker_utils.specs.declared.architecture.Relaxation.TheVariants as relaxations
 

@@ -1,12 +1,10 @@
 -- Sequences of TLS descriptors of RISC-V that became those of local-exec are groups, with what new
 -- has.
-use Rattle.linker_final.proofs.Imports.{◌≡◌, ℕ, ◌+◌, refl, inl, inr, pair_row, sum_64, TpOff, RiscV, UType, Groups, AreRewritten, Linked, instruction_at, IsOfDescriptor, New, descriptor, law, short_descriptor}
+use Rattle.linker_final.proofs.RiscVImports.{◌≡◌, ℕ, ◌+◌, refl, inl, inr, pair_row, sum_64, TpOff, RiscV, UType, Groups, AreRewritten, Linked, instruction_at, IsOfDescriptor, New, descriptor, law, short_descriptor, offset_of, of_bits}
 use Rattle.linker_elf.specs.declared.riscv64.relocations.RiscVRelocation.TheVariants as names
-use Rattle.linker_final.proofs.InstructionFields.{of_bits}
 use Rattle.linker_final.proofs.RiscVOffsets.{low_i}
 use Rattle.linker_final.proofs.RiscVParts.{MadePart, has_named, part_by}
 use Rattle.linker_final.proofs.RiscVWritten.{IsOwn, own_row}
-use Rattle.linker_final.specs.SectionRuns.{offset_of}
 use Rattle.linker_utils.specs.declared.riscv64.rewrites.RewriteKind.TheVariants as kinds
 
 abbrev high_tp : IsOwn names.R_RISCV_TPREL_HI20

@@ -1,14 +1,9 @@
 -- Rewritten loads from the GOT of RISC-V are groups, with what new has.
-use Rattle.linker_final.proofs.Imports.{◌≡◌, ℕ, ◌+◌, List, [], ◌∷◌, length, refl, sym, ap, subst, ◌∙◌, arith, inl, inr, entry, r_type_of, riscv_name, riscv_row, sum_64, RiscV, Choice, Groups, after_rewrite, Rewritten, relaxation_rewrite, load_to_addi, riscv_entries, Relaxation, got_high_part, AreBytes, AreRewritten, IsRewrittenByNoOther, Linked, instruction_at, AreOfPair, New, law, load}
+use Rattle.linker_final.proofs.RiscVImports.{◌≡◌, ℕ, ◌+◌, List, [], ◌∷◌, length, refl, sym, ap, subst, ◌∙◌, arith, inl, inr, entry, r_type_of, riscv_name, riscv_row, sum_64, RiscV, Choice, Groups, after_rewrite, Rewritten, relaxation_rewrite, load_to_addi, riscv_entries, Relaxation, got_high_part, AreBytes, AreRewritten, IsRewrittenByNoOther, Linked, instruction_at, AreOfPair, New, law, load, offset_of, Has, IsLoadFromGot, word_of, IsAuipc, IsLd, without_got, stays, word_same}
 use Rattle.linker_elf.specs.declared.riscv64.relocations.RiscVRelocation.TheVariants as names
 use Rattle.linker_final.proofs.RiscVChosen.{IsOfEntry, IsOfSome, of_some}
 use Rattle.linker_final.proofs.RiscVParts.{IsPart, MadePart, has_low, has_named, high_part, part_alone}
 use Rattle.linker_final.proofs.RiscVWritten.{bytes_there, rewritten_after}
-use Rattle.linker_final.proofs.Written.{stays, word_same}
-use Rattle.linker_final.specs.SectionRuns.{offset_of}
-use Rattle.linker_laws.specs.RiscVGroups.{Has}
-use Rattle.linker_laws.specs.RiscVRewriteLaws.{IsLoadFromGot, word_of}
-use Rattle.linker_utils.specs.RiscVRewrites.{IsAuipc, IsLd, without_got}
 use Rattle.linker_utils.specs.declared.riscv64.rewrites.RewriteKind.TheVariants as kinds
 
 -- ---- entries

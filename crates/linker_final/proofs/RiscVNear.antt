@@ -1,19 +1,7 @@
 -- RISC-V: low parts over x3 and x0, and what is deleted before them.
-use Rattle.linker_final.proofs.Imports.{◌≡◌, ℕ, pos, ◌+ℤ◌, ◌+◌, ◌-◌, ◌%◌, ◌^◌, ◌<◌, ◌≤◌, ◌⊎◌, Bool, true, false, true≢false, refl, sym, ◌∙◌, ap, subst, arith, List, drop, ℤ, Option, Some, None, if◌then◌else◌, ◌&&◌, IsTrue, w32, w64, cast_signed, cast_unsigned, from_le_bytes, ints, of_z-to_z, ltb-true, signed, riscv_form, pair_row, sum_64, difference_64, RelocationKind, Absolute, Relative, RelativeRiscVLow12, RowInfo, Operands, IType, UType, opcode_of, funct3_of, adds_low12, address_in, Relocated, wrapped, symbol_address, IsAddress, unsigned_abs, IsSomeAnd, lo12, moved, sum_zero}
-use Rattle.linker_riscv64.specs.RiscVCalls.{word_at}
+use Rattle.linker_final.proofs.RiscVImports.{◌≡◌, ℕ, pos, ◌+ℤ◌, ◌+◌, ◌-◌, ◌%◌, ◌^◌, ◌<◌, ◌≤◌, ◌⊎◌, Bool, true, false, true≢false, refl, sym, ◌∙◌, ap, subst, arith, List, drop, ℤ, Option, Some, None, if◌then◌else◌, ◌&&◌, IsTrue, w32, w64, cast_signed, cast_unsigned, from_le_bytes, ints, of_z-to_z, ltb-true, signed, riscv_form, pair_row, sum_64, difference_64, RelocationKind, Absolute, Relative, RelativeRiscVLow12, RowInfo, Operands, IType, UType, opcode_of, funct3_of, adds_low12, address_in, Relocated, wrapped, symbol_address, IsAddress, unsigned_abs, IsSomeAnd, lo12, moved, sum_zero, word_at, Action, register, auipc, goes_to, lui, with_integer, stores, rs1_of, rd_of, base_by, base_for, base_of, based_relocation, is_near, relocation_over, low_row, word_of, IsFormulaOf, of_address, lui_word, upper_long, upper_word, absolute_rows, based_group, below_32, nothing_left, puts, row_of, word_goes, based_there, i_stands, low_sum, some_action, moved_twice, written, Has, machine, seen, AuipcGoes, FromBase, LowPartsFromBase, LuiGoes, PartsFromBase, ValuesAreDistances, after_base, distance, labelled_row, same_Some}
 use Rattle.linker_laws.specs.RiscVRelocationLaws.{AbsoluteAddresses, RelativeAddresses}
-use Rattle.linker_laws.specs.RiscVMachine.{Action, register, auipc, goes_to, lui, with_integer, stores, rs1_of}
-use Rattle.linker_riscv64.specs.RiscVFields.{rd_of}
-use Rattle.linker_rewriting.specs.GlobalPointer.{address_of, base_by, base_for, base_of, based_relocation, is_near, relocation_over}
-use Rattle.linker_laws.specs.RiscVRewriteLaws.{low_row, word_of}
-use Rattle.linker_laws.proofs.RiscVHighParts.{IsFormulaOf, of_address}
-use Rattle.linker_laws.proofs.RiscVDescriptors.{lui_word, upper_long, upper_word}
-use Rattle.linker_laws.proofs.RiscVGroups.{absolute_rows, based_group, below_32, nothing_left, puts, row_of, word_goes}
-use Rattle.linker_laws.proofs.RiscVLowParts.{based_there, i_stands, low_sum, some_action}
-use Rattle.linker_laws.proofs.RiscVMachine.{moved_twice, written}
-use Rattle.linker_laws.specs.RiscVGroups.{Has, machine, seen}
-use Rattle.linker_final.specs.RiscVNear.{AuipcGoes, FromBase, LowPartsFromBase, LuiGoes, PartsFromBase, ValuesAreDistances, after_base, distance, labelled_row}
-use Rattle.std.proofs.lemmas.Option.{same_Some}
+use Rattle.linker_rewriting.specs.GlobalPointer.{address_of}
 use Rattle.linker_elf.proofs.Entries.{sum_below}
 
 -- ---- low parts
@@ -159,8 +147,7 @@ lui_goes laws c x k s bytes before_low low addresses d is some has is_low =
     let a = has.applied.applied in
     let u = (riscv_form UType).machine (word_of has.relocated) in
     let l = (riscv_form IType).machine (word_of low) in
-    let small = d.small in
-    let next : sum_64 s.pc 4 ≡ s.pc + 4 = omega (arith, small) in
+    let next : sum_64 s.pc 4 ≡ s.pc + 4 = omega (arith, d.small) in
     let sum : moved (moved 0 u) l ≡ symbol_address x =
     with_low 0 (symbol_address x) u l (laws.0.0 x addresses 0 bytes has.relocated a tt 0 before_low low is_low.applied tt) in
     record {
@@ -181,8 +168,7 @@ auipc_goes laws c x k s bytes before_low low addresses at d is some has is_low =
     let a = has.applied.applied in
     let u = (riscv_form UType).machine (word_of has.relocated) in
     let l = (riscv_form IType).machine (word_of low) in
-    let small = d.small in
-    let next : sum_64 s.pc 4 ≡ s.pc + 4 = omega (arith, small) in
+    let next : sum_64 s.pc 4 ≡ s.pc + 4 = omega (arith, d.small) in
     let sum : moved (moved x.place u) l ≡ symbol_address x =
     with_low x.place (symbol_address x) u l (laws.0 x addresses 0 bytes has.relocated a tt 0 before_low low is_low.applied tt) in
     record {

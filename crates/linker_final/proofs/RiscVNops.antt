@@ -1,12 +1,9 @@
 -- Instructions of RISC-V's TLS descriptors that became nops do nothing in the final bytes.
-use Rattle.linker_final.proofs.Imports.{◌≡◌, ℕ, ◌<◌, List, refl, ap, subst, ◌∙◌, inl, inr, arith, IsRow, IsNamed, riscv_name, riscv_relocation, bytes_row, RiscV, RiscVRelocation, RewrittenWithSymbol, relocation_in, Rela, riscv_entries, AreRewritten, Linked, count, instruction_at, final_instruction, IsNop, BecomesNop, New, Nops, NopsOf, anywhere, final, packed}
+use Rattle.linker_final.proofs.RiscVImports.{◌≡◌, ℕ, ◌<◌, List, refl, ap, subst, ◌∙◌, inl, inr, arith, IsRow, IsNamed, riscv_name, riscv_relocation, bytes_row, RiscV, RiscVRelocation, RewrittenWithSymbol, relocation_in, Rela, riscv_entries, AreRewritten, Linked, count, instruction_at, final_instruction, IsNop, BecomesNop, New, Nops, NopsOf, anywhere, final, packed, offset_of, unwritten_there, IsRowOf, by_name, unwritten_without}
 use Rattle.linker_elf.specs.declared.elf.RelocationKind.TheVariants.{None as NoValue}
 use Rattle.linker_elf.specs.declared.riscv64.relocations.RiscVRelocation.TheVariants as names
-use Rattle.linker_final.proofs.Joined.{unwritten_there}
 use Rattle.linker_final.proofs.RiscVChosen.{EachBecomes, becomes_of}
 use Rattle.linker_final.proofs.RiscVWritten.{becomes, long_there, redirected_after}
-use Rattle.linker_final.proofs.Written.{IsRowOf, by_name, unwritten_without}
-use Rattle.linker_final.specs.SectionRuns.{offset_of}
 use Rattle.linker_utils.specs.declared.riscv64.rewrites.RewriteKind.TheVariants as kinds
 
 -- the code of no type has no value
@@ -36,12 +33,11 @@ nops_of name named each l rewriting riscv new i chosen subject below is_name dec
     let decision = RewrittenWithSymbol chosen subject in
     let one = becomes_of l rewriting riscv i decision chosen below decided refl name named is_name
     names.R_RISCV_NONE kinds.ReplaceWithLongNop kind_is each in
-    let long = long_there l.section o one.inside in
     in_new l rewriting riscv i below
     (ap (λ (x : Rela). x.r_type)
     (redirected_after l rewriting i chosen below kinds.ReplaceWithLongNop names.R_RISCV_NONE kind_is one.r_type_is (λ o. refl) (λ a. refl) subject decided))
     (λ bytes same. (
-      (omega (arith, long), tt),
+      (omega (arith, long_there l.section o one.inside), tt),
       same ∙ becomes l rewriting i below decision decided chosen kinds.ReplaceWithLongNop kind_is (λ _. 0x13) refl (λ done. done) one.inside,
     ))
     new

@@ -1,18 +1,10 @@
 -- Low parts of RISC-V that became ones over the thread pointer are groups, and what is deleted
 -- before them.
-use Rattle.linker_final.proofs.Imports.{◌≡◌, ℕ, List, [], ◌∷◌, refl, sym, ap, subst, ◌∙◌, arith, Option, IsSomeAnd, IsTrue, entry, r_type_of, HasWord, pair_row, riscv_name, TpOff, IType, RiscVRelocation, Groups, funct3_of, opcode_of, HasPattern, IsLui, adds_low12, by_low_offset, riscv_entries, riscv_matches, Rewritten, relocation_in, RiscV, SType, AreRewritten, Linked, instruction_at, HighPartGoes, IsDeleted, SumGoes, action_at, offset_row, deleted_of, relaxation_deleted}
-use Rattle.linker_laws.specs.RiscVMachine.{Action, action_of}
+use Rattle.linker_final.proofs.RiscVImports.{◌≡◌, ℕ, List, [], ◌∷◌, refl, sym, ap, subst, ◌∙◌, arith, IsSomeAnd, IsTrue, entry, r_type_of, HasWord, pair_row, riscv_name, TpOff, IType, RiscVRelocation, Groups, funct3_of, opcode_of, HasPattern, IsLui, adds_low12, by_low_offset, riscv_entries, riscv_matches, Rewritten, relocation_in, RiscV, SType, AreRewritten, Linked, instruction_at, HighPartGoes, IsDeleted, SumGoes, action_at, offset_row, deleted_of, relaxation_deleted, action_of, IsRewrittenOf, New, low_law, offset_of, Has, IsAddTp, tp, with_rs1, mapped, word_same, of_bits}
 use Rattle.linker_elf.specs.declared.riscv64.relocations.RiscVRelocation.TheVariants as names
-use Rattle.linker_final.proofs.Written.{mapped, word_same}
-use Rattle.linker_final.proofs.InstructionFields.{of_bits}
 use Rattle.linker_final.proofs.RiscVChosen.{IsOfEntry, of_entry}
 use Rattle.linker_final.proofs.RiscVParts.{MadePart, has_own, part_alone}
 use Rattle.linker_final.proofs.RiscVWritten.{IsOwn, long_there, own_row}
-use Rattle.linker_final.specs.RiscVFinal.{IsRewrittenOf}
-use Rattle.linker_final.specs.RiscVSection.{New, low_law}
-use Rattle.linker_final.specs.SectionRuns.{offset_of}
-use Rattle.linker_laws.specs.RiscVGroups.{Has}
-use Rattle.linker_utils.specs.RiscVRewrites.{IsAddTp, tp, with_rs1}
 use Rattle.linker_utils.specs.declared.riscv64.rewrites.RewriteKind.TheVariants as kinds
 use Rattle.linker_utils.specs.declared.architecture.Relaxation.TheVariants as relaxations
 
@@ -27,9 +19,6 @@ low_s =
     own_row names.R_RISCV_TPREL_LO12_S (pair_row TpOff 32 SType) refl tt (of_bits refl refl refl refl refl (λ o. tt)) refl (λ addresses r symbol. refl)
 
 -- ---- one instruction
-
-abbrev by_word : ℕ → Option Action
-by_word word = action_of (opcode_of word) (funct3_of word)
 
 -- a relocation of low parts, which has one rewrite
 pub record IsLow (name : RiscVRelocation) : Type 0 where
@@ -66,7 +55,7 @@ module _ (groups : Groups) (name : RiscVRelocation) (low : IsLow name) (l : Link
       let long = low_part_is.long in
       let matches : riscv_matches kinds.BaseToTp instruction 0 =
       (omega (arith, long), subst (λ word. IsTrue (adds_low12 (opcode_of word) (funct3_of word))) (word_same l.section (offset_of l i)) (adds_low.0.1)) in
-      subst (λ word. IsSomeAnd (by_word word) (low_law name l i new)) (sym (word_same l.section (offset_of l i)))
+      subst (λ word. IsSomeAnd (action_of (opcode_of word) (funct3_of word)) (low_law name l i new)) (sym (word_same l.section (offset_of l i)))
       (mapped (λ action group c x y k k' s at one small base known old has keeps.
       group c x y k k' s at one small base known old
       (subst (Has 4 c.new y.place (offset_row action) y) low_part_is.made

@@ -1,28 +1,7 @@
 -- RISC-V: where calls go in the final bytes of a packed section.
-use Rattle.linker_final.proofs.Imports.{◌≡◌, ◌≢◌, ℕ, ◌+◌, ◌-◌, ◌%◌, ◌^◌, ◌<◌, ◌≤◌, inl, inr, List, length, take, drop, refl, sym, ap, subst, ◌∙◌, arith, Some, Ok, IsSomeAnd, drop-drop, All-drop, All-take, w32, from_le_bytes, riscv_relocation, IsApplied, value_of, Operands, RiscVRelocation, Groups, AreAddresses, plt_address, SiteBecomes, Site, relocation_in, offset_at, operands_with, IsRow, RiscV, take_all, AreBytes, architecture_of, place_of, site_bytes, site_len, site_offset, site_place, site_target, CallStays}
-use Rattle.linker_riscv64.specs.RiscVCalls.{word_at, IsCallPair, link_register}
 use Rattle.linker_laws.specs.RiscVRelocationLaws.{even}
-use Rattle.linker_final.proofs.InstructionFields.{some_value}
-use Rattle.linker_final.proofs.PackedBytes.{stay_inside, places_inside}
-use Rattle.linker_final.proofs.PackedInstructions.{instructions}
-use Rattle.linker_final.proofs.PackedSites.{site_becomes, site_inside, site_length, site_small}
-use Rattle.linker_final.proofs.PutBack.{window_length}
-use Rattle.linker_final.specs.RiscVPacked.{CallIsAlike, IsOfCall, LongCallsStay, SitesCallTheSame, call_row, instructions_in, landing}
-use Rattle.linker_laws.proofs.RiscVGroups.{cj_goes, jal_goes, jump_group}
-use Rattle.linker_laws.proofs.RiscVMachine.{address_is}
-use Rattle.linker_final.proofs.Written.{back_of_pair, front_of_pair}
-use Rattle.linker_riscv64.specs.RiscVFields.{rd_of}
-use Rattle.linker_runs.specs.Origins.{HasItsInstructions}
-use Rattle.linker_runs.specs.RiscVItems.{IsCallAt, links_short}
-use Rattle.linker_runs.specs.RiscVSites.{RiscVBecomes}
-use Rattle.linker_runs.specs.RiscVSites.RiscVBecomes.{short_jump, jump, call}
 use Rattle.linker_runs.specs.Sites.{operands_of}
-use Rattle.std.proofs.Common.{true, false}
-use Rattle.linker_base.specs.Bits.{field}
-use Rattle.linker_riscv64.specs.declared.calls.LinkRegister.TheVariants.{OfJalr}
-use Rattle.std.proofs.lemmas.Bool.{cases_Bool, eqb-true, false≢true}
-use Rattle.std.specs.Int.{w16}
-use Rattle.std.specs.Prelude.{◌==◌, ◌||◌, ◌&&◌, if◌then◌else◌}
+use Rattle.linker_final.proofs.RiscVImports.{◌≡◌, ◌≢◌, ℕ, ◌+◌, ◌-◌, ◌%◌, ◌^◌, ◌<◌, ◌≤◌, inl, inr, List, length, take, drop, refl, sym, ap, subst, ◌∙◌, arith, Some, Ok, IsSomeAnd, drop-drop, All-drop, All-take, w32, from_le_bytes, riscv_relocation, IsApplied, value_of, Operands, RiscVRelocation, Groups, AreAddresses, plt_address, SiteBecomes, Site, relocation_in, offset_at, operands_with, IsRow, RiscV, take_all, AreBytes, architecture_of, place_of, site_bytes, site_len, site_offset, site_place, site_target, CallStays, word_at, IsCallPair, link_register, CallIsAlike, IsOfCall, LongCallsStay, SitesCallTheSame, call_row, instructions_in, landing, cj_goes, jal_goes, jump_group, address_is, rd_of, HasItsInstructions, IsCallAt, links_short, RiscVBecomes, short_jump, jump, call, true, false, field, OfJalr, cases_Bool, eqb-true, false≢true, w16, ◌==◌, ◌||◌, ◌&&◌, if◌then◌else◌, some_value, stay_inside, places_inside, instructions, are_addresses, site_becomes, site_inside, site_length, site_small, window_length, back_of_pair, front_of_pair}
 use Rattle.linker_elf.specs.declared.riscv64.relocations.RiscVRelocation.TheVariants as names
 use Rattle.linker_section.specs.Values as values
 
@@ -106,20 +85,11 @@ module _ (groups : Groups) (section : List ℕ) (o : ℕ) (bytes : AreBytes sect
           (address_is _ target jal.goes))
   becomes place target n final small reach new same (call len far) name of =
       let y = operands_of place target in
-      let addresses : AreAddresses y =
-      record {
-        symbol = reach;
-        place = small;
-        got_entry = omega arith;
-        got_base = omega arith;
-        plt_entry = reach;
-        tls_base = omega arith;
-      } in
       let plt : target ≡ plt_address y = omega (arith, reach) in
       let whole : take 8 final ≡ final = take_all 8 final (omega (arith, len)) in
       subst (λ m. CallIsAlike window y m (instructions_in m) (landing m target) final name) (sym len ∙ same)
       (subst (λ f. CallIsAlike window y 8 2 (target - target % 2) f name) whole
-      (long y (target - target % 2) final addresses (ap (λ t. t - t % 2) plt)
+      (long y (target - target % 2) final (are_addresses place target small reach) (ap (λ t. t - t % 2) plt)
       (subst (λ f. IsSomeAnd (riscv_relocation names.R_RISCV_CALL_PLT).row (λ row. IsApplied row y window f))
       (sym whole) far.relocated)
       (All-take (λ b. b < 2 ^ 8) 8 final new) (ap length whole ∙ len) name of))
@@ -140,9 +110,6 @@ sites groups p is riscv i site of name of_call =
 
 -- ---- calls that stay
 
-row_of_call : (name : RiscVRelocation) → IsOfCall name → (riscv_relocation name).row ≡ Some call_row
-row_of_call name of = of_either (λ n. (riscv_relocation n).row ≡ Some call_row) name of refl refl
-
 pub long_calls : Groups → LongCallsStay
 long_calls groups p is riscv i name stays symbol symbol_is small other_name of =
     let s = p.section in
@@ -150,7 +117,7 @@ long_calls groups p is riscv i name stays symbol symbol_is small other_name of =
     let r = relocation_in p.relocations_after i in
     let y = operands_with RiscV p.addresses call_row symbol r 0 in
     let arch = architecture_of p.machine in
-    let row_is = row_of_call name stays.of_call in
+    let row_is = of_either (λ n. (riscv_relocation n).row ≡ Some call_row) name stays.of_call refl refl in
     let machine : RiscV ≡ arch = sym riscv in
     let value = some_value (value_of call_row y) tt in
     let applied = instructions p is i call_row y
@@ -170,8 +137,7 @@ long_calls groups p is riscv i name stays symbol symbol_is small other_name of =
     }) stays.stays in
     let inside = stay_inside p is o 8 (omega arith) stays.stays in
     let fits = places_inside p is o 8 (omega arith) stays.stays in
-    let same = is.written.same_length in
     let final = drop (place_of p o) p.final in
     long groups s.bytes o is.section_bytes stays.call inside y (even plt_address y) final small refl applied
     (All-take (λ b. b < 2 ^ 8) 8 final (All-drop (λ b. b < 2 ^ 8) (place_of p o) p.final is.final_bytes))
-    (window_length (place_of p o) 8 p.final (omega (arith, fits, same))) other_name of
+    (window_length (place_of p o) 8 p.final (omega (arith, fits, is.written.same_length))) other_name of

@@ -1,11 +1,7 @@
 -- RISC-V: instructions that are deleted, and the run without them.
-use Rattle.linker_final.proofs.Imports.{ℕ, ◌+◌, ◌≤◌, List, drop, length, sym, ◌∙◌, arith, HasWord, Operands, RiscVRelocation, Groups, IsLowOffset, State, IsLui, riscv_matches, length-drop, IsLow12}
+use Rattle.linker_final.proofs.RiscVImports.{ℕ, ◌+◌, ◌≤◌, List, drop, length, sym, ◌∙◌, arith, HasWord, Operands, RiscVRelocation, Groups, IsLowOffset, State, IsLui, riscv_matches, length-drop, IsLow12, IsBefore, Packed, HighPartsAreLeftOut, LuiIsLeftOut, SumIsLeftOut, AreDeleted, Code, DeletedLui, RewriteKind, no_place}
+use Rattle.linker_final.specs.Packed.{AreDeleted as IsGone}
 use Rattle.linker_elf.specs.declared.riscv64.relocations.RiscVRelocation.TheVariants as names
-use Rattle.linker_final.proofs.PackedBytes.{no_place}
-use Rattle.linker_final.specs.Packed.{AreDeleted as IsGone, IsBefore, Packed}
-use Rattle.linker_final.specs.RiscVPacked.{HighPartsAreLeftOut, LuiIsLeftOut, SumIsLeftOut}
-use Rattle.linker_laws.specs.RiscVGroups.{AreDeleted, Code, DeletedLui}
-use Rattle.linker_utils.specs.declared.riscv64.rewrites.RewriteKind.{RewriteKind}
 use Rattle.linker_utils.specs.declared.riscv64.rewrites.RewriteKind.TheVariants as kinds
 
 -- new has nothing of the bytes

@@ -1,21 +1,12 @@
 -- What new has of rewritten instructions of RISC-V, in the final bytes or once they are packed, is
 -- what the rewrites left, with the values of their relocations.
-use Rattle.linker_final.proofs.Imports.{◌≡◌, ℕ, ◌+◌, ◌/◌, ◌<◌, ◌≤◌, List, length, refl, sym, ap, subst, ◌∙◌, arith, Option, Some, Ok, IsSomeAnd, slice_get, BitRange, IsApplied, IsRow, IsNamed, r_type_of, Choice, addend_after, offset_after, pair_row, riscv_name, riscv_relocation, riscv_row, difference_64, value_of, Relative, RelativeRiscVLow12, RowInfo, Architecture, RiscV, Operands, IType, UType, RiscVRelocation, after_rewrite, decision_at, Rewritten, RewrittenWithSymbol, Subject, riscv_entries, riscv_rewrite, Relaxation, relocation_in, offset_at, operands_in, operands_of, operands_with, AreWritten, Addresses, Symbol, Rela, AreBytes, AreRewritten, IsLinked, Linked, UntouchedInstruction, count, instruction_at, IsKeptInstruction, IsRewrittenAndPacked, Packed, architecture_of, place_of, HasLow, HasNamed, HasOwn, HasValue, IsNamedAs, New, anywhere, final, packed}
-use Rattle.linker_elf.specs.declared.elf.AnyForm.TheVariants as insns
-use Rattle.linker_elf.specs.declared.riscv64.relocations.RiscVRelocation.TheVariants as names
-use Rattle.linker_final.proofs.InstructionFields.{applied, applied_found, of_bits}
-use Rattle.linker_final.proofs.Joined.{r_type_is, final_inside, place_is, rewritten_inside, same_kept, within}
-use Rattle.linker_final.proofs.Labels.{low_found}
-use Rattle.linker_final.proofs.Phases.{bytes_left, last_length, last_within, later_bytes, relocation_left}
 use Rattle.linker_final.proofs.RiscVChosen.{Becomes, EachBecomes, becomes_of, of_subject}
 use Rattle.linker_final.proofs.RiscVWritten.{IsAfter, IsOwn, becomes, bytes_there, long_there, made_bytes, own_row, redirected_after, rewritten_after}
-use Rattle.linker_final.proofs.Written.{IsRowOf, by_name, rela, row_in, with_operands}
-use Rattle.linker_final.specs.RiscVFinal.{IsOfDescriptor, named_as}
-use Rattle.linker_final.specs.SectionRuns.{offset_of}
-use Rattle.linker_laws.specs.RiscVGroups.{Has, Stands}
-use Rattle.linker_utils.specs.RiscVRewrites.{rewrites_word}
+use Rattle.linker_final.proofs.RiscVImports.{◌≡◌, ℕ, ◌+◌, ◌/◌, ◌<◌, ◌≤◌, List, length, refl, sym, ap, subst, ◌∙◌, arith, Option, Some, Ok, IsSomeAnd, slice_get, BitRange, IsApplied, IsRow, IsNamed, r_type_of, Choice, addend_after, offset_after, pair_row, riscv_name, riscv_relocation, riscv_row, difference_64, value_of, Relative, RelativeRiscVLow12, RowInfo, Architecture, RiscV, Operands, IType, UType, RiscVRelocation, after_rewrite, decision_at, Rewritten, RewrittenWithSymbol, Subject, riscv_entries, riscv_rewrite, Relaxation, RiscV64, relocation_in, offset_at, operands_in, operands_of, operands_with, AreWritten, Addresses, Symbol, Rela, AreBytes, AreRewritten, IsLinked, Linked, UntouchedInstruction, count, instruction_at, IsKeptInstruction, IsRewrittenAndPacked, Packed, architecture_of, place_of, HasLow, HasNamed, HasOwn, IsNamedAs, New, anywhere, final, packed, IsOfDescriptor, named_as, offset_of, Has, Stands, rewrites_word, RewriteKind, applied, applied_found, of_bits, r_type_is, final_inside, place_is, rewritten_inside, same_kept, within, low_found, bytes_left, last_length, last_within, later_bytes, relocation_left, IsRowOf, by_name, rela, row_in, with_operands}
+use Rattle.linker_final.specs.RiscVSection.{HasValue}
+use Rattle.linker_elf.specs.declared.elf.AnyForm.TheVariants as insns
+use Rattle.linker_elf.specs.declared.riscv64.relocations.RiscVRelocation.TheVariants as names
 use Rattle.linker_utils.specs.declared.architecture.Relaxation.TheVariants as relaxations
-use Rattle.linker_utils.specs.declared.riscv64.rewrites.RewriteKind.{RewriteKind}
 
 -- ---- an instruction where values are written
 
@@ -243,14 +234,12 @@ module _ (l : Linked) (riscv : l.context.architecture ≡ RiscV) where
         relocation_left l linked n (offset_of l n) 4 left part.below ∙ part.left in
         let inside = part.inside in
         let sl = linked.same_length in
-        let fl = linked.written.same_length in
-        let ll = last_length l linked in
         record {
           within = last_within l linked n part.below;
           r_type = ap (λ (x : Rela). x.r_type) last;
           place_is = ap (λ (x : Rela). x.offset) last;
           same = bytes_left l linked n (offset_of l n) 4 left;
-          inside = omega (arith, inside, sl, fl, ll);
+          inside = omega (arith, inside, sl, linked.written.same_length, last_length l linked);
           rewritten_inside = omega (arith, inside, sl);
           old_bytes = part.bytes linked;
         }

@@ -1,15 +1,12 @@
 -- The rewrites of a section of RISC-V: each is of an instruction of its relocation, and those that
 -- have a law are groups.
-use Rattle.linker_final.proofs.Imports.{◌≡◌, ◌≢◌, ℕ, zero, suc, ◌<◌, List, [], ◌∷◌, Bool, true, false, Some, None, inl, inr, ap, sym, subst, ◌∙◌, refl, arith, or_parts, is_some, IsNamed, IsNameOf, riscv_name, RiscV, Choice, RiscVRelocation, Groups, choice_of, IsDecidedAfter, IsGroupDecision, IsScopeDecision, decision_at, is_taken, takes_next, IsScopeIn, group_stays, riscv_scope_in, Decision, Consumed, Kept, Rewritten, RewrittenWithSymbol, Scope, Grouped, NotRelaxable, Phase, relocation_in, RiscVEntry, riscv_entries, relaxation_skipped, Relaxation, list_any, AreRewritten, Linked, count, riscv_skipped}
+use Rattle.linker_final.proofs.RiscVImports.{◌≡◌, ◌≢◌, ℕ, zero, suc, ◌<◌, List, [], ◌∷◌, Bool, true, false, Some, None, inl, inr, ap, sym, subst, ◌∙◌, refl, arith, or_parts, is_some, IsNamed, IsNameOf, riscv_name, RiscV, Choice, RiscVRelocation, Groups, choice_of, IsDecidedAfter, IsGroupDecision, IsScopeDecision, decision_at, is_taken, takes_next, IsScopeIn, group_stays, riscv_scope_in, Decision, Consumed, Kept, Rewritten, RewrittenWithSymbol, Scope, Grouped, NotRelaxable, Phase, relocation_in, RiscVEntry, riscv_entries, relaxation_skipped, Relaxation, list_any, AreRewritten, Linked, count, riscv_skipped, Changes, Lawful, Leaves, New, RelocationsAreLeft, descriptor, fixed, high_part, law, load, low_address, low_part, low_store, rewriting, short_descriptor, sum, RewritesAreGroups, offset_of, AreIn, beside_or, is_linked}
 use Rattle.linker_elf.specs.declared.riscv64.relocations.RiscVRelocation.TheVariants as names
 use Rattle.linker_final.proofs.RiscVAddresses as addresses
 use Rattle.linker_final.proofs.RiscVChosen.{IsOfSome, of_some}
 use Rattle.linker_final.proofs.RiscVDescriptors as descriptors
 use Rattle.linker_final.proofs.RiscVLoads as loads
 use Rattle.linker_final.proofs.RiscVOffsets as offsets
-use Rattle.linker_final.proofs.SectionRuns.{AreIn, beside_or, is_linked}
-use Rattle.linker_final.specs.RiscVSection.{Changes, Lawful, Leaves, New, RelocationsAreLeft, descriptor, fixed, high_part, law, load, low_address, low_part, low_store, rewriting, short_descriptor, sum}
-use Rattle.linker_final.specs.SectionRuns.{RewritesAreGroups, offset_of}
 use Rattle.linker_rewriting.specs.declared.phases.Phase.TheVariants as phases
 
 -- ---- what stands at a place

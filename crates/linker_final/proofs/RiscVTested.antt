@@ -1,21 +1,14 @@
 -- What the choice of a rewrite over the thread pointer tested: the offset is a number of 12 bits.
-use Rattle.linker_final.proofs.Imports.{◌≡◌, ◌≢◌, ◌⊎◌, ◌^◌, ◌<◌, ◌-◌, ◌*◌, pos, negsuc, ℕ, suc, [], ◌∷◌, Bool, true, false, refl, sym, ap, subst, ◌∙◌, inl, inr, arith, List, Option, Some, None, if◌then◌else◌, slice_get, nat_lt, w64, cast_signed, cast_unsigned, from_le_bytes, AllHold, entry, IsWithin, ints, ltb-true, IsNamed, IsNameOf, pair_row, riscv_name, difference_64, sum_64, GotTpOff, TpOff, RowInfo, Choice, LinkFacts, Operands, IType, UType, RiscVRelocation, IsChosen, chosen_or_labelled, IsLowOffset, AppliesToRiscV, HasPattern, RiscVEntry, by_low_offset, riscv_entries, RelaxContext, address_in, link_facts, IsScopeIn, riscv_scope_in, is_labelled, Rewritten, RewrittenWithSymbol, Labelled, NotRelaxable, Phase, relocation_in, operands_with, Addresses, Symbol, Rela, Relaxation, RiscV, take, drop, HasAddresses, low_12_bounds, operands_before, Reaches, riscv_pair_bounds, count, IsNotRewrittenBy, NoneIsInitialExec, OffsetsAreLow, OffsetsAreLowOf, riscv_row_of, facts_at, facts_by, facts_with, placed_facts, far_entry, is_label_marked, without_entry, IsOfOne, of_entry}
+use Rattle.linker_final.proofs.RiscVImports.{◌≡◌, ◌≢◌, ◌⊎◌, ◌^◌, ◌<◌, ◌-◌, ◌*◌, pos, negsuc, ℕ, suc, [], ◌∷◌, Bool, true, false, refl, sym, ap, subst, ◌∙◌, inl, inr, arith, List, Option, Some, None, if◌then◌else◌, slice_get, nat_lt, w64, cast_signed, cast_unsigned, from_le_bytes, AllHold, entry, IsWithin, ints, ltb-true, IsNamed, IsNameOf, pair_row, riscv_name, difference_64, sum_64, GotTpOff, TpOff, RowInfo, Choice, LinkFacts, Operands, IType, UType, RiscVRelocation, IsChosen, chosen_or_labelled, IsLowOffset, AppliesToRiscV, HasPattern, RiscVEntry, by_low_offset, riscv_entries, RelaxContext, address_in, link_facts, IsScopeIn, riscv_scope_in, is_labelled, Rewritten, RewrittenWithSymbol, Labelled, NotRelaxable, Phase, relocation_in, operands_with, Addresses, Symbol, Rela, Relaxation, RiscV, take, drop, HasAddresses, low_12_bounds, operands_before, riscv_pair_bounds, count, IsNotRewrittenBy, NoneIsInitialExec, OffsetsAreLow, OffsetsAreLowOf, riscv_row_of, facts_at, facts_by, facts_with, placed_facts, far_entry, is_label_marked, without_entry, IsOfOne, of_entry, cast_negative, RewriteKind, OutputFacts, SymbolFacts, unwrap_or}
+use Rattle.linker_elf.specs.Relocate.{Reaches}
 use mir.Val.{sel}
-use Rattle.linker_base.proofs.Bits.{cast_negative}
 use Rattle.linker_final.proofs.RiscVChosen.{anyhow, kind_in, of_table}
-use Rattle.linker_utils.specs.declared.riscv64.rewrites.RewriteKind.{RewriteKind}
-use Rattle.linker_rewriting.specs.declared.facts.OutputFacts.{OutputFacts}
-use Rattle.linker_rewriting.specs.declared.facts.SymbolFacts.{SymbolFacts}
 use Rattle.linker_elf.specs.declared.riscv64.relocations.RiscVRelocation.TheVariants as names
 use Rattle.linker_utils.specs.declared.architecture.Relaxation.TheVariants as relaxations
 use Rattle.linker_utils.specs.declared.riscv64.rewrites.RewriteKind.TheVariants as kinds
 use Rattle.linker_rewriting.specs.declared.phases.Phase.TheVariants as phases
 
 -- ---- the facts
-
-abbrev facts_in : LinkFacts → Option LinkFacts → LinkFacts
-facts_in other None = other
-facts_in other (Some facts) = facts
 
 -- those once addresses are known
 record ArePlaced (phase : Phase) (output : OutputFacts) (addresses : Addresses) (values : List Symbol) (r : Rela)
@@ -32,14 +25,14 @@ module _ (output : OutputFacts) (addresses : Addresses) (values : List Symbol) (
       → ArePlaced phase output addresses values r marked facts
   by_value phase symbol None there is = absurd (let e : None ≡ Some facts = is in cc)
   by_value phase symbol (Some value) there is =
-      record { symbol = symbol; value = value; is_value = there; are = ap (facts_in facts) (sym is) }
+      record { symbol = symbol; value = value; is_value = there; are = ap (λ f. unwrap_or f facts) (sym is) }
 
   -- an address is known, or it isn't the phase before
   by_phase : (phase : Phase) (symbol : SymbolFacts) → (facts.has_addresses ≡ true) ⊎ (phase ≢ phases.PreLayout)
       → facts_at phase output addresses values r r marked symbol ≡ Some facts
       → ArePlaced phase output addresses values r marked facts
   by_phase phases.PreLayout symbol (inl known) is =
-      absurd (let e : false ≡ true = ap (λ (f : Option LinkFacts). (facts_in facts f).has_addresses) is ∙ known in cc)
+      absurd (let e : false ≡ true = ap (λ (f : Option LinkFacts). (unwrap_or f facts).has_addresses) is ∙ known in cc)
   by_phase phases.PreLayout symbol (inr late) is = absurd (late refl)
   by_phase phases.TlsLocalExec symbol late is = by_value phases.TlsLocalExec symbol (slice_get values r.symbol) refl is
   by_phase phases.GotToPcRel symbol late is = by_value phases.GotToPcRel symbol (slice_get values r.symbol) refl is
@@ -79,14 +72,11 @@ address_is : (addresses : Addresses) (value : Symbol) → value.is_thread_local 
 address_is addresses value is =
     ap (λ b. if value.is_undefined_weak then (if b then addresses.thread_origin else 0) else value.address) is
 
-abbrev row : RowInfo
-row = pair_row TpOff 32 IType
-
 -- what the entry's last condition says
 by_test : (s : RelaxContext) (section : List ℕ) (r : Rela) (chosen : Choice Relaxation ℕ)
     (c : IsChosen s section r chosen) (value : Symbol) → slice_get s.values r.symbol ≡ Some value
     → value.is_thread_local ≡ true → HasAddresses c.facts → IsTested c.facts.operands
-    → IsLowOffset (operands_with RiscV s.addresses row value r 0)
+    → IsLowOffset (operands_with RiscV s.addresses (pair_row TpOff 32 IType) value r 0)
 by_test s section r chosen c value is_value thread_local known is =
     let placed = by_symbol s.output s.addresses s.values r c.marked c.facts s.phase (slice_get s.symbols r.symbol) (inl known) c.facts_are in
     let both : Some placed.value ≡ Some value = sym placed.is_value ∙ is_value in
@@ -164,7 +154,7 @@ far o is small reaches =
 without_entry_is : (f : Option LinkFacts) (facts : LinkFacts) → without_entry f ≡ Some facts → (mine : LinkFacts) × (f ≡ Some mine)
     × (facts ≡ record mine { operands = record mine.operands { got_entry = far_entry mine.operands } })
 without_entry_is None facts is = absurd (let e : None ≡ Some facts = is in cc)
-without_entry_is (Some mine) facts is = (mine, refl, ap (facts_in facts) (sym is))
+without_entry_is (Some mine) facts is = (mine, refl, ap (λ f. unwrap_or f facts) (sym is))
 
 -- Each entry is of another kind, or requires one.
 abbrev EachReaches : RewriteKind → List RiscVEntry → Type 0

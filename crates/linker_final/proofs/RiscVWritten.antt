@@ -1,9 +1,5 @@
 -- Instructions of RISC-V and their relocations in the final bytes of a section.
-use Rattle.linker_final.proofs.Imports.{◌≡◌, ℕ, zero, suc, ℤ, ◌+◌, ◌-◌, ◌<◌, ◌≤◌, ◌^◌, List, [], ◌∷◌, length, drop, get_or, sym, ap, subst, ◌∙◌, arith, Some, Ok, refl, length-drop, length-take-le, All-drop, All-from_get_or, All-take, w32, from_le_bytes, to_le_bytes, offset_after, addend_after, rewritten, IsNamed, r_type_of, riscv_name, riscv_relocation, riscv_row, RowInfo, Choice, RiscVRelocation, after_rewrite, decision_at, IsDone, IsMade, relocation_after, Decision, RewrittenWithSymbol, Rewritten, Subject, riscv_rewrite, relocation_in, operands_in, operands_with, Addresses, Symbol, Rela, relaxation_rewrite, Relaxation, RiscV, AreBytes, AreRewritten, Linked, count, instruction_at}
-use Rattle.linker_final.proofs.Written.{rela}
-use Rattle.linker_final.proofs.InstructionFields.{IsOfInstruction}
-use Rattle.linker_utils.specs.RiscVRewrites.{rewrites_word}
-use Rattle.linker_utils.specs.declared.riscv64.rewrites.RewriteKind.{RewriteKind}
+use Rattle.linker_final.proofs.RiscVImports.{◌≡◌, ℕ, zero, suc, ℤ, ◌+◌, ◌-◌, ◌<◌, ◌≤◌, ◌^◌, List, [], ◌∷◌, length, drop, get_or, sym, ap, subst, ◌∙◌, arith, Some, Ok, refl, length-drop, length-take-le, All-drop, All-from_get_or, All-take, w32, from_le_bytes, to_le_bytes, offset_after, addend_after, rewritten, IsNamed, r_type_of, riscv_name, riscv_relocation, riscv_row, RowInfo, Choice, RiscVRelocation, after_rewrite, decision_at, IsDone, IsMade, relocation_after, Decision, RewrittenWithSymbol, Rewritten, Subject, riscv_rewrite, relocation_in, operands_in, operands_with, Addresses, Symbol, Rela, relaxation_rewrite, Relaxation, RiscV, AreBytes, AreRewritten, Linked, count, instruction_at, rewrites_word, RewriteKind, rela, IsOfInstruction}
 use Rattle.linker_utils.specs.declared.architecture.Relaxation.TheVariants as relaxations
 
 -- ---- bytes

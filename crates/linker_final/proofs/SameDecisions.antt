@@ -1,21 +1,13 @@
 -- What a call of a phase leaves, whose decisions and deletions are taken as they are.
-use Rattle.linker_final.proofs.Imports.{◌≡◌, ℕ, ◌^◌, ◌<◌, List, [], ◌∷◌, map, length, get_or, refl, ap, subst, Decision, RelaxContext, UnrelaxableGroups, AreWritten, HasRewritten, IsLinked, Linked, rewriting_phase, ArePhases, IsRewrittenAs, take, drop, deletions_by, count_of, AreListed, deletions_in, RewritingPhase}
+use Rattle.linker_final.proofs.Imports.{◌≡◌, ℕ, ◌^◌, ◌<◌, List, map, length, get_or, subst, Decision, RelaxContext, UnrelaxableGroups, AreWritten, HasRewritten, IsLinked, Linked, rewriting_phase, ArePhases, IsRewrittenAs, take, drop, deletions_by, count_of, AreListed, deletions_in, RewritingPhase, map-id}
 use Rattle.linker_final.proofs.PackedBytes.{are_bytes}
-
-pub same_decisions : (ds : List Decision) → map (λ d. d) ds ≡ ds
-same_decisions [] = refl
-same_decisions (d ∷ ds) = ap (λ xs. d ∷ xs) (same_decisions ds)
-
-pub same_deletions : (ds : List (ℕ × ℕ)) → map (λ d. d) ds ≡ ds
-same_deletions [] = refl
-same_deletions (d ∷ ds) = ap (λ xs. d ∷ xs) (same_deletions ds)
 
 pub has_rewritten : (s : RelaxContext) (kept : List UnrelaxableGroups) (before section : List ℕ) (ds : List Decision)
     (after bytes : List ℕ) → IsRewrittenAs s kept before after section bytes (map (λ d. d) ds)
     → length after ≡ length before → length bytes ≡ length section
     → HasRewritten (rewriting_phase s kept before section ds after bytes)
 has_rewritten s kept before section ds after bytes is as_many same_length =
-    let made = subst (IsRewrittenAs s kept before after section bytes) (same_decisions ds) is in
+    let made = subst (IsRewrittenAs s kept before after section bytes) (map-id ds) is in
     record {
       made = record {
         decided = made.decided;
@@ -49,7 +41,7 @@ pub listed_so : (p : RewritingPhase) (before after : List (ℕ × ℕ)) (len : �
 listed_so p before after len listed others =
     record {
       len = len;
-      listed = subst (λ ds. take len ds ≡ deletions_in p) (same_deletions after)
-          (subst (λ ds. take len (map (λ d. d) after) ≡ deletions_by p.relocations ds (count_of p)) (same_decisions p.decisions) listed);
+      listed = subst (λ ds. take len ds ≡ deletions_in p) (map-id after)
+          (subst (λ ds. take len (map (λ d. d) after) ≡ deletions_by p.relocations ds (count_of p)) (map-id p.decisions) listed);
       others = others;
     }

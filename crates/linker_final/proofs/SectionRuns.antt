@@ -1,6 +1,6 @@
 -- What stands at each place of a section, and runs of its code, of any architecture.
-use Rattle.linker_final.proofs.Imports.{◌≡◌, ◌≢◌, ℕ, zero, suc, ◌+◌, ◌-◌, ◌<◌, ◌≤◌, ◌⊎◌, inl, inr, List, [], ◌∷◌, ap, sym, subst, arith, refl, Bool, true, false, cases_eq, cases_lt, Architecture, Choice, Kinds, State, chosen_or_labelled, AreDecidedIn, decision_at, IsScopeIn, Decision, Kept, Rewritten, RewrittenWithSymbol, Subject, Scope, Labelled, Phase, relocation_in, Addresses, Relaxation, AreInTurn, Linked, RewritingPhase, count, linked_by, Comparison, Next, Simulates, by_group, uncovered}
-use Rattle.linker_final.specs.SectionRuns.{AreCalled, AreLeft, EachPlace, IsBeside, IsBesideAll, IsFollowed, IsPhase, IsPhaseIn, Known, Knows, Place, Rewriting, RewritesAreGroups, RunsAreFollowed, Section, begins, comparison, elsewhere, offset_of, rewritten, unchanged, within}
+use Rattle.linker_final.proofs.Imports.{◌≡◌, ◌≢◌, ℕ, zero, suc, ◌+◌, ◌-◌, ◌<◌, ◌≤◌, ◌⊎◌, inl, inr, List, [], ◌∷◌, ap, sym, subst, arith, refl, Bool, true, false, cases_eq, cases_lt, Architecture, Choice, Kinds, State, chosen_or_labelled, AreDecidedIn, decision_at, IsScopeIn, Decision, Kept, Rewritten, RewrittenWithSymbol, Subject, Scope, Labelled, Phase, relocation_in, Addresses, Relaxation, AreInTurn, Linked, RewritingPhase, count, linked_by, Comparison, Next, Simulates, by_group, uncovered, AreCalled, AreLeft, EachPlace, IsBeside, IsBesideAll, IsFollowed, IsPhase, IsPhaseIn, Known, Knows, Place, Rewriting, RewritesAreGroups, RunsAreFollowed, Section, comparison, elsewhere, offset_of, unchanged, within}
+use Rattle.linker_final.specs.SectionRuns.{begins, rewritten}
 
 -- all below a limit, or what one of them shows
 pub each_or : {Q : Type 0} (P : ℕ → Type 0) (m : ℕ) → ((i : ℕ) → i < m → P i ⊎ Q)
@@ -119,11 +119,9 @@ module _ (r : Rewriting) where
         by : (j : ℕ) → j < n → r.Stays l (at + j) ⊎ IsIn r l (at + j) → r.Stays l (at + j) ⊎ Place r x at n
         by j less (inl stays) = inl stays
         by j less (inr w) =
-            let first = w.first in
-            let last = w.last in
             elim (cases_eq at (r.span l w.g).0) [
               | inl e ↦ inr (begins l is w.g e)
-              | inr differs ↦ inr (within l is w.g (omega (arith, first, less)) (omega (arith, last)))
+              | inr differs ↦ inr (within l is w.g (omega (arith, w.first, less)) (omega (arith, w.last)))
             ]
 
     -- in all of some phases it stays, or it doesn't in one

@@ -1,5 +1,5 @@
 -- Instructions and their relocations in the bytes that rewrites leave, and in the final bytes.
-use Rattle.linker_final.proofs.Imports.{◌≡◌, ℕ, ℤ, ◌+◌, ◌-◌, ◌/◌, ◌<◌, ◌≤◌, ◌⊎◌, List, length, take, drop, sym, ap, subst, ◌∙◌, refl, inl, inr, arith, Option, Some, None, IsSomeAnd, Ok, true, cases_eq, cases_lt, cases_Bool, cond-false, take-take, drop-drop, w32, from_le_bytes, slice_get, Rewrite, addend_after, offset_after, window_of_rewrite, RewriteWindow, IsApplied, IsNamed, r_type_of, bytes_row, value_of, RowInfo, Choice, Operands, decision_at, window_of, written_end_at, IsDone, IsMade, relocation_after, Decision, Rewritten, IsField, field_end, field_len, entry_of, relocation_in, IsInNoField, IsRowValue, entry_address, has_value, is_there, offset_at, operands_by, operands_in, operands_of, operands_with, Addresses, Symbol, Entry, Rela, NoEntry, IsRow, relaxation_rewrite, Relaxation, Architecture, word_of_front, drop-take, ElfName, AreRewritten, Linked, UntouchedBytes, IsLinked, IsOutside, IsRewrittenByNoOther, IsWrittenByNoOther, count, instruction_at, two_at, start_by, written_end_by, entry_in, IsNamedValue, AreBytes, All-get_or, get_or_past, get_or, ◌^◌, names_label, false}
+use Rattle.linker_final.proofs.Imports.{◌≡◌, ℕ, ℤ, ◌+◌, ◌-◌, ◌/◌, ◌<◌, ◌≤◌, ◌⊎◌, List, length, take, drop, sym, ap, subst, ◌∙◌, refl, inl, inr, arith, Option, Some, None, IsSomeAnd, Ok, true, cases_eq, cases_lt, cases_Bool, cond-false, take-take, drop-drop, w32, from_le_bytes, slice_get, Rewrite, addend_after, offset_after, window_of_rewrite, RewriteWindow, IsApplied, IsNamed, r_type_of, bytes_row, value_of, RowInfo, Choice, Operands, decision_at, window_of, written_end_at, IsDone, IsMade, relocation_after, Decision, Rewritten, IsField, field_end, field_len, entry_of, relocation_in, IsRowValue, entry_address, has_value, is_there, offset_at, operands_by, operands_in, operands_of, operands_with, Addresses, Symbol, Entry, Rela, NoEntry, IsRow, relaxation_rewrite, Relaxation, Architecture, word_of_front, drop-take, ElfName, AreRewritten, Linked, UntouchedBytes, IsLinked, IsOutside, IsRewrittenByNoOther, IsWrittenByNoOther, count, instruction_at, two_at, start_by, written_end_by, entry_in, IsNamedValue, AreBytes, All-get_or, get_or_past, get_or, ◌^◌, names_label, false, unwrap_or}
 use Rattle.linker_elf.specs.declared.elf.RelocationKind.TheVariants.{None as NoValue}
 use Rattle.linker_final.proofs.InstructionFields.{IsOfInstruction, applied, instruction_len}
 use Rattle.linker_final.proofs.Phases.{bytes_left, last_as_many, last_within, relocation_left}
@@ -212,27 +212,15 @@ module _ (l : Linked) (rewriting : AreRewritten l) (i : ℕ) (chosen : Choice Re
   stays is alone =
       same_windows r.offset 4 l.rewritten l.section (sym rewriting.same_length)
       (λ at from less. rewriting.others at (λ j lj. elim (cases_eq j i) [
-        | inl same ↦ inr (subst (λ k. written_end_at l.relocations l.decisions k ≤ at) (sym same) (own at from))
+        | inl same ↦ inr (subst (λ k. written_end_at l.relocations l.decisions k ≤ at) (sym same)
+            (let end : written_end_at l.relocations l.decisions i ≡ r.offset - 0 + 0 =
+            ap (λ d. written_end_by d r.offset) decided
+            ∙ ap (λ q. r.offset - (window_of_rewrite q).back + (window_of_rewrite q).len) is in
+            omega (arith, end, from)))
         | inr isnt ↦ alone j at lj isnt from less
       ]))
-    where
-      own : (at : ℕ) → r.offset ≤ at → written_end_at l.relocations l.decisions i ≤ at
-      own at from =
-          let end : written_end_at l.relocations l.decisions i ≡ r.offset - 0 + 0 =
-          ap (λ d. written_end_by d r.offset) decided
-          ∙ ap (λ q. r.offset - (window_of_rewrite q).back + (window_of_rewrite q).len) is in
-          omega (arith, end, from)
 
 -- ---- bytes that no relocation writes
-
--- those of an instruction stay
-unwritten : (l : Linked) → IsLinked l → (p : ℕ)
-    → ((at : ℕ) → p ≤ at → at < p + 4
-    → IsInNoField l.context.architecture l.relocations_last l.last (length l.relocations_last / 24) at)
-    → instruction_at l.final p ≡ instruction_at l.last p
-unwritten l linked p free =
-    same_windows p 4 l.final l.last (sym linked.written.same_length)
-    (λ at from less. linked.written.others at (free at from less))
 
 -- The field of a relocation is apart from an instruction.
 abbrev pub IsApart : Linked → ℕ → ℕ → Type 0
@@ -244,8 +232,8 @@ IsApart l i p =
 pub unwritten_but : (l : Linked) → IsLinked l → (i p : ℕ) → UntouchedBytes l i p 4 → IsApart l i p
     → IsWrittenByNoOther l i p → instruction_at l.final p ≡ instruction_at l.rewritten p
 unwritten_but l linked i p left apart alone =
-    unwritten l linked p
-    (λ at from less j row lj field. elim (cases_eq j i) [
+    same_windows p 4 l.final l.last (sym linked.written.same_length)
+    (λ at from less. linked.written.others at (λ j row lj field. elim (cases_eq j i) [
       | inl same ↦
           subst (λ k. (at < offset_at l.relocations_last k) ⊎ (field_end l.relocations_last l.last k row ≤ at)) (sym same)
           (elim (apart row (subst (λ k. IsField l.context.architecture l.relocations_last l.last k row) same field)) [
@@ -253,19 +241,15 @@ unwritten_but l linked i p left apart alone =
             | inr following ↦ inr (omega (arith, following, from))
           ])
       | inr isnt ↦ alone j at (subst (λ n. j < n / 24) (last_as_many l linked) lj) isnt from less row field
-    ])
+    ]))
     ∙ bytes_left l linked i p 4 left
-
-abbrev pub of_row : RowInfo → Option RowInfo → RowInfo
-of_row other None = other
-of_row other (Some row) = row
 
 module _ (l : Linked) (i : ℕ) (after : Rela) (is_after : relocation_in l.relocations_last i ≡ after)
     (row : RowInfo) (only : IsRowOf l.context.architecture after.r_type row) where
   same_row : (other : RowInfo)
       → IsField l.context.architecture l.relocations_last l.last i other → other ≡ row
   same_row other field =
-      ap (of_row other)
+      ap (λ q. unwrap_or q other)
       (only (Some other) (subst (λ (x : Rela). IsRow l.context.architecture x.r_type (Some other)) is_after field.is_row))
 
   -- one without a value has no field

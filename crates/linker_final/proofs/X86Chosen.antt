@@ -1,9 +1,13 @@
 -- The rewrite that is chosen for a relocation of x86-64.
-use Rattle.linker_final.proofs.Imports.{◌≡◌, ℕ, ℤ, ◌<◌, List, [], ◌∷◌, refl, sym, ap, subst, ◌∙◌, inl, inr, ◌⊎◌, AllHold, choice, IsNamed, IsNameOf, r_type_of, x86_64_name, x86_64_row, Choice, LinkFacts, X86_64Relocation, chosen_at, decision_at, IsScopeIn, Rewritten, relocation_in, IsArchitectureChoice, relaxation_no_op, Relaxation, X86_64, Original, Table, X86Entry, opcode_at, x86_64_after, x86_64_table, RewriteKind, Applies, IsFirst, Linked, IsLinked, count}
-use Rattle.linker_final.proofs.X86Names.{unlabelled}
+use Rattle.linker_final.proofs.X86Imports.{true, false, Phase, Scope, Labelled, is_labelled, x86_64_none, ◌≡◌, ℕ, ℤ, ◌<◌, List, [], ◌∷◌, refl, sym, ap, subst, ◌∙◌, inl, inr, ◌⊎◌, AllHold, choice, IsNamed, IsNameOf, r_type_of, x86_64_name, x86_64_row, Choice, LinkFacts, X86_64Relocation, chosen_at, decision_at, IsScopeIn, Rewritten, relocation_in, IsArchitectureChoice, relaxation_no_op, Relaxation, X86_64, Original, Table, X86Entry, opcode_at, x86_64_after, x86_64_table, RewriteKind, Applies, IsFirst, Linked, IsLinked, count, HasPattern}
 use Rattle.linker_utils.specs.declared.architecture.Relaxation.TheVariants as relaxations
-use Rattle.linker_utils.specs.X86Rewrites.{HasPattern}
 use Rattle.linker_utils.specs.declared.x86_64.rewrites.RewriteKind.TheVariants as kinds
+
+-- x86-64 has no labels
+pub unlabelled : (phase : Phase) (code : ℕ) (scope : Scope) → IsScopeIn X86_64 phase code scope
+    → scope ≡ Labelled → ⊥
+unlabelled phase code scope is labelled =
+    let e : true ≡ false = sym (ap is_labelled labelled) ∙ (ap is_labelled is.value_is ∙ x86_64_none phase is.name) in cc
 
 -- It is that of an entry, for a relocation with an addend.
 pub record IsOfEntry (pattern : List Original) (e : X86Entry) (section : List ℕ) (o : ℕ) (addend : ℤ)

@@ -1,21 +1,15 @@
 -- The `lea` of a descriptor's address of x86-64 and the call of its function are groups in the
 -- final bytes.
-use Rattle.linker_final.proofs.Imports.{◌≡◌, ℕ, ◌+◌, ◌-◌, ◌^◌, ◌<◌, ◌≤◌, ◌||◌, Bool, List, [], ◌∷◌, length, drop, false, true, refl, sym, ap, subst, ◌∙◌, inl, inr, arith, IsTrue, Some, slice_get, replaces, Symbol, x86_64_relocation_after, IsNamed, IsNameOf, r_type_of, x86_64_name, Choice, X86_64Relocation, thread_row, reg_after_rex, reg_after_rex2, decision_at, Rewritten, relocation_in, is_of_got, operands_with, Rela, Relaxation, X86_64, is_at, is_one_at, x86_64_matches, x86_64_originals, x86_64_rewrite, RewriteKind, UntouchedByOthers, IsLinked, Linked, count, any_entry, descriptor_table, lea_of_descriptor, rex2_w, rex_mov, rex_w, unrelocated_by, with_rex, with_rex2, or_cases, or_left, or_right}
+use Rattle.linker_final.proofs.X86Imports.{◌≡◌, ℕ, ◌+◌, ◌-◌, ◌^◌, ◌<◌, ◌≤◌, ◌||◌, Bool, List, [], ◌∷◌, length, drop, false, true, refl, sym, ap, subst, ◌∙◌, inl, inr, arith, IsTrue, Some, slice_get, replaces, Symbol, x86_64_relocation_after, IsNamed, IsNameOf, r_type_of, x86_64_name, Choice, X86_64Relocation, thread_row, reg_after_rex, reg_after_rex2, decision_at, Rewritten, relocation_in, is_of_got, operands_with, Rela, Relaxation, X86_64, is_at, is_one_at, x86_64_matches, x86_64_originals, x86_64_rewrite, RewriteKind, UntouchedByOthers, IsLinked, Linked, count, any_entry, descriptor_table, lea_of_descriptor, rex2_w, rex_mov, rex_w, unrelocated_by, with_rex, with_rex2, or_cases, or_left, or_right, Makes, Window, call, lea, put_back, window, window_of, LeaToEntry, LeaToOffset, Stands, HasWindow, own_window, last_length, same_windows, unwrap_or}
 use Rattle.linker_elf.specs.declared.x86_64.relocations.X86_64Relocation.TheVariants as names
-use Rattle.linker_final.proofs.Inner.{HasWindow, own_window}
-use Rattle.linker_final.proofs.Phases.{last_length}
 use Rattle.linker_final.proofs.X86Chosen.{IsOfTable}
-use Rattle.linker_final.proofs.PutBack.{same_windows}
 use Rattle.linker_final.proofs.X86Finals.{final_is, some_and}
 use Rattle.linker_final.proofs.X86Lawful.{AreOf, shaped_of}
 use Rattle.linker_final.proofs.X86Patterns.{there_inside}
 use Rattle.linker_final.proofs.X86Rows.{tpoff32}
 use Rattle.linker_final.proofs.X86ThreadEntries.{entry_final}
 use Rattle.linker_final.proofs.X86Windows.{IsLawful, LawAt, before, has_rewrite, object_bytes, object_has, object_length, object_matches, object_same, of_field, unrelocated}
-use Rattle.linker_final.proofs.Written.{of_row}
-use Rattle.linker_final.specs.X86Section.{Makes, Window, call, lea, put_back, window, window_of}
 use Rattle.linker_laws.specs.X86Groups as groups
-use Rattle.linker_laws.specs.X86Groups.{LeaToEntry, LeaToOffset, Stands}
 use Rattle.linker_utils.specs.declared.architecture.Relaxation.TheVariants as relaxations
 use Rattle.linker_utils.specs.declared.x86_64.rewrites.RewriteKind.TheVariants as kinds
 
@@ -69,7 +63,7 @@ module _ (n : ℕ) (three : 3 ≤ n) (name : X86_64Relocation) (named : IsNamed 
           room = room there;
           law = λ alone symbol o c s final pc object.
               of_field l linked i chosen name w small (room there) symbol o c s final pc object
-              thread_row (ap (of_row object.row) (object.by.1)) (law alone symbol (object.by.0));
+              thread_row (ap (λ q. unwrap_or q object.row) (object.by.1)) (law alone symbol (object.by.0));
         }
 
     pub lea_is_lawful : IsOfTable (descriptor_table n) l.section o r.addend chosen

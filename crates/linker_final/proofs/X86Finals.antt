@@ -1,16 +1,9 @@
 -- A rewritten instruction of x86-64 is a group in the final bytes.
-use Rattle.linker_final.proofs.Imports.{◌≡◌, ℕ, ℤ, pos, ◌+◌, ◌-◌, ◌^◌, ◌<◌, ◌≤◌, List, length, false, refl, sym, ap, subst, ◌∙◌, arith, Option, Some, IsSomeAnd, cond-false, slice_get, Rewrite, rewritten, offset_after, operands_after, IsNameOf, r_type_of, sum_64, difference_64, value_of, x86_64_name, x86_64_row, RowInfo, Choice, Operands, X86_64Relocation, decision_at, Rewritten, loads_plt_word, relocation_in, operands_with, operands_in, is_of_got, Addresses, Symbol, Rela, IsRow, Relaxation, X86_64, x86_64_relocation_after, x86_64_rewrite, x86_64_originals, RewriteKind, Linked, IsLinked, UntouchedByOthers, count}
-use Rattle.linker_final.proofs.Inner.{HasWindow}
-use Rattle.linker_final.proofs.X86Chosen.{of_table}
-use Rattle.linker_final.proofs.X86Lawful.{HasLaw, IsServed, of_choice, shaped_of}
-use Rattle.linker_final.proofs.X86Names.{GotOperand, got_name, got_operand}
+use Rattle.linker_final.proofs.X86Imports.{◌≡◌, ℕ, ℤ, pos, ◌+◌, ◌-◌, ◌^◌, ◌<◌, ◌≤◌, List, length, false, refl, sym, ap, subst, ◌∙◌, arith, Option, Some, IsSomeAnd, cond-false, slice_get, Rewrite, rewritten, offset_after, operands_after, IsNameOf, r_type_of, sum_64, difference_64, value_of, x86_64_name, x86_64_row, RowInfo, Choice, Operands, X86_64Relocation, decision_at, Rewritten, loads_plt_word, relocation_in, operands_with, operands_in, is_of_got, Addresses, Symbol, Rela, IsRow, Relaxation, X86_64, x86_64_relocation_after, x86_64_rewrite, x86_64_originals, RewriteKind, Linked, IsLinked, UntouchedByOthers, count, IsGroupOf, Window, in_got, put_back, window, window_of, IsRelocated, HasWindow, rela, unwrap_or}
+use Rattle.linker_final.proofs.X86Lawful.{HasLaw, IsServed, shaped_of}
 use Rattle.linker_final.proofs.X86Patterns.{there_inside}
 use Rattle.linker_final.proofs.X86Rows.{IsAfterRow}
 use Rattle.linker_final.proofs.X86Windows.{HasRewrite, IsLawful, LawAt, before, has_rewrite, object_has, object_matches, of_field, offset_small, relocated_after}
-use Rattle.linker_final.proofs.Written.{of_row, rela}
-use Rattle.linker_final.specs.X86Section.{IsGroupOf, Window, in_got, put_back, window, window_of}
-use Rattle.linker_laws.specs.X86Groups.{Groups}
-use Rattle.linker_laws.specs.X86RewriteLaws.{IsRelocated}
 
 pub some_and : {A : Type 0} (P : A → Type 0) (q : Option A) (x : A) → q ≡ Some x → IsSomeAnd q P → P x
 some_and {A} P q x is h = subst (λ z. IsSomeAnd z P) is h
@@ -27,14 +20,11 @@ with_parts o symbol addend place = record o { symbol = symbol; addend = addend; 
 module _ (addresses : Addresses) (after : X86_64Relocation) (a : IsAfterRow after) (symbol : Symbol)
     (r : Rela) (made : Rewrite) (code entry : ℕ) (small : r.offset < 2 ^ 64)
     (before_is : is_of_got X86_64 r.r_type ≡ false) (after_is : is_of_got X86_64 code ≡ false) where
-  abbrev r' : Rela
-  r' = rela (made.offset r.offset) code r.symbol (made.addend r.addend)
-
   abbrev was : Operands
   was = operands_with X86_64 addresses a.row symbol r entry
 
   abbrev is : Operands
-  is = operands_with X86_64 addresses a.row symbol r' 0
+  is = operands_with X86_64 addresses a.row symbol (rela (made.offset r.offset) code r.symbol (made.addend r.addend)) 0
 
   pub addend_was : was.addend ≡ r.addend
   addend_was = cond-false (loads_plt_word a.row.size a.row.kind) (pos 0) r.addend a.unloaded
@@ -50,9 +40,6 @@ module _ (addresses : Addresses) (after : X86_64Relocation) (a : IsAfterRow afte
       ap made.addend addend_was
       ∙ sym (cond-false (loads_plt_word a.row.size a.row.kind) (pos 0) (made.addend r.addend) a.unloaded)
 
-  place_same : difference_64 (sum_64 was.place (made.offset r.offset)) r.offset ≡ is.place
-  place_same = moved addresses.section r.offset (made.offset r.offset) small
-
   -- the formula has the same value
   pub value_same : value_of a.row (operands_after (Some made) r.offset was) ≡ value_of a.row is
   value_same =
@@ -60,7 +47,7 @@ module _ (addresses : Addresses) (after : X86_64Relocation) (a : IsAfterRow afte
       ap (value_of a.row)
       (ap (λ x. with_parts w x (made.addend w.addend) (difference_64 (sum_64 w.place (made.offset r.offset)) r.offset)) symbol_same
       ∙ (ap (λ x. with_parts w is.symbol x (difference_64 (sum_64 w.place (made.offset r.offset)) r.offset)) addend_same
-      ∙ ap (λ x. with_parts w is.symbol is.addend x) place_same))
+      ∙ ap (λ x. with_parts w is.symbol is.addend x) (moved addresses.section r.offset (made.offset r.offset) small)))
       ∙ a.same_value is entry was.plt_entry
 
 -- ---- the relocation after, written
@@ -99,11 +86,12 @@ final_is l i back end kind is after a before_is r_type_is low high symbol is_sym
 
 -- ---- one instruction
 
-module _ (laws : Groups) (name : X86_64Relocation) (operand : GotOperand)
-    (wanted : got_operand name ≡ Some operand) (l : Linked) (linked : IsLinked l)
-    (x86 : l.context.architecture ≡ X86_64) (i : ℕ) (chosen : Choice Relaxation ℕ)
-    (below : i < count l) (decided : decision_at l.decisions i ≡ Rewritten chosen)
+module _ (name : X86_64Relocation) (back : ℕ) (held : Operands → ℕ)
+    (not_of_got : is_of_got X86_64 (r_type_of (x86_64_name name)) ≡ false) (l : Linked) (linked : IsLinked l)
+    (x86 : l.context.architecture ≡ X86_64) (i : ℕ) (chosen : Choice Relaxation ℕ) (below : i < count l)
+    (decided : decision_at l.decisions i ≡ Rewritten chosen)
     (is_name : IsNameOf x86_64_name (relocation_in l.relocations i).r_type name)
+    (served : IsServed back name held l.section (relocation_in l.relocations i).offset (relocation_in l.relocations i).addend chosen)
   where
     abbrev r : Rela
     r = relocation_in l.relocations i
@@ -112,47 +100,39 @@ module _ (laws : Groups) (name : X86_64Relocation) (operand : GotOperand)
     o = r.offset
 
     abbrev around : Window
-    around = window (in_got operand.held) operand.back 4
+    around = window (in_got held) back 4
 
     abbrev DoesTheSame : RowInfo → Type 0
     DoesTheSame row =
         (symbol : Symbol) → slice_get l.symbols r.symbol ≡ Some symbol → LawAt l i name row around chosen.kind symbol
 
-    served : IsServed operand.back name operand.held l.section o r.addend chosen
-    served =
-        let got = got_name name operand wanted in
-        of_choice laws name operand wanted l.section o r.addend chosen
-        (of_table l linked x86 i chosen below decided name got.named is_name)
-
-    abbrev law : HasLaw operand.back name operand.held l.section o served.named
+    abbrev law : HasLaw back name held l.section o served.named
     law = served.has_law
 
     abbrev kind : RewriteKind
     kind = served.named.kind
 
-    abbrev w : HasWindow operand.back 4 (x86_64_rewrite kind)
+    abbrev w : HasWindow back 4 (x86_64_rewrite kind)
     w = law.within.window
 
     abbrev after : X86_64Relocation
     after = served.named.relocation
 
-    room : (operand.back ≤ o) × (o + 4 ≤ length l.section)
-    room = there_inside operand.back 4 (omega arith) law.instructions l.section o law.are_of law.there
+    room : (back ≤ o) × (o + 4 ≤ length l.section)
+    room = there_inside back 4 (omega arith) law.instructions l.section o law.are_of law.there
 
-    module _ (alone : UntouchedByOthers l i (o - operand.back) (operand.back + 4)) where
-      abbrev has : HasRewrite l i operand.back 4 kind
+    module _ (alone : UntouchedByOthers l i (o - back) (back + 4)) where
+      abbrev has : HasRewrite l i back 4 kind
       has = has_rewrite l linked x86 i chosen below decided served.kind_is w law.matches room alone
 
       abbrev object : List ℕ
-      object = put_back (o - operand.back) (operand.back + 4) l.section l.final
+      object = put_back (o - back) (back + 4) l.section l.final
 
       small : o < 2 ^ 64
-      small = offset_small l i operand.back 4 kind has
+      small = offset_small l i back 4 kind has
 
       before_is : is_of_got X86_64 r.r_type ≡ false
-      before_is =
-          let got = got_name name operand wanted in
-          ap (is_of_got X86_64) (sym is_name.r_type_is) ∙ got.is_not_of_got
+      before_is = ap (is_of_got X86_64) (sym is_name.r_type_is) ∙ not_of_got
 
       module _ (a : IsAfterRow after) (symbol : Symbol) (is_symbol : slice_get l.symbols r.symbol ≡ Some symbol)
           (entry : ℕ) where
@@ -163,9 +143,8 @@ module _ (laws : Groups) (name : X86_64Relocation) (operand : GotOperand)
             (offset_after (x86_64_rewrite kind) o) (rewritten (x86_64_rewrite kind) object o) l.final
         relocated =
             let moves = law.within.moves o (has.room.0) in
-            let high = moves.1 in
-            final_is l i operand.back 4 kind has after a before_is served.r_type_is
-            (moves.0) (omega (arith, high)) symbol is_symbol entry
+            final_is l i back 4 kind has after a before_is served.r_type_is
+            (moves.0) (omega (arith, moves.1)) symbol is_symbol entry
 
       does_the_same : (a : IsAfterRow after) → DoesTheSame a.row
       does_the_same a symbol is_symbol entry c s there =
@@ -173,12 +152,12 @@ module _ (laws : Groups) (name : X86_64Relocation) (operand : GotOperand)
           let addend = addend_was l.addresses after a symbol r w.made chosen.relocation entry small
           before_is (ap (is_of_got X86_64) served.r_type_is ∙ a.is_not_of_got)
           ∙ served.is_from_end in
-          subst (λ k. IsGroupOf k operand.held c operands s) (sym served.kind_is)
+          subst (λ k. IsGroupOf k held c operands s) (sym served.kind_is)
           (some_and _ (x86_64_relocation_after kind name) after law.after law.law
-          c s object there.original l.final o operands (before l i operand.back 4 kind has name operands c s there addend)
-          (object_has l i operand.back 4 kind has law.instructions (shaped_of operand.back 4 law.instructions law.are_of) law.there)
-          (object_matches l i operand.back 4 kind has
-          (object_has l i operand.back 4 kind has (x86_64_originals kind) law.shaped_too (law.matches.1)))
+          c s object there.original l.final o operands (before l i back 4 kind has name operands c s there addend)
+          (object_has l i back 4 kind has law.instructions (shaped_of back 4 law.instructions law.are_of) law.there)
+          (object_matches l i back 4 kind has
+          (object_has l i back 4 kind has (x86_64_originals kind) law.shaped_too (law.matches.1)))
           there.applied (relocated a symbol is_symbol entry) there.old there.new)
 
     -- the row of the relocation after
@@ -186,13 +165,9 @@ module _ (laws : Groups) (name : X86_64Relocation) (operand : GotOperand)
         → law.row.row ≡ row
     row_same row is_row =
         let same = is_row.is_name.named after law.row.named (sym served.r_type_is) in
-        ap (of_row row) (sym (is_row.value_is ∙ (ap x86_64_row same ∙ law.row.is)))
+        ap (λ q. unwrap_or q row) (sym (is_row.value_is ∙ (ap x86_64_row same ∙ law.row.is)))
 
-    of_any_row : UntouchedByOthers l i (o - operand.back) (operand.back + 4) → (row : RowInfo)
-        → IsRow X86_64 chosen.relocation (Some row) → DoesTheSame row
-    of_any_row alone row is_row = subst DoesTheSame (row_same row is_row) (does_the_same alone law.row)
-
-    pub got_is_lawful : window_of name chosen.kind ≡ Some around → operand.back < 2 ^ 64
+    pub got_is_lawful : window_of name chosen.kind ≡ Some around → back < 2 ^ 64
         → IsLawful l i chosen name around
     got_is_lawful is small =
         record {
@@ -204,5 +179,5 @@ module _ (laws : Groups) (name : X86_64Relocation) (operand : GotOperand)
           room = room;
           law = λ alone symbol o c s final pc object.
               of_field l linked i chosen name around small room symbol o c s final pc object
-              object.row refl (of_any_row alone object.row (object.by.1) symbol (object.by.0));
+              object.row refl (subst DoesTheSame (row_same object.row (object.by.1)) (does_the_same alone law.row) symbol (object.by.0));
         }

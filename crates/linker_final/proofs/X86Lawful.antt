@@ -1,14 +1,12 @@
 -- Each rewrite that is chosen for an instruction with an operand in the GOT has a law.
-use Rattle.linker_final.proofs.Imports.{◌≡◌, ℕ, ℤ, pos, neg_ℤ, ◌+◌, ◌≤◌, List, [], ◌∷◌, length, Bool, true, false, IsTrue, eqb, cond, refl, sym, subst, ◌∙◌, inl, inr, arith, Some, None, ⊤, AllHold, choice, r_type_of, x86_64_name, x86_64_row, Choice, LinkFacts, Operands, X86_64Relocation, address, thread_offset, Relaxation, x86_64_relocation_after, Original, is_one_at, x86_64_matches, opcode_at, x86_64_originals, x86_64_rewrite, x86_64_after, x86_64_table, X86Entry, Table, RewriteKind, IsGroupOf, immediate_of}
+use Rattle.linker_final.proofs.X86Imports.{◌≡◌, ℕ, ℤ, pos, neg_ℤ, ◌+◌, ◌≤◌, List, [], ◌∷◌, length, Bool, true, false, IsTrue, eqb, cond, refl, sym, subst, ◌∙◌, inl, inr, arith, Some, ⊤, AllHold, choice, r_type_of, x86_64_name, x86_64_row, Choice, LinkFacts, Operands, X86_64Relocation, address, thread_offset, Relaxation, x86_64_relocation_after, Original, is_one_at, x86_64_matches, x86_64_originals, x86_64_rewrite, x86_64_after, x86_64_table, X86Entry, Table, RewriteKind, IsGroupOf, immediate_of, Groups, legacy, HasPattern, IsWithin, within, jump, wide}
+use Rattle.linker_laws.specs.X86Groups.{Rewritten}
+use Rattle.linker_final.proofs.Inner.{lea}
 use Rattle.linker_elf.specs.declared.x86_64.relocations.X86_64Relocation.TheVariants as names
-use Rattle.linker_final.proofs.Inner.{IsWithin, within, lea, jump, wide}
 use Rattle.linker_final.proofs.X86Chosen.{IsOfOne, IsOfTable}
-use Rattle.linker_final.proofs.X86Names.{GotOperand, got_operand}
 use Rattle.linker_final.proofs.X86Rows.{IsAfterRow, pc32, absolute32, signed32, tpoff32}
-use Rattle.linker_laws.specs.X86Groups.{Groups, Rewritten}
 use Rattle.linker_utils.specs.declared.architecture.Relaxation.TheVariants as relaxations
 use Rattle.linker_utils.specs.X86Rewrites as x86
-use Rattle.linker_utils.specs.X86Rewrites.{legacy, HasPattern}
 use Rattle.linker_utils.specs.declared.x86_64.rewrites.RewriteKind.TheVariants as kinds
 
 -- ---- the shape of a rewrite
@@ -30,8 +28,7 @@ pub shaped_of : (n end : ℕ) (rs : List Original) → AreOf n end rs → HaveSh
 shaped_of n end [] are = tt
 shaped_of n end (r ∷ rs) are =
     let back = are.0.0 in
-    let long = are.0.1 in
-    ((omega (arith, back), omega (arith, back, long)), shaped_of n end rs (are.1))
+    ((omega (arith, back), omega (arith, back, are.0.1)), shaped_of n end rs (are.1))
 
 -- ---- a rewrite with its law
 
@@ -159,6 +156,13 @@ pub record TableServes (n : ℕ) (name : X86_64Relocation) (held : Operands → 
   where
     pub serves : AllServe n name held t.instructions t.entries
 
+-- each choice of it
+pub of_choice : {n : ℕ} {name : X86_64Relocation} {held : Operands → ℕ} {t : Table} {section : List ℕ} {o : ℕ}
+    {addend : ℤ} {chosen : Choice Relaxation ℕ} → TableServes n name held t
+    → IsOfTable t section o addend chosen → IsServed n name held section o addend chosen
+of_choice {n} {name} {held} {t} {section} {o} {addend} {chosen} serves =
+    by_entries n name held t.instructions t.entries section o addend chosen serves.serves
+
 -- one of two tables
 either : (n : ℕ) (name : X86_64Relocation) (held : Operands → ℕ) (b : Bool) (t u : Table)
     → TableServes n name held t → TableServes n name held u
@@ -239,7 +243,7 @@ module _ (n : ℕ) (name : X86_64Relocation) where
       (either n name address (eqb opcode 0x85) _ _ test
       (nothing n name address))))))))))
 
--- ---- all names
+-- ---- each name
 
 module _ (laws : Groups) where
   got_2 : (opcode : ℕ) → TableServes 2 names.R_X86_64_GOTPCRELX address (x86.got_table 2 opcode)
@@ -256,7 +260,7 @@ module _ (laws : Groups) where
       (operation 2 names.R_X86_64_GOTPCRELX (kinds.RexXorIndirectToAbsolute 2) ((omega arith, omega arith), tt) refl (within 2 2 2 _ _ (x86_64_rewrite (kinds.RexXorIndirectToAbsolute 2)) refl (omega arith) (omega arith)) absolute32 laws.operations.7.0)
       (operation 2 names.R_X86_64_GOTPCRELX (kinds.RexTestIndirectToAbsolute 2) ((omega arith, omega arith), tt) refl (within 2 2 2 _ _ (x86_64_rewrite (kinds.RexTestIndirectToAbsolute 2)) refl (omega arith) (omega arith)) absolute32 laws.operations.8.0)
 
-  got_3 : (opcode : ℕ) → TableServes 3 names.R_X86_64_REX_GOTPCRELX address (x86.got_table 3 opcode)
+  pub got_3 : (opcode : ℕ) → TableServes 3 names.R_X86_64_REX_GOTPCRELX address (x86.got_table 3 opcode)
   got_3 opcode =
       got 3 names.R_X86_64_REX_GOTPCRELX opcode
       (movs 3 names.R_X86_64_REX_GOTPCRELX ((omega arith, omega arith), tt) ((omega arith, omega arith), tt) refl (within 3 3 3 _ _ (x86_64_rewrite (kinds.RexMovIndirectToAbsolute 3)) refl (omega arith) (omega arith)) signed32 laws.absolute.1.1 (omega arith) refl laws.loads.0.1)
@@ -270,7 +274,7 @@ module _ (laws : Groups) where
       (operation 3 names.R_X86_64_REX_GOTPCRELX (kinds.RexXorIndirectToAbsolute 3) ((omega arith, omega arith), tt) refl (within 3 3 3 _ _ (x86_64_rewrite (kinds.RexXorIndirectToAbsolute 3)) refl (omega arith) (omega arith)) signed32 laws.operations.7.1)
       (operation 3 names.R_X86_64_REX_GOTPCRELX (kinds.RexTestIndirectToAbsolute 3) ((omega arith, omega arith), tt) refl (within 3 3 3 _ _ (x86_64_rewrite (kinds.RexTestIndirectToAbsolute 3)) refl (omega arith) (omega arith)) signed32 laws.operations.8.1)
 
-  got_4 : (opcode : ℕ) → TableServes 4 names.R_X86_64_CODE_4_GOTPCRELX address (x86.got_table 4 opcode)
+  pub got_4 : (opcode : ℕ) → TableServes 4 names.R_X86_64_CODE_4_GOTPCRELX address (x86.got_table 4 opcode)
   got_4 opcode =
       got 4 names.R_X86_64_CODE_4_GOTPCRELX opcode
       (movs 4 names.R_X86_64_CODE_4_GOTPCRELX ((omega arith, omega arith), tt) ((omega arith, omega arith), tt) refl (within 4 3 3 _ _ (x86_64_rewrite (kinds.RexMovIndirectToAbsolute 4)) refl (omega arith) (omega arith)) signed32 laws.absolute.1.2 (omega arith) refl laws.loads.0.2)
@@ -284,7 +288,7 @@ module _ (laws : Groups) where
       (operation 4 names.R_X86_64_CODE_4_GOTPCRELX (kinds.RexXorIndirectToAbsolute 4) ((omega arith, omega arith), tt) refl (within 4 3 3 _ _ (x86_64_rewrite (kinds.RexXorIndirectToAbsolute 4)) refl (omega arith) (omega arith)) signed32 laws.operations.7.2)
       (operation 4 names.R_X86_64_CODE_4_GOTPCRELX (kinds.RexTestIndirectToAbsolute 4) ((omega arith, omega arith), tt) refl (within 4 3 3 _ _ (x86_64_rewrite (kinds.RexTestIndirectToAbsolute 4)) refl (omega arith) (omega arith)) signed32 laws.operations.8.2)
 
-  got_6 : (opcode : ℕ) → TableServes 6 names.R_X86_64_CODE_6_GOTPCRELX address (x86.got_table 6 opcode)
+  pub got_6 : (opcode : ℕ) → TableServes 6 names.R_X86_64_CODE_6_GOTPCRELX address (x86.got_table 6 opcode)
   got_6 opcode =
       got 6 names.R_X86_64_CODE_6_GOTPCRELX opcode
       (record { serves = (by_no_pattern 6 names.R_X86_64_CODE_6_GOTPCRELX address _, (λ facts after h. h.1.1.0), (by_no_pattern 6 names.R_X86_64_CODE_6_GOTPCRELX address _, (λ facts after h. h.1.1.0), (by_no_pattern 6 names.R_X86_64_CODE_6_GOTPCRELX address _, (λ facts after h. h.1.1.0), tt))) })
@@ -298,7 +302,7 @@ module _ (laws : Groups) where
       (operation 6 names.R_X86_64_CODE_6_GOTPCRELX (kinds.RexXorIndirectToAbsolute 6) ((omega arith, omega arith), ((omega arith, omega arith), tt)) refl (within 6 5 5 _ _ (x86_64_rewrite (kinds.RexXorIndirectToAbsolute 6)) refl (omega arith) (omega arith)) signed32 laws.operations.9.5)
       (no_operation 6 names.R_X86_64_CODE_6_GOTPCRELX (kinds.RexTestIndirectToAbsolute 6) refl)
 
-  load : (opcode : ℕ) → TableServes 3 names.R_X86_64_GOTPCREL address (x86.load_table opcode)
+  pub load : (opcode : ℕ) → TableServes 3 names.R_X86_64_GOTPCREL address (x86.load_table opcode)
   load opcode =
       either 3 names.R_X86_64_GOTPCREL address (eqb opcode 0x8b) _ _
       (record {
@@ -328,7 +332,7 @@ module _ (laws : Groups) where
         );
       }
 
-  offset_3 : (opcode : ℕ) → TableServes 3 names.R_X86_64_GOTTPOFF thread_offset (x86.initial_exec_table 3 opcode)
+  pub offset_3 : (opcode : ℕ) → TableServes 3 names.R_X86_64_GOTTPOFF thread_offset (x86.initial_exec_table 3 opcode)
   offset_3 opcode =
       either 3 names.R_X86_64_GOTTPOFF thread_offset (eqb opcode 0x8b) _ _
       (offset 3 names.R_X86_64_GOTTPOFF (kinds.RexMovIndirectToAbsolute 3) ((omega arith, omega arith), tt) refl (within 3 3 3 _ _ (x86_64_rewrite (kinds.RexMovIndirectToAbsolute 3)) refl (omega arith) (omega arith)) laws.thread.0.0)
@@ -336,7 +340,7 @@ module _ (laws : Groups) where
       (offset 3 names.R_X86_64_GOTTPOFF (kinds.RexAddIndirectToAbsolute 3) ((omega arith, omega arith), tt) refl (within 3 3 3 _ _ (x86_64_rewrite (kinds.RexAddIndirectToAbsolute 3)) refl (omega arith) (omega arith)) laws.thread.1.0)
       (nothing 3 names.R_X86_64_GOTTPOFF thread_offset))
 
-  offset_4 : (opcode : ℕ) → TableServes 4 names.R_X86_64_CODE_4_GOTTPOFF thread_offset (x86.initial_exec_table 4 opcode)
+  pub offset_4 : (opcode : ℕ) → TableServes 4 names.R_X86_64_CODE_4_GOTTPOFF thread_offset (x86.initial_exec_table 4 opcode)
   offset_4 opcode =
       either 4 names.R_X86_64_CODE_4_GOTTPOFF thread_offset (eqb opcode 0x8b) _ _
       (offset 4 names.R_X86_64_CODE_4_GOTTPOFF (kinds.RexMovIndirectToAbsolute 4) ((omega arith, omega arith), tt) refl (within 4 3 3 _ _ (x86_64_rewrite (kinds.RexMovIndirectToAbsolute 4)) refl (omega arith) (omega arith)) laws.thread.0.1)
@@ -344,7 +348,7 @@ module _ (laws : Groups) where
       (offset 4 names.R_X86_64_CODE_4_GOTTPOFF (kinds.RexAddIndirectToAbsolute 4) ((omega arith, omega arith), tt) refl (within 4 3 3 _ _ (x86_64_rewrite (kinds.RexAddIndirectToAbsolute 4)) refl (omega arith) (omega arith)) laws.thread.1.1)
       (nothing 4 names.R_X86_64_CODE_4_GOTTPOFF thread_offset))
 
-  offset_6 : (opcode : ℕ) → TableServes 6 names.R_X86_64_CODE_6_GOTTPOFF thread_offset (x86.initial_exec_table 6 opcode)
+  pub offset_6 : (opcode : ℕ) → TableServes 6 names.R_X86_64_CODE_6_GOTTPOFF thread_offset (x86.initial_exec_table 6 opcode)
   offset_6 opcode =
       either 6 names.R_X86_64_CODE_6_GOTTPOFF thread_offset (eqb opcode 0x8b) _ _
       (record { serves = (by_none 6 names.R_X86_64_CODE_6_GOTTPOFF thread_offset _ _ refl, (λ facts after h. h.1.1.0), tt) })
@@ -352,48 +356,6 @@ module _ (laws : Groups) where
       (offset 6 names.R_X86_64_CODE_6_GOTTPOFF (kinds.RexAddIndirectToAbsolute 6) ((omega arith, omega arith), ((omega arith, omega arith), tt)) refl (within 6 5 5 _ _ (x86_64_rewrite (kinds.RexAddIndirectToAbsolute 6)) refl (omega arith) (omega arith)) laws.thread.2)
       (nothing 6 names.R_X86_64_CODE_6_GOTTPOFF thread_offset))
 
-  abbrev ServesName : X86_64Relocation → GotOperand → Type 0
-  ServesName name operand =
-      (opcode : ℕ) → TableServes operand.back name operand.held (x86_64_table name opcode)
-
-  named : (name : X86_64Relocation) (mine operand : GotOperand) → got_operand name ≡ Some mine
-      → got_operand name ≡ Some operand → ServesName name mine → ServesName name operand
-  named name mine operand is wanted serves =
-      let both : Some mine ≡ Some operand = sym is ∙ wanted in
-      let same : mine ≡ operand = cc in subst (ServesName name) same serves
-
-  none : (name : X86_64Relocation) (operand : GotOperand) → got_operand name ≡ None
-      → got_operand name ≡ Some operand → ServesName name operand
-  none name operand is wanted = absurd (let e : None ≡ Some operand = sym is ∙ wanted in cc)
-
-  pub serves : (name : X86_64Relocation) (operand : GotOperand) → got_operand name ≡ Some operand
-      → ServesName name operand
-  serves names.R_X86_64_GOTPCREL operand wanted =
-      named names.R_X86_64_GOTPCREL _ operand refl wanted load
-  serves names.R_X86_64_GOTPCRELX operand wanted =
-      named names.R_X86_64_GOTPCRELX _ operand refl wanted (λ opcode.
-      either 2 names.R_X86_64_GOTPCRELX address (eqb opcode 0xff) _ _ branch (got_2 opcode))
-  serves names.R_X86_64_REX_GOTPCRELX operand wanted =
-      named names.R_X86_64_REX_GOTPCRELX _ operand refl wanted got_3
-  serves names.R_X86_64_CODE_4_GOTPCRELX operand wanted =
-      named names.R_X86_64_CODE_4_GOTPCRELX _ operand refl wanted got_4
-  serves names.R_X86_64_CODE_6_GOTPCRELX operand wanted =
-      named names.R_X86_64_CODE_6_GOTPCRELX _ operand refl wanted got_6
-  serves names.R_X86_64_GOTTPOFF operand wanted =
-      named names.R_X86_64_GOTTPOFF _ operand refl wanted offset_3
-  serves names.R_X86_64_CODE_4_GOTTPOFF operand wanted =
-      named names.R_X86_64_CODE_4_GOTTPOFF _ operand refl wanted offset_4
-  serves names.R_X86_64_CODE_6_GOTTPOFF operand wanted =
-      named names.R_X86_64_CODE_6_GOTTPOFF _ operand refl wanted offset_6
-  serves name operand wanted = none name operand refl wanted
-
-  -- each choice of a table
-  pub of_choice : (name : X86_64Relocation) (operand : GotOperand) → got_operand name ≡ Some operand
-      → (section : List ℕ) (o : ℕ) (addend : ℤ) (chosen : Choice Relaxation ℕ)
-      → IsOfTable (x86_64_table name (opcode_at name section o)) section o addend chosen
-      → IsServed operand.back name operand.held section o addend chosen
-  of_choice name operand wanted section o addend chosen is =
-      let opcode = opcode_at name section o in
-      let t = x86_64_table name opcode in
-      by_entries operand.back name operand.held t.instructions t.entries section o addend chosen
-      (serves name operand wanted opcode).serves is
+  pub branch_or_got : (opcode : ℕ) → TableServes 2 names.R_X86_64_GOTPCRELX address (x86_64_table names.R_X86_64_GOTPCRELX opcode)
+  branch_or_got opcode =
+      either 2 names.R_X86_64_GOTPCRELX address (eqb opcode 0xff) _ _ branch (got_2 opcode)

@@ -1,10 +1,6 @@
 -- What stands at an instruction's bytes stands wherever the same bytes are.
-use Rattle.std.proofs.Common.{◌≡◌, ℕ, suc, ◌+◌, ◌-◌, ◌<◌, ◌≤◌, List, [], ◌∷◌, length, drop, get_or, true, false, IsTrue, eqb, leb, refl, sym, ap, ◌∙◌, inl, inr, arith}
-use Rattle.std.proofs.lemmas.Bool.{and_parts, leb-true, or_cases, and_from, or_left, or_right}
-use Rattle.std.proofs.lemmas.List.{length-drop, get_or-drop}
-use Rattle.std.specs.Prelude.{bit_and}
+use Rattle.linker_final.proofs.X86Imports.{◌≡◌, ℕ, suc, ◌+◌, ◌-◌, ◌<◌, ◌≤◌, List, [], ◌∷◌, length, drop, get_or, true, false, IsTrue, eqb, leb, refl, sym, ap, ◌∙◌, inl, inr, arith, and_parts, leb-true, or_cases, and_from, or_left, or_right, length-drop, get_or-drop, bit_and, Original, is_one_at, is_at, begins}
 use Rattle.linker_final.proofs.X86Lawful.{AreOf, HasShape, HaveShape}
-use Rattle.linker_utils.specs.X86Rewrites.{Original, is_one_at, is_at, begins}
 
 begins_same : (ps : List (ℕ × ℕ)) (xs ys : List ℕ) → length ys ≡ length xs
     → ((k : ℕ) → k < length ps → get_or xs k 0 ≡ get_or ys k 0)
@@ -23,8 +19,7 @@ begins_long : (ps : List (ℕ × ℕ)) (xs : List ℕ) → begins ps xs ≡ true
 begins_long [] xs is = omega arith
 begins_long (p ∷ ps) [] is = absurd (let e : false ≡ true = is in cc)
 begins_long (p ∷ ps) (x ∷ xs) is =
-    let rest = begins_long ps xs ((and_parts (eqb (bit_and x (p.0)) (p.1)) (begins ps xs) is).1) in
-    omega (arith, rest)
+    omega (arith, begins_long ps xs ((and_parts (eqb (bit_and x (p.0)) (p.1)) (begins ps xs) is).1))
 
 -- ---- an instruction or a sequence with n bytes before its field, and n from there on
 
@@ -39,8 +34,7 @@ there_inside n end some (r ∷ rs) section o are is =
           let long = begins_long r.bytes (drop (o - r.back) section) (parts.1) in
           let l = length-drop (o - r.back) section in
           let back = are.0.0 in
-          let bytes = are.0.1 in
-          (omega (arith, starts, back), omega (arith, starts, back, bytes, long, l, some))
+          (omega (arith, starts, back), omega (arith, starts, back, are.0.1, long, l, some))
       | inr other ↦ there_inside n end some rs section o (are.1) other
     ]
 
@@ -51,16 +45,12 @@ module _ (n end o : ℕ) (section others : List ℕ) (same_length : length other
   at_same r shape is =
       let parts = and_parts (leb r.back o) (begins r.bytes (drop (o - r.back) section)) is in
       let starts = leb-true r.back o (parts.0) in
-      let back = shape.0 in
-      let long = shape.1 in
-      let ls = length-drop (o - r.back) section in
-      let lo = length-drop (o - r.back) others in
       and_from (leb r.back o) (begins r.bytes (drop (o - r.back) others)) (parts.0)
       (begins_same r.bytes (drop (o - r.back) section) (drop (o - r.back) others)
-      (omega (arith, ls, lo, same_length))
+      (omega (arith, length-drop (o - r.back) section, (length-drop (o - r.back) others), same_length))
       (λ k below.
       get_or-drop (o - r.back) section k 0
-      ∙ (same (o - r.back + k) (omega (arith, starts, back)) (omega (arith, starts, long, below))
+      ∙ (same (o - r.back + k) (omega (arith, starts, shape.0)) (omega (arith, starts, shape.1, below))
       ∙ sym (get_or-drop (o - r.back) others k 0)))
       (parts.1))
 

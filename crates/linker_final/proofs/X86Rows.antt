@@ -1,7 +1,7 @@
 -- The rows of the relocations that x86-64's rewrites leave.
-use Rattle.linker_final.proofs.Imports.{◌≡◌, ℕ, ℤ, pos, negsuc, ◌%◌, ◌^◌, ◌<◌, false, refl, ap, arith, Some, Ok, ints, w64, cast_unsigned, int_rem_euclid, IsWithin, bit_bounds, IsNamed, r_type_of, bytes_row, signed_row, value_of, x86_64_name, x86_64_row, RowInfo, Relative, Absolute, TpOff, Signed, Operands, X86_64Relocation, operands_by, operands_with, entry_address, is_of_got, loads_plt_word, entry_of, Addresses, Symbol, Rela, X86_64, unsigned_row, Unsigned, target_of}
+use Rattle.linker_final.proofs.X86Imports.{◌≡◌, ℕ, ℤ, pos, negsuc, ◌%◌, ◌^◌, ◌<◌, false, refl, ap, arith, Some, Ok, ints, w64, cast_unsigned, int_rem_euclid, bit_bounds, IsNamed, r_type_of, bytes_row, signed_row, value_of, x86_64_name, x86_64_row, RowInfo, Relative, Absolute, TpOff, Signed, Operands, X86_64Relocation, operands_by, operands_with, entry_address, is_of_got, loads_plt_word, entry_of, Addresses, Symbol, Rela, X86_64, unsigned_row, Unsigned, target_of, IsPlain, plain}
+use Rattle.linker_elf.specs.Elf.{IsWithin}
 use Rattle.linker_elf.specs.declared.x86_64.relocations.X86_64Relocation.TheVariants as names
-use Rattle.linker_final.proofs.PlainRows.{IsPlain, plain}
 
 -- ---- values of 32 bits
 

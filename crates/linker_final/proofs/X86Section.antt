@@ -1,18 +1,13 @@
 -- The rewrites of a section of x86-64: each is of instructions that are rewritten together, and
 -- these are groups.
-use Rattle.linker_final.proofs.Imports.{◌≡◌, ℕ, ◌+◌, ◌-◌, ◌^◌, ◌<◌, ◌⊎◌, get_or, sym, ap, subst, ◌∙◌, refl, arith, inl, inr, Some, None, cases_lt, CanRewrite, IsRewritable, window_of_rewrite, IsNamed, IsNameOf, x86_64_name, X86_64, Choice, Operands, X86_64Relocation, reg_after_rex, reg_after_rex2, address, thread_offset, decision_at, IsDone, IsMade, Decision, Kept, Rewritten, Consumed, RewrittenWithSymbol, relocation_in, relaxation_rewrite, opcode_at, x86_64_table, Relaxation, unwrap_or, IsLinked, IsOutside, Linked, count}
+use Rattle.linker_final.proofs.X86Imports.{false, is_of_got, r_type_of, ◌≡◌, ℕ, ◌+◌, ◌-◌, ◌^◌, ◌<◌, ◌⊎◌, get_or, sym, ap, subst, ◌∙◌, refl, arith, inl, inr, Some, None, cases_lt, CanRewrite, IsRewritable, window_of_rewrite, IsNamed, IsNameOf, x86_64_name, X86_64, Choice, Operands, X86_64Relocation, reg_after_rex, reg_after_rex2, address, thread_offset, decision_at, IsDone, IsMade, Decision, Kept, Rewritten, Consumed, RewrittenWithSymbol, relocation_in, relaxation_rewrite, opcode_at, x86_64_table, Relaxation, unwrap_or, IsLinked, IsOutside, Linked, count, RewritesAreGroups, offset_of, HasFinal, Window, call, in_got, lea, rewriting, window, window_of, Groups, AreIn, IsIn, each_or, final_in, is_linked, without_label, outside_of, spared}
 use Rattle.linker_elf.specs.declared.x86_64.relocations.X86_64Relocation.TheVariants as names
-use Rattle.linker_final.proofs.SectionRuns.{AreIn, IsIn, each_or, final_in, is_linked, without_label}
-use Rattle.linker_final.proofs.Written.{outside_of, spared}
-use Rattle.linker_final.proofs.X86Chosen.{IsOfTable, has_table}
+use Rattle.linker_final.proofs.X86Chosen.{IsOfTable, has_table, unlabelled}
 use Rattle.linker_final.proofs.X86Descriptors.{call_is_lawful, with_rex2_is_lawful, with_rex_is_lawful}
 use Rattle.linker_final.proofs.X86Finals.{got_is_lawful}
-use Rattle.linker_final.proofs.X86Names.{got_operand, operand, unlabelled}
+use Rattle.linker_final.proofs.X86Lawful.{TableServes, branch_or_got, got_3, got_4, got_6, load, of_choice, offset_3, offset_4, offset_6}
 use Rattle.linker_final.proofs.X86ThreadCalls.{Lawful, module_is_lawful, variable_is_lawful}
 use Rattle.linker_final.proofs.X86Windows.{IsLawful}
-use Rattle.linker_final.specs.SectionRuns.{RewritesAreGroups, offset_of}
-use Rattle.linker_final.specs.X86Section.{HasFinal, Window, call, in_got, lea, rewriting, window, window_of}
-use Rattle.linker_laws.specs.X86Groups.{Groups}
 
 -- ---- the law of a name
 
@@ -24,25 +19,29 @@ module _ (laws : Groups) (l : Linked) (linked : IsLinked l) (x86 : l.context.arc
       IsNamed (x86_64_name name)
       × (Lawful l i chosen name ⊎ ((window_of name chosen.kind ≡ None) × (relaxation_rewrite chosen.kind ≡ None)))
 
-  got : (name : X86_64Relocation) (back : ℕ) (held : Operands → ℕ) → got_operand name ≡ operand back held
-      → IsNameOf x86_64_name (relocation_in l.relocations i).r_type name → IsNamed (x86_64_name name)
-      → window_of name chosen.kind ≡ Some (window (in_got held) back 4) → back < 2 ^ 64 → Outcome name
-  got name back held wanted is_name named is few = (
+  abbrev IsOf : X86_64Relocation → Type 0
+  IsOf name =
+      IsOfTable (x86_64_table name (opcode_at name l.section (offset_of l i))) l.section (offset_of l i) (relocation_in l.relocations i).addend chosen
+
+  got : (name : X86_64Relocation) (back : ℕ) (held : Operands → ℕ) → is_of_got X86_64 (r_type_of (x86_64_name name)) ≡ false
+      → window_of name chosen.kind ≡ Some (window (in_got held) back 4) → back < 2 ^ 64 → IsNamed (x86_64_name name)
+      → ((opcode : ℕ) → TableServes back name held (x86_64_table name opcode))
+      → IsNameOf x86_64_name (relocation_in l.relocations i).r_type name → IsOf name → Outcome name
+  got name back held not_of_got is few named serves is_name of = (
     named,
-    inl (window (in_got held) back 4, got_is_lawful laws name (record { back = back; held = held }) wanted l linked x86 i chosen below decided is_name is few),
+    inl (window (in_got held) back 4, got_is_lawful name back held not_of_got l linked x86 i chosen below decided is_name (of_choice (serves (opcode_at name l.section (offset_of l i))) of) is few),
   )
 
   by_name : (name : X86_64Relocation) → IsNameOf x86_64_name (relocation_in l.relocations i).r_type name
-      → IsOfTable (x86_64_table name (opcode_at name l.section (offset_of l i))) l.section (offset_of l i) (relocation_in l.relocations i).addend chosen
-      → Outcome name
-  by_name names.R_X86_64_GOTPCREL is_name of = got names.R_X86_64_GOTPCREL 3 address refl is_name tt refl (omega arith)
-  by_name names.R_X86_64_GOTPCRELX is_name of = got names.R_X86_64_GOTPCRELX 2 address refl is_name tt refl (omega arith)
-  by_name names.R_X86_64_REX_GOTPCRELX is_name of = got names.R_X86_64_REX_GOTPCRELX 3 address refl is_name tt refl (omega arith)
-  by_name names.R_X86_64_CODE_4_GOTPCRELX is_name of = got names.R_X86_64_CODE_4_GOTPCRELX 4 address refl is_name tt refl (omega arith)
-  by_name names.R_X86_64_CODE_6_GOTPCRELX is_name of = got names.R_X86_64_CODE_6_GOTPCRELX 6 address refl is_name tt refl (omega arith)
-  by_name names.R_X86_64_GOTTPOFF is_name of = got names.R_X86_64_GOTTPOFF 3 thread_offset refl is_name tt refl (omega arith)
-  by_name names.R_X86_64_CODE_4_GOTTPOFF is_name of = got names.R_X86_64_CODE_4_GOTTPOFF 4 thread_offset refl is_name tt refl (omega arith)
-  by_name names.R_X86_64_CODE_6_GOTTPOFF is_name of = got names.R_X86_64_CODE_6_GOTTPOFF 6 thread_offset refl is_name tt refl (omega arith)
+      → IsOf name → Outcome name
+  by_name names.R_X86_64_GOTPCREL is_name of = got names.R_X86_64_GOTPCREL 3 address refl refl (omega arith) tt (load laws) is_name of
+  by_name names.R_X86_64_GOTPCRELX is_name of = got names.R_X86_64_GOTPCRELX 2 address refl refl (omega arith) tt (branch_or_got laws) is_name of
+  by_name names.R_X86_64_REX_GOTPCRELX is_name of = got names.R_X86_64_REX_GOTPCRELX 3 address refl refl (omega arith) tt (got_3 laws) is_name of
+  by_name names.R_X86_64_CODE_4_GOTPCRELX is_name of = got names.R_X86_64_CODE_4_GOTPCRELX 4 address refl refl (omega arith) tt (got_4 laws) is_name of
+  by_name names.R_X86_64_CODE_6_GOTPCRELX is_name of = got names.R_X86_64_CODE_6_GOTPCRELX 6 address refl refl (omega arith) tt (got_6 laws) is_name of
+  by_name names.R_X86_64_GOTTPOFF is_name of = got names.R_X86_64_GOTTPOFF 3 thread_offset refl refl (omega arith) tt (offset_3 laws) is_name of
+  by_name names.R_X86_64_CODE_4_GOTTPOFF is_name of = got names.R_X86_64_CODE_4_GOTTPOFF 4 thread_offset refl refl (omega arith) tt (offset_4 laws) is_name of
+  by_name names.R_X86_64_CODE_6_GOTTPOFF is_name of = got names.R_X86_64_CODE_6_GOTTPOFF 6 thread_offset refl refl (omega arith) tt (offset_6 laws) is_name of
   by_name names.R_X86_64_TLSGD is_name of =
       (tt, inl (variable_is_lawful laws.general_dynamic l linked x86 i chosen below is_name decided of))
   by_name names.R_X86_64_TLSLD is_name of =
@@ -123,10 +122,7 @@ module _ (laws : Groups) (l : Linked) (linked : IsLinked l) (x86 : l.context.arc
               first = high;
               last = elim (cases_lt b (o - inner.back + inner.len)) [
                 | inl inside ↦
-                    let back = has_window.back in
-                    let ends = has_window.ends in
-                    let long = law.room.0 in
-                    omega (arith, inside, back, ends, long)
+                    omega (arith, inside, has_window.back, has_window.ends, law.room.0)
                 | inr past ↦ elim (has_window.outer o b can.starts (law.room.0) high (inr past)) [
                   | inl low ↦ absurd (omega (arith, low, from))
                   | inr out ↦ absurd (omega (arith, out, less))

@@ -1,7 +1,6 @@
 -- Calls of `__tls_get_addr` of x86-64 that were rewritten are groups in the final bytes.
-use Rattle.linker_final.proofs.Imports.{Some, ◌≡◌, ℕ, ◌+◌, ◌-◌, ◌^◌, ◌<◌, ◌≤◌, List, [], ◌∷◌, length, drop, refl, sym, ap, subst, ◌∙◌, inl, inr, arith, neg_ℤ, pos, ⊤, slice_get, IsNameOf, r_type_of, x86_64_name, RowInfo, Choice, Operands, X86_64Relocation, rewritten, x86_64_relocation_after, thread_row, Kinds, State, seen, IsBefore, decision_at, Rewritten, relocation_in, is_of_got, operands_with, Symbol, Rela, Relaxation, X86_64, Original, puts, x86_64_matches, x86_64_originals, x86_64_rewrite, RewriteKind, UntouchedByOthers, IsLinked, Linked, count, tls_module_row}
+use Rattle.linker_final.proofs.X86Imports.{Some, ◌≡◌, ℕ, ◌+◌, ◌-◌, ◌^◌, ◌<◌, ◌≤◌, List, [], ◌∷◌, length, drop, refl, sym, ap, subst, ◌∙◌, inl, inr, arith, neg_ℤ, pos, ⊤, slice_get, IsNameOf, r_type_of, x86_64_name, RowInfo, Choice, Operands, X86_64Relocation, rewritten, x86_64_relocation_after, thread_row, Kinds, State, seen, IsBefore, decision_at, Rewritten, relocation_in, is_of_got, operands_with, Symbol, Rela, Relaxation, X86_64, Original, puts, x86_64_matches, x86_64_originals, x86_64_rewrite, RewriteKind, UntouchedByOthers, IsLinked, Linked, count, tls_module_row, AreBy, EntryHolds, Form, HasObject, IsObject, Window, block, put_back, sequence_of, variable, window, window_of, AddsOffset, Code, IsModuleCall, IsThreadCall, Stands, IsRelocated, HasPattern, general_dynamic_table, local_dynamic_table, module_by, original, HasWindow, own_window, unwrap_or}
 use Rattle.linker_elf.specs.declared.x86_64.relocations.X86_64Relocation.TheVariants as names
-use Rattle.linker_final.proofs.Inner.{HasWindow, own_window}
 use Rattle.linker_final.proofs.X86Chosen.{IsOfEntry, IsOfTable}
 use Rattle.linker_final.proofs.X86Finals.{final_is, some_and}
 use Rattle.linker_final.proofs.X86Lawful.{AreOf, shaped_of}
@@ -9,13 +8,8 @@ use Rattle.linker_final.proofs.X86Patterns.{there_inside}
 use Rattle.linker_final.proofs.X86Rows.{tpoff32}
 use Rattle.linker_final.proofs.X86ThreadEntries.{entry_final}
 use Rattle.linker_final.proofs.X86Windows.{HasRewrite, IsLawful, LawAt, before, has_rewrite, object_has, object_matches, of_field, unrelocated}
-use Rattle.linker_final.proofs.Written.{of_row}
-use Rattle.linker_final.specs.X86Section.{AreBy, EntryHolds, Form, HasObject, IsObject, Window, block, put_back, sequence_of, variable, window, window_of}
 use Rattle.linker_laws.specs.X86Groups as groups
-use Rattle.linker_laws.specs.X86Groups.{AddsOffset, Code, IsModuleCall, IsThreadCall, Stands}
-use Rattle.linker_laws.specs.X86RewriteLaws.{IsRelocated}
 use Rattle.linker_utils.specs.declared.architecture.Relaxation.TheVariants as relaxations
-use Rattle.linker_utils.specs.X86Rewrites.{HasPattern, general_dynamic_table, local_dynamic_table, module_by, original}
 use Rattle.linker_utils.specs.declared.x86_64.rewrites.RewriteKind.TheVariants as kinds
 
 -- ---- a sequence
@@ -161,7 +155,7 @@ module _ (law : groups.GeneralDynamic) (l : Linked) (linked : IsLinked l) (x86 :
       let shape : AreOf 4 12 (x86_64_originals kind) = ((refl, refl), ((refl, refl), tt)) in
       sequence l linked x86 i chosen below decided kind this.kind_is 4 8 window shape this.has_pattern
       names.R_X86_64_TLSGD (variable 2) refl (omega arith) (λ symbol w c s object. object) thread_row (λ alone symbol row by. (
-        ap (of_row row) (by.1),
+        ap (λ q. unwrap_or q row) (by.1),
         to_local l linked x86 i chosen below decided kind this.kind_is 4 8 window shape this.has_pattern alone 2 is_name
             (sym this.same_addend ∙ this.hold.1.1.1.0) (omega arith) (omega arith) refl (law.0) this.r_type_is symbol (by.0),
       ))
@@ -171,7 +165,7 @@ module _ (law : groups.GeneralDynamic) (l : Linked) (linked : IsLinked l) (x86 :
       let shape : AreOf 3 19 (x86_64_originals kind) = ((refl, refl), ((refl, refl), tt)) in
       sequence l linked x86 i chosen below decided kind this.kind_is 3 15 window shape this.has_pattern
       names.R_X86_64_TLSGD (variable 3) refl (omega arith) (λ symbol w c s object. object) thread_row (λ alone symbol row by. (
-        ap (of_row row) (by.1),
+        ap (λ q. unwrap_or q row) (by.1),
         to_local l linked x86 i chosen below decided kind this.kind_is 3 15 window shape this.has_pattern alone 3 is_name
             (sym this.same_addend ∙ this.hold.1.1.1.0) (omega arith) (omega arith) refl (law.2) this.r_type_is symbol (by.0),
       ))
@@ -181,7 +175,7 @@ module _ (law : groups.GeneralDynamic) (l : Linked) (linked : IsLinked l) (x86 :
       let shape : AreOf 4 12 (x86_64_originals kind) = ((refl, refl), ((refl, refl), tt)) in
       sequence l linked x86 i chosen below decided kind this.kind_is 4 8 window shape this.has_pattern
       names.R_X86_64_TLSGD (variable 2) refl (omega arith) (λ symbol w c s object. object) thread_row (λ alone symbol row by. (
-        ap (of_row row) (by.1),
+        ap (λ q. unwrap_or q row) (by.1),
         to_initial l linked x86 i chosen below decided kind this.kind_is 4 8 window shape this.has_pattern alone 2 is_name
             (sym this.same_addend ∙ this.hold.1.1.0) (omega arith) (omega arith) refl (law.1) (λ symbol c k s k' o holds. holds) this.r_type_is symbol (by.0),
       ))
@@ -200,7 +194,7 @@ module _ (law : groups.LocalDynamic) (l : Linked) (linked : IsLinked l) (x86 : l
   by_kind kind call n has_window shape is of this =
       sequence l linked x86 i chosen below decided kind this.kind_is 3 call has_window shape this.has_pattern names.R_X86_64_TLSLD
       (block n) is (omega arith) (λ symbol w c s object. object) tls_module_row (λ alone symbol row by. (
-        ap (of_row row) by,
+        ap (λ q. unwrap_or q row) by,
         module_law l linked x86 i chosen below decided kind this.kind_is 3 call has_window shape this.has_pattern alone n of
             this.r_type_is (sym this.same_addend ∙ this.hold.1.1.0) symbol,
       ))

@@ -1,21 +1,14 @@
 -- Offsets in a module's block that became offsets from the thread pointer lead to the same address.
-use Rattle.linker_final.proofs.Imports.{◌≡◌, ℕ, ◌+◌, ◌/◌, ◌^◌, ◌<◌, ◌≤◌, ◌⊎◌, List, length, take, drop, false, refl, sym, ap, subst, ◌∙◌, inl, inr, arith, cond, Some, Ok, cases_lt, cond-false, length-take-le, addend_after, offset_after, IsApplied, IsNamed, IsNameOf, r_type_of, number_of_bytes, sum_64, value_of, x86_64_name, x86_64_row, RelocationKind, RowInfo, Choice, Operands, X86_64Relocation, long_thread_row, thread_row, IsRelocatedBy, decision_at, relocation_after, Rewritten, Composes, IsField, begins_pair, continues, ends_pair, field_end, of_number, of_pair, entry_of, relocation_in, entry_address, is_of_got, offset_at, operands_by, operands_in, operands_of, operands_with, Addresses, Symbol, Rela, IsRow, relaxation_rewrite, Relaxation, X86_64, drop_at, UntouchedBytes, IsLinked, Linked, count, LeadsToTheSame, Offsets, put_back, block_row, long_block_row, BlockOffsets, LeadToTheSame}
+use Rattle.linker_final.proofs.X86Imports.{◌≡◌, ℕ, ◌+◌, ◌/◌, ◌^◌, ◌<◌, ◌≤◌, ◌⊎◌, List, length, take, drop, false, refl, sym, ap, subst, ◌∙◌, inl, inr, arith, cond, Some, Ok, cases_lt, cond-false, length-take-le, addend_after, offset_after, IsApplied, IsNamed, IsNameOf, r_type_of, number_of_bytes, sum_64, value_of, x86_64_name, x86_64_row, RelocationKind, RowInfo, Choice, Operands, X86_64Relocation, long_thread_row, thread_row, IsRelocatedBy, decision_at, relocation_after, Rewritten, Composes, IsField, begins_pair, continues, ends_pair, field_end, of_number, of_pair, entry_of, relocation_in, entry_address, is_of_got, offset_at, operands_by, operands_in, operands_of, operands_with, Addresses, Symbol, Rela, IsRow, relaxation_rewrite, Relaxation, X86_64, drop_at, UntouchedBytes, IsLinked, Linked, count, LeadsToTheSame, Offsets, put_back, block_row, long_block_row, BlockOffsets, LeadToTheSame, extended, never, AreLowest, UntouchedField, eight_bytes, four_bytes, left, len_is, last_length, last_within, relocation_left, IsPlain, back_outside, put_back_is, rela, small_byte}
 use Rattle.linker_elf.specs.declared.elf.RelocationKind.TheVariants as values
 use Rattle.linker_elf.specs.declared.x86_64.relocations.X86_64Relocation.TheVariants as names
-use Rattle.linker_final.proofs.Fields.{AreLowest, UntouchedField, eight_bytes, four_bytes, left, len_is}
-use Rattle.linker_final.proofs.Phases.{last_length, last_within, relocation_left}
-use Rattle.linker_final.proofs.PlainRows.{IsPlain}
-use Rattle.linker_final.proofs.PutBack.{back_outside, put_back_is}
 use Rattle.linker_final.proofs.X86Chosen.{of_table}
 use Rattle.linker_final.proofs.X86Finals.{some_and}
 use Rattle.linker_final.proofs.X86Rows.{tpoff32}
 use Rattle.linker_final.proofs.X86ThreadRows.{plain_long_thread}
 use Rattle.linker_final.proofs.X86Windows.{relocated, row_after}
-use Rattle.linker_final.proofs.Written.{rela, small_byte}
-use Rattle.linker_laws.specs.X86Machine.{extended}
 use Rattle.linker_utils.specs.declared.architecture.Relaxation.TheVariants as relaxations
 use Rattle.linker_utils.specs.declared.x86_64.rewrites.RewriteKind.TheVariants as kinds
-use Rattle.linker_base.proofs.Tests.{never}
 
 -- ---- fields that overlap none
 
@@ -169,9 +162,8 @@ module _ (n : ℕ) (read : ℕ → ℕ) (block_row thread_row : RowInfo)
       overlaps : offset_at l.relocations_last j ≤ offset_at l.relocations_last i
           → offset_at l.relocations_last i < field_end l.relocations_last l.last j other → ⊥
       overlaps from inside =
-          let some = mine.some in
           let following : offset_at l.relocations_last j < field_end l.relocations_last l.last i thread_row =
-          omega (arith, from, some) in
+          omega (arith, from, mine.some) in
           let apart = linked.written.can.apart in
           elim (cases_lt i j) [
             | inl less ↦
@@ -203,8 +195,7 @@ module _ (n : ℕ) (read : ℕ → ℕ) (block_row thread_row : RowInfo)
       let final_length : length l.final ≡ length l.section =
       linked.written.same_length ∙ (last_length l linked ∙ linked.same_length) in
       let rl = linked.written.same_length in
-      let inside = field.inside in
-      let inside_final : o + n ≤ length l.final = omega (arith, inside, rl) in
+      let inside_final : o + n ≤ length l.final = omega (arith, field.inside, rl) in
       let object = put_back o n l.section l.final in
       let object_length : length object ≡ length l.final =
       (put_back_is o n l.section l.final inside_final (sym final_length)).same_len in

@@ -1,6 +1,5 @@
 -- Rows of relocations that x86-64's sequences for thread-local variables have.
-use Rattle.linker_final.proofs.Imports.{◌≡◌, ℕ, ℤ, pos, ◌%◌, ◌^◌, ◌<◌, refl, ap, ◌∙◌, arith, Some, of_z-to_z, w64, cast_signed, cast_unsigned, int_rem_euclid, difference_64, long_thread_row, tls_got_row, symbol_term, cast_is, difference_below}
-use Rattle.linker_final.proofs.PlainRows.{IsPlain, plain}
+use Rattle.linker_final.proofs.X86Imports.{◌≡◌, ℕ, ℤ, pos, ◌%◌, ◌^◌, ◌<◌, refl, ap, ◌∙◌, arith, Some, of_z-to_z, w64, cast_signed, cast_unsigned, int_rem_euclid, difference_64, long_thread_row, tls_got_row, symbol_term, cast_is, difference_below, IsPlain, plain}
 use Rattle.linker_final.proofs.X86Rows.{signed_remainder}
 
 pub plain_entry : IsPlain 4 tls_got_row

@@ -1,35 +1,18 @@
 -- The window of an instruction or a sequence of x86-64 in the final bytes of a section.
-use Rattle.linker_final.proofs.Imports.{◌≡◌, ℕ, ◌+◌, ◌-◌, ◌*◌, ◌/◌, ◌^◌, ◌<◌, ◌≤◌, ◌⊎◌, List, ◌++◌, length, take, drop, get_or, sym, ap, subst, ◌∙◌, inl, inr, arith, Some, Ok, IsSomeAnd, IsTrue, cases_eq, cases_lt, length-drop, drop-drop, ext_get_or, get_or-drop, All-take, All-drop, w64, from_le_bytes, cast_unsigned, CanRewrite, IsRewritable, rewritten, rewrite_window, offset_after, IsNamed, r_type_of, IsWritten, low_bytes, number_of_bytes, number_written, window_len, size_len, bytes_row, difference_64, sum_64, value_of, x86_64_name, x86_64_row, RowInfo, Choice, Operands, X86_64Relocation, AreAddresses, State, IsRelocatedBy, decision_at, written_end_at, IsDone, IsMade, Rewritten, one_info, IsField, field_end, field_len, relocation_in, IsInNoField, operands_of, operands_with, offset_at, Symbol, Rela, IsRow, relaxation_rewrite, Relaxation, X86_64, x86_64_rewrite, x86_64_matches, x86_64_originals, Original, is_one_at, RewriteKind, take-append-drop, All-append, Linked, IsLinked, UntouchedByOthers, AreBytes, count, start_at, HaveSameWindow, accepted_same, neg_ℤ, pos, IsBefore, seen, refl}
+use Rattle.linker_final.proofs.X86Imports.{◌≡◌, ℕ, ◌+◌, ◌-◌, ◌*◌, ◌/◌, ◌^◌, ◌<◌, ◌≤◌, ◌⊎◌, List, ◌++◌, length, take, drop, get_or, sym, ap, subst, ◌∙◌, inl, inr, arith, Some, Ok, IsSomeAnd, IsTrue, cases_eq, cases_lt, length-drop, drop-drop, ext_get_or, get_or-drop, All-take, All-drop, w64, from_le_bytes, cast_unsigned, CanRewrite, IsRewritable, rewritten, rewrite_window, offset_after, IsNamed, r_type_of, IsWritten, low_bytes, number_of_bytes, number_written, window_len, size_len, bytes_row, difference_64, sum_64, value_of, x86_64_name, x86_64_row, RowInfo, Choice, Operands, X86_64Relocation, AreAddresses, State, IsRelocatedBy, decision_at, written_end_at, IsDone, IsMade, Rewritten, one_info, IsField, field_end, field_len, relocation_in, IsInNoField, operands_of, operands_with, offset_at, Symbol, Rela, IsRow, relaxation_rewrite, Relaxation, X86_64, x86_64_rewrite, x86_64_matches, x86_64_originals, Original, is_one_at, RewriteKind, take-append-drop, All-append, Linked, IsLinked, UntouchedByOthers, AreBytes, count, start_at, HaveSameWindow, accepted_same, neg_ℤ, pos, IsBefore, seen, refl, offset_of, HasFinal, HasObject, IsObject, LawOf, Window, put_back, window_of, Code, Stands, IsRelocated, UntouchedField, four_bytes, left, len_is, HasWindow, byte_left, last_as_many, last_length, last_within, relocation_left, IsPlain, put_back_is, back_inside, back_outside, back_rewritten, same_windows, IsRowOf, by_name, no_field, outside_of, rela, relocation_is, row_in, small_byte}
 use Rattle.linker_elf.specs.declared.elf.RelocationKind.TheVariants.{None as NoValue}
 use Rattle.linker_elf.specs.declared.x86_64.relocations.X86_64Relocation.TheVariants as names
-use Rattle.linker_final.proofs.Fields.{UntouchedField, four_bytes, left, len_is}
-use Rattle.linker_final.proofs.Inner.{HasWindow}
-use Rattle.linker_final.proofs.Phases.{byte_left, last_as_many, last_length, last_within, relocation_left}
-use Rattle.linker_final.proofs.PlainRows.{IsPlain}
-use Rattle.linker_final.proofs.PutBack.{put_back_is, back_inside, back_outside, back_rewritten, same_windows}
 use Rattle.linker_final.proofs.X86Lawful.{HaveShape}
 use Rattle.linker_final.proofs.X86Patterns.{one_same}
-use Rattle.linker_final.proofs.Written.{IsRowOf, by_name, no_field, outside_of, rela, relocation_is, row_in, small_byte}
-use Rattle.linker_final.specs.SectionRuns.{offset_of}
-use Rattle.linker_final.specs.X86Section.{HasFinal, HasObject, IsObject, LawOf, Window, put_back, window_of}
-use Rattle.linker_laws.specs.X86Groups.{Code, Stands}
-use Rattle.linker_laws.specs.X86RewriteLaws.{IsRelocated}
 use Rattle.linker_utils.specs.declared.architecture.Relaxation.TheVariants as relaxations
 
 -- ---- lists and numbers
 
--- what a window leaves of two lists that are the same elsewhere
-same_front : (p : ℕ) (xs ys : List ℕ) → length ys ≡ length xs
-    → ((at : ℕ) → at < p → get_or xs at 0 ≡ get_or ys at 0) → take p xs ≡ take p ys
-same_front p xs ys long same =
-    same_windows 0 p xs ys long (λ at from below. same at (omega (arith, below)))
-
+-- what follows of two lists that are the same from there on
 same_rest : (p : ℕ) (xs ys : List ℕ) → length ys ≡ length xs
     → ((at : ℕ) → p ≤ at → get_or xs at 0 ≡ get_or ys at 0) → drop p xs ≡ drop p ys
 same_rest p xs ys long same =
-    let lx = length-drop p xs in
-    let ly = length-drop p ys in
-    ext_get_or 0 (drop p xs) (drop p ys) (omega (arith, lx, ly, long))
+    ext_get_or 0 (drop p xs) (drop p ys) (omega (arith, length-drop p xs, length-drop p ys, long))
     (λ i below. get_or-drop p xs i 0 ∙ (same (p + i) (omega arith) ∙ sym (get_or-drop p ys i 0)))
 
 small_number : (bytes : List ℕ) → ((i : ℕ) → get_or bytes i 0 < 256) → from_le_bytes w64 bytes < 2 ^ 64
@@ -49,8 +32,6 @@ module _ (n : ℕ) (row : RowInfo) (plain : IsPlain n row) (operands was : Opera
   pub relocated : IsRelocatedBy row was p bytes final
   relocated =
       let v = field.value in
-      let inside = field.inside in
-      let lb = length-drop p bytes in
       let rest : drop n (drop p final) ≡ drop n (drop p bytes) =
       drop-drop n p final
       ∙ (sym (same_rest (p + n) bytes final (sym long) (λ at from. outside at (inr from)))
@@ -71,13 +52,12 @@ module _ (n : ℕ) (row : RowInfo) (plain : IsPlain n row) (operands was : Opera
           value_is = same_value ∙ field.value_is;
           accepted = accepted_same row v (drop p before) (drop p bytes)
               (subst (λ size. HaveSameWindow size (drop p before) (drop p bytes)) (sym plain.size) tt)
-              (omega (arith, wide, lb, inside, long, same_length)) field.accepted;
+              (omega (arith, wide, length-drop p bytes, field.inside, long, same_length)) field.accepted;
           written = subst (λ size. IsWritten size row.kind v (drop p bytes) (drop p final)) (sym plain.size) written;
         };
         whole = sym (take-append-drop p final)
             ∙ ap (λ xs. xs ++ drop p final)
-            (same_front p final bytes long
-            (λ at below. sym (outside at (inl below))));
+            (same_windows 0 p final bytes long (λ at from below. sym (outside at (inl (omega (arith, below))))));
       }
 
 -- ---- rows
@@ -179,18 +159,11 @@ module _ (l : Linked) (i back end : ℕ) (kind : RewriteKind) (is : HasRewrite l
     within_after = last_within l linked i is.below
 
     -- the window
-    made_there : rewrite_window w.made l.rewritten o ≡ w.made.bytes (rewrite_window w.made l.section o)
-    made_there =
-        subst (λ q. IsMade q o l.section l.rewritten) made_is
-        (subst (λ d. IsDone d o l.section l.rewritten) is.decided (linked.done i is.below))
-
     kept : (at : ℕ) → start ≤ at → at < start + len
         → (at < o - w.inner.back) ⊎ (o - w.inner.back + w.inner.len ≤ at)
         → get_or l.rewritten at 0 ≡ get_or l.section at 0
     kept at from less outside =
-        let starts = can.starts in
-        let back = is.room.0 in
-        let window = w.outer o at starts back from outside in
+        let window = w.outer o at can.starts is.room.0 from outside in
         linked.others at (λ j lj. elim (cases_eq j i) [
           | inl same ↦ subst (λ k. (at < start_at l.relocations l.decisions k) ⊎ (written_end_at l.relocations l.decisions k ≤ at)) (sym same)
               (outside_of l i chosen (Some w.made) is.decided made_is at window)
@@ -212,13 +185,13 @@ module _ (l : Linked) (i back end : ℕ) (kind : RewriteKind) (is : HasRewrite l
         let lo = (put_back_is start len l.section l.final inside_final (sym final_length)).same_len in
         let ends = can.ends in
         let low = w.back in
-        let high = w.ends in
         let fl = final_length in
         ap (λ q. rewritten q object o) w.is
         ∙ (w.same object o can.starts (omega (arith, ends, lo, fl))
         ∙ back_rewritten start len w.inner o l.section l.rewritten l.final inside_final (sym fl)
-        (linked.same_length ∙ sym fl) (omega (arith, low, a)) (omega (arith, low, high, a))
-        (w.same_made l.section l.rewritten o can.starts ends linked.same_length made_there) kept)
+        (linked.same_length ∙ sym fl) (omega (arith, low, a)) (omega (arith, low, w.ends, a))
+        (w.same_made l.section l.rewritten o can.starts ends linked.same_length
+        (subst (λ q. IsMade q o l.section l.rewritten) made_is (subst (λ d. IsDone d o l.section l.rewritten) is.decided (linked.done i is.below)))) kept)
 
     pub object_same : (at : ℕ) → start ≤ at → at < o + end → get_or l.section at 0 ≡ get_or object at 0
     object_same at from less =
@@ -288,14 +261,12 @@ module _ (l : Linked) (i back end : ℕ) (kind : RewriteKind) (is : HasRewrite l
         → (at < offset_at l.relocations_last i) ⊎ (field_end l.relocations_last l.last i row ≤ at))
         → get_or between at 0 ≡ get_or l.final at 0
     between_same at own =
-        let fl = final_length in
-        let a0 = is.room.0 in
-        let mid = linked.same_length ∙ sym fl in
+        let mid = linked.same_length ∙ sym final_length in
         elim (cases_lt at start) [
           | inl ahead ↦ back_outside start len l.rewritten l.final inside_final mid at (inl ahead)
           | inr from ↦ elim (cases_lt at (start + len)) [
             | inl less ↦
-                let below : at < o + end = omega (arith, less, a0) in
+                let below : at < o + end = omega (arith, less, is.room.0) in
                 back_inside start len l.rewritten l.final inside_final mid at from less
                 ∙ (sym (byte_left l linked i start len is.alone.left at from less)
                 ∙ sym (linked.written.others at (in_no_field at from below (own from below))))
@@ -338,7 +309,9 @@ module _ (l : Linked) (i back end : ℕ) (kind : RewriteKind) (is : HasRewrite l
         (small_byte l.final linked.final_bytes) i within_after row plain row_there taken
         (subst (λ x. operands_of x l.addresses l.symbols row (relocation_in l.relocations_last i) ≡ Ok taken) (sym is.x86)
         (subst (λ x. operands_of X86_64 l.addresses l.symbols row x ≡ Ok taken) (sym r_after) taken_is))
-        others_apart) in
+        (λ j other lj isnt is_field.
+        subst (λ (x : Rela). (x.offset < offset_at l.relocations_last j) ⊎ (field_end l.relocations_last l.last j other ≤ x.offset)) (sym r_after)
+        (apart_by j lj isnt p low (omega (arith, high)) other is_field))) in
         let base = relocated 4 row plain taken operands p l.last l.final between field same_value
         between_length (sym linked.written.same_length)
         (λ at outside. between_same at (λ from less other is_field. own_field at outside other is_field)) in
@@ -350,15 +323,6 @@ module _ (l : Linked) (i back end : ℕ) (kind : RewriteKind) (is : HasRewrite l
         row_there =
             row_after l linked is.x86 i is.below after named row row_is
             (ap (λ (x : Rela). x.r_type) r_after ∙ r_type_is)
-
-        others_apart : (j : ℕ) (other : RowInfo) → j < length l.relocations_last / 24
-            → (j ≡ i → ⊥)
-            → IsField l.context.architecture l.relocations_last l.last j other
-            → (offset_at l.relocations_last i < offset_at l.relocations_last j)
-            ⊎ (field_end l.relocations_last l.last j other ≤ offset_at l.relocations_last i)
-        others_apart j other lj isnt is_field =
-            subst (λ (x : Rela). (x.offset < offset_at l.relocations_last j) ⊎ (field_end l.relocations_last l.last j other ≤ x.offset)) (sym r_after)
-            (apart_by j lj isnt (w.made.offset o) low (omega (arith, high)) other is_field)
 
         own_field : (at : ℕ) → (at < w.made.offset o) ⊎ (w.made.offset o + 4 ≤ at) → (other : RowInfo)
             → IsField l.context.architecture l.relocations_last l.last i other
@@ -432,7 +396,6 @@ module _ (l : Linked) (linked : IsLinked l) (i : ℕ) (chosen : Choice Relaxatio
       → LawOf w.form w chosen.kind symbol c o s
   of_field row same law =
       let low = room.0 in
-      let high = room.1 in
       let long : length l.final ≡ length l.section =
       linked.written.same_length ∙ (last_length l linked ∙ linked.same_length) in
       let e : sum_64 l.addresses.section (offset_of l i - w.back)
@@ -446,5 +409,5 @@ module _ (l : Linked) (linked : IsLinked l) (i : ℕ) (chosen : Choice Relaxatio
         applied = object.applied;
         old = object.old;
         new = subst (λ a. Stands c.new a (w.back + w.end) (drop (offset_of l i - w.back) l.final)) (sym pc)
-            (final (offset_of l i - w.back) (w.back + w.end) (omega (arith, low, high, long)));
+            (final (offset_of l i - w.back) (w.back + w.end) (omega (arith, low, room.1, long)));
       })

@@ -1,11 +1,10 @@
 -- The words of PowerPC64: by computation.
-use Rattle.linker_final.proofs.Imports.{refl}
+use Rattle.linker_final.proofs.Imports.{refl, AllPass, made_low}
 use Rattle.linker_base.specs.Form.{place_sum}
 use Rattle.linker_final.specs.Ppc64Table.{d_words, ds_words, dq_words, branch14_words, branch24_words, prefixed_words, halves_words, unadjusted_words, dunsigned_words, quarters_words}
 use Rattle.linker_final.specs.Ppc64Steps.{ppc64_groups}
-use lib.Count.{count_leading_zeros}
 use Rattle.linker_final.specs.Ppc64Executed.{passes}
-use Rattle.linker_final.specs.Steps.{AllPass, made_low}
+use lib.Count.{count_leading_zeros}
 use Rattle.linker_final.proofs.Noise.{all_pass, quick_low}
 use Rattle.linker_final.proofs.emulated.ppc64.Goals as goal
 

@@ -1,9 +1,8 @@
 -- The instructions of x86-64: by computation.
-use Rattle.linker_final.proofs.Imports.{refl}
+use Rattle.linker_final.proofs.Imports.{refl, AllPass, made_high}
 use Rattle.linker_final.specs.X86Steps.{x86_groups}
-use lib.Count.{ones}
 use Rattle.linker_final.specs.X86Executed.{passes}
-use Rattle.linker_final.specs.Steps.{AllPass, made_high}
+use lib.Count.{ones}
 use Rattle.linker_final.proofs.Noise.{all_pass, quick_high}
 use Rattle.linker_final.proofs.emulated.x86_64.Goals as goal
 

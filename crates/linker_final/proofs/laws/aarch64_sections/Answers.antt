@@ -1,12 +1,13 @@
 use Rattle.linker_final.proofs.AArch64Section.{are_in, rewrites_are_groups}
 use Rattle.linker_final.proofs.SectionRuns.{each_place, runs_are_followed}
 use Rattle.linker_final.proofs.laws.aarch64_sections.Goals as goal
-use Rattle.linker_final.proofs.Imports.{link, one, rewriting}
+use Rattle.linker_final.proofs.Imports.{one}
+use Rattle.linker_laws.specs.AArch64Groups.{link}
+use Rattle.linker_final.specs.AArch64Section.{rewriting}
 
 pub returns : goal.returns
 returns c =
-    let laws = c.aarch64.ensures.groups in
-    let groups = rewrites_are_groups laws in
+    let groups = rewrites_are_groups c.aarch64.ensures.groups in
     record {
       places = each_place rewriting are_in;
       groups = groups;

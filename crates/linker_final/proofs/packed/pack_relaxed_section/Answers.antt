@@ -1,5 +1,4 @@
-use Rattle.std.proofs.lemmas.Result.{on_ok_weaker}
-use Rattle.linker_final.proofs.Imports.{◌≡◌, ◌∙◌, ◌+◌, length, refl, subst, sym, deletions_of, deletions_of_run, packed_offset, section_of, IfErr, IsPackCause}
+use Rattle.linker_final.proofs.Imports.{on_ok_weaker, ◌≡◌, ◌∙◌, ◌+◌, length, refl, subst, sym, deletions_of, deletions_of_run, packed_offset, section_of, IfErr, IsPackCause}
 use Rattle.linker_final.proofs.Relaxed.{listed_deltas, packed_run}
 use Rattle.linker_final.proofs.packed.pack_relaxed_section.Goals as goal
 

@@ -1,11 +1,11 @@
-use Rattle.linker_final.proofs.SameDecisions.{has_rewritten, is_linked, same_decisions}
-use Rattle.linker_final.proofs.Imports.{refl, subst, sym, rules, IsRejected, pre_layout, IsWritingCause, HasRewritten, rewriting_phase, linked}
+use Rattle.linker_final.proofs.SameDecisions.{has_rewritten, is_linked}
+use Rattle.linker_final.proofs.Imports.{refl, subst, sym, rules, IsRejected, pre_layout, IsWritingCause, HasRewritten, rewriting_phase, linked, map-id}
 use Rattle.linker_final.proofs.sections.link_section.Goals as goal
 
 pub returns-in-Err-clause-cause : goal.returns-in-Err-clause-cause
 returns-in-Err-clause-cause c = (
   subst (λ ds. IsRejected c.args.architecture c.args.output.now c.args.facts.now c.args.groups.now c.args.relocations.now c.args.section.now ds c.in-Err.error)
-      (same_decisions c.rewrite_section.new.decisions) c.in-Err.ensures.rejected,
+      (map-id c.rewrite_section.new.decisions) c.in-Err.ensures.rejected,
   c.in-Err.ensures.entries,
   c.in-Err.ensures.section,
 )

@@ -1,7 +1,7 @@
-use Rattle.std.proofs.Common.{refl}
+use Rattle.linker_final.proofs.Imports.{refl}
+use Rattle.linker_final.specs.Ppc64Section.{rewriting}
 use Rattle.linker_final.proofs.OfCalls.{of_calls}
 use Rattle.linker_final.proofs.worked.ppc64.Goals as goal
-use Rattle.linker_final.specs.Ppc64Section.{rewriting}
 
 pub returns : goal.returns
 returns c so =

@@ -1,7 +1,5 @@
-use Rattle.std.proofs.Common.{◌≡◌, ℕ, pos, negsuc, false, refl, subst, ap, ◌∙◌, List, Some, lit<}
-use Rattle.std.specs.Prelude.{IsSomeAnd}
+use Rattle.linker_final.proofs.Imports.{◌≡◌, ℕ, pos, negsuc, false, refl, subst, ap, ◌∙◌, List, Some, lit<, IsSomeAnd, IsApplied, IsNamed, IsRow, RowInfo, RiscV, RiscVRelocation, Operands, r_type_of, riscv_name, riscv_relocation}
 use Rattle.linker_elf.specs.declared.riscv64.relocations.RiscVRelocation.TheVariants as names
-use Rattle.linker_final.proofs.Imports.{IsApplied, IsNamed, IsRow, RowInfo, RiscV, RiscVRelocation, Operands, r_type_of, riscv_name, riscv_relocation}
 use Rattle.linker_final.proofs.worked.riscv32.Goals as goal
 
 -- with the addend of the file

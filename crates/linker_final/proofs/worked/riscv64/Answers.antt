@@ -1,9 +1,7 @@
-use Rattle.std.proofs.Common.{length, refl, subst, ◌∙◌, ◌/◌}
+use Rattle.linker_final.proofs.Imports.{map-id, length, refl, subst, ◌∙◌, ◌/◌, AreRelocationsBy}
 use Rattle.linker_final.proofs.OfCalls.{moved_with, packed_with, written_over}
 use Rattle.linker_final.proofs.Relaxed.{listed_deltas}
-use Rattle.linker_final.proofs.SameDecisions.{same_decisions}
 use Rattle.linker_final.proofs.worked.riscv64.Goals as goal
-use Rattle.linker_rewriting.specs.GlobalPointer.{AreRelocationsBy}
 
 pub returns : goal.returns
 returns c so =
@@ -22,7 +20,7 @@ returns c so =
       is_rewritten = c.is_rewritten.ensures c.if-not-is_rewritten.false;
       decisions = c.rewrite_global_pointer.new.decisions;
       without_base = named;
-      by_pointer = subst (λ ds. AreRelocationsBy ds before named (length before / 24)) (same_decisions c.rewrite_global_pointer.new.decisions) c.in-Ok-eq1.ensures.rewritten.relocations;
+      by_pointer = subst (λ ds. AreRelocationsBy ds before named (length before / 24)) (map-id c.rewrite_global_pointer.new.decisions) c.in-Ok-eq1.ensures.rewritten.relocations;
       items = _;
       shapes = plan.shapes.items;
       kept = plan.kept.items;

@@ -1,7 +1,7 @@
-use Rattle.std.proofs.Common.{refl}
+use Rattle.linker_final.proofs.Imports.{refl}
+use Rattle.linker_final.specs.X86Section.{rewriting}
 use Rattle.linker_final.proofs.OfCalls.{of_calls}
 use Rattle.linker_final.proofs.worked.x86_64.Goals as goal
-use Rattle.linker_final.specs.X86Section.{rewriting}
 
 pub returns : goal.returns
 returns c so =
