@@ -4,14 +4,11 @@ use Rattle.linker_elf.specs.declared.aarch64.relocations.AArch64Relocation.TheVa
 use Rattle.linker_final.proofs.AArch64Written.{IsAfter, IsNamedAs, IsNew, IsOfEntry, after, has_after, of_entry, of_part, place_of, same_value, stands_left}
 use Rattle.linker_utils.specs.declared.aarch64.rewrites.RewriteKind.TheVariants as kinds
 
-abbrev pub page_row : RowInfo
-page_row = paged_row place_pages (signed_row 33 (insn_row Relative 12 33 Adr))
-
-abbrev adr_row : RowInfo
-adr_row = signed_row 21 (insn_row Relative 0 21 Adr)
+abbrev pub page_after : IsAfter names.R_AARCH64_ADR_PREL_PG_HI21
+page_after = record { row = paged_row place_pages (signed_row 33 (insn_row Relative 12 33 Adr)); is = refl; named = tt; of = of_bits refl refl refl refl refl (λ o. tt) }
 
 abbrev adr_after : IsAfter names.R_AARCH64_ADR_PREL_LO21
-adr_after = record { row = adr_row; is = refl; named = tt; of = of_bits refl refl refl refl refl (λ o. tt) }
+adr_after = record { row = signed_row 21 (insn_row Relative 0 21 Adr); is = refl; named = tt; of = of_bits refl refl refl refl refl (λ o. tt) }
 
 abbrev to_nop_adr : AArch64Entry
 to_nop_adr = entry kinds.AdrpAddToNopAdr names.R_AARCH64_ADR_PREL_LO21 to_adr
@@ -59,8 +56,8 @@ module _ {l : Linked} {c : Code} (new : IsNew l c) (i : ℕ) (of : IsAddressRewr
         (ap (instruction_at l.rewritten) of.low.offset ∙ sym (second_same l.rewritten (offset_of l i)))
         (has_after new names.R_AARCH64_ADD_ABS_LO12_NC (i + 1) low_of to_nop_adr by (λ o. refl) (λ a. refl) adr_after (left.1)
         symbol (ap (slice_get l.symbols) of.low.symbol ∙ is_symbol) 0 refl (following 4 o)
-        (same_value adr_row (λ w v. refl) (following 4 o)
-        (operands_with AArch64 l.addresses adr_row symbol (after l (i + 1) names.R_AARCH64_ADR_PREL_LO21) 0)
+        (same_value adr_after.row (λ w v. refl) (following 4 o)
+        (operands_with AArch64 l.addresses adr_after.row symbol (after l (i + 1) names.R_AARCH64_ADR_PREL_LO21) 0)
         (symbol_is ∙ sym (cond-false symbol.is_undefined_weak _ symbol.address defined)) (addend_is ∙ sym of.low.addend) at)
         at inside)
 
@@ -74,7 +71,7 @@ pub address_is_group : Groups → (l : Linked) (c : Code) (new : IsNew l c) (i :
     → Leaves 2 c o k s (register (object l (i + 1))) (symbol_address o)
 address_is_group laws l c new i of left alone k s o at defined page low =
     let p = offset_of l i in
-    let are : o ≡ operands_with AArch64 l.addresses page_row at.symbol (relocation_in l.relocations i) o.got_entry = at.are in
+    let are : o ≡ operands_with AArch64 l.addresses page_after.row at.symbol (relocation_in l.relocations i) o.got_entry = at.are in
     let place : o.place ≡ sum_64 l.addresses.section p = ap (λ (x : Operands). x.place) are in
     let second = second_same l.section p ∙ ap (instruction_at l.section) (sym of.low.offset) in
     let word_first : word_of (drop p l.section) ≡ word_of (two_at l.section p) = word_same l.section p ∙ sym (first_same l.section p) in

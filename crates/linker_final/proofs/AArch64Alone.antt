@@ -4,23 +4,17 @@ use Rattle.linker_elf.specs.declared.aarch64.relocations.AArch64Relocation.TheVa
 use Rattle.linker_final.proofs.AArch64Written.{IsAfter, IsNew, becomes, has_after, named_after, of_entry, stands_left}
 use Rattle.linker_utils.specs.declared.aarch64.rewrites.RewriteKind.TheVariants as kinds
 
-abbrev pub high_row : RowInfo
-high_row = insn_row TpOff 16 32 Movnz
-
 abbrev pub high_after : IsAfter names.R_AARCH64_TLSLE_MOVW_TPREL_G1
-high_after = record { row = high_row; is = refl; named = tt; of = of_bits refl refl refl refl refl (λ o. tt) }
-
-abbrev pub low_row : RowInfo
-low_row = insn_row TpOff 0 16 Movkz
+high_after = record { row = insn_row TpOff 16 32 Movnz; is = refl; named = tt; of = of_bits refl refl refl refl refl (λ o. tt) }
 
 abbrev pub low_after : IsAfter names.R_AARCH64_TLSLE_MOVW_TPREL_G0_NC
-low_after = record { row = low_row; is = refl; named = tt; of = of_bits refl refl refl refl refl (λ o. tt) }
+low_after = record { row = insn_row TpOff 0 16 Movkz; is = refl; named = tt; of = of_bits refl refl refl refl refl (λ o. tt) }
 
 module _ (laws : Groups) {l : Linked} {c : Code} (new : IsNew l c) (i : ℕ) (left : UntouchedInstruction l i)
     (k : Kinds) (s : State) (o : Operands) where
   module _ (h : ℕ) (at : ComesTo l s names.R_AARCH64_TLSLE_MOVW_TPREL_G1 i o) (entry_is : c.entry h ≡ o.got_entry)
       (offset_is : c.offset h ≡ thread_offset o) where
-    are : o ≡ operands_with AArch64 l.addresses high_row at.symbol (relocation_in l.relocations i) o.got_entry
+    are : o ≡ operands_with AArch64 l.addresses high_after.row at.symbol (relocation_in l.relocations i) o.got_entry
     are = at.are
 
     place : o.place ≡ sum_64 l.addresses.section (offset_of l i)
@@ -38,7 +32,7 @@ module _ (laws : Groups) {l : Linked} {c : Code} (new : IsNew l c) (i : ℕ) (le
         (becomes new names.R_AARCH64_TLSIE_ADR_GOTTPREL_PAGE21 i of kinds.MovzXnLsl16 (λ _. true) (λ word. 0xd2a00000 + rd_of word) refl by.kind_is)
         has
         (has_after new names.R_AARCH64_TLSIE_ADR_GOTTPREL_PAGE21 i of e by (λ o. refl) (λ a. refl) high_after left
-        at.symbol at.is_symbol 0 refl o (ap (value_of high_row) are) place (by.meant.0.0))
+        at.symbol at.is_symbol 0 refl o (ap (value_of high_after.row) are) place (by.meant.0.0))
 
     pub low_is_group : IsRewrittenOf l names.R_AARCH64_TLSIE_LD64_GOTTPREL_LO12_NC i
         → load_64 s.memory o.got_entry ≡ thread_offset o → k.registers (register (object l i)) ≡ half h
@@ -54,7 +48,7 @@ module _ (laws : Groups) {l : Linked} {c : Code} (new : IsNew l c) (i : ℕ) (le
         (becomes new names.R_AARCH64_TLSIE_LD64_GOTTPREL_LO12_NC i of kinds.MovkXn (λ word. eqb (rn_of word) (rd_of word)) (λ word. 0xf2800000 + rd_of word) refl by.kind_is)
         holds known has_page has
         (has_after new names.R_AARCH64_TLSIE_LD64_GOTTPREL_LO12_NC i of e by (λ o. refl) (λ a. refl) low_after left
-        at.symbol at.is_symbol 0 refl o (ap (value_of low_row) are) place (by.meant.0.0))
+        at.symbol at.is_symbol 0 refl o (ap (value_of low_after.row) are) place (by.meant.0.0))
 
   -- a branch, of a name with one entry
   pub branch_is_group : (name : AArch64Relocation) → IsNamed (aarch64_name name)

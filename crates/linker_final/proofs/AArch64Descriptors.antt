@@ -1,6 +1,6 @@
 -- Sequences of TLS descriptors of AArch64, of which local-exec or initial-exec is made, are groups.
 use Rattle.linker_final.proofs.AArch64Imports.{◌≡◌, ℕ, ◌+◌, ◌<◌, ◌^◌, List, [], ◌∷◌, refl, sym, ap, subst, ◌∙◌, inl, inr, true, Some, None, cond, slice_get, insn_row, entry, entry_pages, paged_row, signed_row, sum_64, value_of, Adr, AArch64Relocation, GotTpOff, GotTpOffGot, RowInfo, AArch64, Choice, Operands, Code, Stands, link, following, Group, Kinds, State, of_link, relocation_in, is_there, operands_by, operands_with, ThreadOffset, AArch64Entry, nop, Relaxation, Condition, aligned_row, LdrRegister, ComesTo, HoldsOffset, IsDescriptorLeft, IsRewrittenOf, object, IsWrittenByNoOther, Linked, UntouchedInstruction, instruction_at, IsDescriptorRewritten, offset_of, Descriptor, EndsInNops, Groups, thread_offset, with_entry, to_initial_exec, to_local_exec, RewriteKind, of_bits}
-use Rattle.linker_final.proofs.AArch64Alone.{high_after, high_row, low_after, low_row}
+use Rattle.linker_final.proofs.AArch64Alone.{high_after, low_after}
 use Rattle.linker_final.proofs.AArch64Written.{IsAfter, IsNew, IsOfEntry, IsOfOne, after, becomes, entry_there, has_after, named_after, of_one, of_part, place_of, stands_left}
 use Rattle.linker_elf.specs.declared.aarch64.relocations.AArch64Relocation.TheVariants as names
 use Rattle.linker_utils.specs.declared.aarch64.rewrites.RewriteKind.TheVariants as kinds
@@ -91,7 +91,7 @@ pub local_is_group : Groups → (l : Linked) (c : Code) (new : IsNew l c) (i : �
     → Descriptor c o (thread_offset o) k s k' s' (object l i) (object l (i + 1)) (object l (i + 2)) (object l (i + 3))
     → Group (of_link (link c)) 4 k s k' s'
 local_is_group laws l c new i of k k' s s' o at left described =
-    let are : o ≡ operands_with AArch64 l.addresses high_row at.symbol (relocation_in l.relocations i) o.got_entry = at.are in
+    let are : o ≡ operands_with AArch64 l.addresses high_after.row at.symbol (relocation_in l.relocations i) o.got_entry = at.are in
     let place : o.place ≡ sum_64 l.addresses.section (offset_of l i) = ap (λ (x : Operands). x.place) are in
     let page = names.R_AARCH64_TLSDESC_ADR_PAGE21 in
     let load = names.R_AARCH64_TLSDESC_LD64_LO12 in
@@ -110,26 +110,20 @@ local_is_group laws l c new i of k k' s s' o at left described =
     (becomes new page i is_page kinds.MovzX0Lsl16 (λ _. true) (λ _. 0xd2a00000) refl of.page_decided.kind_is)
     (becomes new load (i + 1) is_load kinds.MovkX0 (λ _. true) (λ _. 0xf2800000) refl of.load_decided.kind_is)
     (has_after new page i is_page to_high by_high (λ o. refl) (λ a. refl) high_after (left.first.0)
-    at.symbol at.is_symbol 0 refl o (ap (value_of high_row) are) place (by_high.meant.0.0))
+    at.symbol at.is_symbol 0 refl o (ap (value_of high_after.row) are) place (by_high.meant.0.0))
     (has_after new load (i + 1) is_load to_low by_low (λ o. refl) (λ a. refl) low_after (left.first.1)
     at.symbol (ap (slice_get l.symbols) of.load.symbol ∙ at.is_symbol) 0 refl (following 4 o)
-    (ap (λ w. value_of low_row (following 4 w)) are
-    ∙ ap (λ x. value_of low_row (operands_with AArch64 l.addresses low_row at.symbol (record (after l (i + 1) names.R_AARCH64_TLSLE_MOVW_TPREL_G0_NC) { addend = x }) 0)) (sym of.load.addend))
+    (ap (λ w. value_of low_after.row (following 4 w)) are
+    ∙ ap (λ x. value_of low_after.row (operands_with AArch64 l.addresses low_after.row at.symbol (record (after l (i + 1) names.R_AARCH64_TLSLE_MOVW_TPREL_G0_NC) { addend = x }) 0)) (sym of.load.addend))
     (place_of l i (i + 1) 4 o place of.load.offset) (by_low.meant.0.0))
 
 -- ---- for initial-exec
 
-abbrev page_row : RowInfo
-page_row = paged_row entry_pages (signed_row 33 (insn_row GotTpOff 12 33 Adr))
-
 abbrev page_after : IsAfter names.R_AARCH64_TLSIE_ADR_GOTTPREL_PAGE21
-page_after = record { row = page_row; is = refl; named = tt; of = of_bits refl refl refl refl refl (λ o. tt) }
-
-abbrev load_row : RowInfo
-load_row = aligned_row 8 (insn_row GotTpOffGot 3 12 LdrRegister)
+page_after = record { row = paged_row entry_pages (signed_row 33 (insn_row GotTpOff 12 33 Adr)); is = refl; named = tt; of = of_bits refl refl refl refl refl (λ o. tt) }
 
 abbrev load_after : IsAfter names.R_AARCH64_TLSIE_LD64_GOTTPREL_LO12_NC
-load_after = record { row = load_row; is = refl; named = tt; of = of_bits refl refl refl refl refl (λ o. tt) }
+load_after = record { row = aligned_row 8 (insn_row GotTpOffGot 3 12 LdrRegister); is = refl; named = tt; of = of_bits refl refl refl refl refl (λ o. tt) }
 
 pub initial_is_group : Groups → (l : Linked) (c : Code) (new : IsNew l c) (i : ℕ)
     (of : IsDescriptorRewritten kinds.AdrpX0 kinds.LdrX0 l.relocations l.decisions i) (k k' : Kinds)
@@ -141,7 +135,7 @@ initial_is_group laws l c new i of k k' s s' o offset at left small holds descri
     let r = relocation_in l.relocations i in
     let symbol = at.symbol in
     let e = symbol.thread_entry in
-    let are : o ≡ operands_with AArch64 l.addresses high_row symbol r o.got_entry = at.are in
+    let are : o ≡ operands_with AArch64 l.addresses high_after.row symbol r o.got_entry = at.are in
     let place : o.place ≡ sum_64 l.addresses.section (offset_of l i) = ap (λ (x : Operands). x.place) are in
     let page = names.R_AARCH64_TLSDESC_ADR_PAGE21 in
     let load = names.R_AARCH64_TLSDESC_LD64_LO12 in
@@ -164,13 +158,13 @@ initial_is_group laws l c new i of k k' s s' o offset at left small holds descri
     (becomes new page i is_page kinds.AdrpX0 (λ _. true) (λ _. 0x90000000) refl of.page_decided.kind_is)
     (becomes new load (i + 1) is_load kinds.LdrX0 (λ _. true) (λ _. 0xf9400000) refl of.load_decided.kind_is)
     (has_after new page i is_page to_page by_page (λ o. refl) (λ a. refl) page_after (left.first.0) symbol at.is_symbol e
-    (ap (λ b. operands_by AArch64 l.addresses page_row (after l i names.R_AARCH64_TLSIE_ADR_GOTTPREL_PAGE21) symbol (cond b (Some e) None)) there)
-    (with_entry e o) (ap (λ w. value_of page_row (with_entry e w)) are) place (by_page.meant.0.0))
+    (ap (λ b. operands_by AArch64 l.addresses page_after.row (after l i names.R_AARCH64_TLSIE_ADR_GOTTPREL_PAGE21) symbol (cond b (Some e) None)) there)
+    (with_entry e o) (ap (λ w. value_of page_after.row (with_entry e w)) are) place (by_page.meant.0.0))
     (has_after new load (i + 1) is_load to_load by_load (λ o. refl) (λ a. refl) load_after (left.first.1) symbol
     (ap (slice_get l.symbols) of.load.symbol ∙ at.is_symbol) e
-    (ap (λ b. operands_by AArch64 l.addresses load_row (after l (i + 1) names.R_AARCH64_TLSIE_LD64_GOTTPREL_LO12_NC) symbol (cond b (Some e) None))
+    (ap (λ b. operands_by AArch64 l.addresses load_after.row (after l (i + 1) names.R_AARCH64_TLSIE_LD64_GOTTPREL_LO12_NC) symbol (cond b (Some e) None))
     (subst (λ x. is_there l.addresses symbol (record { class = ThreadOffset; addend = x }) ≡ true) (sym of.load.addend) there))
     (following 4 (with_entry e o))
-    (ap (λ w. value_of load_row (following 4 (with_entry e w))) are
-    ∙ ap (λ x. value_of load_row (operands_with AArch64 l.addresses load_row symbol (record (after l (i + 1) names.R_AARCH64_TLSIE_LD64_GOTTPREL_LO12_NC) { addend = x }) e)) (sym of.load.addend))
+    (ap (λ w. value_of load_after.row (following 4 (with_entry e w))) are
+    ∙ ap (λ x. value_of load_after.row (operands_with AArch64 l.addresses load_after.row symbol (record (after l (i + 1) names.R_AARCH64_TLSIE_LD64_GOTTPREL_LO12_NC) { addend = x }) e)) (sym of.load.addend))
     (place_of l i (i + 1) 4 o place of.load.offset) (by_load.meant.0.0))

@@ -2,21 +2,15 @@
 -- groups.
 use Rattle.linker_final.proofs.AArch64Imports.{◌≡◌, ℕ, ◌+◌, ◌-◌, ◌≤◌, length, drop, false, refl, sym, ap, subst, ◌∙◌, arith, cond-false, slice_get, field, insn_row, entry, entry_pages, paged_row, signed_row, sum_64, Adr, AbsoluteLowPart, GotRelative, RowInfo, AArch64, Operands, Code, Has, Leaves, load_64, IsPair, following, word_of, symbol_address, Kinds, State, IsLoadRewritten, relocation_in, operands_with, Rela, AArch64Entry, AreOfOneRegister, IsLdr64, relaxation_rewrite, Add, IsRewrittenByNoOther, Linked, UntouchedInstructions, instruction_at, two_at, is_ldr64, to_address, ComesTo, IsRewrittenAgain, IsRewrittenOf, object, register, Section, offset_of, Groups, seen, of_bits, first_same, stays, word_same}
 use Rattle.linker_elf.specs.declared.aarch64.relocations.AArch64Relocation.TheVariants as names
-use Rattle.linker_final.proofs.AArch64Addresses.{adr_there, made_two, nop_there, page_row}
+use Rattle.linker_final.proofs.AArch64Addresses.{adr_there, made_two, nop_there, page_after}
 use Rattle.linker_final.proofs.AArch64Written.{IsAfter, IsNew, IsOfEntry, after, becomes, has_after, named_after, of_entry, of_part, place_of, same_value}
 use Rattle.linker_utils.specs.declared.aarch64.rewrites.RewriteKind.TheVariants as kinds
 
 abbrev pub got_row : RowInfo
 got_row = paged_row entry_pages (signed_row 33 (insn_row GotRelative 12 33 Adr))
 
-abbrev page_after : IsAfter names.R_AARCH64_ADR_PREL_PG_HI21
-page_after = record { row = page_row; is = refl; named = tt; of = of_bits refl refl refl refl refl (λ o. tt) }
-
-abbrev low_row : RowInfo
-low_row = insn_row AbsoluteLowPart 0 12 Add
-
 abbrev low_after : IsAfter names.R_AARCH64_ADD_ABS_LO12_NC
-low_after = record { row = low_row; is = refl; named = tt; of = of_bits refl refl refl refl refl (λ o. tt) }
+low_after = record { row = insn_row AbsoluteLowPart 0 12 Add; is = refl; named = tt; of = of_bits refl refl refl refl refl (λ o. tt) }
 
 abbrev page_kept : AArch64Entry
 page_kept = entry kinds.NoOp names.R_AARCH64_ADR_PREL_PG_HI21 (to_address 0)
@@ -86,14 +80,14 @@ module _ (laws : Groups) {l : Linked} {c : Code} (new : IsNew l c) (i : ℕ)
         (subst (Has c.new names.R_AARCH64_ADR_PREL_PG_HI21 o) stayed
         (has_after new names.R_AARCH64_ADR_GOT_PAGE i page_of page_kept page_entry (λ o. refl) (λ a. refl) page_after (left.0)
         at.symbol at.is_symbol 0 refl o
-        (same_value page_row (λ w v. refl) o
-        (operands_with AArch64 l.addresses page_row at.symbol (after l i names.R_AARCH64_ADR_PREL_PG_HI21) 0)
+        (same_value page_after.row (λ w v. refl) o
+        (operands_with AArch64 l.addresses page_after.row at.symbol (after l i names.R_AARCH64_ADR_PREL_PG_HI21) 0)
         (symbol_is ∙ sym (cond-false at.symbol.is_undefined_weak _ at.symbol.address defined)) addend_is place)
         place (omega (arith, of.low.offset, low_inside))))
         (has_after new names.R_AARCH64_LD64_GOT_LO12_NC (i + 1) low_of to_add low_entry (λ o. refl) (λ a. refl) low_after (left.1)
         at.symbol (ap (slice_get l.symbols) of.low.symbol ∙ at.is_symbol) 0 refl (following 4 o)
-        (same_value low_row (λ w v. refl) (following 4 o)
-        (operands_with AArch64 l.addresses low_row at.symbol (after l (i + 1) names.R_AARCH64_ADD_ABS_LO12_NC) 0)
+        (same_value low_after.row (λ w v. refl) (following 4 o)
+        (operands_with AArch64 l.addresses low_after.row at.symbol (after l (i + 1) names.R_AARCH64_ADD_ABS_LO12_NC) 0)
         (symbol_is ∙ sym (cond-false at.symbol.is_undefined_weak _ at.symbol.address defined)) (addend_is ∙ sym of.low.addend) next)
         next low_inside)
 

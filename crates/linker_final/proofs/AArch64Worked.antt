@@ -4,7 +4,7 @@ use Rattle.linker_base.specs.Form.{place_sum}
 use Rattle.linker_laws.specs.Schemes.{AreAddresses}
 use Rattle.linker_rewriting.specs.declared.groups.Group.{Group}
 use Rattle.linker_elf.specs.declared.aarch64.relocations.AArch64Relocation.TheVariants as names
-use Rattle.linker_final.proofs.AArch64Alone.{high_row}
+use Rattle.linker_final.proofs.AArch64Alone.{high_after as left_high}
 use Rattle.linker_final.proofs.AArch64Loads.{got_row}
 use Rattle.linker_final.proofs.AArch64Written.{IsNew, IsOfEntry, named_after, of_entry}
 use Rattle.linker_rewriting.specs.declared.groups.Group.TheVariants as groups
@@ -107,10 +107,10 @@ abbrev of_load : Operands
 of_load = operands_with AArch64 addresses got_row variable (relocation 0) 0x411010
 
 abbrev of_high : Operands
-of_high = operands_with AArch64 addresses high_row thread_variable (relocation 2) 0x411018
+of_high = operands_with AArch64 addresses left_high.row thread_variable (relocation 2) 0x411018
 
 abbrev of_low : Operands
-of_low = operands_with AArch64 addresses high_row thread_variable (relocation 3) 0x411018
+of_low = operands_with AArch64 addresses left_high.row thread_variable (relocation 3) 0x411018
 
 page_has : Has halves.old names.R_AARCH64_ADR_GOT_PAGE of_load (0x0 ∷ 0x0 ∷ 0x0 ∷ 0x90 ∷ [])
 unfolding place_sum
@@ -360,16 +360,6 @@ module _ (p q : RewritingPhase) (relocations_last last final : List ℕ) (symbol
       → n ≡ (span phase g).1 → Begins x phase halves k t g k' t' → IsGroupOf rewriting x halves n k t k' t'
   group_at phase is n k k' t t' g long begins = (phase, is, g, (long, has_final, begins))
 
-  abbrev load_comes : ComesTo m s0 names.R_AARCH64_ADR_GOT_PAGE 0 of_load
-  load_comes =
-      record {
-        pc = refl;
-        small = small of_load (lit< tt) (lit< tt) (lit< tt) (lit< tt) (lit< tt) (lit< tt);
-        symbol = variable;
-        is_symbol = ap (λ (r : Rela). slice_get symbols r.symbol) page_there ∙ x_is;
-        are = ap (λ r. operands_with AArch64 addresses got_row variable r 0x411010) (sym page_there);
-      }
-
   alone : IsRewrittenByNoOther m 0 (offset_of m 0)
   alone j at below other from less =
       let o = ap (λ (r : Rela). r.offset) page_there in
@@ -377,6 +367,14 @@ module _ (p q : RewritingPhase) (relocations_last last final : List ℕ) (symbol
 
   load_group : IsGroupOf rewriting x halves 2 known s0 k1 s1
   load_group =
+      let load_comes : ComesTo m s0 names.R_AARCH64_ADR_GOT_PAGE 0 of_load =
+      record {
+        pc = refl;
+        small = small of_load (lit< tt) (lit< tt) (lit< tt) (lit< tt) (lit< tt) (lit< tt);
+        symbol = variable;
+        is_symbol = ap (λ (r : Rela). slice_get symbols r.symbol) page_there ∙ x_is;
+        are = ap (λ r. operands_with AArch64 addresses got_row variable r 0x411010) (sym page_there);
+      } in
       group_at m (inr (inl refl)) 2 known k1 s0 s1 (load 0 load_of) refl
       (subst (λ r. Begins x m halves known s0 (load 0 load_of) (with_register r same known) (put r 0x420120 0x400008 s0))
       (ap register (object_m 1 load_there (lit≤ tt)))
@@ -386,7 +384,7 @@ module _ (p q : RewritingPhase) (relocations_last last final : List ℕ) (symbol
 
   -- old comes to a half
   half_comes : (i : ℕ) (t : State)
-      → let o = operands_with AArch64 addresses high_row thread_variable (relocation i) 0x411018 in
+      → let o = operands_with AArch64 addresses left_high.row thread_variable (relocation i) 0x411018 in
       t.pc ≡ o.place → AreAddresses o → slice_get symbols (relocation i).symbol ≡ Some thread_variable → ComesTo l t high_after i o
   half_comes i t at are_small is =
       record {
@@ -394,7 +392,7 @@ module _ (p q : RewritingPhase) (relocations_last last final : List ℕ) (symbol
         small = are_small;
         symbol = thread_variable;
         is_symbol = ap (λ (r : Rela). slice_get symbols r.symbol) (there i) ∙ is;
-        are = ap (λ r. operands_with AArch64 addresses high_row thread_variable r 0x411018) (sym (there i));
+        are = ap (λ r. operands_with AArch64 addresses left_high.row thread_variable r 0x411018) (sym (there i));
       }
 
   high_register : register (object l 2) ≡ 1

@@ -49,20 +49,20 @@ pub record IsLawful (l : Linked) (i : ℕ) (kind : Relaxation) (law : Law) : Typ
       → IsMade law.left y (instruction_at l.rewritten (offset_of l i)) after
       → law.IsGroup (instruction_at l.section (offset_of l i)) after u y
 
+abbrev pub before : Linked → ℕ → List ℕ
+before l i = instruction_at l.section (offset_of l i)
+
+abbrev pub rewritten : Linked → ℕ → List ℕ
+rewritten l i = instruction_at l.rewritten (offset_of l i)
+
 module _ (l : Linked) (made : AreRewritten l) (i : ℕ) (chosen : Choice Relaxation ℕ) (below : i < count l)
     (decided : decision_at l.decisions i ≡ Rewritten chosen) where
-  abbrev pub before : List ℕ
-  before = instruction_at l.section (offset_of l i)
-
-  abbrev pub rewritten : List ℕ
-  rewritten = instruction_at l.rewritten (offset_of l i)
-
   pub left_by : (kind : RewriteKind) (name old : LoongArch64Relocation) → IsEntry kind name old l.section (offset_of l i) chosen
       → relocation_in l.relocations_after i ≡ named_as name (relocation_in l.relocations i)
   left_by kind name old by = named_after l made i chosen below decided kind by.kind_is name by.r_type_is
 
   pub becomes_by : (kind : RewriteKind) (name old : LoongArch64Relocation) → IsEntry kind name old l.section (offset_of l i) chosen
-      → (new : ℕ → ℕ) → loongarch_rewrite kind ≡ Some (rewrites_word new) → IsRewritten kind before rewritten
+      → (new : ℕ → ℕ) → loongarch_rewrite kind ≡ Some (rewrites_word new) → IsRewritten kind (before l i) (rewritten l i)
   becomes_by kind name old by = becomes l made i chosen below decided kind by.kind_is
 
 -- ---- laws
@@ -70,12 +70,6 @@ module _ (l : Linked) (made : AreRewritten l) (i : ℕ) (chosen : Choice Relaxat
 module _ (groups : Groups) (l : Linked) (made : AreRewritten l) (loongarch : l.context.architecture ≡ LoongArch64)
     (i : ℕ) (chosen : Choice Relaxation ℕ) (below : i < count l)
     (decided : decision_at l.decisions i ≡ Rewritten chosen) where
-  abbrev section_word : List ℕ
-  section_word = before l made i chosen below decided
-
-  abbrev rewritten_word : List ℕ
-  rewritten_word = rewritten l made i chosen below decided
-
   abbrev HasLaw : LoongArch64Relocation → Type 0
   HasLaw name =
       IsNameOf loongarch_name (relocation_in l.relocations i).r_type name
@@ -97,7 +91,7 @@ module _ (groups : Groups) (l : Linked) (made : AreRewritten l) (loongarch : l.c
         writable = high_offset;
         left = left_by l made i chosen below decided kinds.PcalaToLu12i names.R_LARCH_TLS_LE_HI20 name by;
         group = λ alone u y after made_so.
-            groups.high_halves u y section_word rewritten_word after
+            groups.high_halves u y (before l i) (rewritten l i) after
             (subst IsPcalau12i (word_same l.section (offset_of l i)) (by.pattern.1))
             (becomes_by l made i chosen below decided kinds.PcalaToLu12i names.R_LARCH_TLS_LE_HI20 name by (λ word. 0x14000000 + rd_of word) refl)
             made_so;
@@ -113,7 +107,7 @@ module _ (groups : Groups) (l : Linked) (made : AreRewritten l) (loongarch : l.c
         writable = low_offset;
         left = left_by l made i chosen below decided kinds.LowToOri names.R_LARCH_TLS_LE_LO12 name by;
         group = λ alone u y after made_so.
-            groups.low_halves u y section_word rewritten_word after
+            groups.low_halves u y (before l i) (rewritten l i) after
             (subst IsLd (word_same l.section (offset_of l i)) (by.pattern.1))
             (becomes_by l made i chosen below decided kinds.LowToOri names.R_LARCH_TLS_LE_LO12 name by (λ word. 0x03800000 + field word 0 10) refl)
             made_so;
@@ -130,7 +124,7 @@ module _ (groups : Groups) (l : Linked) (made : AreRewritten l) (loongarch : l.c
         writable = tt;
         left = left_by l made i chosen below decided kinds.Delete names.R_LARCH_NONE name by;
         group = λ alone u y after made_so c x k s gone small at low has.
-            groups.high_offsets c x k s section_word gone small at
+            groups.high_offsets c x k s (before l i) gone small at
             (subst IsLu12i (word_same l.section (offset_of l i)) (by.pattern.1)) low has;
       }
 
@@ -144,7 +138,7 @@ module _ (groups : Groups) (l : Linked) (made : AreRewritten l) (loongarch : l.c
         writable = tt;
         left = left_by l made i chosen below decided kinds.Delete names.R_LARCH_NONE name by;
         group = λ alone u y after made_so c k s gone zero wide stands.
-            groups.sums c k s section_word gone
+            groups.sums c k s (before l i) gone
             (subst IsAddTp (word_same l.section (offset_of l i)) (by.pattern.1)) zero wide stands;
       }
 
@@ -158,7 +152,7 @@ module _ (groups : Groups) (l : Linked) (made : AreRewritten l) (loongarch : l.c
         writable = part_offset;
         left = left_by l made i chosen below decided kinds.BaseToTp name name by;
         group = λ alone u y after made_so.
-            groups.low_offsets u y section_word rewritten_word after
+            groups.low_offsets u y (before l i) (rewritten l i) after
             (subst (λ word. IsTrue (adds_low12 (word / 2 ^ 22))) (word_same l.section (offset_of l i)) (by.pattern.1.0))
             (becomes_by l made i chosen below decided kinds.BaseToTp name name by (λ word. word - rj_of word * 2 ^ 5 + tp * 2 ^ 5) refl)
             made_so;

@@ -32,12 +32,6 @@ entry_low =
 module _ (groups : Groups) (l : Linked) (made : AreRewritten l) (loongarch : l.context.architecture ≡ LoongArch64)
     (i : ℕ) (chosen : Choice Relaxation ℕ) (below : i < count l)
     (decided : decision_at l.decisions i ≡ Rewritten chosen) where
-  abbrev old : List ℕ
-  old = before l made i chosen below decided
-
-  abbrev new : List ℕ
-  new = rewritten l made i chosen below decided
-
   abbrev HasLaw : LoongArch64Relocation → Type 0
   HasLaw name =
       IsNameOf loongarch_name (relocation_in l.relocations i).r_type name
@@ -58,27 +52,27 @@ module _ (groups : Groups) (l : Linked) (made : AreRewritten l) (loongarch : l.c
       ) in
       elim which [
         | inl is ↦
-            let page_is : IsPageOfDescriptor (word_of old) = subst IsPageOfDescriptor (word_same l.section o) (is.pattern.1) in
+            let page_is : IsPageOfDescriptor (word_of (before l i)) = subst IsPageOfDescriptor (word_same l.section o) (is.pattern.1) in
             let law : IsLawful l i (relaxations.LoongArch64 kinds.PcalaToLu12i) (law_of name (relaxations.LoongArch64 kinds.PcalaToLu12i)) =
             record {
               writable = high_offset;
               left = left_by l made i chosen below decided kinds.PcalaToLu12i names.R_LARCH_TLS_LE_HI20 name is;
               group = λ alone u y after made_so.
-                  groups.descriptor_high_halves u y old new after (page_is.0)
+                  groups.descriptor_high_halves u y (before l i) (rewritten l i) after (page_is.0)
                   (becomes_by l made i chosen below decided kinds.PcalaToLu12i names.R_LARCH_TLS_LE_HI20 name is (λ word. 0x14000000 + rd_of word) refl)
                   made_so;
             } in
             subst (λ k. IsLawful l i k (law_of name k)) (sym is.kind_is) law
         | inr is ↦
-            let page_is : IsPageOfDescriptor (word_of old) = subst IsPageOfDescriptor (word_same l.section o) (is.pattern.1) in
+            let page_is : IsPageOfDescriptor (word_of (before l i)) = subst IsPageOfDescriptor (word_same l.section o) (is.pattern.1) in
             let law : IsLawful l i (relaxations.LoongArch64 kinds.NoOp) (law_of name (relaxations.LoongArch64 kinds.NoOp)) =
             record {
               writable = entry_high;
               left = left_by l made i chosen below decided kinds.NoOp names.R_LARCH_TLS_IE_PC_HI20 name is;
               group = λ alone u y after made_so.
-                  let stayed : new ≡ old =
+                  let stayed : (rewritten l i) ≡ (before l i) =
                   stays l made i chosen below decided (ap relaxation_rewrite is.kind_is) alone in
-                  groups.descriptor_entries u y old after (page_is.0)
+                  groups.descriptor_entries u y (before l i) after (page_is.0)
                   (subst (λ bytes. IsRelocated names.R_LARCH_TLS_IE_PC_HI20 y bytes after) stayed made_so);
             } in
             subst (λ k. IsLawful l i k (law_of name k)) (sym is.kind_is) law
@@ -101,7 +95,7 @@ module _ (groups : Groups) (l : Linked) (made : AreRewritten l) (loongarch : l.c
               writable = low_offset;
               left = left_by l made i chosen below decided kinds.LowToOri names.R_LARCH_TLS_LE_LO12 name is;
               group = λ alone u y after made_so.
-                  groups.descriptor_low_halves u y old new after (subst IsLowOfDescriptor (word_same l.section o) (is.pattern.1))
+                  groups.descriptor_low_halves u y (before l i) (rewritten l i) after (subst IsLowOfDescriptor (word_same l.section o) (is.pattern.1))
                   (becomes_by l made i chosen below decided kinds.LowToOri names.R_LARCH_TLS_LE_LO12 name is (λ word. 0x03800000 + field word 0 10) refl)
                   made_so;
             } in
@@ -112,7 +106,7 @@ module _ (groups : Groups) (l : Linked) (made : AreRewritten l) (loongarch : l.c
               writable = entry_low;
               left = left_by l made i chosen below decided kinds.AddiToLd names.R_LARCH_TLS_IE_PC_LO12 name is;
               group = λ alone u y after made_so.
-                  groups.descriptor_entry_loads u y old new after (subst IsLowOfDescriptor (word_same l.section o) (is.pattern.1))
+                  groups.descriptor_entry_loads u y (before l i) (rewritten l i) after (subst IsLowOfDescriptor (word_same l.section o) (is.pattern.1))
                   (becomes_by l made i chosen below decided kinds.AddiToLd names.R_LARCH_TLS_IE_PC_LO12 name is (λ word. 0x28c00000 + field word 0 22) refl)
                   made_so;
             } in
@@ -129,8 +123,8 @@ module _ (groups : Groups) (l : Linked) (made : AreRewritten l) (loongarch : l.c
         writable = tt;
         left = left_by l made i chosen below decided kinds.ReplaceWithNop names.R_LARCH_NONE name is;
         group = λ alone u y after made_so.
-            subst (LoadOfDescriptor old) (sym made_so)
-            (groups.descriptor_loads old new (subst IsLoadOfDescriptor (word_same l.section (offset_of l i)) (is.pattern.1))
+            subst (LoadOfDescriptor (before l i)) (sym made_so)
+            (groups.descriptor_loads (before l i) (rewritten l i) (subst IsLoadOfDescriptor (word_same l.section (offset_of l i)) (is.pattern.1))
             (becomes_by l made i chosen below decided kinds.ReplaceWithNop names.R_LARCH_NONE name is (λ _. 0x03400000) refl));
       }
 
@@ -144,7 +138,7 @@ module _ (groups : Groups) (l : Linked) (made : AreRewritten l) (loongarch : l.c
         writable = tt;
         left = left_by l made i chosen below decided kinds.ReplaceWithNop names.R_LARCH_NONE name is;
         group = λ alone u y after made_so.
-            subst (CallOfDescriptor old) (sym made_so)
-            (groups.descriptor_calls old new (subst IsCallOfDescriptor (word_same l.section (offset_of l i)) (is.pattern.1))
+            subst (CallOfDescriptor (before l i)) (sym made_so)
+            (groups.descriptor_calls (before l i) (rewritten l i) (subst IsCallOfDescriptor (word_same l.section (offset_of l i)) (is.pattern.1))
             (becomes_by l made i chosen below decided kinds.ReplaceWithNop names.R_LARCH_NONE name is (λ _. 0x03400000) refl));
       }

@@ -13,15 +13,11 @@ module _ (architecture : Architecture) (addresses : Addresses) (bytes : List ℕ
     (taken : operands_of architecture addresses symbols row (relocation_in bytes i) ≡ Ok operands)
     (has : IsSomeAnd (value_of row operands) (λ _. ⊤))
   where
-    alone : is_of_pair row ≡ false
-    alone = ap (λ s. begins_pair s row.kind || ends_pair s row.kind) size
-
-    some : 0 < window_len row
-    some = subst (λ s. 0 < size_len s) (sym size) (some_window insn)
-
     pub applied : IsApplied row operands (take (window_len row) (drop (offset_at bytes i) before))
         (take (window_len row) (drop (offset_at bytes i) after))
     applied =
+        let some : 0 < window_len row = subst (λ s. 0 < size_len s) (sym size) (some_window insn) in
+        let alone : is_of_pair row ≡ false = ap (λ s. begins_pair s row.kind || ends_pair s row.kind) size in
         applied_found architecture addresses bytes symbols before after written i below (window_len row) some row bits insn size
         refl valued alone operands
         (found_is architecture addresses bytes symbols (relocation_in bytes i) row operands is_row

@@ -370,14 +370,12 @@ module _ (addresses : Addresses) (symbols : List Symbol) (row high : RowInfo) (l
   unlabelled : names_label high.size high.kind ≡ false
   unlabelled = when_true (is_high_part (low_kind (is_of_descriptor row.kind)) (Some high)) _ false upper.unlabelled high_part
 
-  same_reach : reach_of high ≡ reach_of row
-  same_reach =
-      when_true (is_high_part (low_kind (is_of_descriptor row.kind)) (Some high)) _ (Some riscv_pair_bounds) upper.bounds high_part
-      ∙ sym (when_true (names_label row.size row.kind) (reach_of row) (Some riscv_pair_bounds) low.bounds labelled)
-
   low_wrapped : (r after : Rela) → IsRow RiscV r.r_type (Some high) → IsWrapped addresses symbols r after
       → IsWrappedValue (reach_of row) (low_value RiscV addresses symbols row (Some (r, high))) (low_value RiscV addresses symbols row (Some (after, high)))
   low_wrapped r after of each =
+      let same_reach : reach_of high ≡ reach_of row =
+      when_true (is_high_part (low_kind (is_of_descriptor row.kind)) (Some high)) _ (Some riscv_pair_bounds) upper.bounds high_part
+      ∙ sym (when_true (names_label row.size row.kind) (reach_of row) (Some riscv_pair_bounds) low.bounds labelled) in
       rw (as_alone r, as_alone after, ← same_reach) (own_wrapped addresses symbols high r after of each unlabelled)
 
 at_below : (bytes : List ℕ) (i : ℕ) → i < length bytes / 24 → relocation_at bytes i ≡ Some (relocation_in bytes i)

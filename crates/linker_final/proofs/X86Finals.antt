@@ -29,20 +29,16 @@ module _ (addresses : Addresses) (after : X86_64Relocation) (a : IsAfterRow afte
   pub addend_was : was.addend ≡ r.addend
   addend_was = cond-false (loads_plt_word a.row.size a.row.kind) (pos 0) r.addend a.unloaded
 
-  symbol_same : was.symbol ≡ is.symbol
-  symbol_same =
-      cond-false (is_of_got X86_64 r.r_type) addresses.got_base _ before_is
-      ∙ (a.placeless addresses symbol (sum_64 addresses.section r.offset) (sum_64 addresses.section (made.offset r.offset))
-      ∙ sym (cond-false (is_of_got X86_64 code) addresses.got_base _ after_is))
-
-  addend_same : made.addend was.addend ≡ is.addend
-  addend_same =
-      ap made.addend addend_was
-      ∙ sym (cond-false (loads_plt_word a.row.size a.row.kind) (pos 0) (made.addend r.addend) a.unloaded)
-
   -- the formula has the same value
   pub value_same : value_of a.row (operands_after (Some made) r.offset was) ≡ value_of a.row is
   value_same =
+      let addend_same : made.addend was.addend ≡ is.addend =
+      ap made.addend addend_was
+      ∙ sym (cond-false (loads_plt_word a.row.size a.row.kind) (pos 0) (made.addend r.addend) a.unloaded) in
+      let symbol_same : was.symbol ≡ is.symbol =
+      cond-false (is_of_got X86_64 r.r_type) addresses.got_base _ before_is
+      ∙ (a.placeless addresses symbol (sum_64 addresses.section r.offset) (sum_64 addresses.section (made.offset r.offset))
+      ∙ sym (cond-false (is_of_got X86_64 code) addresses.got_base _ after_is)) in
       let w = was in
       ap (value_of a.row)
       (ap (λ x. with_parts w x (made.addend w.addend) (difference_64 (sum_64 w.place (made.offset r.offset)) r.offset)) symbol_same

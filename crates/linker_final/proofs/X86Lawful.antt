@@ -315,23 +315,6 @@ module _ (laws : Groups) where
       })
       (nothing 3 names.R_X86_64_GOTPCREL address)
 
-  branch : TableServes 2 names.R_X86_64_GOTPCRELX address x86.branch_table
-  branch =
-      record {
-        serves = (
-          by_originals 2 names.R_X86_64_GOTPCRELX address _ _ ((omega arith, omega arith), tt) refl
-              (within 2 2 2 _ _ (x86_64_rewrite kinds.CallIndirectToRelative) refl (omega arith) (omega arith))
-              pc32 laws.branches.0,
-          (λ facts after h. h.1.1.0),
-          (
-            by_originals 2 names.R_X86_64_GOTPCRELX address _ _ ((omega arith, omega arith), tt) refl jump pc32
-                laws.branches.1,
-            (λ facts after h. h.1.1.0),
-            tt,
-          ),
-        );
-      }
-
   pub offset_3 : (opcode : ℕ) → TableServes 3 names.R_X86_64_GOTTPOFF thread_offset (x86.initial_exec_table 3 opcode)
   offset_3 opcode =
       either 3 names.R_X86_64_GOTTPOFF thread_offset (eqb opcode 0x8b) _ _
@@ -358,4 +341,19 @@ module _ (laws : Groups) where
 
   pub branch_or_got : (opcode : ℕ) → TableServes 2 names.R_X86_64_GOTPCRELX address (x86_64_table names.R_X86_64_GOTPCRELX opcode)
   branch_or_got opcode =
+      let branch : TableServes 2 names.R_X86_64_GOTPCRELX address x86.branch_table =
+      record {
+        serves = (
+          by_originals 2 names.R_X86_64_GOTPCRELX address _ _ ((omega arith, omega arith), tt) refl
+              (within 2 2 2 _ _ (x86_64_rewrite kinds.CallIndirectToRelative) refl (omega arith) (omega arith))
+              pc32 laws.branches.0,
+          (λ facts after h. h.1.1.0),
+          (
+            by_originals 2 names.R_X86_64_GOTPCRELX address _ _ ((omega arith, omega arith), tt) refl jump pc32
+                laws.branches.1,
+            (λ facts after h. h.1.1.0),
+            tt,
+          ),
+        );
+      } in
       either 2 names.R_X86_64_GOTPCRELX address (eqb opcode 0xff) _ _ branch (got_2 opcode)
