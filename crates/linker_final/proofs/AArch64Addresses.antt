@@ -1,5 +1,5 @@
 -- Addresses of AArch64 by two instructions, of which `nop` and `adr` are made, are groups.
-use Rattle.linker_final.proofs.AArch64Imports.{◌≡◌, ℕ, ◌+◌, ◌-◌, ◌≤◌, length, take, drop, false, refl, sym, ap, subst, ◌∙◌, arith, Some, cond-false, take-take, slice_get, replaces, insn_row, entry, paged_row, place_pages, signed_row, sum_64, Adr, Relative, RowInfo, AArch64, Operands, Code, Has, Leaves, Stands, IsPair, following, word_of, symbol_address, Kinds, State, IsDone, IsMade, relocation_after, relocation_in, operands_with, Symbol, AArch64Entry, AreOfOneRegister, relaxation_rewrite, IsWrittenByNoOther, Linked, UntouchedInstructions, instruction_at, two_at, IsAddressRewritten, IsAdd64, nop_adr, to_adr, ComesTo, IsRewrittenOf, object, register, offset_of, Groups, seen, IsRewritten, of_bits, first_same, second_same, word_same}
+use Rattle.linker_final.proofs.AArch64Imports.{◌≡◌, ℕ, ◌+◌, ◌-◌, ◌≤◌, length, take, drop, false, refl, sym, ap, subst, ◌∙◌, arith, Some, cond-false, take-take, slice_get, replaces, insn_row, entry, paged_row, place_pages, signed_row, sum_64, Adr, Relative, AArch64, Operands, Code, Has, Leaves, Stands, IsPair, following, word_of, symbol_address, Kinds, State, IsDone, IsMade, relocation_after, relocation_in, operands_with, Symbol, AArch64Entry, AreOfOneRegister, relaxation_rewrite, IsWrittenByNoOther, Linked, UntouchedInstructions, instruction_at, two_at, IsAddressRewritten, IsAdd64, nop_adr, to_adr, ComesTo, IsRewrittenOf, object, register, offset_of, Groups, seen, IsRewritten, of_bits, first_same, second_same, word_same}
 use Rattle.linker_elf.specs.declared.aarch64.relocations.AArch64Relocation.TheVariants as names
 use Rattle.linker_final.proofs.AArch64Written.{IsAfter, IsNamedAs, IsNew, IsOfEntry, after, has_after, of_entry, of_part, place_of, same_value, stands_left}
 use Rattle.linker_utils.specs.declared.aarch64.rewrites.RewriteKind.TheVariants as kinds
@@ -83,12 +83,11 @@ address_is_group laws l c new i of left alone k s o at defined page low =
       small = at.small;
       at = at.pc;
       one_register =
-          subst (λ x. AreOfOneRegister x (word_of (drop 4 (two_at l.section p))))
-          (ap (λ n. word_of (drop n l.section)) (back new i of) ∙ word_first)
+          rw (← (ap (λ n. word_of (drop n l.section)) (back new i of) ∙ word_first))
           (subst (AreOfOneRegister (word_of (drop (offset_of l (i + 1) - 4) l.section))) word_second (matches.1));
       second_is = subst IsAdd64 word_second (matches.0);
     } in
-    subst (λ xs. Leaves 2 c o k s (register xs) (symbol_address o)) second
+    rw (← second)
     (laws.nop_and_adr.0 c o k s (two_at l.section p) (two_at l.rewritten p) together (made_two new i of) page
     (subst (Has c.old names.R_AARCH64_ADD_ABS_LO12_NC (following 4 o)) (sym second) low)
     (nop_there new i of left alone o place)

@@ -1,5 +1,5 @@
 -- Instructions of AArch64 that are rewritten each by itself are groups.
-use Rattle.linker_final.proofs.AArch64Imports.{◌≡◌, ◌≢◌, ℕ, ◌+◌, [], ◌∷◌, drop, refl, ap, subst, Bool, true, eqb, aarch64_name, insn_row, entry, IsNamed, sum_64, value_of, AArch64Relocation, TpOff, RowInfo, AArch64, Operands, Code, Has, Leaves, link, load_64, word_of, put, with_register, plt_address, Group, Kinds, State, half, of_link, relocation_in, operands_with, AArch64Entry, IsLdr64, aarch64_entries, halves_to_local_exec, nop, weak_zero, page, Movkz, Movnz, IsWrittenByNoOther, Linked, UntouchedInstruction, instruction_at, ComesTo, IsRewrittenOf, object, register, offset_of, BranchToNop, Groups, thread_offset, HasPattern, IsAdrp, IsIntoOwnSource, rd_of, rn_of, of_bits, word_same}
+use Rattle.linker_final.proofs.AArch64Imports.{◌≡◌, ◌≢◌, ℕ, ◌+◌, [], ◌∷◌, drop, refl, ap, subst, Bool, true, eqb, aarch64_name, insn_row, entry, IsNamed, sum_64, value_of, AArch64Relocation, TpOff, AArch64, Operands, Code, Has, Leaves, link, load_64, word_of, put, with_register, plt_address, Group, Kinds, State, half, of_link, relocation_in, operands_with, AArch64Entry, IsLdr64, aarch64_entries, halves_to_local_exec, nop, weak_zero, page, Movkz, Movnz, IsWrittenByNoOther, Linked, UntouchedInstruction, instruction_at, ComesTo, IsRewrittenOf, object, register, offset_of, BranchToNop, Groups, thread_offset, HasPattern, IsAdrp, IsIntoOwnSource, rd_of, rn_of, of_bits, word_same}
 use Rattle.linker_elf.specs.declared.aarch64.relocations.AArch64Relocation.TheVariants as names
 use Rattle.linker_final.proofs.AArch64Written.{IsAfter, IsNew, becomes, has_after, named_after, of_entry, stands_left}
 use Rattle.linker_utils.specs.declared.aarch64.rewrites.RewriteKind.TheVariants as kinds

@@ -1,5 +1,5 @@
 -- Sequences of TLS descriptors of AArch64, of which local-exec or initial-exec is made, are groups.
-use Rattle.linker_final.proofs.AArch64Imports.{◌≡◌, ℕ, ◌+◌, ◌<◌, ◌^◌, List, [], ◌∷◌, refl, sym, ap, subst, ◌∙◌, inl, inr, true, Some, None, cond, slice_get, insn_row, entry, entry_pages, paged_row, signed_row, sum_64, value_of, Adr, AArch64Relocation, GotTpOff, GotTpOffGot, RowInfo, AArch64, Choice, Operands, Code, Stands, link, following, Group, Kinds, State, of_link, relocation_in, is_there, operands_by, operands_with, ThreadOffset, AArch64Entry, nop, Relaxation, Condition, aligned_row, LdrRegister, ComesTo, HoldsOffset, IsDescriptorLeft, IsRewrittenOf, object, IsWrittenByNoOther, Linked, UntouchedInstruction, instruction_at, IsDescriptorRewritten, offset_of, Descriptor, EndsInNops, Groups, thread_offset, with_entry, to_initial_exec, to_local_exec, RewriteKind, of_bits}
+use Rattle.linker_final.proofs.AArch64Imports.{◌≡◌, ℕ, ◌+◌, ◌<◌, ◌^◌, List, [], ◌∷◌, refl, sym, ap, subst, ◌∙◌, inl, inr, true, Some, None, cond, slice_get, insn_row, entry, entry_pages, paged_row, signed_row, sum_64, value_of, Adr, AArch64Relocation, GotTpOff, GotTpOffGot, AArch64, Choice, Operands, Code, Stands, link, following, Group, Kinds, State, of_link, relocation_in, is_there, operands_by, operands_with, ThreadOffset, AArch64Entry, nop, Relaxation, Condition, aligned_row, LdrRegister, ComesTo, HoldsOffset, IsDescriptorLeft, IsRewrittenOf, object, IsWrittenByNoOther, Linked, UntouchedInstruction, instruction_at, IsDescriptorRewritten, offset_of, Descriptor, EndsInNops, Groups, thread_offset, with_entry, to_initial_exec, to_local_exec, RewriteKind, of_bits}
 use Rattle.linker_final.proofs.AArch64Alone.{high_after, low_after}
 use Rattle.linker_final.proofs.AArch64Written.{IsAfter, IsNew, IsOfEntry, IsOfOne, after, becomes, entry_there, has_after, named_after, of_one, of_part, place_of, stands_left}
 use Rattle.linker_elf.specs.declared.aarch64.relocations.AArch64Relocation.TheVariants as names

@@ -1,5 +1,5 @@
 -- The names that files of proofs of AArch64 here use.
-pub use Rattle.linker_final.proofs.Imports.{AARCH64_OBJECT, AARCH64_RELOCATIONS, AArch64, AbsoluteLowPart, Addresses, All-cons, All-nil, AreCalled, AreLinked, Bool, Choice, Condition, Decision, Entry, GotRelative, GotTpOff, GotTpOffGot, Group, Grouped, HasGroups, Independent, IsAddressRewritten, IsArchitectureChoice, IsDescriptorRewritten, IsDone, IsGroupDecision, IsGroupOf, IsLinked, IsLoadRewritten, IsMade, IsNameOf, IsNamed, IsOfEntry, IsOfOne, IsOutside, IsPartAt, IsPhase, IsPhaseOf, IsRewrittenBy, IsRewrittenByNoOther, IsRow, IsScopeDecision, IsScopeIn, IsSomeAnd, IsWholeBy, IsWrittenByNoOther, Kept, Kinds, Linked, List, None, Ok, Operands, Phase, Rela, Relative, Relaxation, RewriteWindow, RewritesAreGroups, RewritingPhase, Rewritten, RowInfo, Section, Some, State, Symbol, ThreadOffset, TpOff, UntouchedInPhase, UntouchedInstruction, UntouchedInstructions, [], aarch64_scope_in, addend_after, aligned_row, all_below, and_parts, anything, ap, arith, bytes_row, cases_lt, chosen_at, code_at, cond, cond-false, count, decision_at, drop, entry, entry_address, entry_of, entry_pages, eq-eqb, eqb, eqb-true, false, field, group_stays, half, halves, inl, inr, instruction_at, ints, is_there, length, linked_by, lit<, lit≤, loaded, none_stays, of_entry, of_link, of_one, offset_after, offset_of, operands_by, operands_with, page, paged_row, place_pages, plt_address, pos, r_type_of, refl, relaxation_rewrite, relocation_after, relocation_in, replaces, replicate, same, signed_row, slice_get, subst, suc, sum_64, sym, symbol_address, take, take-take, true, two_at, value_of, weak_zero, window_of, window_of_rewrite, zero, ℕ, ℤ, ◌*◌, ◌+◌, ◌-◌, ◌/◌, ◌<◌, ◌^◌, ◌∙◌, ◌∷◌, ◌≡◌, ◌≢◌, ◌≤◌, ◌⊎◌}
+pub use Rattle.linker_final.proofs.Imports.{AARCH64_OBJECT, AARCH64_RELOCATIONS, AArch64, AbsoluteLowPart, Addresses, All-cons, All-nil, AreCalled, AreLinked, Bool, Choice, Condition, Decision, Entry, GotRelative, GotTpOff, GotTpOffGot, Group, Grouped, HasGroups, Independent, IsAddressRewritten, IsArchitectureChoice, IsDescriptorRewritten, IsDone, IsGroupDecision, IsGroupOf, IsLinked, IsLoadRewritten, IsMade, IsNameOf, IsNamed, IsOfEntry, IsOfOne, IsOutside, IsPartAt, IsPhase, IsPhaseOf, IsRewrittenBy, IsRewrittenByNoOther, IsRow, IsScopeDecision, IsScopeIn, IsSomeAnd, IsWholeBy, IsWrittenByNoOther, Kept, Kinds, Linked, List, None, Ok, Operands, Phase, Rela, Relative, Relaxation, RewritesAreGroups, RewritingPhase, Rewritten, RowInfo, Section, Some, State, Symbol, ThreadOffset, TpOff, UntouchedInPhase, UntouchedInstruction, UntouchedInstructions, [], aarch64_scope_in, addend_after, aligned_row, all_below, and_parts, anything, ap, arith, bytes_row, cases_lt, chosen_at, code_at, cond, cond-false, count, decision_at, drop, entry, entry_address, entry_of, entry_pages, eq-eqb, eqb, eqb-true, false, field, group_stays, half, halves, inl, inr, instruction_at, ints, is_there, length, linked_by, lit<, lit≤, loaded, none_stays, of_entry, of_link, of_one, offset_after, offset_of, operands_by, operands_with, page, paged_row, place_pages, plt_address, pos, r_type_of, refl, relaxation_rewrite, relocation_after, relocation_in, replaces, replicate, same, signed_row, slice_get, subst, suc, sum_64, sym, symbol_address, take, take-take, true, two_at, value_of, weak_zero, window_of, window_of_rewrite, zero, ℕ, ℤ, ◌*◌, ◌+◌, ◌-◌, ◌/◌, ◌<◌, ◌^◌, ◌∙◌, ◌∷◌, ◌≡◌, ◌≢◌, ◌≤◌, ◌⊎◌}
 pub use Rattle.linker_elf.specs.AArch64Relocations.{aarch64_name, aarch64_row, insn_row}
 pub use Rattle.linker_elf.specs.declared.aarch64.forms.AArch64Instruction.TheVariants.{Add, Adr, LdrRegister, Movkz, Movnz}
 pub use Rattle.linker_elf.specs.declared.aarch64.relocations.AArch64Relocation.{AArch64Relocation}

@@ -63,8 +63,7 @@ module _ (laws : Groups) {l : Linked} {c : Code} (new : IsNew l c) (i : ℕ)
           small = at.small;
           at = at.pc;
           one_register =
-              subst (λ x. AreOfOneRegister x (word_of (object l (i + 1))))
-              (ap (λ n. word_of (drop n l.section)) back ∙ word_same l.section (offset_of l i))
+              rw (← (ap (λ n. word_of (drop n l.section)) back ∙ word_same l.section (offset_of l i)))
               (subst (AreOfOneRegister (word_of (drop (offset_of l (i + 1) - 4) l.section))) second (low_entry.meant.1.1.1.1.1));
           second_is = subst IsLdr64 second (low_entry.meant.1.1.1.1.0);
         }
@@ -100,8 +99,7 @@ module _ (laws : Groups) {l : Linked} {c : Code} (new : IsNew l c) (i : ℕ)
         let named : relocation_in m.relocations i ≡ relocation_in l.relocations_after i = w.relocation in
         let was = named ∙ named_after new names.R_AARCH64_ADR_GOT_PAGE i page_of page_kept page_entry (λ o. refl) (λ a. refl) in
         let there : offset_of m i ≡ offset_of l i = ap (λ (r : Rela). r.offset) was in
-        let here : o.place ≡ sum_64 m.addresses.section (offset_of m i) =
-        place ∙ (ap (sum_64 l.addresses.section) (sym there) ∙ ap (λ a. sum_64 a.section (offset_of m i)) (sym same_addresses)) in
+        let here : o.place ≡ sum_64 m.addresses.section (offset_of m i) = cc in
         laws.load_to_nop_and_adr c o k s (object l i) (object l (i + 1)) (two_at m.section (offset_of m i)) (two_at m.rewritten (offset_of m i)) together holds
         (ap (λ n. word_of (two_at m.section n)) there
         ∙ (ap word_of w.bytes ∙ (first_same l.rewritten (offset_of l i) ∙ ap word_of stayed)))

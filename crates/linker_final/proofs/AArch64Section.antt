@@ -1,6 +1,6 @@
 -- The rewrites of a section of AArch64: each is of instructions that are rewritten together, and
 -- these are groups.
-use Rattle.linker_final.proofs.AArch64Imports.{◌≡◌, ◌≢◌, ℕ, ◌+◌, ◌-◌, ◌*◌, ◌<◌, ◌≤◌, inl, inr, ap, sym, subst, ◌∙◌, arith, refl, eq-eqb, aarch64_name, IsNameOf, AArch64Relocation, AArch64, Operands, Code, link, with_register, Group, Kinds, State, of_link, in_phase, sequences_are_whole, IsScopeDecision, decision_at, group_stays, Kept, Grouped, Independent, Phase, relocation_in, IsLinked, Linked, count, is_b, is_bl, anything, of_group, of_option, scope_there, aarch64_scope_in, IsWholeBy, Begins, HasFinal, IsRewrittenOf, Rewrites, address, at_address, at_call, at_high, at_initial, at_jump, at_load, at_local, at_low, call, high, jump, load, low, rewriting, span, to_initial, to_local, AreCalled, IsPhase, RewritesAreGroups, Section, offset_of, Groups, go_and_link, go_to, AreIn, beside_or, final_in, is_linked, is_of}
+use Rattle.linker_final.proofs.AArch64Imports.{◌≡◌, ◌≢◌, ℕ, ◌+◌, ◌-◌, ◌*◌, ◌<◌, ◌≤◌, inl, inr, ap, sym, ◌∙◌, arith, refl, eq-eqb, aarch64_name, IsNameOf, AArch64Relocation, AArch64, Operands, Code, link, with_register, Group, Kinds, State, of_link, in_phase, sequences_are_whole, IsScopeDecision, decision_at, group_stays, Kept, Grouped, Independent, Phase, relocation_in, IsLinked, Linked, count, is_b, is_bl, anything, of_group, of_option, scope_there, aarch64_scope_in, IsWholeBy, Begins, HasFinal, IsRewrittenOf, Rewrites, address, at_address, at_call, at_high, at_initial, at_jump, at_load, at_local, at_low, call, high, jump, load, low, rewriting, span, to_initial, to_local, AreCalled, IsPhase, RewritesAreGroups, Section, offset_of, Groups, go_and_link, go_to, AreIn, beside_or, final_in, is_linked, is_of}
 use Rattle.linker_elf.specs.declared.aarch64.relocations.AArch64Relocation.TheVariants as names
 use Rattle.linker_final.proofs.AArch64Addresses.{address_is_group}
 use Rattle.linker_final.proofs.AArch64Alone.{branch_is_group, high_is_group, low_is_group}
@@ -186,5 +186,4 @@ module _ (laws : Groups) (x : Section) (called : AreCalled rewriting x) (c : Cod
 
 pub rewrites_are_groups : Groups → RewritesAreGroups rewriting
 rewrites_are_groups laws x c called l is k s g n k' s' begins =
-    subst (λ m. Group (of_link (link c)) m k s k' s') (sym begins.0)
-    (group_of laws x called c (begins.1) l is k s g k' s' (begins.2))
+    rw begins.0 (group_of laws x called c (begins.1) l is k s g k' s' (begins.2))

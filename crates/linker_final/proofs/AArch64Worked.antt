@@ -1,5 +1,5 @@
 -- The groups of AArch64's program that the calls link.
-use Rattle.linker_final.proofs.AArch64Imports.{IsPhase, Rewrites, span, ◌≡◌, ℕ, zero, suc, ◌+◌, ◌-◌, ◌/◌, ◌<◌, ◌≤◌, ◌⊎◌, inl, inr, List, [], ◌∷◌, length, Bool, true, false, eqb, eqb-true, refl, sym, ap, subst, ◌∙◌, arith, lit<, lit≤, pos, Some, slice_get, replicate, cases_lt, ints, window_of_rewrite, RewriteWindow, aarch64_name, entry, IsNamed, IsNameOf, r_type_of, sum_64, AArch64Relocation, AArch64, Operands, Has, following, word_of, put, with_register, loaded, Kinds, State, half, in_phase, sequences_are_whole, IsGroupDecision, decision_at, window_of, group_stays, IsLoadRewritten, IsRewrittenBy, relocation_after, Decision, Kept, Rewritten, relocation_in, operands_with, Addresses, Symbol, Rela, AArch64Entry, halves_to_local_exec, relaxation_rewrite, All-nil, All-cons, AreLinked, IsLinked, IsOutside, IsRewrittenByNoOther, Linked, RewritingPhase, UntouchedInPhase, UntouchedInstruction, count, instruction_at, linked_by, AARCH64_OBJECT, AARCH64_RELOCATIONS, same, named_at, Phase, IsScopeDecision, Grouped, aarch64_scope_in, and_parts, Begins, ComesTo, HasFinal, IsRewrittenOf, at_high, at_load, at_low, high, load, low, object, register, rewriting, Section, offset_of, all_below, HasGroups, IsGroupOf, IsPhaseOf, code_at, halves, none_stays, addresses as small, relocated, known, starting, IsRelocated, RewriteKind, same_windows, rela}
+use Rattle.linker_final.proofs.AArch64Imports.{IsPhase, Rewrites, span, ◌≡◌, ℕ, zero, suc, ◌+◌, ◌/◌, ◌<◌, ◌≤◌, ◌⊎◌, inl, inr, List, [], ◌∷◌, length, Bool, true, false, eqb, eqb-true, refl, sym, ap, subst, ◌∙◌, arith, lit<, lit≤, pos, Some, slice_get, replicate, cases_lt, ints, window_of_rewrite, aarch64_name, entry, IsNamed, IsNameOf, r_type_of, sum_64, AArch64Relocation, AArch64, Operands, Has, following, word_of, put, with_register, loaded, Kinds, State, half, in_phase, sequences_are_whole, IsGroupDecision, decision_at, window_of, group_stays, IsLoadRewritten, IsRewrittenBy, Decision, Kept, Rewritten, relocation_in, operands_with, Addresses, Symbol, Rela, AArch64Entry, halves_to_local_exec, relaxation_rewrite, All-nil, All-cons, AreLinked, IsLinked, IsOutside, IsRewrittenByNoOther, Linked, RewritingPhase, UntouchedInPhase, UntouchedInstruction, count, instruction_at, linked_by, AARCH64_OBJECT, AARCH64_RELOCATIONS, same, named_at, Phase, IsScopeDecision, Grouped, aarch64_scope_in, and_parts, Begins, ComesTo, HasFinal, IsRewrittenOf, at_high, at_load, at_low, high, load, low, object, register, rewriting, Section, offset_of, all_below, HasGroups, IsGroupOf, IsPhaseOf, code_at, halves, none_stays, addresses as small, relocated, known, starting, IsRelocated, RewriteKind, same_windows, rela}
 use Rattle.linker_base.specs.Form.{place_sum}
 use Rattle.linker_laws.specs.Schemes.{AreAddresses}
 use Rattle.linker_rewriting.specs.declared.groups.Group.{Group}
@@ -26,9 +26,7 @@ outside_by : (relocations : List ℕ) (decisions : List Decision) (j at o n : �
     → window_of (decision_at decisions j) ≡ record { back = 0; len = n }
     → (relocation_in relocations j).offset ≡ o → (at < o) ⊎ (o + n ≤ at) → IsOutside relocations decisions j at
 outside_by relocations decisions j at o n is there apart =
-    let f = (relocation_in relocations j).offset in
-    subst (λ (w : RewriteWindow). (at < f - w.back) ⊎ ((f - w.back) + w.len ≤ at)) (sym is)
-    (elim apart [
+    rw is (elim apart [
       | inl before ↦ inl (omega (arith, there, before))
       | inr past ↦ inr (omega (arith, there, past))
     ])
@@ -259,8 +257,7 @@ module _ (p q : RewritingPhase) (relocations_last last final : List ℕ) (symbol
 
   as_it_was : (i : ℕ) → i < 4 → decision_at l.decisions i ≡ Kept → relocation_in m.relocations i ≡ relocation i
   as_it_was i below stays =
-      taken i ∙ (linked_l.relocations i (omega (arith, below, count_l))
-      ∙ (ap (λ d. relocation_after d (relocation_in l.relocations i)) stays ∙ there i))
+      taken i ∙ (rw stays at (linked_l.relocations i (omega (arith, below, count_l))) ∙ there i)
 
   page_there : relocation_in m.relocations 0 ≡ relocation 0
   page_there = as_it_was 0 (lit< tt) page_stays
@@ -270,13 +267,11 @@ module _ (p q : RewritingPhase) (relocations_last last final : List ℕ) (symbol
 
   high_there : relocation_in m.relocations 2 ≡ rela 8 (r_type_of (aarch64_name high_after)) 6 (pos 0)
   high_there =
-      taken 2 ∙ (named_after new_l high_name 2 high_of high_entry high_by (λ o. refl) (λ a. refl)
-      ∙ ap (λ (r : Rela). rela r.offset (r_type_of (aarch64_name high_after)) r.symbol r.addend) (there 2))
+      cc (taken 2, named_after new_l high_name 2 high_of high_entry high_by (λ o. refl) (λ a. refl), there 2)
 
   low_there : relocation_in m.relocations 3 ≡ rela 16 (r_type_of (aarch64_name low_after)) 6 (pos 0)
   low_there =
-      taken 3 ∙ (named_after new_l low_name 3 low_of low_entry low_by (λ o. refl) (λ a. refl)
-      ∙ ap (λ (r : Rela). rela r.offset (r_type_of (aarch64_name low_after)) r.symbol r.addend) (there 3))
+      cc (taken 3, named_after new_l low_name 3 low_of low_entry low_by (λ o. refl) (λ a. refl), there 3)
 
   high_stays : decision_at m.decisions 2 ≡ Kept
   high_stays = decided m linked_m phases.GotToPcRel is_q count_m 2 (lit< tt) high_after tt _ high_there refl
@@ -343,18 +338,16 @@ module _ (p q : RewritingPhase) (relocations_last last final : List ℕ) (symbol
       }
 
   object_l : (i : ℕ) → object l i ≡ instruction_at AARCH64_OBJECT (relocation i).offset
-  object_l i =
-      ap (λ bytes. instruction_at bytes (offset_of l i)) are.0.same_section
-      ∙ ap (λ (r : Rela). instruction_at AARCH64_OBJECT r.offset) (there i)
+  object_l i = cc (are.0.same_section, there i)
 
   object_m : (i : ℕ) → relocation_in m.relocations i ≡ relocation i → (relocation i).offset + 4 ≤ 8
       → object m i ≡ instruction_at AARCH64_OBJECT (relocation i).offset
   object_m i is inside =
-      ap (λ bytes. instruction_at bytes (offset_of m i)) are.2.0.same_section
-      ∙ (ap (λ (r : Rela). instruction_at l.rewritten r.offset) is
-      ∙ (same_windows (relocation i).offset 4 l.rewritten l.section (sym linked_l.same_length)
-      (λ at from less. linked_l.others at (outside_l at (omega (arith, less, inside))))
-      ∙ ap (λ bytes. instruction_at bytes (relocation i).offset) are.0.same_section))
+      cc (
+        are.2.0.same_section,
+        same_windows (relocation i).offset 4 l.rewritten l.section (sym linked_l.same_length) (λ at from less. linked_l.others at (outside_l at (omega (arith, less, inside)))),
+        are.0.same_section,
+      )
 
   group_at : (phase : Linked) → IsPhase x phase → (n : ℕ) (k k' : Kinds) (t t' : State) (g : Rewrites phase)
       → n ≡ (span phase g).1 → Begins x phase halves k t g k' t' → IsGroupOf rewriting x halves n k t k' t'

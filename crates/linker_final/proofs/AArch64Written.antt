@@ -27,11 +27,7 @@ pub same_value : (row : RowInfo)
     → ((w v : Operands) → value_of row w ≡ value_of row (record v { symbol = w.symbol; addend = w.addend; place = w.place }))
     → (w v : Operands) → w.symbol ≡ v.symbol → w.addend ≡ v.addend → w.place ≡ v.place
     → value_of row w ≡ value_of row v
-same_value row reads w v symbol addend place =
-    reads w v
-    ∙ (ap (λ x. value_of row (record v { symbol = x; addend = w.addend; place = w.place })) symbol
-    ∙ (ap (λ x. value_of row (record v { addend = x; place = w.place })) addend
-    ∙ ap (λ x. value_of row (record v { place = x })) place))
+same_value row reads w v symbol addend place = reads w v ∙ rw (symbol, addend, place)
 
 -- the place of another instruction
 pub place_of : (l : Linked) (i j n : ℕ) (o : Operands) → o.place ≡ sum_64 l.addresses.section (offset_of l i)
@@ -100,9 +96,7 @@ module _ {l : Linked} {c : Code} (new : IsNew l c) where
       → entry_of a.row (relocation_in l.relocations i).addend symbol.is_thread_local ≡ Some entry
       → is_there l.addresses symbol entry ≡ true
   entry_there i below name a named left symbol is_symbol entry is_entry =
-      entry_is_there l new.linked i below a.row a.of.valued a.of.unlabelled (after l i name)
-      (relocation_left l new.linked i (offset_of l i) 4 left below ∙ named)
-      (row_of name a.named a.row a.is) symbol is_symbol entry is_entry
+      cc (entry_is_there l new.linked i below a.row a.of.valued a.of.unlabelled (after l i name) (relocation_left l new.linked i (offset_of l i) 4 left below ∙ named) (row_of name a.named a.row a.is) symbol is_symbol entry is_entry)
 
   -- an instruction that is rewritten
   module _ (name : AArch64Relocation) (i : ℕ) (of : IsRewrittenOf l name i) where

@@ -1,5 +1,5 @@
 -- The field of a plain row in the final bytes of a section.
-use Rattle.linker_final.proofs.Imports.{◌≡◌, ℕ, ℤ, pos, ◌+◌, ◌*◌, ◌/◌, ◌%◌, ◌^◌, ◌<◌, ◌≤◌, ◌⊎◌, List, [], ◌∷◌, length, take, drop, get_or, cond, sym, ap, subst, ◌∙◌, inl, inr, arith, Some, Ok, unsigned_abs, cond-true, cond-false, cases_lt, length-drop, length-take-le, get_or-take, get_or-drop, get_or_past, w64, cast_unsigned, int_rem_euclid, byte_at, number_of_bytes, low_bytes, window_len, size_len, value_of, RowInfo, Operands, IsField, field_len, field_end, is_of_pair, uleb_len, relocation_in, IsRowValue, has_value, offset_at, operands_of, AreWritten, HoldsValue, HoldsNumber, composed, field_bytes, Addresses, Symbol, IsRow, Architecture, IsAccepted, HasValue}
+use Rattle.linker_final.proofs.Imports.{◌≡◌, ℕ, ℤ, pos, ◌+◌, ◌*◌, ◌/◌, ◌%◌, ◌^◌, ◌<◌, ◌≤◌, ◌⊎◌, List, [], ◌∷◌, length, take, drop, get_or, sym, ap, subst, ◌∙◌, inl, inr, arith, Some, Ok, unsigned_abs, cases_lt, length-drop, length-take-le, get_or-take, get_or-drop, get_or_past, w64, cast_unsigned, int_rem_euclid, byte_at, number_of_bytes, low_bytes, window_len, size_len, value_of, RowInfo, Operands, IsField, field_len, field_end, relocation_in, IsRowValue, offset_at, operands_of, AreWritten, HoldsValue, HoldsNumber, composed, field_bytes, Addresses, Symbol, IsRow, Architecture, IsAccepted, HasValue}
 use Rattle.linker_final.proofs.PlainRows.{IsPlain, found_is, composed_alone}
 
 -- ---- bytes that hold a number
@@ -53,12 +53,8 @@ pub record UntouchedField (n : ℕ) (row : RowInfo) (operands : Operands) (o : �
   pub accepted : IsAccepted row value (drop o before)
   pub field : take n (drop o after) ≡ low_bytes n (cast_unsigned w64 value)
 
-pub len_is : (n : ℕ) (row : RowInfo) (bytes : List ℕ) → IsPlain n row
-    → field_len row bytes ≡ n
-len_is n row bytes plain =
-    cond-true (has_value row.kind) (cond (is_of_pair row) (uleb_len (take 10 bytes)) (window_len row)) 0 plain.valued
-    ∙ (cond-false (is_of_pair row) (uleb_len (take 10 bytes)) (window_len row) plain.alone
-    ∙ ap size_len plain.size)
+pub len_is : (n : ℕ) (row : RowInfo) (bytes : List ℕ) → IsPlain n row → field_len row bytes ≡ n
+len_is n row bytes plain = cc
 
 module _ (n : ℕ) (there : 0 < n) (are : AreLowest n) (architecture : Architecture) (addresses : Addresses) (bytes : List ℕ)
     (symbols : List Symbol) (before after : List ℕ)

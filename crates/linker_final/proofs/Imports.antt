@@ -9,7 +9,6 @@ pub use Rattle.linker_base.specs.Rewrite.{CanRewrite, IsRewritable, Rewrite, add
 pub use Rattle.linker_base.specs.RewriteWindow.{window_of_rewrite}
 pub use Rattle.linker_base.specs.declared.bit_misc.BitRange.{BitRange}
 pub use Rattle.linker_base.specs.declared.relaxation.RelaxDelta.{RelaxDelta}
-pub use Rattle.linker_base.specs.declared.rewrite.RewriteWindow.{RewriteWindow}
 pub use Rattle.linker_elf.specs.Applied.{IsApplied}
 pub use Rattle.linker_elf.specs.Architectures.{IsNamedValue, IsRow}
 pub use Rattle.linker_elf.specs.Choices.{AllHold, Applies, Condition, HasAddresses, IsFirst, ValueIsWithin, changed_toc, choice, entry, got_high_part, low_12_bounds, operands_after, operands_before, weak_zero}
@@ -22,7 +21,7 @@ pub use Rattle.linker_elf.specs.Relocate.{InstructionWritten, IsAccepted, IsWrit
 pub use Rattle.linker_elf.specs.RiscV.{riscv_form}
 pub use Rattle.linker_elf.specs.RiscVRelocations.{pair_row, riscv_name, riscv_relocation, riscv_row}
 pub use Rattle.linker_elf.specs.Rows.{Bounds, aligned_row, bytes_row, entry_pages, paged_row, place_pages, signed_row, unsigned_row}
-pub use Rattle.linker_elf.specs.Value.{difference_64, formula, is_offset, loads_plt_word, read_signed, sum_64, symbol_term, value_of}
+pub use Rattle.linker_elf.specs.Value.{difference_64, formula, is_offset, loads_plt_word, sum_64, symbol_term, value_of}
 pub use Rattle.linker_elf.specs.declared.elf.AnyForm.{AnyForm}
 pub use Rattle.linker_elf.specs.declared.elf.RelocationKind.{RelocationKind}
 pub use Rattle.linker_elf.specs.declared.elf.RelocationKind.TheVariants.{Absolute, AbsoluteLowPart, GotRelative, GotTpOff, GotTpOffGot, GotTpOffGotBase, Relative, RelativeRiscVLow12, SymRelGotBase, TpOff}
@@ -39,10 +38,10 @@ pub use Rattle.linker_elf.specs.declared.loongarch64.relocations.LoongArch64Relo
 pub use Rattle.linker_elf.specs.declared.riscv64.forms.RiscVInstruction.TheVariants.{BType, CbType, CjType, IType, JType, SType, UType, UiType}
 pub use Rattle.linker_elf.specs.declared.riscv64.relocations.RiscVRelocation.{RiscVRelocation}
 pub use Rattle.linker_final.specs.Branches.{Goes, LoongArchBranchesGo, RiscVBranchesGo, final_number}
-pub use Rattle.linker_final.specs.Final.{AreBytes, AreInTurn, AreLinked, AreListed, ArePhases, AreRewritten, HasRewritten, IsLinked, IsOutside, IsRewrittenByNoOther, IsWrittenByNoOther, Keeps, Linked, OtherBytes, OtherFields, RewritesNone, RewritingPhase, Takes, UntouchedByOthers, UntouchedBytes, UntouchedBytesAreTheSame, UntouchedInPhase, UntouchedInstruction, UntouchedInstructions, count, count_of, deletions_in, instruction_at, linked, linked_by, rewriting_phase, two_at}
+pub use Rattle.linker_final.specs.Final.{AreBytes, AreInTurn, AreLinked, AreListed, ArePhases, AreRewritten, HasRewritten, IsLinked, IsOutside, IsRewrittenByNoOther, IsWrittenByNoOther, Keeps, Linked, OtherBytes, OtherFields, RewritesNone, RewritingPhase, Takes, UntouchedByOthers, UntouchedBytes, UntouchedBytesAreTheSame, UntouchedInPhase, UntouchedInstruction, UntouchedInstructions, count, count_of, instruction_at, linked, linked_by, rewriting_phase, two_at}
 pub use Rattle.linker_final.specs.Joined.{IsKeptInstruction, IsRewrittenAndPacked, final_instruction}
 pub use Rattle.linker_final.specs.Packed.{AreDeleted, DeletedBytesAreGone, InstructionsAreRelocated, IsBefore, IsPackCause, IsPacked, IsSiteOf, IsUnwritten, ItemsAreDeleted, KeptBytesStay, Packed, PaddingIsNops, PlacesAreRelocated, PlacesHaveAddresses, StayTogether, Stays, address_at, architecture_of, place_of, site_after, site_bytes, site_len, site_offset, site_place, site_target}
-pub use Rattle.linker_final.specs.Relaxed.{AlignmentHolds, AlignmentsHold, AreRelaxedAndPacked, HoldsIn, IsAligned, IsOfRun, IsSkipped, Run, SectionsAreAligned, packed_of, padding_at, padding_len}
+pub use Rattle.linker_final.specs.Relaxed.{AlignmentsHold, AreRelaxedAndPacked, HoldsIn, IsAligned, IsOfRun, IsSkipped, Run, SectionsAreAligned, packed_of, padding_at, padding_len}
 pub use Rattle.linker_final.specs.RiscVExecuted.{made, passes}
 pub use Rattle.linker_final.specs.RiscVSection.{BecomesNop, Changes, HasLow, HasNamed, HasOwn, IsNamedAs, Lawful, Leaves, New, Nops, NopsOf, RelocationsAreLeft, anywhere, descriptor, final, fixed, high_part, law, load, low_address, low_law, low_part, low_store, packed, rewriting, short_descriptor, sum}
 pub use Rattle.linker_final.specs.SectionRuns.{AreCalled, AreLeft, EachPlace, IsBeside, IsBesideAll, IsFollowed, IsPhase, IsPhaseIn, Known, Knows, Place, RewritesAreGroups, Rewriting, RunsAreFollowed, Section, comparison, elsewhere, offset_of, unchanged, within}
@@ -61,12 +60,12 @@ pub use Rattle.linker_rewriting.proofs.Chosen.{IsChosen, choice_of, chosen_at, c
 pub use Rattle.linker_rewriting.proofs.Entries.{IsOfApplied, IsOfEntry, IsOfOne, of_entry, of_first, of_one}
 pub use Rattle.linker_rewriting.proofs.LabelGroups.{one_index, ppc64_none, x86_64_none}
 pub use Rattle.linker_rewriting.specs.Candidates.{IsCandidate, IsCandidateWith}
-pub use Rattle.linker_rewriting.specs.Decisions.{AreDecidedIn, IsDecidedAfter, IsDecidedAlone, IsGroupDecision, IsLabelDecision, IsRejected, IsRejectedPlaced, IsScopeDecision, decision_at, decision_of, deleted_of, deletions_by, is_taken, label_decision, rewritten_by, start_at, start_by, takes_next, takes_symbol, window_of, written_end_at, written_end_by}
+pub use Rattle.linker_rewriting.specs.Decisions.{AreDecidedIn, IsDecidedAfter, IsDecidedAlone, IsGroupDecision, IsLabelDecision, IsRejected, IsRejectedPlaced, IsScopeDecision, decision_at, decision_of, deleted_of, deletions_by, is_taken, label_decision, rewritten_by, takes_next, takes_symbol, window_of, written_end_at, written_end_by}
 pub use Rattle.linker_rewriting.specs.Facts.{RelaxContext, address_in, context, facts_at, facts_by, facts_with, link_facts, placed_facts, pre_layout}
 pub use Rattle.linker_rewriting.specs.GlobalPointer.{AreRelocationsBy, base_by, base_for, base_of, based_relocation, is_near, relocation_over}
 pub use Rattle.linker_rewriting.specs.Groups.{IsScopeIn, aarch64_scope_in, group_stays, loongarch_scope_in, ppc64_scope_in, riscv_scope_in}
 pub use Rattle.linker_rewriting.specs.Kept.{IsWritingCause}
-pub use Rattle.linker_rewriting.specs.Rewritten.{IsAddressRewritten, IsDescriptorRewritten, IsDone, IsLoadAt, IsLoadRewritten, IsMade, IsPartAt, IsRewritten, IsRewrittenAs, IsRewrittenBy, IsWholeBy, relocation_after}
+pub use Rattle.linker_rewriting.specs.Rewritten.{IsAddressRewritten, IsDescriptorRewritten, IsDone, IsLoadAt, IsLoadRewritten, IsMade, IsPartAt, IsRewrittenAs, IsRewrittenBy, IsWholeBy, relocation_after}
 pub use Rattle.linker_rewriting.specs.RiscVPcrelGroups.{IsHighIn, IsLabelCandidate, far_entry, is_label_marked, is_labelled, label_facts, without_entry}
 pub use Rattle.linker_rewriting.specs.declared.decisions.Decision.{Decision}
 pub use Rattle.linker_rewriting.specs.declared.decisions.Decision.TheVariants.{Consumed, Kept, Rewritten, RewrittenWithSymbol}
@@ -91,11 +90,11 @@ pub use Rattle.linker_runs.specs.declared.relaxation.Item.TheVariants.{Aligned, 
 pub use Rattle.linker_section.proofs.Fronts.{HaveSameWindow, accepted_same, some_window}
 pub use Rattle.linker_section.proofs.Rows.{one_info, one_row}
 pub use Rattle.linker_section.proofs.Windows.{IsReplaced, in_window, outside_window}
-pub use Rattle.linker_section.specs.Fields.{AreApart, Composes, IsField, begins_pair, continues, ends_pair, field_end, field_len, is_of_pair, of_number, of_pair, uleb_len}
+pub use Rattle.linker_section.specs.Fields.{AreApart, Composes, IsField, begins_pair, continues, ends_pair, field_end, field_len, is_of_pair, of_number, of_pair}
 pub use Rattle.linker_section.specs.Needed.{entry_of}
 pub use Rattle.linker_section.specs.Relocations.{relocation_at, relocation_in}
 pub use Rattle.linker_section.specs.Sections.{HasValue, IsInNoField, IsRowValue}
-pub use Rattle.linker_section.specs.Values.{IsHighPartAt, IsLowValue, IsNoHighPart, IsValue, IsValueBy, IsValueIn, entry_address, entry_in, has_value, is_auipc, is_high_kind, is_high_part, is_of_got, is_there, lacks_origin, low_by, low_operands, low_value, names_label, offset_at, operands_by, operands_in, operands_of, operands_with, own_value, target_of, value_by}
+pub use Rattle.linker_section.specs.Values.{IsHighPartAt, IsLowValue, IsNoHighPart, IsValue, IsValueBy, IsValueIn, entry_address, has_value, is_auipc, is_high_kind, is_high_part, is_of_got, is_there, lacks_origin, low_by, low_operands, low_value, names_label, offset_at, operands_by, operands_in, operands_of, operands_with, own_value, target_of, value_by}
 pub use Rattle.linker_section.specs.WrittenFields.{AreWritten, Found, HoldsNumber, HoldsValue, IsFirstFault, IsHeld, composed, composed_by, composed_with, field_bytes}
 pub use Rattle.linker_section.specs.declared.facts.Addresses.{Addresses}
 pub use Rattle.linker_section.specs.declared.facts.Symbol.{Symbol}

@@ -1,5 +1,5 @@
 -- What a rewrite changes lies in its instruction.
-use Rattle.linker_final.proofs.Imports.{◌≡◌, ℕ, suc, ℤ, ◌+◌, ◌-◌, ◌<◌, ◌≤◌, ◌⊎◌, List, [], ◌∷◌, ◌++◌, length, take, drop, get_or, true, refl, sym, ap, subst, ◌∙◌, inl, inr, arith, Option, Some, append_assoc, drop-cons, take_more, Rewrite, rewritten, rewrite_window, absolute, operand, prefixed_operand, puts, x86_64_rewrite}
+use Rattle.linker_final.proofs.Imports.{◌≡◌, ℕ, suc, ℤ, ◌+◌, ◌-◌, ◌<◌, ◌≤◌, ◌⊎◌, List, [], ◌∷◌, ◌++◌, length, take, drop, get_or, true, refl, sym, ap, ◌∙◌, inl, inr, arith, Option, Some, append_assoc, drop-cons, take_more, Rewrite, rewritten, rewrite_window, absolute, operand, prefixed_operand, puts, x86_64_rewrite}
 use Rattle.linker_utils.specs.declared.x86_64.rewrites.RewriteKind.TheVariants as kinds
 
 -- Another rewrite does the same, whose window is in an instruction or a sequence: from at most n
@@ -85,10 +85,10 @@ module _ (opcode k : ℕ) where
   window : (bytes : List ℕ) (o : ℕ) → 3 ≤ o → o - 3 + 3 ≤ length bytes
       → rewrite_window outside bytes o ≡ get_or bytes (o - 3) 0 ∷ rewrite_window inside bytes o
   window bytes o starts ends =
-      ap (take 3)
-      (drop-cons bytes (o - 3) 0 (let e : o - 3 < length bytes = omega (arith, ends) in e)
-      ∙ ap (λ i. get_or bytes (o - 3) 0 ∷ drop i bytes)
-      (let e : suc (o - 3) ≡ o - 2 = omega (arith, starts) in e))
+      cc (
+        drop-cons bytes (o - 3) 0 (let e : o - 3 < length bytes = omega (arith, ends) in e),
+        (let e : suc (o - 3) ≡ o - 2 = omega (arith, starts) in e),
+      )
 
   written : (bytes : List ℕ) (o : ℕ) → 3 ≤ o → o - 3 + 3 ≤ length bytes
       → outside.bytes (rewrite_window outside bytes o)
@@ -126,8 +126,7 @@ module _ (opcode k : ℕ) where
               ];
           low = λ before after o at starts ends long is_made from less.
               let e : o - 3 ≡ at = omega (arith, starts, from, less) in
-              subst (λ j. get_or after j 0 ≡ get_or before j 0) e
-              (ap (λ xs. get_or xs 0 0)
+              rw (← e) (ap (λ xs. get_or xs 0 0)
               (sym (window after o starts (omega (arith, ends, long))) ∙ (is_made ∙ written before o starts ends)));
           back = omega arith;
           ends = omega arith;

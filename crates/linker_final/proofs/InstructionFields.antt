@@ -1,6 +1,6 @@
 -- The relocation of an instruction in the final bytes of a section: it is applied to the bytes
 -- between.
-use Rattle.linker_final.proofs.Imports.{◌≡◌, ℕ, ℤ, ◌/◌, ◌<◌, List, length, take, drop, true, false, cond, subst, ◌∙◌, refl, arith, Ok, Option, Some, None, IsSomeAnd, cond-true, cond-false, ⊤, BitRange, IsApplied, window_len, value_of, AnyForm, RowInfo, BitMasking, Operands, field_len, is_of_pair, uleb_len, relocation_in, has_value, names_label, offset_at, operands_of, AreWritten, HoldsValue, composed, field_bytes, Addresses, Symbol, IsRow, Architecture, WritesRow}
+use Rattle.linker_final.proofs.Imports.{◌≡◌, ℕ, ℤ, ◌/◌, ◌<◌, List, length, take, drop, true, false, subst, refl, arith, Ok, Option, Some, None, IsSomeAnd, ⊤, BitRange, IsApplied, window_len, value_of, AnyForm, RowInfo, BitMasking, Operands, field_len, is_of_pair, relocation_in, has_value, names_label, offset_at, operands_of, AreWritten, HoldsValue, composed, field_bytes, Addresses, Symbol, IsRow, Architecture, WritesRow}
 use Rattle.linker_final.proofs.PlainRows.{IsFoundOf, found_is}
 
 -- of an instruction of n bytes
@@ -35,15 +35,9 @@ of_bits size wide valued unlabelled alone some =
       some = some;
     }
 
-pub plain_len : (n : ℕ) (row : RowInfo) → window_len row ≡ n → has_value row.kind ≡ true
-    → is_of_pair row ≡ false → (bytes : List ℕ) → field_len row bytes ≡ n
-plain_len n row wide valued alone bytes =
-    cond-true (has_value row.kind) (cond (is_of_pair row) (uleb_len (take 10 bytes)) (window_len row)) 0 valued
-    ∙ (cond-false (is_of_pair row) (uleb_len (take 10 bytes)) (window_len row) alone ∙ wide)
-
 pub instruction_len : (n : ℕ) (row : RowInfo) → IsOfInstruction n row → (bytes : List ℕ)
     → field_len row bytes ≡ n
-instruction_len n row of = plain_len n row of.wide of.valued of.alone
+instruction_len n row of bytes = cc
 
 module _ (architecture : Architecture) (addresses : Addresses) (bytes : List ℕ)
     (symbols : List Symbol) (before after : List ℕ)
@@ -61,7 +55,7 @@ module _ (architecture : Architecture) (addresses : Addresses) (bytes : List ℕ
             let o = offset_at bytes i in
             let found = written.can.found in
             let v = mine.value in
-            let len : field_len row (drop o before) ≡ n = plain_len n row len_is valued alone (drop o before) in
+            let len : field_len row (drop o before) ≡ n = cc in
             let some : 0 < field_len row (drop o before) = omega (arith, len, wide) in
             let held = (written.fields i row v below mine.is some).value alone in
             let writes : WritesRow row v (field_bytes bytes before i row before) (field_bytes bytes before i row after) =

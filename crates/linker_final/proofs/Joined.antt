@@ -1,5 +1,5 @@
 -- Instructions that were rewritten, and stay in a section that was packed then.
-use Rattle.linker_final.proofs.Imports.{◌≡◌, ℕ, ℤ, ◌+◌, ◌/◌, ◌<◌, length, sym, ap, subst, ◌∙◌, arith, Ok, Some, ◌≤◌, slice_get, IsApplied, RowInfo, Operands, relocation_in, offset_at, operands_in, operands_with, Symbol, Rela, IsRow, UntouchedInstruction, UntouchedBytes, Linked, count, instruction_at, IsRewrittenAndPacked, IsKeptInstruction, IsUnwritten, Packed, StayTogether, architecture_of, place_of, Architecture, value_of, operands_of}
+use Rattle.linker_final.proofs.Imports.{◌≡◌, ℕ, ℤ, ◌+◌, ◌/◌, ◌<◌, length, sym, ap, subst, ◌∙◌, arith, Ok, Some, ◌≤◌, slice_get, IsApplied, RowInfo, Operands, relocation_in, offset_at, operands_in, operands_with, Symbol, Rela, IsRow, UntouchedInstruction, UntouchedBytes, Linked, count, instruction_at, IsRewrittenAndPacked, IsKeptInstruction, IsUnwritten, Packed, StayTogether, architecture_of, place_of, Architecture, value_of}
 use Rattle.linker_final.proofs.InstructionFields.{IsOfInstruction, applied}
 use Rattle.linker_final.proofs.PackedBytes.{packed_there, places_inside, same_there, stay_inside}
 use Rattle.linker_final.proofs.Phases.{later_as_many, later_bytes, later_keep, later_length}
@@ -12,9 +12,12 @@ pub unwritten_there : (l : Linked) (p : Packed) → IsRewrittenAndPacked l p →
     → instruction_at p.final (place_of p o) ≡ instruction_at l.rewritten o
 unwritten_there l p joined i o left stay free =
     let is = joined.packed in
-    packed_there p is (place_of p o) 4 free
-    ∙ (same_there p is o 4 (omega arith) stay
-    ∙ (ap (λ bytes. instruction_at bytes o) joined.bytes ∙ later_bytes l joined.later i o 4 left))
+    cc (
+      packed_there p is (place_of p o) 4 free,
+      same_there p is o 4 (omega arith) stay,
+      joined.bytes,
+      later_bytes l joined.later i o 4 left,
+    )
 
 module _ (l : Linked) (p : Packed) (joined : IsRewrittenAndPacked l p) (i : ℕ) (below : i < count l)
     (code symbol : ℕ) (addend : ℤ)
@@ -28,13 +31,11 @@ module _ (l : Linked) (p : Packed) (joined : IsRewrittenAndPacked l p) (i : ℕ)
 
   pub within : i < packed.count p
   within =
-      subst (λ n. i < n / 24)
-      (sym (joined.packed.as_many ∙ (ap length joined.relocations_are ∙ (later_as_many l joined.later ∙ joined.as_many)))) below
+      rw (joined.packed.as_many ∙ (ap length joined.relocations_are ∙ (later_as_many l joined.later ∙ joined.as_many))) below
 
   before_is : relocation_in p.relocations i ≡ rela o code symbol addend
   before_is =
-      ap (λ bytes. relocation_in bytes i) joined.relocations_are
-      ∙ (later_keep l joined.later i o 4 left (subst (λ n. i < n / 24) (sym joined.as_many) below) ∙ after_is)
+      cc (joined.relocations_are, later_keep l joined.later i o 4 left (subst (λ n. i < n / 24) (sym joined.as_many) below))
 
   -- the relocation in the packed section
   pub r_type_is : after.r_type ≡ code
@@ -61,16 +62,13 @@ module _ (l : Linked) (p : Packed) (joined : IsRewrittenAndPacked l p) (i : ℕ)
 
   pub same_kept : instruction_at p.packed (place_of p o) ≡ instruction_at l.rewritten o
   same_kept =
-      same_there p joined.packed o 4 (omega arith) stay
-      ∙ (ap (λ bytes. instruction_at bytes o) joined.bytes ∙ later_bytes l joined.later i o 4 left)
+      cc (same_there p joined.packed o 4 (omega arith) stay, joined.bytes, later_bytes l joined.later i o 4 left)
 
   -- what is written there, is written to what was rewritten
   kept_there : (row : RowInfo) (y : Operands)
       → IsApplied row y (instruction_at p.packed (offset_at p.relocations_after i)) (instruction_at p.final (offset_at p.relocations_after i))
       → IsApplied row y (instruction_at l.rewritten o) (instruction_at p.final (place_of p o))
-  kept_there row y there =
-      subst (λ bytes. IsApplied row y bytes (instruction_at p.final (place_of p o))) same_kept
-      (subst (λ n. IsApplied row y (instruction_at p.packed n) (instruction_at p.final n)) place_is there)
+  kept_there row y there = rw (← same_kept, ← place_is) there
 
   -- so is the value of its own symbol
   pub own_there : (row : RowInfo) (of : IsOfInstruction 4 row)
@@ -86,5 +84,4 @@ module _ (l : Linked) (p : Packed) (joined : IsRewrittenAndPacked l p) (i : ℕ)
       (kept_there row mine
       (applied (architecture_of p.machine) p.addresses p.relocations_after p.symbols p.packed p.final joined.packed.written
       i within 4 (omega arith) row of is_row mine
-      (subst (λ a. operands_of a p.addresses p.symbols row after ≡ Ok mine) (sym is)
-      (ap (operands_in architecture p.addresses row after) is_here ∙ taken))))
+      (rw is (ap (operands_in architecture p.addresses row after) is_here ∙ taken))))

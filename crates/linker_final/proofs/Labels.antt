@@ -1,6 +1,6 @@
 -- The value of a low part of RISC-V in the final bytes of a section: that of the high part at its
 -- label.
-use Rattle.linker_final.proofs.Imports.{◌≡◌, ℕ, ℤ, ◌/◌, ◌<◌, List, length, take, drop, Bool, true, false, cond, refl, sym, ap, subst, ◌∙◌, inl, inr, arith, ltb, Option, Some, None, Ok, Err, Result, IsSomeAnd, cases_eq, cases_lt, cond-true, cond-false, ltb-true, slice_get, ⊤, size_len, window_len, value_of, difference_64, RelocationKind, RowInfo, BitMasking, Operands, UType, one_info, Composes, IsField, begins_pair, continues, ends_pair, field_len, is_of_pair, of_number, of_pair, uleb_len, relocation_in, IsRowValue, IsValueBy, IsValueIn, has_value, names_label, offset_at, operands_of, Addresses, Symbol, Rela, ValueError, IsRow, Architecture, AreApart, relocation_at, IsHighPartAt, IsLowValue, is_auipc, is_high_kind, is_high_part, low_by, low_operands, low_value, NoHighPart, and_parts, or_from, RowSize}
+use Rattle.linker_final.proofs.Imports.{◌≡◌, ℕ, ℤ, ◌/◌, ◌<◌, List, length, drop, Bool, true, false, cond, refl, sym, ap, subst, ◌∙◌, inl, inr, arith, ltb, Option, Some, None, Ok, Err, Result, IsSomeAnd, cases_eq, cases_lt, ltb-true, slice_get, ⊤, size_len, value_of, difference_64, RelocationKind, RowInfo, BitMasking, Operands, UType, one_info, Composes, IsField, begins_pair, continues, ends_pair, field_len, of_number, of_pair, relocation_in, IsRowValue, IsValueBy, IsValueIn, has_value, names_label, offset_at, operands_of, Addresses, Symbol, Rela, ValueError, IsRow, Architecture, AreApart, relocation_at, IsHighPartAt, IsLowValue, is_auipc, is_high_kind, is_high_part, low_by, low_operands, low_value, NoHighPart, and_parts, or_from, RowSize}
 use Rattle.linker_elf.specs.declared.elf.AnyForm.TheVariants.{RiscV}
 use Rattle.linker_elf.specs.declared.elf.RelocationKind.TheVariants as kinds
 use Rattle.linker_final.proofs.PlainRows.{IsFoundOf, found_by}
@@ -43,11 +43,7 @@ high_kind row is = of_high row.kind ((and_parts (is_auipc row.size) (is_high_kin
 high_len : (row : RowInfo) (there : List ℕ) → IsHigh row → field_len row there ≡ 4
 high_len row there is =
     let size = high_size row is in
-    let kind = high_kind row is in
-    cond-true (has_value row.kind) (cond (is_of_pair row) (uleb_len (take 10 there)) (window_len row)) 0 kind.valued
-    ∙ (cond-false (is_of_pair row) (uleb_len (take 10 there)) (window_len row)
-    (or_from (begins_pair row.size row.kind) (ends_pair row.size row.kind) (size.begins_none row.kind) (size.ends_none row.kind))
-    ∙ size.len)
+    cc ((high_kind row is).valued, or_from (begins_pair row.size row.kind) (ends_pair row.size row.kind) (size.begins_none row.kind) (size.ends_none row.kind), size.len)
 
 -- nothing composes with one
 alone : (bytes : List ℕ) (i j : ℕ) (row other : RowInfo) → IsHigh row
@@ -148,8 +144,7 @@ module _ (architecture : Architecture) (addresses : Addresses) (bytes : List ℕ
       let of = subst (λ s. IsLowValue architecture addresses bytes symbols low s (Ok value)) is_label
       (subst (λ labels. IsValueBy labels architecture addresses bytes symbols low r (Ok value)) labelled is) in
       by_high (of.0)
-      (subst (λ at. IsHighPartAt architecture bytes kinds.RelativeRiscVLow12 at (of.0)) labels
-      (subst (λ kind. IsHighPartAt architecture bytes kind (difference_64 label.address addresses.section) (of.0)) of_low (of.1)))
+      (rw (← labels, ← of_low) (of.1))
       (Ok value) value refl (of.2)
 
   pub low_found : (found : Option (RowInfo × ℤ))

@@ -1,6 +1,6 @@
 -- Instructions of TLS descriptors of LoongArch that became those of local-exec or of initial-exec
 -- are groups, each by itself.
-use Rattle.linker_final.proofs.LoongArchImports.{◌≡◌, ◌⊎◌, ℕ, ◌+◌, ◌<◌, List, refl, sym, ap, subst, inl, inr, Some, None, cond, field, IsNameOf, loongarch_name, low_row, rounded_row, entry_pages, paged_row, GotTpOff, GotTpOffGot, LoongArch64, Choice, LoongArch64Relocation, IsRelocated, isnt, decision_at, Rewritten, relocation_in, operands_by, rd_of, relaxation_rewrite, Relaxation, AreRewritten, Linked, count, law_of, offset_of, CallOfDescriptor, Groups, LoadOfDescriptor, word_of, IsCallOfDescriptor, IsLoadOfDescriptor, IsLowOfDescriptor, IsPageOfDescriptor, of_bits, stays, word_same}
+use Rattle.linker_final.proofs.LoongArchImports.{◌≡◌, ◌⊎◌, ℕ, ◌+◌, ◌<◌, refl, sym, ap, subst, inl, inr, Some, None, cond, field, IsNameOf, loongarch_name, low_row, rounded_row, entry_pages, paged_row, GotTpOff, GotTpOffGot, LoongArch64, Choice, LoongArch64Relocation, IsRelocated, isnt, decision_at, Rewritten, relocation_in, operands_by, rd_of, relaxation_rewrite, Relaxation, AreRewritten, Linked, count, law_of, offset_of, CallOfDescriptor, Groups, LoadOfDescriptor, word_of, IsCallOfDescriptor, IsLoadOfDescriptor, IsLowOfDescriptor, IsPageOfDescriptor, of_bits, stays, word_same}
 use Rattle.linker_elf.specs.declared.loongarch64.relocations.LoongArch64Relocation.TheVariants as names
 use Rattle.linker_final.proofs.LoongArchAlone.{IsLawful, Takes, becomes_by, before, high_offset, left_by, low_offset, rewritten, table}
 use Rattle.linker_final.proofs.LoongArchChosen.{IsEntry, entry_by, shown}

@@ -1,5 +1,5 @@
 -- The names that files of proofs of LoongArch here use.
-pub use Rattle.linker_final.proofs.Imports.{AbsoluteLowPart, Addresses, All-drop, All-take, AnyForm, Architecture, AreAddresses, AreBytes, AreDecidedIn, AreRewritten, BitMasking, BitRange, Bool, Branch26, Choice, Consumed, Decision, GotRelative, GotTpOff, GotTpOffGot, Grouped, Independent, InstructionWritten, IsAddress, IsApplied, IsArchitectureChoice, IsBefore, IsCandidate, IsCandidateWith, IsChosen, IsDecidedAfter, IsDecidedAlone, IsGroupDecision, IsKeptInstruction, IsLinked, IsLoadAt, IsNameOf, IsNamed, IsOfEntry, IsOfOne, IsPacked, IsRewrittenAndPacked, IsRewrittenByNoOther, IsRow, IsScopeDecision, IsScopeIn, IsSiteOf, IsSomeAnd, IsTrue, IsWritten, IsWrittenByNoOther, Kept, Labelled, LinkFacts, Linked, List, LoongArch64, LoongArch64Relocation, None, NotRelaxable, Ok, Operands, Option, Packed, Phase, Ppc64, Rela, Relative, RelaxContext, Relaxation, Relocated, RewritesAreGroups, Rewritten, RewrittenWithSymbol, RowInfo, Scope, Shift10, SiteBecomes, Some, State, Symbol, TpOff, UntouchedInstruction, UntouchedInstructions, ValueIsWithin, [], addend_after, ap, architecture_of, arith, bytes_row, cases_Bool, chosen_at, cond, cond-false, count, decision_at, decision_of, drop, drop-drop, entry_and_addend, entry_pages, eqb, false, field, final_instruction, group_stays, has_value, high_row, if◌then◌else◌, inl, inr, instruction_at, is_jirl, is_some, is_taken, length, length-drop, link_facts, loaded, loongarch_form, loongarch_name, loongarch_row, loongarch_scope_in, low_row, names_label, ne_eqb, not, of_one, offset_after, offset_at, offset_of, operands_by, operands_in, operands_of, operands_with, or_parts, paged_row, pcalau12i, place_of, place_pages, plt_address, pos, pre_layout, r_type_of, refl, relaxation_rewrite, relaxation_skipped, relocation_in, rounded_row, signed, site_after, site_bytes, site_len, site_offset, site_place, site_target, slice_get, subst, suc, sum_64, sym, symbol_address, take, takes_next, true, value_of, window_len, word_below, word_of_front, wrapped, zero, ℕ, ℤ, ⊤, ◌*ℤ◌, ◌*◌, ◌+ℤ◌, ◌+◌, ◌-◌, ◌/◌, ◌<◌, ◌==◌, ◌^◌, ◌∙◌, ◌∷◌, ◌≡◌, ◌≢◌, ◌≤◌, ◌⊎◌}
+pub use Rattle.linker_final.proofs.Imports.{AbsoluteLowPart, Addresses, All-drop, All-take, AnyForm, Architecture, AreAddresses, AreBytes, AreDecidedIn, AreRewritten, BitMasking, BitRange, Bool, Branch26, Choice, Consumed, Decision, GotRelative, GotTpOff, GotTpOffGot, Grouped, Independent, InstructionWritten, IsAddress, IsApplied, IsArchitectureChoice, IsBefore, IsCandidate, IsCandidateWith, IsChosen, IsDecidedAfter, IsDecidedAlone, IsGroupDecision, IsKeptInstruction, IsLinked, IsLoadAt, IsNameOf, IsNamed, IsOfEntry, IsOfOne, IsPacked, IsRewrittenAndPacked, IsRewrittenByNoOther, IsRow, IsScopeDecision, IsScopeIn, IsSiteOf, IsSomeAnd, IsTrue, IsWritten, IsWrittenByNoOther, Kept, Labelled, LinkFacts, Linked, List, LoongArch64, LoongArch64Relocation, None, NotRelaxable, Ok, Operands, Option, Packed, Phase, Ppc64, Rela, Relative, RelaxContext, Relaxation, Relocated, RewritesAreGroups, Rewritten, RewrittenWithSymbol, RowInfo, Scope, Shift10, SiteBecomes, Some, State, Symbol, TpOff, UntouchedInstruction, UntouchedInstructions, ValueIsWithin, [], addend_after, ap, architecture_of, arith, bytes_row, cases_Bool, chosen_at, cond, count, decision_at, decision_of, drop, drop-drop, entry_and_addend, entry_pages, eqb, false, field, final_instruction, group_stays, has_value, high_row, if◌then◌else◌, inl, inr, instruction_at, is_jirl, is_some, is_taken, length, length-drop, link_facts, loaded, loongarch_form, loongarch_name, loongarch_row, loongarch_scope_in, low_row, names_label, ne_eqb, not, of_one, offset_after, offset_at, offset_of, operands_by, operands_in, operands_with, or_parts, paged_row, pcalau12i, place_of, place_pages, plt_address, pos, pre_layout, r_type_of, refl, relaxation_rewrite, relaxation_skipped, relocation_in, rounded_row, signed, site_after, site_bytes, site_len, site_offset, site_place, site_target, slice_get, subst, suc, sum_64, sym, symbol_address, take, takes_next, true, value_of, window_len, word_below, word_of_front, wrapped, zero, ℕ, ℤ, ⊤, ◌*ℤ◌, ◌*◌, ◌+ℤ◌, ◌+◌, ◌-◌, ◌/◌, ◌<◌, ◌==◌, ◌^◌, ◌∙◌, ◌∷◌, ◌≡◌, ◌≢◌, ◌≤◌, ◌⊎◌}
 pub use Rattle.linker_elf.proofs.Relocated.{plain_written}
 pub use Rattle.linker_final.proofs.Branches.{the_row}
 pub use Rattle.linker_final.proofs.InstructionFields.{IsOfInstruction, of_bits, some_value}

@@ -1,5 +1,5 @@
 -- Rewritten loads from the GOT of LoongArch are groups in the final bytes.
-use Rattle.linker_final.proofs.LoongArchImports.{◌≡◌, ℕ, ◌+◌, ◌<◌, drop, refl, sym, ap, subst, ◌∙◌, IsSomeAnd, slice_get, field, IsApplied, IsNameOf, r_type_of, loongarch_name, loongarch_row, low_row, rounded_row, paged_row, place_pages, entry_pages, value_of, Relative, AbsoluteLowPart, GotRelative, RowInfo, Choice, LoongArch64Relocation, isnt, IsRewritten, IsLd, decision_at, RelaxContext, Rewritten, relocation_in, operands_with, Rela, relaxation_rewrite, Relaxation, LoongArch64, UntouchedInstructions, Linked, IsLinked, IsRewrittenByNoOther, count, instruction_at, IsLoad, LoadsTheSame, Groups, IsPair, following, word_of, AreOfOneRegister, of_bits, rela, stays, word_same}
+use Rattle.linker_final.proofs.LoongArchImports.{◌≡◌, ℕ, ◌+◌, ◌<◌, refl, sym, ap, subst, ◌∙◌, IsSomeAnd, slice_get, field, IsApplied, IsNameOf, r_type_of, loongarch_name, loongarch_row, low_row, rounded_row, paged_row, place_pages, entry_pages, value_of, Relative, AbsoluteLowPart, GotRelative, RowInfo, Choice, LoongArch64Relocation, isnt, IsRewritten, IsLd, decision_at, RelaxContext, Rewritten, relocation_in, operands_with, Rela, relaxation_rewrite, Relaxation, LoongArch64, UntouchedInstructions, Linked, IsLinked, IsRewrittenByNoOther, count, instruction_at, IsLoad, LoadsTheSame, Groups, IsPair, following, of_bits, rela, stays, word_same}
 use Rattle.linker_elf.specs.declared.loongarch64.relocations.LoongArch64Relocation.TheVariants as names
 use Rattle.linker_final.proofs.LoongArchChosen.{IsEntry, by_table, entry_by, shown}
 use Rattle.linker_final.proofs.LoongArchPairs.{AreOfLoad, load_of}
@@ -64,26 +64,23 @@ module _ (groups : Groups) (l : Linked) (linked : IsLinked l) (loongarch : l.con
       let together : IsPair IsLd (instruction_at l.section o) (instruction_at l.section (o + 4)) =
       record {
         one_register =
-            subst (λ x. AreOfOneRegister x (word_of (instruction_at l.section (o + 4)))) (word_same l.section o)
-            (subst (λ x. AreOfOneRegister (word_of (drop o l.section)) x) (word_same l.section (o + 4)) there.one_register);
+            rw (← (word_same l.section o), ← (word_same l.section (o + 4))) there.one_register;
         second_is = subst IsLd (word_same l.section (o + 4)) there.second;
       } in
       let stayed : instruction_at l.rewritten o ≡ instruction_at l.section o =
       stays l linked.made i of.page_chosen of.page_below of.page_decided (ap relaxation_rewrite page.kind_is) alone in
       let low_r_type = r_type_of (loongarch_name names.R_LARCH_PCALA_LO12) in
       let page_written : IsApplied page_after.row w (instruction_at l.section o) (instruction_at l.final o) =
-      subst (λ xs. IsApplied page_after.row w xs (instruction_at l.final o)) stayed
-      (relocated_there l linked loongarch i of.page_below names.R_LARCH_PCALA_HI20 page_after
+      rw (← stayed) (relocated_there l linked loongarch i of.page_below names.R_LARCH_PCALA_HI20 page_after
       (named_after l linked.made i of.page_chosen of.page_below of.page_decided kinds.NoOp page.kind_is names.R_LARCH_PCALA_HI20 page.r_type_is)
       (left.0) symbol 0 refl is_symbol w refl) in
       let low_written : IsApplied low_after.row (following 4 w) (instruction_at l.rewritten (o + 4)) (instruction_at l.final (o + 4)) =
-      subst (λ n. IsApplied low_after.row (following 4 w) (instruction_at l.rewritten n) (instruction_at l.final n)) next
-      (relocated_there l linked loongarch j of.low_below names.R_LARCH_PCALA_LO12 low_after
+      rw (← next) (relocated_there l linked loongarch j of.low_below names.R_LARCH_PCALA_LO12 low_after
       (named_after l linked.made j of.low_chosen of.low_below of.low_decided kinds.LdToAddi low.kind_is names.R_LARCH_PCALA_LO12 low.r_type_is)
       (left.1) symbol 0 refl (ap (slice_get l.symbols) of.same_symbol ∙ is_symbol) (following 4 w)
       (ap (λ x. value_of low_after.row (operands_with LoongArch64 l.addresses low_after.row symbol (rela second.offset low_r_type second.symbol x) 0)) (sym of.same_addend))) in
       let added : IsRewritten kinds.LdToAddi (instruction_at l.section (o + 4)) (instruction_at l.rewritten (o + 4)) =
-      subst (λ n. IsRewritten kinds.LdToAddi (instruction_at l.section n) (instruction_at l.rewritten n)) next
+      rw (← next)
       (becomes l linked.made j of.low_chosen of.low_below of.low_decided kinds.LdToAddi low.kind_is
       (λ word. 0x02c00000 + field word 0 22) refl) in
       groups.got c w w k s (instruction_at l.section o) (instruction_at l.section (o + 4)) (instruction_at l.rewritten (o + 4))

@@ -1,7 +1,7 @@
 -- LoongArch: what sites do in the final bytes of a packed section.
-use Rattle.linker_final.proofs.LoongArchImports.{◌≡◌, ◌≢◌, ℕ, ◌+◌, ◌/◌, ◌^◌, ◌<◌, ◌≤◌, inl, inr, Bool, true, false, not, eqb, if◌then◌else◌, List, [], ◌∷◌, length, take, drop, IsSomeAnd, refl, sym, ap, subst, ◌∙◌, arith, pos, ◌+ℤ◌, ◌*ℤ◌, ℤ, Some, cond-false, or_parts, drop-drop, length-drop, All-drop, All-take, field, signed, IsApplied, loongarch_form, loongarch_row, IsWritten, sum_64, AbsoluteLowPart, BitMasking, Operands, Branch26, Shift10, word_below, Fits32, IsRelocated, IsRewritten, pair, Relocated, loaded, wrapped, AreAddresses, IsAddress, plt_address, symbol_address, IsLd, rd_of, rj_of, destination, SiteBecomes, word_of_front, ne_eqb, ◌==◌, ValueIsWithin, pcalau12i, InstructionWritten, is_jirl, AreBytes, CallsTheSame, AddressesAreMade, LoadedAddressesAreMade, words_in, Packed, IsPacked, IsSiteOf, site_after, site_bytes, site_len, site_offset, site_place, site_target, entry_and_addend, IsBranch, IsCall36At, IsFarCall, IsPcalaAt, IsPcaddi, LoongArchBecomes, plain_written, word_made, address_is, call_is, new_first, new_second, target_is, decodes_far, decodes_jirl, decodes_b, decodes_bl, Loads, adds, loads, nears, ends_so, loaded_of, read_back, run_pair, set, high_after, low_after, HaveCalled, HaveMade, LoadsEntry, following, no_register, word_of, AreOfOneRegister, IsAddi, IsCall, signed_32, word_at, jump, call, far_call, address, far_address as far_pair, are_addresses, site_becomes, site_inside, site_length, site_small, window_length, back_of_pair, front_of_pair}
+use Rattle.linker_final.proofs.LoongArchImports.{◌≡◌, ◌≢◌, ℕ, ◌+◌, ◌/◌, ◌^◌, ◌<◌, ◌≤◌, inl, inr, Bool, true, false, not, eqb, if◌then◌else◌, List, [], ◌∷◌, length, take, drop, IsSomeAnd, refl, sym, ap, subst, ◌∙◌, arith, pos, ◌+ℤ◌, ◌*ℤ◌, ℤ, Some, or_parts, drop-drop, length-drop, All-drop, All-take, field, signed, IsApplied, loongarch_form, loongarch_row, IsWritten, sum_64, AbsoluteLowPart, BitMasking, Operands, Branch26, Shift10, word_below, Fits32, IsRelocated, IsRewritten, pair, Relocated, loaded, wrapped, AreAddresses, IsAddress, plt_address, symbol_address, IsLd, rd_of, rj_of, destination, SiteBecomes, word_of_front, ne_eqb, ◌==◌, ValueIsWithin, pcalau12i, InstructionWritten, is_jirl, AreBytes, CallsTheSame, AddressesAreMade, LoadedAddressesAreMade, words_in, Packed, IsPacked, IsSiteOf, site_after, site_bytes, site_len, site_offset, site_place, site_target, entry_and_addend, IsBranch, IsCall36At, IsFarCall, IsPcalaAt, IsPcaddi, LoongArchBecomes, plain_written, word_made, address_is, call_is, new_first, new_second, target_is, decodes_far, decodes_jirl, decodes_b, decodes_bl, Loads, adds, loads, nears, ends_so, loaded_of, read_back, run_pair, set, high_after, low_after, HaveCalled, HaveMade, LoadsEntry, following, no_register, word_of, AreOfOneRegister, IsAddi, IsCall, signed_32, word_at, jump, call, far_call, address, far_address as far_pair, are_addresses, site_becomes, site_inside, site_length, site_small, window_length, back_of_pair, front_of_pair}
 use Rattle.linker_elf.specs.declared.elf.AnyForm.TheVariants.{LoongArch64 as of_loongarch}
-use Rattle.linker_laws.specs.LoongArchMachine.{AreAlikeBut, EndSo, State, branch_target, execute, far_address, go_on, go_to, near_address, next_pc, page_address, read, register_target, run, step, sum_of, with_register, write}
+use Rattle.linker_laws.specs.LoongArchMachine.{AreAlikeBut, EndSo, State, branch_target, execute, far_address, go_to, near_address, next_pc, page_address, read, register_target, run, step, sum_of, with_register, write}
 use Rattle.linker_runs.specs.Sites.{operands_of}
 use Rattle.linker_runs.specs.declared.packing.Machine.TheVariants.{LoongArch64}
 use Rattle.linker_runs.specs.declared.relaxation.Site.{Site as sites}
@@ -12,9 +12,7 @@ use Rattle.linker_utils.specs.declared.loongarch64.rewrites.RewriteKind.TheVaria
 -- ---- registers
 
 write_back : (n v : ℕ) (s : State) → n ≢ 0 → read n (write n v s) ≡ v
-write_back n v s some =
-    ap (λ zero. read n (if zero then s else with_register n v s)) (ne_eqb n 0 some)
-    ∙ read_back n v n s refl some
+write_back n v s some = cc (ne_eqb n 0 some, read_back n v n s refl some)
 
 -- the others stay, and what is no register
 write_is : {A : Type 0} (f : State → A) (n v : ℕ) (s : State) → f (with_register n v s) ≡ f s → f (write n v s) ≡ f s
@@ -25,8 +23,7 @@ write_is f n v s same = both (n == 0)
     both false = same
 
 set_others : (n v m : ℕ) (s : State) → (m == n) ≡ false → read m (set n v s) ≡ read m s
-set_others n v m s other =
-    ap (λ same. if m == 0 then 0 else (if same then v else s.registers m)) other
+set_others n v m s other = cc
 
 write_others : (n v m : ℕ) (s : State) → (m == n) ≡ false → read m (write n v s) ≡ read m s
 write_others n v m s other = write_is (read m) n v s (set_others n v m s other)
@@ -106,8 +103,7 @@ far calls link x before code is r small s at =
     let q = word_of (drop 4 code) in
     let u = set n (far_address p s) s in
     let first : step p s ≡ Some u =
-    ap (λ i. execute i p s) (decodes_far p c.far) ∙ ap (λ m. Some (go_on (write m (far_address p s) s))) c.far_rd
-    ∙ ap (λ a. Some (go_on a)) (cond-false _ _ _ (ne_eqb n 0 named)) in
+    rw (decodes_far p c.far, c.far_rd, ne_eqb n 0 named) in
     let second : step q u ≡ Some (go_to (register_target q u) (write link (next_pc u) u)) =
     ap (λ i. execute i q u) (decodes_jirl q c.jumps) ∙ ap (λ m. Some (go_to (register_target q u) (write m (next_pc u) u))) c.links in
     record {
@@ -240,8 +236,7 @@ pub of_front : (section : List ℕ) (o : ℕ) → IsPcalaAt section o
 of_front section o is =
     let first = word_of_front (drop o section) in
     let second = word_of_front (drop (o + 4) section) in
-    subst (λ w. AreOfOneRegister w (word_of (take 4 (drop (o + 4) section)))) (sym first)
-    (subst (AreOfOneRegister (word_at section o)) (sym second) is.one_register)
+    rw first (subst (AreOfOneRegister (word_at section o)) (sym second) is.one_register)
 
 -- a call that begins bytes with the same words
 call_of : (link : ℕ) (section : List ℕ) (o : ℕ) (bytes : List ℕ) → 8 ≤ length bytes
@@ -274,9 +269,8 @@ module _ (calls : relocation_laws.Calls) (section : List ℕ) (o : ℕ) (bytes :
       → AreAddresses x → (s : State) → s.pc ≡ x.place
       → Called (pair code (drop 4 code)) link base (sum_64 x.place 8) (plt_address x) s
   linked l is before long first second x code r small s at =
-      subst (λ n. Called (pair code (drop 4 code)) n base (sum_64 x.place 8) (plt_address x) s) (sym is.links)
-      (subst (λ n. Called (pair code (drop 4 code)) l n (sum_64 x.place 8) (plt_address x) s) (ap rd_of first)
-      (far calls l x before code (call_of l section o before long first second is) r small s at))
+      rw (is.links, ← (ap rd_of first))
+      (far calls l x before code (call_of l section o before long first second is) r small s at)
 
   pub either : IsCall36At section o → (before : List ℕ) → 8 ≤ length before
       → word_of before ≡ word_at section o → word_of (drop 4 before) ≡ word_at section (o + 4)
@@ -314,10 +308,8 @@ module _ (calls : relocation_laws.Calls) (section : List ℕ) (o : ℕ) (bytes :
       }) (are_addresses place target small reach) t at)
 
   no_pair : IsPcalaAt section o → IsCall36At section o → ⊥
-  no_pair pcala (inl is) =
-      omega (arith, pcala.one_register.first, is.first)
-  no_pair pcala (inr is) =
-      omega (arith, pcala.one_register.first, is.first)
+  no_pair pcala (inl is) = omega (arith, pcala.one_register.first, is.first)
+  no_pair pcala (inr is) = omega (arith, pcala.one_register.first, is.first)
 
   -- what a call becomes
   becomes_call : (place target : ℕ) (code : List ℕ) → place < 2 ^ 64 → target < 2 ^ 64
@@ -325,16 +317,11 @@ module _ (calls : relocation_laws.Calls) (section : List ℕ) (o : ℕ) (bytes :
       → (t : State) → t.pc ≡ place
       → Called (words_in (length code) code) link base (sum_64 place (length code)) target t
   becomes_call place target code small reach new is (jump links len branch) t at =
-      subst (λ n. Called (words_in n code) link base (sum_64 place n) target t) (sym len)
-      (subst (λ l. Called (word_of code ∷ []) l base (sum_64 place 4) target t) (sym links.links)
-      (near_jump code new len place target branch base (sum_64 place 4) t at))
+      rw (len, links.links) (near_jump code new len place target branch base (sum_64 place 4) t at)
   becomes_call place target code small reach new is (call links len branch) t at =
-      subst (λ n. Called (words_in n code) link base (sum_64 place n) target t) (sym len)
-      (subst (λ l. Called (word_of code ∷ []) l base (sum_64 place 4) target t) (sym links.links)
-      (near_call code new len place target branch base t at))
+      rw (len, links.links) (near_call code new len place target branch base t at)
   becomes_call place target code small reach new is (far_call here len goes) t at =
-      subst (λ n. Called (words_in n code) link base (sum_64 place n) target t) (sym len)
-      (of_window place target code small reach new len is goes t at)
+      rw len (of_window place target code small reach new len is goes t at)
   becomes_call place target code small reach new is (address pcala len near) t at = absurd (no_pair pcala is)
   becomes_call place target code small reach new is (far_pair pcala len both) t at = absurd (no_pair pcala is)
 
@@ -346,16 +333,14 @@ module _ (calls : relocation_laws.Calls) (section : List ℕ) (o : ℕ) (bytes :
   becomes_address place target code new pcala (call links len branch) t at = absurd (no_pair pcala (inl links))
   becomes_address place target code new pcala (far_call here len goes) t at = absurd (no_pair pcala here)
   becomes_address place target code new pcala (address is len near) t at =
-      subst (λ n. Made (words_in n code) link target (sum_64 place n) t) (sym len)
-      (near_pcaddi code new len place target link is.one_register.into_own_source.not_zero near t at)
+      rw len (near_pcaddi code new len place target link is.one_register.into_own_source.not_zero near t at)
   becomes_address place target code new pcala (far_pair is len both) t at =
       let second = word_of_front (drop (o + 4) section) in
-      subst (λ n. Made (words_in n code) link target (sum_64 place n) t) (sym len)
-      (subst (λ w. Made (w ∷ word_of (drop 4 code) ∷ []) link target (sum_64 place 8) t) (word_of_front code)
+      rw (len, ← (word_of_front code))
       (sum_run (operands_of place target) (operands_of (sum_64 place 4) target) link target
       (take 4 (drop o section)) (take 4 (drop (o + 4) section)) (take 4 code) (drop 4 code)
       (of_front section o is)
-      (subst IsAddi (sym second) is.second) (ap rd_of second) both.high both.low both.computes t at))
+      (subst IsAddi (sym second) is.second) (ap rd_of second) both.high both.low both.computes t at)
 
 -- ---- what the object's pairs make
 

@@ -1,5 +1,5 @@
 -- LoongArch: calls and addresses that stay, in the final bytes of a packed section.
-use Rattle.linker_final.proofs.LoongArchImports.{◌≡◌, ℕ, ◌+◌, ◌^◌, ◌<◌, take, drop, refl, sym, ap, subst, ◌∙◌, arith, true, false, Some, Ok, IsSomeAnd, All-drop, All-take, ⊤, slice_get, BitRange, IsApplied, loongarch_row, window_len, sum_64, value_of, AnyForm, RowInfo, BitMasking, Operands, LoongArch64Relocation, Fits32, pair, AreAddresses, plt_address, symbol_address, rd_of, destination, relocation_in, has_value, names_label, offset_at, operands_in, operands_of, Symbol, IsRow, LongAddressesStay, LongCallsStay, LongLoadedAddressesStay, IsPairOf, StaysAs, operands_at, Packed, IsPacked, architecture_of, place_of, following, word_at, the_row, some_value, back_of_pair, front_of_pair, place_after, places_inside, stay_inside, instructions, window_length}
+use Rattle.linker_final.proofs.LoongArchImports.{◌≡◌, ℕ, ◌+◌, ◌^◌, ◌<◌, take, drop, refl, sym, ap, ◌∙◌, arith, true, false, Some, Ok, IsSomeAnd, All-drop, All-take, ⊤, slice_get, BitRange, IsApplied, loongarch_row, window_len, sum_64, value_of, AnyForm, RowInfo, BitMasking, Operands, LoongArch64Relocation, Fits32, pair, AreAddresses, plt_address, symbol_address, rd_of, destination, relocation_in, has_value, names_label, offset_at, operands_in, Symbol, LongAddressesStay, LongCallsStay, LongLoadedAddressesStay, IsPairOf, StaysAs, operands_at, Packed, IsPacked, architecture_of, place_of, following, word_at, the_row, some_value, back_of_pair, front_of_pair, place_after, places_inside, stay_inside, instructions, window_length}
 use Rattle.linker_laws.specs.LoongArchMachine.{State}
 use Rattle.linker_runs.specs.declared.packing.Machine.TheVariants.{LoongArch64}
 use Rattle.linker_elf.specs.declared.loongarch64.relocations.LoongArch64Relocation.TheVariants as names
@@ -31,26 +31,22 @@ module _ (p : Packed) (is : IsPacked p) (machine : p.machine ≡ LoongArch64) (i
       (take n (drop (place_of p (offset_at p.relocations i)) p.final))
   applied =
       let r = relocation_in p.relocations_after i in
-      let o = offset_at p.relocations i in
       let there : architectures.LoongArch64 ≡ architecture_of p.machine = sym (ap architecture_of machine) in
       let value = some_value (value_of row y) valued in
-      subst (λ m. IsApplied row y (take m (drop o p.section.bytes)) (take m (drop (place_of p o) p.final))) wide
-      (instructions p is i row y
+      rw (← wide) (instructions p is i row y
       (record {
         within = stays.within;
-        is_row = subst (λ a. IsRow a r.r_type (Some row)) there
-            (record { name = name; is_name = stays.is_name; value_is = sym row_is });
+        is_row = rw (← there) (record { name = name; is_name = stays.is_name; value_is = sym row_is });
         bits = bits;
         insn = insn;
         size = size;
         has = has;
         unlabelled = unlabelled;
-        taken = subst (λ a. operands_of a p.addresses p.symbols row r ≡ Ok y) there
-            (ap (operands_in architectures.LoongArch64 p.addresses row r) symbol_is ∙ taken);
+        taken = rw (← there) (ap (operands_in architectures.LoongArch64 p.addresses row r) symbol_is ∙ taken);
         value = value.0;
         value_is = value.1;
       })
-      (λ k below. stays.stays k (subst (λ m. k < m) wide below)))
+      (λ k below. stays.stays k (rw (← wide) below)))
 
 pub long_calls : relocation_laws.Calls → LongCallsStay
 long_calls law p is machine i stays at symbol symbol_is small x small_x original relocated s t hs ht alike =
@@ -105,10 +101,8 @@ module _ (relative : relocation_laws.RelativeAddresses) (p : Packed) (is : IsPac
       let own = applied p is machine j names.R_LARCH_PCALA_LO12 4 of.low low_row _ _ refl refl refl refl refl symbol
       (ap (slice_get p.symbols) of.same_symbol ∙ symbol_is) (operands_at p j low_row symbol) refl tt in
       let there : IsApplied low_row (operands_at p j low_row symbol) (take 4 (drop (o + 4) p.section.bytes)) (take 4 (drop (place_of p (o + 4)) p.final)) =
-      subst (λ q. IsApplied low_row (operands_at p j low_row symbol) (take 4 (drop q p.section.bytes)) (take 4 (drop (place_of p q) p.final))) of.next own in
-      subst (λ q. IsApplied low_row (following 4 y) (take 4 (drop (o + 4) p.section.bytes)) (take 4 (drop q p.final))) next_place
-      (subst (λ q. IsApplied low_row (record y { place = q }) (take 4 (drop (o + 4) p.section.bytes)) (take 4 (drop (place_of p (o + 4)) p.final))) low_place
-      (subst (λ a. IsApplied low_row (record y { addend = a; place = sum_64 p.addresses.section (offset_at p.relocations_after j) }) (take 4 (drop (o + 4) p.section.bytes)) (take 4 (drop (place_of p (o + 4)) p.final))) of.same_addend there))
+      rw (← of.next) own in
+      rw (← next_place, ← low_place, ← of.same_addend) there
 
   final_pair : (t : State) → t.pc ≡ y.place
       → Made (pair (take 4 (drop (place_of p o) p.final)) (take 4 (drop (place_of p o + 4) p.final)))

@@ -54,8 +54,7 @@ module _ (l : Linked) (all : AreDecidedIn l.context l.kept l.relocations l.secti
       let scope = subst (λ (x : RelaxContext). IsScopeIn x.architecture x.phase r.r_type (alone.0)) context (alone.1) in
       let same : scope.name ≡ name = scope.is_name.named name named (sym r_type_is) in (
         subst (IsNameOf loongarch_name r.r_type) same scope.is_name,
-        subst (λ z. IsScopeDecision l.context l.kept l.relocations l.section n r z decision)
-            (scope.value_is ∙ ap (loongarch_scope_in PreLayout) same) (alone.2),
+        rw (← (scope.value_is ∙ ap (loongarch_scope_in PreLayout) same)) (alone.2),
       )
 
   -- a mark takes nothing along

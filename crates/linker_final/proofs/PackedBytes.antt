@@ -64,8 +64,7 @@ module _ (p : Packed) (is : IsPacked p) (o n : ℕ) (some : 0 < n) (stay : StayT
       omega (arith, next_place (n - 1) (omega (arith, some)), counted, low, e, some)
 
   pub stay_inside : o + n ≤ length p.section.bytes
-  stay_inside =
-      omega (arith, some, (stay (n - 1) (omega (arith, some))).inside)
+  stay_inside = omega (arith, some, (stay (n - 1) (omega (arith, some))).inside)
 
   pub places_inside : place_of p o + n ≤ length p.packed
   places_inside =
@@ -81,8 +80,7 @@ module _ (p : Packed) (is : IsPacked p) (o n : ℕ) (some : 0 < n) (stay : StayT
   same_there =
       let lx = window_length (place_of p o) n p.packed places_inside in
       let ly = window_length o n p.section.bytes stay_inside in
-      windows (place_of p o) o n p.packed p.section.bytes (omega (arith, lx, ly))
-      (λ k less. ap (λ m. get_or p.packed m 0) (sym (next_place k less)) ∙ packed_byte p is (o + k) (stay k less))
+      cc (windows (place_of p o) o n p.packed p.section.bytes (omega (arith, lx, ly)) (λ k less. ap (λ m. get_or p.packed m 0) (sym (next_place k less)) ∙ packed_byte p is (o + k) (stay k less)))
 
 -- ---- padding
 

@@ -9,8 +9,7 @@ use Rattle.linker_final.proofs.PutBack.{window_length}
 -- in the section before
 pub site_inside : (p : Packed) (i : ℕ) (here : sites) → IsSiteOf p i here
     → site_offset p here + 8 ≤ length p.section.bytes
-site_inside p i here of =
-    omega (arith, of.there.1, of.there.2)
+site_inside p i here of = omega (arith, of.there.1, of.there.2)
 
 -- what a site's value is computed from
 pub are_addresses : (place target : ℕ) → place < 2 ^ 64 → target < 2 ^ 64 → AreAddresses (operands_of place target)

@@ -1,6 +1,6 @@
 -- Rows of whole bytes whose value replaces what is there, and what a section's relocation of such a
 -- row leaves in its field.
-use Rattle.linker_final.proofs.Imports.{◌≡◌, ℕ, zero, suc, ℤ, pos, ◌*◌, ◌%◌, ◌^◌, ◌<◌, ◌≤◌, List, drop, true, false, eqb, ltb, cond, refl, sym, ap, subst, ◌∙◌, inl, inr, arith, Option, Some, None, Ok, Err, Result, IsSomeAnd, Bool, cases_eq, cases_lt, cases_Bool, cond-true, cond-false, eq-eqb, ⊤, w64, cast_unsigned, int_rem_euclid, IsWithin, number_of_bytes, number_written, value_of, RowInfo, Operands, one_row, one_info, field_len, is_of_pair, IsRowValue, IsValueIn, IsValueBy, has_value, names_label, offset_at, lacks_origin, operands_of, value_by, composed, HoldsNumber, Addresses, Symbol, Rela, ValueError, IsRow, Architecture, eqb-true, lt-ltb, le-ltb, reach_of, ByteSize, Found, composed_by, composed_with, NoTlsBase}
+use Rattle.linker_final.proofs.Imports.{◌≡◌, ℕ, zero, suc, ℤ, pos, ◌*◌, ◌%◌, ◌^◌, ◌<◌, ◌≤◌, List, drop, true, false, eqb, ltb, cond, refl, sym, ap, subst, ◌∙◌, inl, inr, arith, Option, Some, None, Ok, Err, Result, IsSomeAnd, Bool, cases_eq, cases_lt, cases_Bool, cond-false, eq-eqb, ⊤, w64, cast_unsigned, int_rem_euclid, IsWithin, number_of_bytes, number_written, value_of, RowInfo, Operands, one_row, one_info, field_len, is_of_pair, IsRowValue, IsValueIn, IsValueBy, has_value, names_label, offset_at, lacks_origin, operands_of, value_by, composed, HoldsNumber, Addresses, Symbol, Rela, ValueError, IsRow, Architecture, eqb-true, lt-ltb, le-ltb, reach_of, ByteSize, Found, composed_by, composed_with, NoTlsBase}
 
 -- of n bytes, which the value replaces
 pub record IsPlain (n : ℕ) (row : RowInfo) : Type 0 where
@@ -55,9 +55,7 @@ by_other there (Some one) number far =
 
 by_own : (there : List ℕ) (row : RowInfo) (v number : ℤ) → 0 < field_len row there
     → composed_with row.kind v number ≡ v → composed_by there (Some (row, v)) number ≡ v
-by_own there row v number some is =
-    cond-true (ltb 0 (field_len row there)) (composed_with row.kind v number) number
-    (lt-ltb 0 (field_len row there) some) ∙ is
+by_own there row v number some is = cc (lt-ltb 0 (field_len row there) some)
 
 module _ (found : Found) (bytes section : List ℕ) (number : ℤ) (i : ℕ) (row : RowInfo)
     (v : ℤ) (is : found i ≡ Some (row, v)) (one : (m : ℤ) → composed_with row.kind v m ≡ v)
@@ -72,8 +70,7 @@ module _ (found : Found) (bytes section : List ℕ) (number : ℤ) (i : ℕ) (ro
   there : List ℕ
   there = drop (offset_at bytes i) section
 
-  next : (n : ℕ) → so_far (suc n)
-      ≡ cond (eqb (offset_at bytes n) (offset_at bytes i))
+  next : (n : ℕ) → so_far (suc n) ≡ cond (eqb (offset_at bytes n) (offset_at bytes i))
       (composed_by (drop (offset_at bytes i) section) (found n) (so_far n)) (so_far n)
   next n = refl
 
@@ -81,24 +78,19 @@ module _ (found : Found) (bytes section : List ℕ) (number : ℤ) (i : ℕ) (ro
   passed n below isnt =
       next n ∙ elim (cases_Bool (eqb (offset_at bytes n) (offset_at bytes i))) [
         | inl here ↦
-            cond-true (eqb (offset_at bytes n) (offset_at bytes i))
-            (composed_by (drop (offset_at bytes i) section) (found n) (so_far n)) (so_far n) here
-            ∙ by_other (drop (offset_at bytes i) section) (found n) (so_far n)
-            (λ other w is_other wide.
-            far n other w below isnt is_other (eqb-true (offset_at bytes n) (offset_at bytes i) here) wide)
-        | inr away ↦
-            cond-false (eqb (offset_at bytes n) (offset_at bytes i))
-            (composed_by (drop (offset_at bytes i) section) (found n) (so_far n)) (so_far n) away
+            cc (by_other (drop (offset_at bytes i) section) (found n) (so_far n) (λ other w is_other wide.
+            far n other w below isnt is_other (eqb-true (offset_at bytes n) (offset_at bytes i) here) wide))
+        | inr away ↦ cc
       ]
 
   own : (n : ℕ) → n ≡ i → so_far (suc n) ≡ v
   own n same =
       next n
-      ∙ (cond-true (eqb (offset_at bytes n) (offset_at bytes i))
-      (composed_by (drop (offset_at bytes i) section) (found n) (so_far n)) (so_far n)
-      (eq-eqb (offset_at bytes n) (offset_at bytes i) (ap (offset_at bytes) same))
-      ∙ (ap (λ f. composed_by (drop (offset_at bytes i) section) f (so_far n)) (ap found same ∙ is)
-      ∙ by_own (drop (offset_at bytes i) section) row v (so_far n) some (one (so_far n))))
+      ∙ cc (
+        eq-eqb (offset_at bytes n) (offset_at bytes i) (ap (offset_at bytes) same),
+        ap (λ f. composed_by (drop (offset_at bytes i) section) f (so_far n)) (ap found same ∙ is),
+        by_own (drop (offset_at bytes i) section) row v (so_far n) some (one (so_far n)),
+      )
 
   -- the value
   pub composed_alone : (n : ℕ) → n ≤ total → i < n
@@ -170,10 +162,7 @@ module _ (architecture : Architecture) (addresses : Addresses) (bytes : List ℕ
       → IsValueIn architecture addresses bytes symbols r (Some row) result
       → result ≡ value_by (lacks_origin addresses symbols row r) row (operands_of architecture addresses symbols row r)
   of_operands result is =
-      subst (λ labels. IsValueBy labels architecture addresses bytes symbols row r result) unlabelled is
-      ∙ cond-true (has_value row.kind)
-      (value_by (lacks_origin addresses symbols row r) row (operands_of architecture addresses symbols row r))
-      (Ok None) valued
+      let of = subst (λ labels. IsValueBy labels architecture addresses bytes symbols row r result) unlabelled is in cc
 
   -- it has what its formula takes
   pub are_there : (found : Option (RowInfo × ℤ))

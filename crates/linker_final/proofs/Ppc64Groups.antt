@@ -1,5 +1,5 @@
 -- Each rewritten instruction of PowerPC64 is a group.
-use Rattle.linker_final.proofs.Ppc64Imports.{◌≡◌, ◌⊎◌, ℕ, Bool, ◌+◌, ◌-◌, ◌*◌, ◌^◌, ◌<◌, ◌≤◌, List, [], ◌∷◌, length, drop, take, get_or, refl, sym, ap, subst, ◌∙◌, arith, inl, inr, Some, not, eqb, IsSomeAnd, None, and_parts, cases_lt, drop-drop, length-drop, take-take, All-drop, All-take, IsTrue, ◌&&◌, slice_get, w32, from_le_bytes, to_le_bytes, byte_at, Rewrite, replaces, entry, IsNamed, IsNameOf, r_type_of, ppc64_name, ppc64_row, sum_64, Ppc64, Choice, Ppc64Relocation, word_below, window_of_rewrite, decision_at, Rewritten, relocation_in, operands_with, Symbol, Rela, HasTest, ppc64_entries, ppc64_matches, ppc64_rewrite, rewrites_marked, relaxation_rewrite, Relaxation, word_of_front, le_bytes_4, changed_toc, AreBytes, AreRewritten, IsLinked, IsOutside, IsRewrittenByNoOther, IsWrittenByNoOther, Linked, UntouchedByOthers, UntouchedBytes, count, instruction_at, two_at, offset_of, AreGroup, CallTo, Code, Groups, Has, IsPrefixed, LowOverBase, Rewrites, RewritesBoth, Stands, WordOverBase, IsRelocated, from_thread, from_toc, word_of, Conditions, HasTwo, addis_of_thread, by_displacement, by_word_displacement, called_to_initial_exec, called_to_local_exec, called_to_module, direct, is_addi, is_addis_of_toc, is_add_of_thread, is_addis_over, is_call, is_indexed, is_indexed_any, is_indexed_word, is_ld, is_pla, is_pld, nop, over_base, paddi, paddi_of_thread, pld, registers_of, restores_toc, rewrites_call, rewrites_word, rt_of, to_distance, to_initial_exec, to_local_exec, to_local_exec_words, to_module, to_move, to_near_initial_exec, to_prefixed_initial_exec, to_prefixed_local_exec, to_toc_distance, two_words, without_high_offset, without_high_part, RewriteKind, left_within, window_byte, window_length, first_same, mapped, outside_of, second_same, small_byte, spared, stays, word_same}
+use Rattle.linker_final.proofs.Ppc64Imports.{◌≡◌, ◌⊎◌, ℕ, Bool, ◌+◌, ◌-◌, ◌*◌, ◌^◌, ◌<◌, ◌≤◌, List, [], ◌∷◌, length, drop, take, get_or, refl, sym, ap, subst, ◌∙◌, arith, inl, inr, Some, not, eqb, IsSomeAnd, None, and_parts, cases_lt, drop-drop, length-drop, take-take, All-drop, All-take, IsTrue, ◌&&◌, slice_get, w32, from_le_bytes, to_le_bytes, byte_at, Rewrite, replaces, entry, IsNamed, IsNameOf, r_type_of, ppc64_name, ppc64_row, sum_64, Ppc64, Choice, Ppc64Relocation, word_below, window_of_rewrite, decision_at, Rewritten, relocation_in, operands_with, Symbol, Rela, HasTest, ppc64_entries, ppc64_matches, ppc64_rewrite, rewrites_marked, relaxation_rewrite, Relaxation, word_of_front, le_bytes_4, changed_toc, AreBytes, AreRewritten, IsLinked, IsOutside, IsRewrittenByNoOther, IsWrittenByNoOther, Linked, UntouchedByOthers, UntouchedBytes, count, instruction_at, two_at, offset_of, AreGroup, CallTo, Code, Groups, Has, IsPrefixed, LowOverBase, Rewrites, RewritesBoth, Stands, WordOverBase, from_thread, from_toc, word_of, Conditions, HasTwo, addis_of_thread, by_displacement, by_word_displacement, called_to_initial_exec, called_to_local_exec, called_to_module, direct, is_addi, is_addis_of_toc, is_add_of_thread, is_addis_over, is_call, is_indexed, is_indexed_any, is_indexed_word, is_ld, is_pla, is_pld, nop, over_base, paddi, paddi_of_thread, pld, registers_of, restores_toc, rewrites_call, rewrites_word, rt_of, to_distance, to_initial_exec, to_local_exec, to_local_exec_words, to_module, to_move, to_near_initial_exec, to_prefixed_initial_exec, to_prefixed_local_exec, to_toc_distance, two_words, without_high_offset, without_high_part, RewriteKind, left_within, window_byte, window_length, first_same, mapped, outside_of, second_same, small_byte, spared, stays, word_same}
 use Rattle.linker_final.specs.Ppc64Section.{AreLeftAlone, HasApplied, IsMade, IsOfNoPhase, Law, Left, Restores, applied, entry_by, law, law_of, name_of, none, of_call, shape, to_second}
 use Rattle.linker_elf.specs.declared.ppc64.relocations.Ppc64Relocation.TheVariants as names
 use Rattle.linker_final.proofs.Ppc64Again.{of_none}
@@ -31,10 +31,12 @@ call_stays before after o small inside made =
     let same : a ≡ word_of (instruction_at before o) =
     ap word_of (take-take 8 8 (drop o before) (omega arith)) ∙ first_same before o in
     let below : word_of (instruction_at before o) < 2 ^ 32 = word_below (instruction_at before o) there (omega (arith, long)) in
-    sym (take-take 4 8 (drop o after) (omega arith))
-    ∙ (ap (take 4) (sym (take-take 8 8 (drop o after) (omega arith)) ∙ made)
-    ∙ (first_bytes a (omega (arith, same, below))
-    ∙ le_bytes_4 (instruction_at before o) a long (small_byte (instruction_at before o) there) same))
+    cc (
+      take-take 4 8 (drop o after) (omega arith),
+      take-take 8 8 (drop o after) (omega arith),
+      first_bytes a (omega (arith, same, below)),
+      le_bytes_4 (instruction_at before o) a long (small_byte (instruction_at before o) there) same,
+    )
 
 -- ---- words that stand
 
@@ -131,18 +133,16 @@ module _ (l : Linked) (linked : IsLinked l) (ppc64 : l.context.architecture ≡ 
       mapped (λ row has.
       record {
         relocated = take m (drop at l.final);
-        applied = subst (λ p. IsRelocated name (operands_with Ppc64 l.addresses row symbol after (entry_by name symbol any)) (take m (drop p l.rewritten)) (take m (drop p l.final))) offset
-            (has symbol any is_symbol);
+        applied = rw (← offset) (has symbol any is_symbol);
         stands = stands;
       })
-      (ppc64_row name) (writes l linked ppc64 i below code (subst (λ p. UntouchedBytes l i p m) (sym offset) left))
+      (ppc64_row name) (writes l linked ppc64 i below code (rw offset left))
 
   abbrev gone : After 1
   gone = record { left = none; final = λ at offset code. one_left at code }
 
   abbrev both_gone : After 2
-  both_gone =
-      record { left = none; final = λ at offset code. two_left at code }
+  both_gone = record { left = none; final = λ at offset code. two_left at code }
 
   abbrev named : (name : Ppc64Relocation) → Writes 4 (entry_by name) name → After 1
   named name writes =
@@ -250,8 +250,7 @@ module _ (l : Linked) (linked : IsLinked l) (ppc64 : l.context.architecture ≡ 
       record {
         prefix_below = omega (arith, first, small1);
         word_below = omega (arith, second, small2);
-        is = subst (λ w. IsTrue (test w (word_of (drop 4 (two_at l.section p))))) (sym first)
-            (subst (λ w. IsTrue (test (word_of (drop p l.section)) w)) (sym second) (meant.1.1));
+        is = rw (first, second) (meant.1.1);
       }
 
   -- of 8 bytes, by the rewrite of these

@@ -1,5 +1,5 @@
 -- The names that files of proofs of PowerPC64 here use.
-pub use Rattle.linker_final.proofs.Imports.{All-drop, All-take, AreBytes, AreRewritten, Bool, Choice, Consumed, Decision, Entry, GotTpOff, GotTpOffGotBase, IsArchitectureChoice, IsDecidedAfter, IsDone, IsLinked, IsMade, IsNameOf, IsNamed, IsOfApplied, IsOfEntry, IsOfOne, IsOutside, IsRewrittenByNoOther, IsRow, IsScopeDecision, IsScopeIn, IsSomeAnd, IsTrue, IsWrittenByNoOther, Kept, Labelled, LinkFacts, Linked, List, None, NotRelaxable, Ok, Operands, Phase, Ppc64, Rela, Relative, RelaxContext, Relaxation, Rewrite, RewritesAreGroups, Rewritten, RewrittenWithSymbol, RowInfo, Scope, Some, SymRelGotBase, Symbol, ThreadOffset, TpOff, UnrelaxableGroups, UntouchedByOthers, UntouchedBytes, [], addend_after, and_parts, ap, arith, byte_at, bytes_row, cases_lt, changed_toc, choice, chosen_at, cond, count, decision_at, drop, drop-drop, entry, entry_address, entry_of, eqb, false, from_le_bytes, get_or, inl, inr, instruction_at, is_labelled, is_taken, is_there, le_bytes_4, length, length-drop, not, of_first, offset_after, offset_of, operands_by, operands_with, ppc64_none, ppc64_scope_in, r_type_of, refl, relaxation_no_op, relaxation_rewrite, relocation_in, replaces, signed_row, slice_get, subst, sum_64, sym, take, take-take, to_le_bytes, true, two_at, value_of, w32, window_of_rewrite, word_below, word_of_front, ℕ, ◌&&◌, ◌*◌, ◌+◌, ◌-◌, ◌<◌, ◌^◌, ◌∙◌, ◌∷◌, ◌≡◌, ◌≤◌, ◌⊎◌}
+pub use Rattle.linker_final.proofs.Imports.{All-drop, All-take, AreBytes, AreRewritten, Bool, Choice, Consumed, Decision, Entry, GotTpOff, GotTpOffGotBase, IsArchitectureChoice, IsDecidedAfter, IsDone, IsLinked, IsMade, IsNameOf, IsNamed, IsOfApplied, IsOfEntry, IsOfOne, IsOutside, IsRewrittenByNoOther, IsRow, IsScopeDecision, IsScopeIn, IsSomeAnd, IsTrue, IsWrittenByNoOther, Kept, Labelled, LinkFacts, Linked, List, None, NotRelaxable, Ok, Operands, Phase, Ppc64, Rela, Relative, RelaxContext, Relaxation, Rewrite, RewritesAreGroups, Rewritten, RewrittenWithSymbol, RowInfo, Scope, Some, SymRelGotBase, Symbol, ThreadOffset, TpOff, UnrelaxableGroups, UntouchedByOthers, UntouchedBytes, [], addend_after, and_parts, ap, arith, byte_at, bytes_row, cases_lt, changed_toc, choice, chosen_at, count, decision_at, drop, drop-drop, entry, entry_address, entry_of, eqb, false, from_le_bytes, get_or, inl, inr, instruction_at, is_labelled, is_taken, is_there, le_bytes_4, length, length-drop, not, of_first, offset_after, offset_of, operands_by, operands_with, ppc64_none, ppc64_scope_in, r_type_of, refl, relaxation_no_op, relaxation_rewrite, relocation_in, replaces, signed_row, slice_get, subst, sum_64, sym, take, take-take, to_le_bytes, true, two_at, value_of, w32, window_of_rewrite, word_below, word_of_front, ℕ, ◌&&◌, ◌*◌, ◌+◌, ◌-◌, ◌<◌, ◌^◌, ◌∙◌, ◌∷◌, ◌≡◌, ◌≤◌, ◌⊎◌}
 pub use Rattle.linker_elf.specs.Ppc64Relocations.{branch_row, high_adjusted_row, low_ds_row, low_row, ppc64_name, ppc64_row, prefixed_row}
 pub use Rattle.linker_elf.specs.declared.ppc64.forms.Ppc64Form.TheVariants.{Branch24}
 pub use Rattle.linker_elf.specs.declared.ppc64.relocations.Ppc64Relocation.{Ppc64Relocation}

@@ -1,6 +1,6 @@
 -- The rewrites of a section of PowerPC64: each is of words that are rewritten together, and these
 -- are groups.
-use Rattle.linker_final.proofs.Ppc64Imports.{◌≡◌, ℕ, ◌+◌, ◌*◌, ◌<◌, ◌≤◌, ◌⊎◌, get_or, sym, ap, subst, ◌∙◌, refl, arith, inl, inr, cases_lt, IsNameOf, ppc64_name, Ppc64, Choice, Ppc64Relocation, decision_at, Decision, Kept, Rewritten, Consumed, RewrittenWithSymbol, relocation_in, Relaxation, IsLinked, IsOutside, Linked, count, RewritesAreGroups, offset_of, Groups, AreIn, IsIn, each_or, is_linked, without_label, spared}
+use Rattle.linker_final.proofs.Ppc64Imports.{◌≡◌, ℕ, ◌+◌, ◌*◌, ◌<◌, ◌≤◌, ◌⊎◌, get_or, ap, ◌∙◌, refl, arith, inl, inr, cases_lt, IsNameOf, ppc64_name, Ppc64, Choice, Ppc64Relocation, decision_at, Decision, Kept, Rewritten, Consumed, RewrittenWithSymbol, relocation_in, Relaxation, IsLinked, IsOutside, Linked, count, RewritesAreGroups, offset_of, Groups, AreIn, IsIn, each_or, is_linked, without_label, spared}
 use Rattle.linker_final.specs.Ppc64Section.{NamesAreLeft, kind_at, kind_by, kind_of, law_of, rewriting, shape, span}
 use Rattle.linker_final.proofs.Ppc64Chosen.{has_entry, unlabelled}
 use Rattle.linker_final.proofs.Ppc64Groups.{IsLawful, by_name}
@@ -17,8 +17,7 @@ law_there laws l linked ppc64 i chosen below decided name is_name =
     let law = made.1.1 in
     let same : name ≡ t.name = is_name.named t.name (made.0) t.is_name.r_type_is in
     let kind_is : kind_at l i ≡ kind = ap kind_of decided ∙ ap kind_by law.kind_is in
-    subst (λ q. IsLawful l i chosen q (shape q (offset_of l i)).0 (shape q (offset_of l i)).1 (law_of name q)) (sym kind_is)
-    (subst (λ n. IsLawful l i chosen kind (shape kind (offset_of l i)).0 (shape kind (offset_of l i)).1 (law_of n kind)) (sym same) law)
+    rw (kind_is, same) law
 
 -- ---- which bytes stay
 

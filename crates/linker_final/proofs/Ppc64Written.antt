@@ -1,5 +1,5 @@
 -- Instructions of PowerPC64 and their relocations in the final bytes of a section.
-use Rattle.linker_final.proofs.Ppc64Imports.{true, ◌≡◌, ◌⊎◌, ℕ, ◌+◌, ◌-◌, ◌<◌, ◌≤◌, take, drop, sym, ap, subst, ◌∙◌, refl, arith, Some, None, Ok, IsSomeAnd, cond, take-take, IsTrue, slice_get, Rewrite, addend_after, offset_after, IsNamed, r_type_of, ppc64_name, ppc64_row, bytes_row, signed_row, value_of, GotTpOff, Relative, TpOff, RowInfo, Choice, Operands, Ppc64Relocation, HasTest, ppc64_rewrite, rewrites_marked, decision_at, IsDone, IsMade, Rewritten, entry_of, relocation_in, entry_address, is_there, operands_by, operands_with, Symbol, Entry, ThreadOffset, Rela, IsRow, relaxation_rewrite, Relaxation, Ppc64, UntouchedBytes, AreRewritten, Linked, IsLinked, IsWrittenByNoOther, count, instruction_at, branch_row, high_adjusted_row, low_ds_row, low_row, prefixed_row, GotTpOffGotBase, SymRelGotBase, Branch24, offset_of, IsRelocated, IsRewritten, word_of, RewriteKind, IsOfInstruction, of_bits, relocation_left, IsRowOf, apart_with, applied_after, by_name, entry_is_there, made_there, rela, relocation_is, unwritten_but, unwritten_without, word_same}
+use Rattle.linker_final.proofs.Ppc64Imports.{true, ◌≡◌, ◌⊎◌, ℕ, ◌+◌, ◌-◌, ◌<◌, ◌≤◌, take, drop, sym, ap, subst, ◌∙◌, refl, arith, Some, Ok, IsSomeAnd, take-take, IsTrue, slice_get, Rewrite, addend_after, offset_after, IsNamed, r_type_of, ppc64_name, ppc64_row, bytes_row, signed_row, value_of, GotTpOff, Relative, TpOff, RowInfo, Choice, Operands, Ppc64Relocation, HasTest, ppc64_rewrite, rewrites_marked, decision_at, IsDone, IsMade, Rewritten, entry_of, relocation_in, entry_address, is_there, operands_by, operands_with, Symbol, Entry, ThreadOffset, Rela, IsRow, relaxation_rewrite, Relaxation, Ppc64, UntouchedBytes, AreRewritten, Linked, IsLinked, IsWrittenByNoOther, count, instruction_at, branch_row, high_adjusted_row, low_ds_row, low_row, prefixed_row, GotTpOffGotBase, SymRelGotBase, Branch24, offset_of, IsRelocated, IsRewritten, word_of, RewriteKind, IsOfInstruction, of_bits, relocation_left, IsRowOf, apart_with, applied_after, by_name, entry_is_there, made_there, rela, relocation_is, unwritten_but, unwritten_without, word_same}
 use Rattle.linker_elf.specs.declared.elf.RelocationKind.TheVariants.{None as NoValue}
 use Rattle.linker_elf.specs.declared.ppc64.relocations.Ppc64Relocation.TheVariants as names
 use Rattle.linker_utils.specs.declared.architecture.Relaxation.TheVariants as relaxations
@@ -51,16 +51,13 @@ module _ (l : Linked) (rewriting : AreRewritten l) (i : ℕ) (chosen : Choice Re
       → (made : Rewrite) → ppc64_rewrite kind ≡ Some made
       → relocation_in l.relocations_after i
       ≡ rela (made.offset r.offset) (r_type_of (ppc64_name name)) r.symbol (made.addend r.addend)
-  made_after name r_type_is made is =
-      after_is name r_type_is
-      ∙ ap (λ q. rela (offset_after q r.offset) (r_type_of (ppc64_name name)) r.symbol (addend_after q r.addend)) is
+  made_after name r_type_is made is = rw is at (after_is name r_type_is)
 
   -- what becomes of the window of a rewrite
   pub becomes : (made : Rewrite) → ppc64_rewrite kind ≡ Some made → made.back ≡ 0
       → IsRewritten kind (take made.len (drop r.offset l.section)) (take made.len (drop r.offset l.rewritten))
   becomes made is back =
-      subst (λ q. IsSomeAnd q (λ (m : Rewrite). take m.len (take made.len (drop r.offset l.rewritten)) ≡ m.bytes (take m.len (take made.len (drop r.offset l.section))))) (sym is)
-      (made_there l rewriting i chosen below decided made (ap relaxation_rewrite kind_is ∙ is) back)
+      rw is (made_there l rewriting i chosen below decided made (ap relaxation_rewrite kind_is ∙ is) back)
 
   -- of the instruction whose second byte is at the relocation
   pub becomes_marked : (new : ℕ → ℕ) → ppc64_rewrite kind ≡ Some (rewrites_marked new)
@@ -72,8 +69,7 @@ module _ (l : Linked) (rewriting : AreRewritten l) (i : ℕ) (chosen : Choice Re
       subst (λ d. IsDone d o l.section l.rewritten) decided (rewriting.done i below) in
       let there : IsMade (Some made) o l.section l.rewritten =
       subst (λ q. IsMade q o l.section l.rewritten) (ap relaxation_rewrite kind_is ∙ is) done in
-      subst (λ q. IsSomeAnd q (λ (m : Rewrite). take m.len (instruction_at l.rewritten (marked_offset l i)) ≡ m.bytes (take m.len (instruction_at l.section (marked_offset l i))))) (sym is)
-      (take-take 4 4 (drop (o - 1) l.rewritten) (omega arith)
+      rw is (take-take 4 4 (drop (o - 1) l.rewritten) (omega arith)
       ∙ (there ∙ ap made.bytes (sym (take-take 4 4 (drop (o - 1) l.section) (omega arith)))))
 
 -- what is in the instruction at an offset
@@ -189,10 +185,11 @@ written_by_entry n some name row is named of has l linked ppc64 i below code lef
     (take n (drop r.offset l.rewritten)) (take n (drop r.offset l.final)))) (sym is)
     (λ symbol any is_symbol.
     applied_there l linked ppc64 i below n some name (after_of n name row is named of) code left symbol is_symbol symbol.thread_entry
-    (ap (λ e. operands_by Ppc64 l.addresses row r symbol (entry_address l.addresses symbol e)) (has r symbol)
-    ∙ ap (λ b. operands_by Ppc64 l.addresses row r symbol (cond b (Some symbol.thread_entry) None))
-    (entry_there l linked ppc64 i below n name (after_of n name row is named of) code left symbol is_symbol
-    (record { class = ThreadOffset; addend = r.addend }) (has r symbol)))
+    (rw (
+      has r symbol,
+      entry_there l linked ppc64 i below n name (after_of n name row is named of) code left symbol is_symbol
+          (record { class = ThreadOffset; addend = r.addend }) (has r symbol),
+    ))
     (operands_with Ppc64 l.addresses row symbol r symbol.thread_entry) refl)
 
 pub toc : Writes 4 (λ symbol any. any) names.R_PPC64_TOC16

@@ -7,8 +7,7 @@ pub window_byte : (start len at : ℕ) (bytes : List ℕ) → start ≤ at → a
     → get_or (take len (drop start bytes)) (at - start) 0 ≡ get_or bytes at 0
 window_byte start len at bytes from below =
     let e : start + (at - start) ≡ at = omega (arith, from) in
-    get_or-take len (drop start bytes) (at - start) 0 (omega (arith, from, below))
-    ∙ (get_or-drop start bytes (at - start) 0 ∙ ap (λ n. get_or bytes n 0) e)
+    cc (get_or-take len (drop start bytes) (at - start) 0 (omega (arith, from, below)), get_or-drop start bytes (at - start) 0)
 
 pub replaced_byte : {start len : ℕ} {bytes before after : List ℕ}
     → IsReplaced start len bytes before after → (at : ℕ) → start ≤ at → at < start + len
@@ -44,8 +43,7 @@ pub back_inside : (start len : ℕ) (others bytes : List ℕ) → start + len �
     → length others ≡ length bytes → (at : ℕ) → start ≤ at → at < start + len
     → get_or (put_back start len others bytes) at 0 ≡ get_or others at 0
 back_inside start len others bytes inside same at from below =
-    replaced_byte (put_back_is start len others bytes inside same) at from below
-    ∙ window_byte start len at others from below
+    cc (replaced_byte (put_back_is start len others bytes inside same) at from below, window_byte start len at others from below)
 
 pub back_outside : (start len : ℕ) (others bytes : List ℕ) → start + len ≤ length bytes
     → length others ≡ length bytes → (at : ℕ) → (at < start) ⊎ (start + len ≤ at)
@@ -57,12 +55,7 @@ back_outside start len others bytes inside same at outside =
 pub windows : (a b len : ℕ) (xs ys : List ℕ) → length (take len (drop a xs)) ≡ length (take len (drop b ys))
     → ((k : ℕ) → k < len → get_or xs (a + k) 0 ≡ get_or ys (b + k) 0) → take len (drop a xs) ≡ take len (drop b ys)
 windows a b len xs ys long each =
-    ext_get_or 0 (take len (drop a xs)) (take len (drop b ys)) long
-    (λ k below.
-    let within : k < len = omega (arith, below, length-take len (drop a xs)) in
-    get_or-take len (drop a xs) k 0 within
-    ∙ (get_or-drop a xs k 0
-    ∙ (each k within ∙ (sym (get_or-drop b ys k 0) ∙ sym (get_or-take len (drop b ys) k 0 within)))))
+    cc (ext_get_or 0 (take len (drop a xs)) (take len (drop b ys)) long (λ k below. let within : k < len = omega (arith, below, length-take len (drop a xs)) in get_or-take len (drop a xs) k 0 within ∙ (get_or-drop a xs k 0 ∙ (each k within ∙ (sym (get_or-drop b ys k 0) ∙ sym (get_or-take len (drop b ys) k 0 within))))))
 
 pub same_windows : (start len : ℕ) (xs ys : List ℕ) → length ys ≡ length xs
     → ((at : ℕ) → start ≤ at → at < start + len → get_or xs at 0 ≡ get_or ys at 0)

@@ -1,5 +1,5 @@
 -- The alignments of a relaxed run, in the final bytes of its sections.
-use Rattle.linker_final.proofs.Imports.{mod-lt, mod-eq_of_lt, mod_self, ◌≡◌, ◌≢◌, ℕ, ◌+◌, ◌-◌, ◌*◌, ◌/◌, ◌%◌, ◌^◌, ◌<◌, ◌≤◌, List, length, get_or, refl, sym, ap, subst, ◌∙◌, inl, inr, arith, cases_lt, rank-mono, rank, sum_64, deletions_of_run, kept_len, packed_offset, Item, Aligned, Addresses, Symbol, ◌⊎◌, MatchOption, Option, None, Some, div-add-mod', mod-mul-add, rank-le, IsValid, RecordsDeletions, Packed, IsPacked, AreValidDeltas, RelaxDelta, AreRelaxedAndPacked, packed_of, Run, AlignmentsHold, HoldsIn, IsAligned, IsOfRun, IsSkipped, SectionsAreAligned, padding_at, padding_len, RunSection, first_bytes, freed_fits, needed_fills, no_rest, translations_exact, AreItems, IsExact, IsExactItem, IsRelaxation, address_of, Alignment}
+use Rattle.linker_final.proofs.Imports.{mod-lt, mod-eq_of_lt, mod_self, ◌≡◌, ◌≢◌, ℕ, ◌+◌, ◌-◌, ◌*◌, ◌/◌, ◌%◌, ◌^◌, ◌<◌, ◌≤◌, List, length, get_or, refl, sym, ap, subst, ◌∙◌, inl, inr, arith, cases_lt, rank-mono, rank, sum_64, deletions_of_run, kept_len, Item, Aligned, Addresses, Symbol, ◌⊎◌, MatchOption, Option, None, Some, div-add-mod', mod-mul-add, rank-le, IsValid, RecordsDeletions, Packed, IsPacked, AreValidDeltas, RelaxDelta, AreRelaxedAndPacked, packed_of, Run, AlignmentsHold, HoldsIn, IsAligned, IsOfRun, IsSkipped, SectionsAreAligned, padding_at, padding_len, RunSection, first_bytes, freed_fits, needed_fills, no_rest, translations_exact, AreItems, IsExact, IsExactItem, IsRelaxation, address_of, Alignment}
 use Rattle.linker_runs.specs.Relaxing.{end_of, offset_of, IsSound, choice_of, freed_before, item_at, needed}
 use Rattle.linker_final.proofs.PackedBytes.{addresses}
 
@@ -88,8 +88,7 @@ module _ (p : Packed) (is : IsPacked p) (run : Run) (of : IsOfRun p run) (i : �
       (first_bytes p.section.start run.items run.shapes run.kept run.freed of.accepted of.relaxed i below).0)
 
   begins : padding_at p alignment ≡ p.section.start + alignment.offset - freed
-  begins =
-      omega (arith, ap (sum_64 p.section.start) translated, freed_few, fits)
+  begins = omega (arith, ap (sum_64 p.section.start) translated, freed_few, fits)
 
   exact : IsExact alignment (needed alignment.alignment (padding_at p alignment)) (padding_len p alignment)
   exact =
@@ -112,8 +111,7 @@ module _ (p : Packed) (is : IsPacked p) (run : Run) (of : IsOfRun p run) (i : �
         there = λ leads.
             let lower = leads.lower in
             let e : s.base + (end_of (Aligned alignment) - s.base) ≡ end_of (Aligned alignment) = omega (arith, lower) in
-            subst (λ q. sum_64 p.addresses.section (packed_offset s q) ≡ address_of s q) e
-            (addresses p is (end_of (Aligned alignment) - s.base));
+            rw (← e) (addresses p is (end_of (Aligned alignment) - s.base));
         next_there = λ lower.
             let first = rank-mono s.deletions s.base alignment.offset lower in omega (arith, low, first);
       }

@@ -1,5 +1,5 @@
 -- RV32: values once addends are wrapped.
-use Rattle.linker_final.proofs.RiscVImports.{◌≡◌, ℕ, suc, ℤ, pos, negsuc, ◌+◌, ◌-◌, ◌/◌, ◌%◌, ◌^◌, ◌<◌, refl, sym, ap, subst, ◌∙◌, arith, Bool, true, false, ltb, List, length, Option, Some, None, Result, Ok, Err, ◌+ℤ◌, neg_ℤ, ◌≤ℤ◌, ◌<ℤ◌, FitsSigned, unsigned_abs, sfits_to_z, lt-ltb, to_z-of_z, le_z, ◌==◌, le_yes, reach_of, riscv_pair_bounds, Bounds, formula, read_signed, is_offset, RowSize, ByteSize, and_parts, cond-true, ints, of_z-to_z, w64, cast_signed, cast_unsigned, int_rem_euclid, if◌then◌else◌, slice_get, ◌&&◌, IsRow, IsWithin, riscv_relocation, sum_64, difference_64, value_of, loads_plt_word, RelocationKind, RowInfo, BitMasking, RiscV, Operands, RiscVRelocation, one_row, entry_of, relocation_in, IsValueBy, IsValueIn, entry_address, has_value, lacks_origin, names_label, operands_by, operands_in, operands_of, operands_with, value_by, Addresses, Symbol, Rela, ValueError, sum_below, when_true, When, relocation_at, AreWrapped, IsLeastFrom, IsWrapped, IsWrappedBy, IsWrappedTo, least_in, with_value, IsHighPartAt, IsLowValue, IsNoHighPart, IsValue, is_high_part, low_by, low_operands, low_value, own_value, NoSymbol, Addends, HasWrappedAddend, IsSame32, IsWrappedValue, IsWrappedWithin, PairsReachAll, Values, there_is}
+use Rattle.linker_final.proofs.RiscVImports.{◌≡◌, ℕ, suc, ℤ, pos, negsuc, ◌+◌, ◌-◌, ◌/◌, ◌%◌, ◌^◌, ◌<◌, refl, sym, ap, subst, ◌∙◌, arith, Bool, true, false, ltb, List, length, Option, Some, None, Result, Ok, Err, ◌+ℤ◌, neg_ℤ, ◌≤ℤ◌, ◌<ℤ◌, FitsSigned, unsigned_abs, sfits_to_z, lt-ltb, to_z-of_z, le_z, ◌==◌, le_yes, reach_of, riscv_pair_bounds, Bounds, formula, is_offset, RowSize, ByteSize, and_parts, cond-true, ints, of_z-to_z, w64, cast_signed, cast_unsigned, int_rem_euclid, if◌then◌else◌, slice_get, ◌&&◌, IsRow, IsWithin, riscv_relocation, sum_64, difference_64, value_of, loads_plt_word, RelocationKind, RowInfo, BitMasking, RiscV, Operands, RiscVRelocation, one_row, entry_of, relocation_in, IsValueBy, IsValueIn, entry_address, has_value, lacks_origin, names_label, operands_by, operands_in, operands_of, operands_with, value_by, Addresses, Symbol, Rela, ValueError, sum_below, when_true, When, relocation_at, AreWrapped, IsLeastFrom, IsWrapped, IsWrappedBy, IsWrappedTo, least_in, with_value, IsHighPartAt, IsLowValue, IsNoHighPart, IsValue, is_high_part, low_by, low_operands, low_value, own_value, NoSymbol, Addends, HasWrappedAddend, IsSame32, IsWrappedValue, IsWrappedWithin, PairsReachAll, Values, there_is}
 use Rattle.linker_elf.specs.declared.elf.RelocationKind.TheVariants as kinds
 use Rattle.linker_elf.specs.declared.riscv64.relocations.RiscVRelocation.TheVariants as riscv64
 
@@ -157,8 +157,7 @@ record IsLow (row : RowInfo) : Type 0 where
   bounds : When (names_label row.size row.kind) (reach_of row) (Some riscv_pair_bounds)
 
 record IsSum (row : RowInfo) : Type 0 where
-  formula_is : (o : Operands) (a : ℤ)
-      → formula row.kind row (record o { addend = a })
+  formula_is : (o : Operands) (a : ℤ) → formula row.kind row (record o { addend = a })
       ≡ number_if (has_value row.kind) (made (base_of row.kind o) (less_of row.kind row.size o) (cast_unsigned w64 a))
   same_entry : (a b : ℤ) (is_thread_local : Bool) → entry_of row a is_thread_local ≡ entry_of row b is_thread_local
   loads_none : loads_plt_word row.size row.kind ≡ false
@@ -209,16 +208,12 @@ module _ (row : RowInfo) (sum : IsSum row) (addresses : Addresses) (r : Rela) (v
   with_addend : has_value row.kind ≡ true → (o : Operands) (a : ℤ)
       → value_of row (record o { addend = a })
       ≡ Some (cast_signed w64 (made (base_of row.kind o) (less_of row.kind row.size o) (cast_unsigned w64 a)))
-  with_addend valued o a =
-      ap read_signed (sum.formula_is o a)
-      ∙ ap (λ b. read_signed (number_if b (made (base_of row.kind o) (less_of row.kind row.size o) (cast_unsigned w64 a)))) valued
+  with_addend valued o a = cc (sum.formula_is o a)
 
   operands_are : (symbol : Symbol) (entry : ℕ) (a : ℤ)
       → operands_with RiscV addresses row symbol (record r { addend = a }) entry
       ≡ record (operands_with RiscV addresses row symbol r entry) { addend = a }
-  operands_are symbol entry a =
-      ap (λ loads. record (operands_with RiscV addresses row symbol r entry) { addend = if loads then pos 0 else a })
-      sum.loads_none
+  operands_are symbol entry a = cc (sum.loads_none)
 
   value_moved : has_value row.kind ≡ true → (symbol : Symbol) (entry : ℕ)
       → value_of row (operands_with RiscV addresses row symbol r entry) ≡ Some value
@@ -237,8 +232,7 @@ module _ (row : RowInfo) (sum : IsSum row) (addresses : Addresses) (r : Rela) (v
       let number : cast_unsigned w64 value ≡ n = sym (ap (cast_unsigned w64) is_value) ∙ of_z-to_z w64 n small in
       let same = same_32 wanted value fits (subst (FitsSigned w64) is_value (sfits_to_z (record { fits = small }))) same_rest in
       let b = sum_64 a (difference_64 w n) in
-      let addend : (with_value r value wanted).addend ≡ cast_signed w64 b =
-      ap (λ v. cast_signed w64 (sum_64 a (difference_64 w v))) number in
+      let addend : (with_value r value wanted).addend ≡ cast_signed w64 b = cc in
       let there : cast_unsigned w64 (cast_signed w64 b) ≡ b = of_z-to_z w64 b (sum_below a (difference_64 w n)) in
       record {
         same = same;
@@ -265,9 +259,7 @@ module _ (row : RowInfo) (sum : IsSum row) (addresses : Addresses) (r : Rela) (v
   by_symbol valued lacks None is = absurd (cc)
   by_symbol valued lacks (Some symbol) is =
       let tls = symbol.is_thread_local in
-      subst (λ entry. HasMovedTo
-      (value_by lacks row (operands_by RiscV addresses row (with_value r value wanted) symbol (entry_address addresses symbol entry))))
-      (sum.same_entry r.addend (with_value r value wanted).addend tls)
+      rw (← (sum.same_entry r.addend (with_value r value wanted).addend tls))
       (by_entry valued lacks symbol (entry_address addresses symbol (entry_of row r.addend tls)) is)
 
   own_moved : (symbols : List Symbol) (valued : Bool) → has_value row.kind ≡ valued
@@ -348,10 +340,7 @@ module _ (addresses : Addresses) (symbols : List Symbol) (row high : RowInfo) (l
     (labelled : names_label row.size row.kind ≡ true) (upper : IsHigh (is_of_descriptor row.kind) high)
     (is_high : is_high_part row.kind (Some high) ≡ true) where
   high_part : is_high_part (low_kind (is_of_descriptor row.kind)) (Some high) ≡ true
-  high_part =
-      ap (λ kind. is_high_part kind (Some high))
-      (sym (when_true (names_label row.size row.kind) row.kind (low_kind (is_of_descriptor row.kind)) low.kind labelled))
-      ∙ is_high
+  high_part = cc
 
   by_operands : (operands : Result Operands ValueError) → low_by row high operands ≡ value_by false high operands
   by_operands (Err error) = refl
@@ -458,9 +447,8 @@ module _ (addresses : Addresses) (symbols : List Symbol) (before after : List �
       let first = own_value RiscV addresses symbols row r in
       let same : first ≡ first = refl in (
         first,
-        (Some row, of, subst (λ b. IsValueBy b RiscV addresses before symbols row r first) (sym isnt) same),
-        subst (λ x. IsWrappedValue (reach_of row) first x) (sym value)
-            (own_wrapped addresses symbols row r (relocation_in after n) of (are.each n below) isnt),
+        (Some row, of, rw isnt same),
+        rw value (own_wrapped addresses symbols row r (relocation_in after n) of (are.each n below) isnt),
       )
 
 pub values : Values

@@ -99,9 +99,7 @@ pub of_subject : (l : Linked) → AreRewritten l → (n : ℕ) (chosen : Choice 
     → subject ≡ subject_of (relocation_in l.relocations high)
 of_subject l made n chosen subject below decided high is_high =
     let of = (anyhow l made n (RewrittenWithSymbol chosen subject) chosen below decided refl).of_high subject refl in
-    of.subject_is
-    ∙ ap (λ m. subject_of (relocation_in l.relocations m))
-    (one_index l.context l.relocations (relocation_in l.relocations n) of.high high of.is_high is_high)
+    cc (of.subject_is, one_index l.context l.relocations (relocation_in l.relocations n) of.high high of.is_high is_high)
 
 -- ---- the entry
 

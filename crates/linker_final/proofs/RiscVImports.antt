@@ -1,5 +1,5 @@
 -- The names that files of proofs of RISC-V here use.
-pub use Rattle.linker_final.proofs.Imports.{unwrap_or, Absolute, Addresses, All-drop, All-from_get_or, All-take, AllHold, Architecture, AreAddresses, AreBytes, AreRewritten, AreWritten, BType, BecomesNop, BitMasking, BitRange, Bool, Bounds, ByteSize, CbType, Changes, Choice, CjType, Computed, Consumed, Decision, Err, FitsSigned, GotTpOff, Grouped, HasAddresses, HasLow, HasNamed, HasOwn, HoldsDistance, IType, IsAddress, IsApplied, IsArchitectureChoice, IsBefore, IsCandidateWith, IsChosen, IsDecidedAfter, IsDone, IsGroupDecision, IsHighIn, IsHighPartAt, IsKeptInstruction, IsLabelCandidate, IsLabelDecision, IsLinked, IsLowValue, IsMade, IsNameOf, IsNamed, IsNamedAs, IsNoHighPart, IsOfEntry, IsOfOne, IsRewrittenAndPacked, IsRewrittenByNoOther, IsRow, IsScopeDecision, IsScopeIn, IsSomeAnd, IsTrue, IsUnchanged, IsValue, IsValueBy, IsValueIn, IsWithin, JType, Kept, Labelled, Law, Lawful, Leaves, LinkFacts, Linked, List, New, NoSymbol, None, Nops, NopsOf, NotRelaxable, Ok, Operands, Option, Packed, Phase, Reaches, Rela, Relative, RelativeRiscVLow12, RelaxContext, Relaxation, Relocated, RelocationKind, RelocationsAreLeft, Result, RewritesAreGroups, Rewritten, RewrittenWithSymbol, RiscV, RiscV64, RiscVRelocation, RowInfo, RowSize, SType, Scope, Site, SiteBecomes, Some, State, Step, Subject, Symbol, TpOff, UType, UiType, UntouchedInstruction, ValueError, [], addend_after, address_in, and_parts, anywhere, ap, architecture_of, arith, base_by, base_for, base_of, based_relocation, bytes_row, cases_Bool, cast_signed, cast_unsigned, choice_of, chosen_or_labelled, cond-true, count, decision_at, deleted_of, descriptor, difference_64, drop, drop-drop, entry, entry_address, entry_and_addend, entry_of, eqb-true, facts_at, facts_by, facts_with, false, false≢true, far_entry, field, final, final_instruction, fixed, formula, from_le_bytes, get_or, got_high_part, group_stays, has_value, here, high_part, if◌then◌else◌, inl, inr, instruction_at, int_rem_euclid, ints, is_high_part, is_label_marked, is_labelled, is_near, is_offset, is_some, is_taken, label_decision, label_facts, lacks_origin, law, length, length-drop, length-take-le, link_facts, list_any, load, loads_plt_word, low_12_bounds, low_address, low_by, low_law, low_operands, low_part, low_store, low_value, lt-ltb, ltb, ltb-true, moved, names_label, nat_lt, neg_ℤ, negsuc, number_at, number_of_bytes, of_entry, of_one, of_z-to_z, offset_after, offset_at, offset_of, one_index, one_row, operands_before, operands_by, operands_in, operands_of, operands_with, or_parts, own_value, packed, pair_row, place, place_of, placed_facts, plt_address, pos, r_type_of, reach_of, read_signed, refl, relaxation_deleted, relaxation_rewrite, relaxation_skipped, relocation_after, relocation_at, relocation_in, relocation_over, rewriting, rewritten, rewritten_by, riscv_form, riscv_name, riscv_pair_bounds, riscv_relocation, riscv_row, riscv_scope_in, short_descriptor, signed, site_bytes, site_len, site_offset, site_place, site_target, slice_get, subst, suc, sum, sum_64, sum_below, sum_zero, sym, symbol_address, take, take_all, takes_next, takes_symbol, tls_base, to_le_bytes, to_z-of_z, true, true≢false, unsigned_abs, value_by, value_of, w16, w32, w64, without_entry, wrapped, zero, ℕ, ℤ, ◌%◌, ◌&&◌, ◌*ℤ◌, ◌*◌, ◌+ℤ◌, ◌+◌, ◌-◌, ◌/◌, ◌<ℤ◌, ◌<◌, ◌==◌, ◌^◌, ◌||◌, ◌∙◌, ◌∷◌, ◌≡◌, ◌≢◌, ◌≤ℤ◌, ◌≤◌, ◌⊎◌}
+pub use Rattle.linker_final.proofs.Imports.{unwrap_or, Absolute, Addresses, All-drop, All-from_get_or, All-take, AllHold, Architecture, AreAddresses, AreBytes, AreRewritten, AreWritten, BType, BecomesNop, BitMasking, BitRange, Bool, Bounds, ByteSize, CbType, Changes, Choice, CjType, Computed, Consumed, Decision, Err, FitsSigned, GotTpOff, Grouped, HasAddresses, HasLow, HasNamed, HasOwn, HoldsDistance, IType, IsAddress, IsApplied, IsArchitectureChoice, IsBefore, IsCandidateWith, IsChosen, IsDecidedAfter, IsDone, IsGroupDecision, IsHighIn, IsHighPartAt, IsKeptInstruction, IsLabelCandidate, IsLabelDecision, IsLinked, IsLowValue, IsMade, IsNameOf, IsNamed, IsNamedAs, IsNoHighPart, IsOfEntry, IsOfOne, IsRewrittenAndPacked, IsRewrittenByNoOther, IsRow, IsScopeDecision, IsScopeIn, IsSomeAnd, IsTrue, IsUnchanged, IsValue, IsValueBy, IsValueIn, IsWithin, JType, Kept, Labelled, Law, Lawful, Leaves, LinkFacts, Linked, List, New, NoSymbol, None, Nops, NopsOf, NotRelaxable, Ok, Operands, Option, Packed, Phase, Reaches, Rela, Relative, RelativeRiscVLow12, RelaxContext, Relaxation, Relocated, RelocationKind, RelocationsAreLeft, Result, RewritesAreGroups, Rewritten, RewrittenWithSymbol, RiscV, RiscV64, RiscVRelocation, RowInfo, RowSize, SType, Scope, Site, SiteBecomes, Some, State, Step, Subject, Symbol, TpOff, UType, UiType, UntouchedInstruction, ValueError, [], addend_after, address_in, and_parts, anywhere, ap, architecture_of, arith, base_by, base_for, base_of, based_relocation, bytes_row, cases_Bool, cast_signed, cast_unsigned, choice_of, chosen_or_labelled, cond-true, count, decision_at, deleted_of, descriptor, difference_64, drop, drop-drop, entry, entry_address, entry_and_addend, entry_of, eqb-true, facts_at, facts_by, facts_with, false, false≢true, far_entry, field, final, final_instruction, fixed, formula, from_le_bytes, get_or, got_high_part, group_stays, has_value, here, high_part, if◌then◌else◌, inl, inr, instruction_at, int_rem_euclid, ints, is_high_part, is_label_marked, is_labelled, is_near, is_offset, is_some, is_taken, label_decision, label_facts, lacks_origin, law, length, length-drop, length-take-le, link_facts, list_any, load, loads_plt_word, low_12_bounds, low_address, low_by, low_law, low_operands, low_part, low_store, low_value, lt-ltb, ltb, ltb-true, moved, names_label, nat_lt, neg_ℤ, negsuc, number_at, number_of_bytes, of_entry, of_one, of_z-to_z, offset_after, offset_at, offset_of, one_index, one_row, operands_before, operands_by, operands_in, operands_of, operands_with, or_parts, own_value, packed, pair_row, place, place_of, placed_facts, plt_address, pos, r_type_of, reach_of, refl, relaxation_deleted, relaxation_rewrite, relaxation_skipped, relocation_at, relocation_in, relocation_over, rewriting, rewritten, rewritten_by, riscv_form, riscv_name, riscv_pair_bounds, riscv_relocation, riscv_row, riscv_scope_in, short_descriptor, signed, site_bytes, site_len, site_offset, site_place, site_target, slice_get, subst, suc, sum, sum_64, sum_below, sum_zero, sym, symbol_address, take, take_all, takes_next, takes_symbol, tls_base, to_le_bytes, to_z-of_z, true, true≢false, unsigned_abs, value_by, value_of, w16, w32, w64, without_entry, wrapped, zero, ℕ, ℤ, ◌%◌, ◌&&◌, ◌*ℤ◌, ◌*◌, ◌+ℤ◌, ◌+◌, ◌-◌, ◌/◌, ◌<ℤ◌, ◌<◌, ◌==◌, ◌^◌, ◌||◌, ◌∙◌, ◌∷◌, ◌≡◌, ◌≢◌, ◌≤ℤ◌, ◌≤◌, ◌⊎◌}
 pub use Rattle.linker_base.proofs.Bits.{cast_negative}
 pub use Rattle.linker_elf.proofs.Agreement.{le_yes, rem_rem}
 pub use Rattle.linker_elf.specs.Originals.{HasWord}
@@ -16,7 +16,7 @@ pub use Rattle.linker_final.proofs.SectionRuns.{AreIn, beside_or, is_linked}
 pub use Rattle.linker_final.proofs.Written.{IsRowOf, back_of_pair, by_name, front_of_pair, mapped, rela, row_in, stays, unwritten_without, with_operands, word_same}
 pub use Rattle.linker_final.specs.RiscV32.{AbsoluteAddresses, Addends, Branches, Call, Entries, HasWrappedAddend, IsSame32, IsWrappedValue, IsWrappedWithin, Jump, Law32, Pairs, PairsReachAll, Reaches32, RelativeAddresses, ThreadAddresses, Values, Word, Words}
 pub use Rattle.linker_final.specs.RiscVFinal.{AreOfPair, HighPartGoes, IsAddiOfLoad, IsDeleted, IsLuiOfLoad, IsNop, IsNotRewrittenBy, IsOfDescriptor, IsRewrittenOf, NoneIsInitialExec, OffsetsAreLow, OffsetsAreLowOf, SumGoes, named_as}
-pub use Rattle.linker_final.specs.RiscVNear.{AuipcGoes, FromBase, LowPartsFromBase, LuiGoes, PartsFromBase, ValuesAreDistances, after_base, distance, labelled_row}
+pub use Rattle.linker_final.specs.RiscVNear.{AuipcGoes, LowPartsFromBase, LuiGoes, PartsFromBase, ValuesAreDistances, after_base, distance, labelled_row}
 pub use Rattle.linker_final.specs.RiscVPacked.{CallIsAlike, HighPartsAreLeftOut, IsOfCall, LongCallsStay, LuiIsLeftOut, SitesCallTheSame, SumIsLeftOut, call_row, instructions_in, landing}
 pub use Rattle.linker_laws.proofs.RiscVDescriptors.{lui_word, upper_long, upper_word}
 pub use Rattle.linker_laws.proofs.RiscVGroups.{absolute_rows, based_group, below_32, cj_goes, jal_goes, jump_group, nothing_left, puts, row_of, word_goes}

@@ -1,5 +1,5 @@
 -- RISC-V: low parts over x3 and x0, and what is deleted before them.
-use Rattle.linker_final.proofs.RiscVImports.{◌≡◌, ℕ, pos, ◌+ℤ◌, ◌+◌, ◌-◌, ◌%◌, ◌^◌, ◌<◌, ◌≤◌, ◌⊎◌, Bool, true, false, true≢false, refl, sym, ◌∙◌, ap, subst, arith, List, drop, ℤ, Option, Some, None, if◌then◌else◌, ◌&&◌, IsTrue, w32, w64, cast_signed, cast_unsigned, from_le_bytes, ints, of_z-to_z, ltb-true, signed, riscv_form, pair_row, sum_64, difference_64, RelocationKind, Absolute, Relative, RelativeRiscVLow12, RowInfo, Operands, IType, UType, opcode_of, funct3_of, adds_low12, address_in, Relocated, wrapped, symbol_address, IsAddress, unsigned_abs, IsSomeAnd, lo12, moved, sum_zero, word_at, Action, register, auipc, goes_to, lui, with_integer, stores, rs1_of, rd_of, base_by, base_for, base_of, based_relocation, is_near, relocation_over, low_row, word_of, IsFormulaOf, of_address, lui_word, upper_long, upper_word, absolute_rows, based_group, below_32, nothing_left, puts, row_of, word_goes, based_there, i_stands, low_sum, some_action, moved_twice, written, Has, machine, seen, AuipcGoes, FromBase, LowPartsFromBase, LuiGoes, PartsFromBase, ValuesAreDistances, after_base, distance, labelled_row, same_Some}
+use Rattle.linker_final.proofs.RiscVImports.{◌≡◌, ℕ, pos, ◌+ℤ◌, ◌+◌, ◌-◌, ◌%◌, ◌^◌, ◌<◌, ◌≤◌, ◌⊎◌, Bool, true, false, true≢false, refl, sym, ◌∙◌, ap, subst, arith, List, drop, ℤ, Option, Some, None, if◌then◌else◌, ◌&&◌, IsTrue, w32, w64, cast_signed, cast_unsigned, from_le_bytes, ints, of_z-to_z, ltb-true, signed, riscv_form, pair_row, sum_64, difference_64, RelocationKind, Absolute, Relative, RelativeRiscVLow12, RowInfo, Operands, IType, UType, opcode_of, funct3_of, adds_low12, address_in, Relocated, wrapped, symbol_address, IsAddress, unsigned_abs, lo12, moved, sum_zero, word_at, Action, register, auipc, goes_to, lui, with_integer, stores, rs1_of, rd_of, base_by, base_for, base_of, based_relocation, is_near, relocation_over, low_row, word_of, IsFormulaOf, of_address, lui_word, upper_long, upper_word, absolute_rows, based_group, below_32, nothing_left, puts, row_of, word_goes, based_there, i_stands, low_sum, some_action, moved_twice, written, Has, machine, seen, AuipcGoes, LowPartsFromBase, LuiGoes, PartsFromBase, ValuesAreDistances, after_base, distance, labelled_row, same_Some}
 use Rattle.linker_laws.specs.RiscVRelocationLaws.{AbsoluteAddresses, RelativeAddresses}
 use Rattle.linker_rewriting.specs.GlobalPointer.{address_of}
 use Rattle.linker_elf.proofs.Entries.{sum_below}
@@ -59,10 +59,10 @@ based_sum : (gp : ℕ) (x y : Operands) (base : ℕ × ℕ) (v : ℕ) → IsBase
     → moved v (signed 12 (symbol_address y % 2 ^ 32 % 4096)) ≡ symbol_address x
 based_sum gp x y base v is value there =
     let n = symbol_address y in
-    low_sum v n (n % 2 ^ 32 % 4096) (sum_below y.symbol _)
-    (subst (λ m. (m < 0x800) ⊎ (2 ^ 64 - 0x800 ≤ m)) (sym value) (near_number (base.1) (symbol_address x) is.near)) refl
-    ∙ (ap (λ b. sum_64 b n) there ∙ (ap (sum_64 (base.1)) value
-    ∙ back (base.1) (symbol_address x) is.below (sum_below x.symbol _)))
+    cc (
+      low_sum v n (n % 2 ^ 32 % 4096) (sum_below y.symbol _) (subst (λ m. (m < 0x800) ⊎ (2 ^ 64 - 0x800 ≤ m)) (sym value) (near_number (base.1) (symbol_address x) is.near)) refl,
+      back (base.1) (symbol_address x) is.below (sum_below x.symbol _),
+    )
 
 labelled_rows : (a : Action) → labelled_row a ≡ row_of RelativeRiscVLow12 a
 labelled_rows (stores f) = refl
@@ -81,8 +81,7 @@ parts kind number of row rows section o gp small inside is =
     (first_of_and (adds_low12 (opcode_of word) (funct3_of word)) _ is) in
     let a = some.0 in
     let low = drop o section in
-    subst (λ r. IsSomeAnd r (FromBase row number section o gp)) (sym some.1)
-    (λ c x y base k k' s based value at high there old new keeps.
+    rw some.1 (λ c x y base k k' s based value at high there old new keeps.
     let made = drop o (after_base base.0 section o) in
     let base_is = is_base gp (symbol_address x) base small based in
     let old' = subst (λ r. Has 4 c.old s.pc r x low) (rows a) old in
@@ -101,8 +100,7 @@ low_parts = (
 
 -- ---- values
 
-moved_by : (s a b : ℕ) → b < 2 ^ 64
-    → sum_64 s (difference_64 a b) ≡ difference_64 (sum_64 s a) b
+moved_by : (s a b : ℕ) → b < 2 ^ 64 → sum_64 s (difference_64 a b) ≡ difference_64 (sum_64 s a) b
 moved_by s a b below = omega arith
 
 pub values_are_distances : ValuesAreDistances
@@ -110,11 +108,8 @@ values_are_distances addresses values gp r value code base small symbol is_low b
     let b = base.1 in
     let a = cast_unsigned w64 r.addend in
     let base_is = is_base gp (address_of addresses r value) base small based in
-    let of_symbol : base_of addresses values gp r ≡ Some base =
-    ap (base_by addresses gp r) symbol ∙ based in
-    let after : based_relocation addresses values gp r ≡ relocation_over r (Some code) (Some base) =
-    ap (λ c. relocation_over r c (base_of addresses values gp r)) is_low
-    ∙ ap (relocation_over r (Some code)) of_symbol in
+    let of_symbol : base_of addresses values gp r ≡ Some base = ap (base_by addresses gp r) symbol ∙ based in
+    let after : based_relocation addresses values gp r ≡ relocation_over r (Some code) (Some base) = cc in
     let n : ℕ = difference_64 a b in (
       ap (λ x. x.r_type) after,
       ap (λ x. x.symbol) after,
@@ -138,8 +133,7 @@ holds_low : (kind : RelocationKind) (number : Operands → ℕ) → IsFormulaOf 
     (before code : List ℕ) → Relocated (Some (pair_row kind 32 IType)) x before code
     → (riscv_form IType).machine (from_le_bytes w32 code) ≡ lo12 (number x)
 holds_low kind number of x before code is =
-    ap (signed 12) (i_stands kind x (number x) before code is.applied (of.1 x) (of.0 IType x)
-    ∙ same_low (number x))
+    cc (i_stands kind x (number x) before code is.applied (of.1 x) (of.0 IType x), same_low (number x))
 
 pub lui_goes : AbsoluteAddresses → LuiGoes
 lui_goes laws c x k s bytes before_low low addresses d is some has is_low =

@@ -1,7 +1,7 @@
 -- RISC-V: where calls go in the final bytes of a packed section.
 use Rattle.linker_laws.specs.RiscVRelocationLaws.{even}
 use Rattle.linker_runs.specs.Sites.{operands_of}
-use Rattle.linker_final.proofs.RiscVImports.{◌≡◌, ◌≢◌, ℕ, ◌+◌, ◌-◌, ◌%◌, ◌^◌, ◌<◌, ◌≤◌, inl, inr, List, length, take, drop, refl, sym, ap, subst, ◌∙◌, arith, Some, Ok, IsSomeAnd, drop-drop, All-drop, All-take, w32, from_le_bytes, riscv_relocation, IsApplied, value_of, Operands, RiscVRelocation, Groups, AreAddresses, plt_address, SiteBecomes, Site, relocation_in, offset_at, operands_with, IsRow, RiscV, take_all, AreBytes, architecture_of, place_of, site_bytes, site_len, site_offset, site_place, site_target, CallStays, word_at, IsCallPair, link_register, CallIsAlike, IsOfCall, LongCallsStay, SitesCallTheSame, call_row, instructions_in, landing, cj_goes, jal_goes, jump_group, address_is, rd_of, HasItsInstructions, IsCallAt, links_short, RiscVBecomes, short_jump, jump, call, true, false, field, OfJalr, cases_Bool, eqb-true, false≢true, w16, ◌==◌, ◌||◌, ◌&&◌, if◌then◌else◌, some_value, stay_inside, places_inside, instructions, are_addresses, site_becomes, site_inside, site_length, site_small, window_length, back_of_pair, front_of_pair}
+use Rattle.linker_final.proofs.RiscVImports.{◌≡◌, ◌≢◌, ℕ, ◌+◌, ◌-◌, ◌%◌, ◌^◌, ◌<◌, ◌≤◌, inl, inr, List, length, take, drop, refl, sym, ap, subst, ◌∙◌, arith, Some, IsSomeAnd, drop-drop, All-drop, All-take, w32, from_le_bytes, riscv_relocation, IsApplied, value_of, Operands, RiscVRelocation, Groups, AreAddresses, plt_address, SiteBecomes, Site, relocation_in, offset_at, operands_with, RiscV, take_all, AreBytes, architecture_of, place_of, site_bytes, site_len, site_offset, site_place, site_target, CallStays, word_at, IsCallPair, link_register, CallIsAlike, IsOfCall, LongCallsStay, SitesCallTheSame, call_row, instructions_in, landing, cj_goes, jal_goes, jump_group, address_is, rd_of, HasItsInstructions, IsCallAt, links_short, RiscVBecomes, short_jump, jump, call, true, false, field, OfJalr, cases_Bool, eqb-true, false≢true, w16, ◌==◌, ◌||◌, ◌&&◌, if◌then◌else◌, some_value, stay_inside, places_inside, instructions, are_addresses, site_becomes, site_inside, site_length, site_small, window_length, back_of_pair, front_of_pair}
 use Rattle.linker_elf.specs.declared.riscv64.relocations.RiscVRelocation.TheVariants as names
 use Rattle.linker_section.specs.Values as values
 
@@ -29,9 +29,7 @@ module _ (groups : Groups) (section : List ℕ) (o : ℕ) (bytes : AreBytes sect
   second_is = back_of_pair (drop o section) ∙ ap (from_le_bytes w32) (drop-drop 4 o section)
 
   pair : IsCallPair (from_le_bytes w32 window) (from_le_bytes w32 (drop 4 window))
-  pair =
-      subst (λ w. IsCallPair w (from_le_bytes w32 (drop 4 window))) (sym (front_of_pair (drop o section)))
-      (subst (λ w. IsCallPair (word_at section o) w) (sym second_is) is.pair)
+  pair = rw (front_of_pair (drop o section), second_is) is.pair
 
   some : rd_of (from_le_bytes w32 window) ≢ 0
   some none = is.not_zero (ap rd_of (sym (front_of_pair (drop o section))) ∙ none)
@@ -123,15 +121,13 @@ long_calls groups p is riscv i name stays symbol symbol_is small other_name of =
     let applied = instructions p is i call_row y
     (record {
       within = stays.within;
-      is_row = subst (λ a. IsRow a r.r_type (Some call_row)) machine
-          (record { name = name; is_name = stays.is_name; value_is = sym row_is });
+      is_row = rw (← machine) (record { name = name; is_name = stays.is_name; value_is = sym row_is });
       bits = _;
       insn = _;
       size = refl;
       has = refl;
       unlabelled = refl;
-      taken = subst (λ a. values.operands_of a p.addresses p.symbols call_row r ≡ Ok y) machine
-          (ap (values.operands_in RiscV p.addresses call_row r) symbol_is);
+      taken = rw (← machine) (ap (values.operands_in RiscV p.addresses call_row r) symbol_is);
       value = value.0;
       value_is = value.1;
     }) stays.stays in

@@ -51,14 +51,11 @@ module _ (l : Linked) (o : Output) (name : RiscVRelocation) (n place : ℕ) (the
   has row is mine y same written code at stands =
       let before = instruction_at l.rewritten (offset_of l n) in
       let after = instruction_at o.after place in
-      let there_is : IsApplied a.row mine before after =
-      subst (λ bytes. IsApplied a.row mine bytes after) there.same
-      (subst (λ m. IsApplied a.row mine (instruction_at o.before m) (instruction_at o.after m)) there.place_is written) in
+      let there_is : IsApplied a.row mine before after = rw (← there.same, ← there.place_is) written in
       record {
         relocated = after;
         applied = record {
-          applied = subst (λ q. IsSomeAnd q (λ row. IsApplied row y before after)) (sym is)
-              (with_operands a.row mine y before after same there_is);
+          applied = rw is (with_operands a.row mine y before after same there_is);
           len = long_there o.after place there.inside ∙ sym (long_there l.rewritten (offset_of l n) there.rewritten_inside);
           old_bytes = there.old_bytes;
           bytes = bytes_there o.after place o.bytes;
@@ -82,8 +79,7 @@ module _ (o : Output) (name : RiscVRelocation) (w : IsOwn name) (n : ℕ) (row :
 
   taken : operands_of o.architecture o.addresses o.symbols w.after.row (relocation_in o.relocations n) ≡ Ok mine
   taken =
-      subst (λ x. operands_of x o.addresses o.symbols w.after.row (relocation_in o.relocations n) ≡ Ok mine) (sym o.riscv)
-      (ap (operands_in RiscV o.addresses w.after.row (relocation_in o.relocations n)) (v.1)
+      rw o.riscv (ap (operands_in RiscV o.addresses w.after.row (relocation_in o.relocations n)) (v.1)
       ∙ w.no_entry o.addresses (relocation_in o.relocations n) (v.0))
 
 own : (l : Linked) (o : Output) (name : RiscVRelocation) (w : IsOwn name) (n place : ℕ) → IsIn l o name n place

@@ -69,8 +69,7 @@ without_bias o is =
 address_is : (addresses : Addresses) (value : Symbol) → value.is_thread_local ≡ true
     → address_in addresses value
     ≡ (if value.is_undefined_weak then addresses.thread_origin else value.address)
-address_is addresses value is =
-    ap (λ b. if value.is_undefined_weak then (if b then addresses.thread_origin else 0) else value.address) is
+address_is addresses value is = cc
 
 -- what the entry's last condition says
 by_test : (s : RelaxContext) (section : List ℕ) (r : Rela) (chosen : Choice Relaxation ℕ)
@@ -83,8 +82,7 @@ by_test s section r chosen c value is_value thread_local known is =
     let same : placed.value ≡ value = cc in
     let low : IsLowBy (placed_facts s.phase s.output s.addresses placed.symbol placed.value r.offset r.addend c.marked).operands =
     subst (λ (f : LinkFacts). IsLowBy f.operands) placed.are (without_bias c.facts.operands is) in
-    subst (λ a. IsWithin (Some low_12_bounds) (cast_signed w64 (difference_64 (sum_64 a (cast_unsigned w64 r.addend)) s.addresses.thread_origin)))
-    (ap (address_in s.addresses) same ∙ address_is s.addresses value thread_local) low
+    rw (← (ap (address_in s.addresses) same ∙ address_is s.addresses value thread_local)) low
 
 module _ (name : RiscVRelocation) (named : IsNamed (riscv_name name)) (kind : RewriteKind)
     (after : RiscVRelocation)

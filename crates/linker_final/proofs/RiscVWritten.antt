@@ -1,5 +1,5 @@
 -- Instructions of RISC-V and their relocations in the final bytes of a section.
-use Rattle.linker_final.proofs.RiscVImports.{◌≡◌, ℕ, zero, suc, ℤ, ◌+◌, ◌-◌, ◌<◌, ◌≤◌, ◌^◌, List, [], ◌∷◌, length, drop, get_or, sym, ap, subst, ◌∙◌, arith, Some, Ok, refl, length-drop, length-take-le, All-drop, All-from_get_or, All-take, w32, from_le_bytes, to_le_bytes, offset_after, addend_after, rewritten, IsNamed, r_type_of, riscv_name, riscv_relocation, riscv_row, RowInfo, Choice, RiscVRelocation, after_rewrite, decision_at, IsDone, IsMade, relocation_after, Decision, RewrittenWithSymbol, Rewritten, Subject, riscv_rewrite, relocation_in, operands_in, operands_with, Addresses, Symbol, Rela, relaxation_rewrite, Relaxation, RiscV, AreBytes, AreRewritten, Linked, count, instruction_at, rewrites_word, RewriteKind, rela, IsOfInstruction}
+use Rattle.linker_final.proofs.RiscVImports.{◌≡◌, ℕ, zero, suc, ℤ, ◌+◌, ◌-◌, ◌<◌, ◌≤◌, ◌^◌, List, [], ◌∷◌, length, drop, get_or, sym, ap, subst, ◌∙◌, arith, Some, Ok, refl, length-drop, length-take-le, All-drop, All-from_get_or, All-take, w32, from_le_bytes, to_le_bytes, offset_after, addend_after, rewritten, IsNamed, r_type_of, riscv_name, riscv_relocation, riscv_row, RowInfo, Choice, RiscVRelocation, after_rewrite, decision_at, IsDone, IsMade, Decision, RewrittenWithSymbol, Rewritten, Subject, riscv_rewrite, relocation_in, operands_in, operands_with, Addresses, Symbol, Rela, relaxation_rewrite, Relaxation, RiscV, AreBytes, AreRewritten, Linked, count, instruction_at, rewrites_word, RewriteKind, rela, IsOfInstruction}
 use Rattle.linker_utils.specs.declared.architecture.Relaxation.TheVariants as relaxations
 
 -- ---- bytes
@@ -41,22 +41,16 @@ module _ (l : Linked) (made : AreRewritten l) (i : ℕ) (chosen : Choice Relaxat
   after_is : (symbol : ℕ) (addend : ℤ)
       → rela (offset_after (relaxation_rewrite chosen.kind) r.offset) chosen.relocation symbol (addend_after (relaxation_rewrite chosen.kind) addend)
       ≡ rela r.offset (r_type_of (riscv_name name)) symbol addend
-  after_is symbol addend =
-      ap (λ k. rela (offset_after (relaxation_rewrite k) r.offset) chosen.relocation symbol (addend_after (relaxation_rewrite k) addend)) kind_is
-      ∙ (ap (λ x. rela x chosen.relocation symbol (addend_after (riscv_rewrite kind) addend)) (unmoved r.offset)
-      ∙ (ap (λ x. rela r.offset x symbol (addend_after (riscv_rewrite kind) addend)) r_type_is
-      ∙ ap (λ x. rela r.offset (r_type_of (riscv_name name)) symbol x) (same_addend addend)))
+  after_is symbol addend = rw (kind_is, unmoved r.offset, r_type_is, same_addend addend)
 
   pub rewritten_after : decision_at l.decisions i ≡ Rewritten chosen
       → relocation_in l.relocations_after i ≡ rela r.offset (r_type_of (riscv_name name)) r.symbol r.addend
-  rewritten_after decided =
-      made.relocations i below ∙ (ap (λ d. relocation_after d r) decided ∙ after_is r.symbol r.addend)
+  rewritten_after decided = cc (made.relocations i below, after_is r.symbol r.addend)
 
   pub redirected_after : (subject : Subject) → decision_at l.decisions i ≡ RewrittenWithSymbol chosen subject
       → relocation_in l.relocations_after i
       ≡ rela r.offset (r_type_of (riscv_name name)) subject.symbol subject.addend
-  redirected_after subject decided =
-      made.relocations i below ∙ (ap (λ d. relocation_after d r) decided ∙ after_is subject.symbol subject.addend)
+  redirected_after subject decided = cc (made.relocations i below, after_is subject.symbol subject.addend)
 
 -- ---- what such a relocation writes
 
@@ -97,10 +91,7 @@ module _ (l : Linked) (made : AreRewritten l) (i : ℕ) (below : i < count l) (d
 
   word_is : instruction_at l.rewritten o ≡ to_le_bytes w32 (new (from_le_bytes w32 (instruction_at l.section o)))
   word_is =
-      subst (λ n. instruction_at l.rewritten n ≡ to_le_bytes w32 (new (from_le_bytes w32 (instruction_at l.section n))))
-      (let e : o - 0 ≡ o = omega arith in e)
-      (subst (λ q. IsMade q o l.section l.rewritten) (ap relaxation_rewrite kind_is ∙ rewrites)
-      (by (subst (λ d. IsDone d o l.section l.rewritten) decided (made.done i below))))
+      cc (subst (λ n. instruction_at l.rewritten n ≡ to_le_bytes w32 (new (from_le_bytes w32 (instruction_at l.section n)))) (let e : o - 0 ≡ o = omega arith in e) (subst (λ q. IsMade q o l.section l.rewritten) (ap relaxation_rewrite kind_is ∙ rewrites) (by (subst (λ d. IsDone d o l.section l.rewritten) decided (made.done i below)))))
 
   pub becomes : o + 4 ≤ length l.section → instruction_at l.rewritten o ≡ after_rewrite kind (instruction_at l.section o) 0
   becomes inside =

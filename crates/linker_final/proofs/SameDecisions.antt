@@ -1,5 +1,5 @@
 -- What a call of a phase leaves, whose decisions and deletions are taken as they are.
-use Rattle.linker_final.proofs.Imports.{◌≡◌, ℕ, ◌^◌, ◌<◌, List, map, length, get_or, subst, Decision, RelaxContext, UnrelaxableGroups, AreWritten, HasRewritten, IsLinked, Linked, rewriting_phase, ArePhases, IsRewrittenAs, take, drop, deletions_by, count_of, AreListed, deletions_in, RewritingPhase, map-id}
+use Rattle.linker_final.proofs.Imports.{◌≡◌, ℕ, ◌^◌, ◌<◌, List, map, length, get_or, subst, Decision, RelaxContext, UnrelaxableGroups, AreWritten, HasRewritten, IsLinked, Linked, rewriting_phase, ArePhases, IsRewrittenAs, take, drop, deletions_by, count_of, AreListed, RewritingPhase, map-id}
 use Rattle.linker_final.proofs.PackedBytes.{are_bytes}
 
 pub has_rewritten : (s : RelaxContext) (kept : List UnrelaxableGroups) (before section : List ℕ) (ds : List Decision)
@@ -41,7 +41,6 @@ pub listed_so : (p : RewritingPhase) (before after : List (ℕ × ℕ)) (len : �
 listed_so p before after len listed others =
     record {
       len = len;
-      listed = subst (λ ds. take len ds ≡ deletions_in p) (map-id after)
-          (subst (λ ds. take len (map (λ d. d) after) ≡ deletions_by p.relocations ds (count_of p)) (map-id p.decisions) listed);
+      listed = rw (← (map-id after), ← (map-id p.decisions)) listed;
       others = others;
     }

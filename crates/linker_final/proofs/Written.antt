@@ -1,5 +1,5 @@
 -- Instructions and their relocations in the bytes that rewrites leave, and in the final bytes.
-use Rattle.linker_final.proofs.Imports.{◌≡◌, ℕ, ℤ, ◌+◌, ◌-◌, ◌/◌, ◌<◌, ◌≤◌, ◌⊎◌, List, length, take, drop, sym, ap, subst, ◌∙◌, refl, inl, inr, arith, Option, Some, None, IsSomeAnd, Ok, true, cases_eq, cases_lt, cases_Bool, cond-false, take-take, drop-drop, w32, from_le_bytes, slice_get, Rewrite, addend_after, offset_after, window_of_rewrite, RewriteWindow, IsApplied, IsNamed, r_type_of, bytes_row, value_of, RowInfo, Choice, Operands, decision_at, window_of, written_end_at, IsDone, IsMade, relocation_after, Decision, Rewritten, IsField, field_end, field_len, entry_of, relocation_in, IsRowValue, entry_address, has_value, is_there, offset_at, operands_by, operands_in, operands_of, operands_with, Addresses, Symbol, Entry, Rela, NoEntry, IsRow, relaxation_rewrite, Relaxation, Architecture, word_of_front, drop-take, ElfName, AreRewritten, Linked, UntouchedBytes, IsLinked, IsOutside, IsRewrittenByNoOther, IsWrittenByNoOther, count, instruction_at, two_at, start_by, written_end_by, entry_in, IsNamedValue, AreBytes, All-get_or, get_or_past, get_or, ◌^◌, names_label, false, unwrap_or}
+use Rattle.linker_final.proofs.Imports.{◌≡◌, ℕ, ℤ, ◌+◌, ◌-◌, ◌/◌, ◌<◌, ◌≤◌, ◌⊎◌, List, length, take, drop, sym, ap, subst, ◌∙◌, refl, inl, inr, arith, Option, Some, None, IsSomeAnd, Ok, true, cases_eq, cases_lt, cases_Bool, take-take, drop-drop, w32, from_le_bytes, slice_get, Rewrite, addend_after, offset_after, window_of_rewrite, IsApplied, IsNamed, r_type_of, bytes_row, value_of, RowInfo, Choice, Operands, decision_at, window_of, written_end_at, IsDone, IsMade, Decision, Rewritten, IsField, field_end, field_len, entry_of, relocation_in, IsRowValue, entry_address, has_value, is_there, offset_at, operands_by, operands_in, operands_of, operands_with, Addresses, Symbol, Entry, Rela, NoEntry, IsRow, relaxation_rewrite, Relaxation, Architecture, word_of_front, drop-take, ElfName, AreRewritten, Linked, UntouchedBytes, IsLinked, IsOutside, IsRewrittenByNoOther, IsWrittenByNoOther, count, instruction_at, two_at, written_end_by, IsNamedValue, AreBytes, All-get_or, get_or_past, get_or, ◌^◌, names_label, false}
 use Rattle.linker_elf.specs.declared.elf.RelocationKind.TheVariants.{None as NoValue}
 use Rattle.linker_final.proofs.InstructionFields.{IsOfInstruction, applied, instruction_len}
 use Rattle.linker_final.proofs.Phases.{bytes_left, last_as_many, last_within, relocation_left}
@@ -23,8 +23,7 @@ word_same bytes o = sym (word_of_front (drop o bytes))
 
 pub front_of_pair : (bytes : List ℕ) → from_le_bytes w32 (take 8 bytes) ≡ from_le_bytes w32 bytes
 front_of_pair bytes =
-    sym (word_of_front (take 8 bytes)) ∙ ap (from_le_bytes w32) (take-take 4 8 bytes (omega arith))
-    ∙ word_of_front bytes
+    cc (word_of_front (take 8 bytes), take-take 4 8 bytes (omega arith), word_of_front bytes)
 
 pub back_of_pair : (bytes : List ℕ)
     → from_le_bytes w32 (drop 4 (take 8 bytes)) ≡ from_le_bytes w32 (drop 4 bytes)
@@ -48,8 +47,7 @@ mapped each (Some x) is = each x is
 -- what the code of a name means
 pub by_name : {N A : Type 0} (elf : N → ElfName) (meaning : N → A) (name : N) → IsNamed (elf name)
     → (value : A) → IsNamedValue elf meaning (r_type_of (elf name)) value → value ≡ meaning name
-by_name elf meaning name named value is =
-    is.value_is ∙ ap meaning (is.is_name.named name named refl)
+by_name elf meaning name named value is = cc (is.value_is, is.is_name.named name named refl)
 
 -- a code has no other row
 abbrev pub IsRowOf : Architecture → ℕ → RowInfo → Type 0
@@ -103,8 +101,7 @@ module _ (l : Linked) (linked : IsLinked l) (i : ℕ) (below : i < count l) (n :
   pub applied_after : (o : Operands) → value_of row o ≡ value_of row operands → (found : Option RowInfo) → found ≡ Some row
       → IsSomeAnd found (λ row. IsApplied row o (take n (drop after.offset l.rewritten)) (take n (drop after.offset l.final)))
   applied_after o same found is =
-      subst (λ q. IsSomeAnd q (λ row. IsApplied row o (take n (drop after.offset l.rewritten)) (take n (drop after.offset l.final)))) (sym is)
-      (with_operands row operands o _ _ same
+      rw is (with_operands row operands o _ _ same
       (subst (λ xs. IsApplied row operands xs (take n (drop after.offset l.final))) (bytes_left l linked i after.offset n left)
       (subst (λ (x : Rela). IsApplied row operands (take n (drop x.offset l.last)) (take n (drop x.offset l.final))) is_last
       (applied l.context.architecture l.addresses l.relocations_last l.symbols l.last l.final linked.written
@@ -128,8 +125,7 @@ entry_is_there l linked i below row valued unlabelled after is_after only symbol
       | inl there ↦ there
       | inr missing ↦
           let none : entry_address l.addresses symbol (entry_of row after.addend symbol.is_thread_local) ≡ None =
-          ap (entry_address l.addresses symbol) is_entry
-          ∙ cond-false (is_there l.addresses symbol entry) (Some (entry_in l.addresses symbol entry.class)) None missing in
+          rw (is_entry, missing) in
           let found = linked.written.can.found i in
           let has = subst (λ (x : Rela). IsRowValue l.context.architecture l.addresses l.relocations_last l.symbols x (Ok found)) is_after
           (linked.written.can.are_found i (last_within l linked i below)) in
@@ -147,22 +143,17 @@ pub outside_of : (l : Linked) (i : ℕ) (chosen : Choice Relaxation ℕ) (rewrit
     (b < o - (window_of_rewrite rewrite).back)
     ⊎ (o - (window_of_rewrite rewrite).back + (window_of_rewrite rewrite).len ≤ b)
     → IsOutside l.relocations l.decisions i b
-outside_of l i chosen rewrite decided is b apart =
-    let o = (relocation_in l.relocations i).offset in
-    subst (λ d. (b < start_by d o) ⊎ (written_end_by d o ≤ b)) (sym decided)
-    (subst (λ q. (b < o - (window_of_rewrite q).back) ⊎ (o - (window_of_rewrite q).back + (window_of_rewrite q).len ≤ b)) (sym is) apart)
+outside_of l i chosen rewrite decided is b apart = rw (decided, is) apart
 
 -- of a decision without one
 pub spared : (l : Linked) (i : ℕ) (d : Decision) → decision_at l.decisions i ≡ d
     → window_of d ≡ record { back = 0; len = 0 } → (b : ℕ) → IsOutside l.relocations l.decisions i b
 spared l i d is none b =
     let o = (relocation_in l.relocations i).offset in
-    subst (λ x. (b < start_by x o) ⊎ (written_end_by x o ≤ b)) (sym is)
-    (subst (λ (w : RewriteWindow). (b < o - w.back) ⊎ (o - w.back + w.len ≤ b)) (sym none)
-    (elim (cases_lt b o) [
+    rw (is, none) (elim (cases_lt b o) [
       | inl before ↦ inl (omega (arith, before))
       | inr past ↦ inr (omega (arith, past))
-    ]))
+    ])
 
 -- ---- bytes that rewrites leave
 
@@ -176,19 +167,14 @@ module _ (l : Linked) (rewriting : AreRewritten l) (i : ℕ) (chosen : Choice Re
       → relocation_in l.relocations_after i
       ≡ rela (offset_after rewrite r.offset) code r.symbol (addend_after rewrite r.addend)
   relocation_is rewrite code is r_type_is =
-      rewriting.relocations i below
-      ∙ (ap (λ d. relocation_after d r) decided
-      ∙ (ap (λ q. rela (offset_after q r.offset) chosen.relocation r.symbol (addend_after q r.addend)) is
-      ∙ ap (λ x. rela (offset_after rewrite r.offset) x r.symbol (addend_after rewrite r.addend)) r_type_is))
+      rw (decided, is, r_type_is) at (rewriting.relocations i below)
 
   -- where neither the offset nor the addend changes
   pub relocation_named : (rewrite : Option Rewrite) (code : ℕ) → relaxation_rewrite chosen.kind ≡ rewrite
       → chosen.relocation ≡ code → ((o : ℕ) → offset_after rewrite o ≡ o) → ((a : ℤ) → addend_after rewrite a ≡ a)
       → relocation_in l.relocations_after i ≡ rela r.offset code r.symbol r.addend
   relocation_named rewrite code is r_type_is unmoved same_addend =
-      relocation_is rewrite code is r_type_is
-      ∙ (ap (λ x. rela x code r.symbol (addend_after rewrite r.addend)) (unmoved r.offset)
-      ∙ ap (λ x. rela r.offset code r.symbol x) (same_addend r.addend))
+      rw (unmoved r.offset, same_addend r.addend) at (relocation_is rewrite code is r_type_is)
 
   -- what a rewrite leaves of its window, which begins at the relocation
   pub made_there : (made : Rewrite) → relaxation_rewrite chosen.kind ≡ Some made → made.back ≡ 0
@@ -201,8 +187,7 @@ module _ (l : Linked) (rewriting : AreRewritten l) (i : ℕ) (chosen : Choice Re
       let there : IsMade (Some made) o l.section l.rewritten =
       subst (λ q. IsMade q o l.section l.rewritten) is done in
       let here : take made.len (drop o l.rewritten) ≡ made.bytes (take made.len (drop o l.section)) =
-      subst (λ n. take made.len (drop n l.rewritten) ≡ made.bytes (take made.len (drop n l.section)))
-      (let e : o - made.back ≡ o = omega (arith, back) in e) there in
+      rw (← (let e : o - made.back ≡ o = omega (arith, back) in e)) there in
       take-take made.len made.len (drop o l.rewritten) (omega arith)
       ∙ (here ∙ ap made.bytes (sym (take-take made.len made.len (drop o l.section) (omega arith))))
 
@@ -210,15 +195,7 @@ module _ (l : Linked) (rewriting : AreRewritten l) (i : ℕ) (chosen : Choice Re
   pub stays : relaxation_rewrite chosen.kind ≡ None → IsRewrittenByNoOther l i r.offset
       → instruction_at l.rewritten r.offset ≡ instruction_at l.section r.offset
   stays is alone =
-      same_windows r.offset 4 l.rewritten l.section (sym rewriting.same_length)
-      (λ at from less. rewriting.others at (λ j lj. elim (cases_eq j i) [
-        | inl same ↦ inr (subst (λ k. written_end_at l.relocations l.decisions k ≤ at) (sym same)
-            (let end : written_end_at l.relocations l.decisions i ≡ r.offset - 0 + 0 =
-            ap (λ d. written_end_by d r.offset) decided
-            ∙ ap (λ q. r.offset - (window_of_rewrite q).back + (window_of_rewrite q).len) is in
-            omega (arith, end, from)))
-        | inr isnt ↦ alone j at lj isnt from less
-      ]))
+      cc (same_windows r.offset 4 l.rewritten l.section (sym rewriting.same_length) (λ at from less. rewriting.others at (λ j lj. elim (cases_eq j i) [ inl same ↦ inr (rw same (let end : written_end_at l.relocations l.decisions i ≡ r.offset - 0 + 0 = ap (λ d. written_end_by d r.offset) decided ∙ ap (λ q. r.offset - (window_of_rewrite q).back + (window_of_rewrite q).len) is in omega (arith, end, from))) | inr isnt ↦ alone j at lj isnt from less ])))
 
 -- ---- bytes that no relocation writes
 
@@ -232,25 +209,17 @@ IsApart l i p =
 pub unwritten_but : (l : Linked) → IsLinked l → (i p : ℕ) → UntouchedBytes l i p 4 → IsApart l i p
     → IsWrittenByNoOther l i p → instruction_at l.final p ≡ instruction_at l.rewritten p
 unwritten_but l linked i p left apart alone =
-    same_windows p 4 l.final l.last (sym linked.written.same_length)
-    (λ at from less. linked.written.others at (λ j row lj field. elim (cases_eq j i) [
-      | inl same ↦
-          subst (λ k. (at < offset_at l.relocations_last k) ⊎ (field_end l.relocations_last l.last k row ≤ at)) (sym same)
-          (elim (apart row (subst (λ k. IsField l.context.architecture l.relocations_last l.last k row) same field)) [
-            | inl ahead ↦ inl (omega (arith, ahead, less))
-            | inr following ↦ inr (omega (arith, following, from))
-          ])
-      | inr isnt ↦ alone j at (subst (λ n. j < n / 24) (last_as_many l linked) lj) isnt from less row field
-    ]))
-    ∙ bytes_left l linked i p 4 left
+    cc (
+      same_windows p 4 l.final l.last (sym linked.written.same_length) (λ at from less. linked.written.others at (λ j row lj field. elim (cases_eq j i) [ inl same ↦ rw same (elim (apart row (rw (← same) field)) [ inl ahead ↦ inl (omega (arith, ahead, less)) | inr following ↦ inr (omega (arith, following, from)) ]) | inr isnt ↦ alone j at (rw (← (last_as_many l linked)) lj) isnt from less row field ])),
+      bytes_left l linked i p 4 left,
+    )
 
 module _ (l : Linked) (i : ℕ) (after : Rela) (is_after : relocation_in l.relocations_last i ≡ after)
     (row : RowInfo) (only : IsRowOf l.context.architecture after.r_type row) where
   same_row : (other : RowInfo)
       → IsField l.context.architecture l.relocations_last l.last i other → other ≡ row
   same_row other field =
-      ap (λ q. unwrap_or q other)
-      (only (Some other) (subst (λ (x : Rela). IsRow l.context.architecture x.r_type (Some other)) is_after field.is_row))
+      cc (only (Some other) (subst (λ (x : Rela). IsRow l.context.architecture x.r_type (Some other)) is_after field.is_row))
 
   -- one without a value has no field
   pub no_field : row ≡ bytes_row NoValue 0 → (other : RowInfo)
@@ -266,8 +235,7 @@ module _ (l : Linked) (i : ℕ) (after : Rela) (is_after : relocation_in l.reloc
   apart_with n of p beside other field =
       let offset : offset_at l.relocations_last i ≡ after.offset = ap (λ (x : Rela). x.offset) is_after in
       let len : field_len other (drop (offset_at l.relocations_last i) l.last) ≡ n =
-      ap (λ x. field_len x (drop (offset_at l.relocations_last i) l.last)) (same_row other field)
-      ∙ instruction_len n row of (drop (offset_at l.relocations_last i) l.last) in
+      cc (same_row other field, instruction_len n row of (drop (offset_at l.relocations_last i) l.last)) in
       elim beside [
         | inl ahead ↦ inl (omega (arith, ahead, offset))
         | inr following ↦ inr (omega (arith, following, offset, len))

@@ -85,7 +85,5 @@ pub of_table : (l : Linked) → IsLinked l → l.context.architecture ≡ X86_64
     → IsOfTable (x86_64_table name (opcode_at name l.section (relocation_in l.relocations i).offset))
     l.section (relocation_in l.relocations i).offset (relocation_in l.relocations i).addend chosen
 of_table l linked x86 i chosen below decided name named is_name =
-    let r = relocation_in l.relocations i in
     let t = has_table l linked x86 i chosen below decided in
-    subst (λ n. IsOfTable (x86_64_table n (opcode_at n l.section r.offset)) l.section r.offset r.addend chosen)
-    (t.is_name.named name named is_name.r_type_is) t.is
+    rw (← (t.is_name.named name named is_name.r_type_is)) t.is

@@ -1,6 +1,6 @@
 -- The `lea` of a descriptor's address of x86-64 and the call of its function are groups in the
 -- final bytes.
-use Rattle.linker_final.proofs.X86Imports.{◌≡◌, ℕ, ◌+◌, ◌-◌, ◌^◌, ◌<◌, ◌≤◌, ◌||◌, Bool, List, [], ◌∷◌, length, drop, false, true, refl, sym, ap, subst, ◌∙◌, inl, inr, arith, IsTrue, Some, slice_get, replaces, Symbol, x86_64_relocation_after, IsNamed, IsNameOf, r_type_of, x86_64_name, Choice, X86_64Relocation, thread_row, reg_after_rex, reg_after_rex2, decision_at, Rewritten, relocation_in, is_of_got, operands_with, Rela, Relaxation, X86_64, is_at, is_one_at, x86_64_matches, x86_64_originals, x86_64_rewrite, RewriteKind, UntouchedByOthers, IsLinked, Linked, count, any_entry, descriptor_table, lea_of_descriptor, rex2_w, rex_mov, rex_w, unrelocated_by, with_rex, with_rex2, or_cases, or_left, or_right, Makes, Window, call, lea, put_back, window, window_of, LeaToEntry, LeaToOffset, Stands, HasWindow, own_window, last_length, same_windows, unwrap_or}
+use Rattle.linker_final.proofs.X86Imports.{◌≡◌, ℕ, ◌+◌, ◌-◌, ◌^◌, ◌<◌, ◌≤◌, ◌||◌, Bool, List, [], ◌∷◌, length, false, true, refl, sym, ap, subst, ◌∙◌, inl, inr, arith, IsTrue, Some, slice_get, replaces, Symbol, x86_64_relocation_after, IsNamed, IsNameOf, r_type_of, x86_64_name, Choice, X86_64Relocation, thread_row, reg_after_rex, reg_after_rex2, decision_at, Rewritten, relocation_in, is_of_got, operands_with, Rela, Relaxation, X86_64, is_at, is_one_at, x86_64_matches, x86_64_originals, x86_64_rewrite, RewriteKind, UntouchedByOthers, IsLinked, Linked, count, any_entry, descriptor_table, lea_of_descriptor, rex2_w, rex_mov, rex_w, unrelocated_by, with_rex, with_rex2, or_right, Makes, Window, call, lea, put_back, window, window_of, LeaToEntry, LeaToOffset, HasWindow, own_window, last_length, same_windows, unwrap_or}
 use Rattle.linker_elf.specs.declared.x86_64.relocations.X86_64Relocation.TheVariants as names
 use Rattle.linker_final.proofs.X86Chosen.{IsOfTable}
 use Rattle.linker_final.proofs.X86Finals.{final_is, some_and}
@@ -104,11 +104,8 @@ module _ (n : ℕ) (three : 3 ≤ n) (name : X86_64Relocation) (named : IsNamed 
 
 -- an instruction that is one of one is one of two
 first : (a b : Bool) → (a || false) ≡ true → (a || b) ≡ true
-first a b is =
-    elim (or_cases a false is) [
-      | inl this ↦ or_left a b this
-      | inr none ↦ absurd (let e : false ≡ true = none in cc)
-    ]
+first true b is = refl
+first false b is = absurd (let e : false ≡ true = is in cc)
 
 module _ (law : groups.LeaOfDescriptor) (l : Linked) (linked : IsLinked l) (x86 : l.context.architecture ≡ X86_64)
     (i : ℕ) (chosen : Choice Relaxation ℕ) (below : i < count l) (decided : decision_at l.decisions i ≡ Rewritten chosen)
@@ -170,8 +167,6 @@ module _ (law : groups.CallOfDescriptor) (l : Linked) (linked : IsLinked l)
               (old
               ∙ same_windows at 2 l.section object (object_length l i 0 2 skip has)
               (λ j from less. object_same l i 0 2 skip has j (omega (arith, from)) less))
-              (subst (λ xs. Stands c.new s.pc 2 (drop at xs)) (sym (unrelocated l i 0 2 skip has this.r_type_is))
-              (subst (λ n. Stands c.new s.pc 2 (drop n l.final)) (let e : at - 0 ≡ at = omega arith in e)
-              (subst (λ a. Stands c.new a 2 (drop (at - 0) l.final)) (sym pc) (final (at - 0) 2 (omega (arith, high, long))))));
+              (rw (unrelocated l i 0 2 skip has this.r_type_is, ← (let e : at - 0 ≡ at = omega arith in e), pc) (final (at - 0) 2 (omega (arith, high, long))));
         }
     call_is_lawful (inr nothing) = absurd nothing

@@ -1,5 +1,5 @@
 -- A rewritten instruction of x86-64 is a group in the final bytes.
-use Rattle.linker_final.proofs.X86Imports.{◌≡◌, ℕ, ℤ, pos, ◌+◌, ◌-◌, ◌^◌, ◌<◌, ◌≤◌, List, length, false, refl, sym, ap, subst, ◌∙◌, arith, Option, Some, IsSomeAnd, cond-false, slice_get, Rewrite, rewritten, offset_after, operands_after, IsNameOf, r_type_of, sum_64, difference_64, value_of, x86_64_name, x86_64_row, RowInfo, Choice, Operands, X86_64Relocation, decision_at, Rewritten, loads_plt_word, relocation_in, operands_with, operands_in, is_of_got, Addresses, Symbol, Rela, IsRow, Relaxation, X86_64, x86_64_relocation_after, x86_64_rewrite, x86_64_originals, RewriteKind, Linked, IsLinked, UntouchedByOthers, count, IsGroupOf, Window, in_got, put_back, window, window_of, IsRelocated, HasWindow, rela, unwrap_or}
+use Rattle.linker_final.proofs.X86Imports.{◌≡◌, ℕ, pos, ◌+◌, ◌-◌, ◌^◌, ◌<◌, ◌≤◌, List, length, false, refl, sym, ap, subst, ◌∙◌, arith, Option, Some, IsSomeAnd, cond-false, slice_get, Rewrite, rewritten, offset_after, operands_after, IsNameOf, r_type_of, sum_64, difference_64, value_of, x86_64_name, x86_64_row, RowInfo, Choice, Operands, X86_64Relocation, decision_at, Rewritten, loads_plt_word, relocation_in, operands_with, operands_in, is_of_got, Addresses, Symbol, Rela, IsRow, Relaxation, X86_64, x86_64_relocation_after, x86_64_rewrite, x86_64_originals, RewriteKind, Linked, IsLinked, UntouchedByOthers, count, Window, in_got, put_back, window, window_of, IsRelocated, HasWindow, rela, unwrap_or}
 use Rattle.linker_final.proofs.X86Lawful.{HasLaw, IsServed, shaped_of}
 use Rattle.linker_final.proofs.X86Patterns.{there_inside}
 use Rattle.linker_final.proofs.X86Rows.{IsAfterRow}
@@ -13,9 +13,6 @@ pub moved : (base o o' : ℕ) → o < 2 ^ 64
 moved base o o' small = omega (arith, small)
 
 -- ---- the operands after a rewrite
-
-abbrev with_parts : Operands → ℕ → ℤ → ℕ → Operands
-with_parts o symbol addend place = record o { symbol = symbol; addend = addend; place = place }
 
 module _ (addresses : Addresses) (after : X86_64Relocation) (a : IsAfterRow after) (symbol : Symbol)
     (r : Rela) (made : Rewrite) (code entry : ℕ) (small : r.offset < 2 ^ 64)
@@ -32,19 +29,14 @@ module _ (addresses : Addresses) (after : X86_64Relocation) (a : IsAfterRow afte
   -- the formula has the same value
   pub value_same : value_of a.row (operands_after (Some made) r.offset was) ≡ value_of a.row is
   value_same =
-      let addend_same : made.addend was.addend ≡ is.addend =
-      ap made.addend addend_was
-      ∙ sym (cond-false (loads_plt_word a.row.size a.row.kind) (pos 0) (made.addend r.addend) a.unloaded) in
-      let symbol_same : was.symbol ≡ is.symbol =
-      cond-false (is_of_got X86_64 r.r_type) addresses.got_base _ before_is
-      ∙ (a.placeless addresses symbol (sum_64 addresses.section r.offset) (sum_64 addresses.section (made.offset r.offset))
-      ∙ sym (cond-false (is_of_got X86_64 code) addresses.got_base _ after_is)) in
-      let w = was in
-      ap (value_of a.row)
-      (ap (λ x. with_parts w x (made.addend w.addend) (difference_64 (sum_64 w.place (made.offset r.offset)) r.offset)) symbol_same
-      ∙ (ap (λ x. with_parts w is.symbol x (difference_64 (sum_64 w.place (made.offset r.offset)) r.offset)) addend_same
-      ∙ ap (λ x. with_parts w is.symbol is.addend x) (moved addresses.section r.offset (made.offset r.offset) small)))
-      ∙ a.same_value is entry was.plt_entry
+      cc (
+        moved addresses.section r.offset (made.offset r.offset) small,
+        a.unloaded,
+        before_is,
+        after_is,
+        a.placeless addresses symbol (sum_64 addresses.section r.offset) (sum_64 addresses.section (made.offset r.offset)),
+        a.same_value is entry was.plt_entry,
+      )
 
 -- ---- the relocation after, written
 
@@ -148,8 +140,7 @@ module _ (name : X86_64Relocation) (back : ℕ) (held : Operands → ℕ)
           let addend = addend_was l.addresses after a symbol r w.made chosen.relocation entry small
           before_is (ap (is_of_got X86_64) served.r_type_is ∙ a.is_not_of_got)
           ∙ served.is_from_end in
-          subst (λ k. IsGroupOf k held c operands s) (sym served.kind_is)
-          (some_and _ (x86_64_relocation_after kind name) after law.after law.law
+          rw served.kind_is (some_and _ (x86_64_relocation_after kind name) after law.after law.law
           c s object there.original l.final o operands (before l i back 4 kind has name operands c s there addend)
           (object_has l i back 4 kind has law.instructions (shaped_of back 4 law.instructions law.are_of) law.there)
           (object_matches l i back 4 kind has

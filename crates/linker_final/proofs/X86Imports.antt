@@ -1,5 +1,5 @@
 -- The names that files of proofs of x86-64 here use.
-pub use Rattle.linker_final.proofs.Imports.{Absolute, Addresses, AddsOffset, All-append, All-drop, All-take, AllHold, Applies, AreAddresses, AreBytes, BlockOffsets, Bool, CanRewrite, Choice, Code, Composes, Consumed, Decision, Entry, Groups, HasPattern, HaveSameWindow, IsApplied, IsArchitectureChoice, IsDone, IsField, IsFirst, IsInNoField, IsLinked, IsMade, IsModuleCall, IsNameOf, IsNamed, IsOutside, IsRewritable, IsRow, IsScopeIn, IsSomeAnd, IsThreadCall, IsTrue, IsWritten, Kept, Kinds, Labelled, LeaToEntry, LeaToOffset, LeadToTheSame, LinkFacts, Linked, List, None, Ok, Operands, Option, Original, Phase, Rela, Relative, Relaxation, RelocationKind, Rewrite, RewritesAreGroups, Rewritten, RewrittenWithSymbol, RowInfo, Scope, Some, Stands, State, Symbol, Table, ThreadOffset, TpOff, UntouchedByOthers, UntouchedBytes, X86Entry, X86_64, [], accepted_same, addend_after, and_from, and_parts, any_entry, ap, arith, begins, begins_pair, bit_and, bit_bounds, bytes_row, cases_eq, cases_lt, cast_is, cast_signed, cast_unsigned, choice, chosen_at, cond, cond-false, continues, count, decision_at, descriptor_table, difference_64, difference_below, drop, drop-drop, drop_at, ends_pair, entry_address, entry_of, eqb, ext_get_or, false, field_end, field_len, from_le_bytes, general_dynamic_table, get_or, get_or-drop, inl, inr, int_rem_euclid, ints, is_at, is_labelled, is_of_got, is_one_at, lea_of_descriptor, leb, leb-true, legacy, length, length-drop, length-take-le, loads_plt_word, local_dynamic_table, low_bytes, module_by, neg_ℤ, negsuc, number_of_bytes, number_written, of_number, of_pair, of_z-to_z, offset_after, offset_at, offset_of, one_info, opcode_at, operands_after, operands_by, operands_in, operands_of, operands_with, or_cases, or_left, or_right, original, pos, puts, r_type_of, refl, reg_after_rex, reg_after_rex2, relaxation_no_op, relaxation_rewrite, relocation_after, relocation_in, replaces, rewrite_window, rewritten, rex2_w, rex_mov, rex_w, seen, signed_row, size_len, slice_get, start_at, subst, suc, sum_64, sym, symbol_term, take, take-append-drop, target_of, true, unrelocated_by, unsigned_row, unwrap_or, value_of, w64, window_len, window_of_rewrite, with_rex, with_rex2, written_end_at, x86_64_after, x86_64_matches, x86_64_none, x86_64_originals, x86_64_rewrite, x86_64_table, ℕ, ℤ, ⊤, ◌%◌, ◌*◌, ◌++◌, ◌+◌, ◌-◌, ◌/◌, ◌<◌, ◌^◌, ◌||◌, ◌∙◌, ◌∷◌, ◌≡◌, ◌≤◌, ◌⊎◌}
+pub use Rattle.linker_final.proofs.Imports.{Absolute, Addresses, AddsOffset, All-append, All-drop, All-take, AllHold, Applies, AreAddresses, AreBytes, BlockOffsets, Bool, CanRewrite, Choice, Code, Composes, Consumed, Decision, Groups, HasPattern, HaveSameWindow, IsApplied, IsArchitectureChoice, IsDone, IsField, IsFirst, IsInNoField, IsLinked, IsMade, IsModuleCall, IsNameOf, IsNamed, IsOutside, IsRewritable, IsRow, IsScopeIn, IsSomeAnd, IsThreadCall, IsTrue, IsWritten, Kept, Kinds, Labelled, LeaToEntry, LeaToOffset, LeadToTheSame, LinkFacts, Linked, List, None, Ok, Operands, Option, Original, Phase, Rela, Relative, Relaxation, RelocationKind, Rewrite, RewritesAreGroups, Rewritten, RewrittenWithSymbol, RowInfo, Scope, Some, Stands, State, Symbol, Table, ThreadOffset, TpOff, UntouchedByOthers, UntouchedBytes, X86Entry, X86_64, [], accepted_same, and_from, and_parts, any_entry, ap, arith, begins, begins_pair, bit_and, bit_bounds, bytes_row, cases_eq, cases_lt, cast_is, cast_signed, cast_unsigned, choice, chosen_at, cond, cond-false, continues, count, decision_at, descriptor_table, difference_64, difference_below, drop, drop-drop, drop_at, ends_pair, entry_address, entry_of, eqb, ext_get_or, false, field_end, field_len, from_le_bytes, general_dynamic_table, get_or, get_or-drop, inl, inr, int_rem_euclid, ints, is_at, is_labelled, is_of_got, is_one_at, lea_of_descriptor, leb, leb-true, legacy, length, length-drop, length-take-le, loads_plt_word, local_dynamic_table, low_bytes, module_by, neg_ℤ, negsuc, number_of_bytes, number_written, of_number, of_pair, of_z-to_z, offset_after, offset_at, offset_of, one_info, opcode_at, operands_after, operands_by, operands_in, operands_of, operands_with, or_cases, or_left, or_right, original, pos, puts, r_type_of, refl, reg_after_rex, reg_after_rex2, relaxation_no_op, relaxation_rewrite, relocation_in, replaces, rewrite_window, rewritten, rex2_w, rex_mov, rex_w, seen, signed_row, size_len, slice_get, subst, suc, sum_64, sym, symbol_term, take, take-append-drop, target_of, true, unrelocated_by, unsigned_row, unwrap_or, value_of, w64, window_len, window_of_rewrite, with_rex, with_rex2, x86_64_after, x86_64_matches, x86_64_none, x86_64_originals, x86_64_rewrite, x86_64_table, ℕ, ℤ, ⊤, ◌%◌, ◌*◌, ◌++◌, ◌+◌, ◌-◌, ◌/◌, ◌<◌, ◌^◌, ◌||◌, ◌∙◌, ◌∷◌, ◌≡◌, ◌≤◌, ◌⊎◌}
 pub use Rattle.linker_base.proofs.Tests.{never}
 pub use Rattle.linker_elf.specs.X86Relocations.{x86_64_name, x86_64_row}
 pub use Rattle.linker_elf.specs.declared.elf.Sign.TheVariants.{Signed, Unsigned}

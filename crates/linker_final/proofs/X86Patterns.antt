@@ -45,14 +45,7 @@ module _ (n end o : ℕ) (section others : List ℕ) (same_length : length other
   at_same r shape is =
       let parts = and_parts (leb r.back o) (begins r.bytes (drop (o - r.back) section)) is in
       let starts = leb-true r.back o (parts.0) in
-      and_from (leb r.back o) (begins r.bytes (drop (o - r.back) others)) (parts.0)
-      (begins_same r.bytes (drop (o - r.back) section) (drop (o - r.back) others)
-      (omega (arith, length-drop (o - r.back) section, (length-drop (o - r.back) others), same_length))
-      (λ k below.
-      get_or-drop (o - r.back) section k 0
-      ∙ (same (o - r.back + k) (omega (arith, starts, shape.0)) (omega (arith, starts, shape.1, below))
-      ∙ sym (get_or-drop (o - r.back) others k 0)))
-      (parts.1))
+      cc (and_from (leb r.back o) (begins r.bytes (drop (o - r.back) others)) (parts.0) (begins_same r.bytes (drop (o - r.back) section) (drop (o - r.back) others) (omega (arith, length-drop (o - r.back) section, (length-drop (o - r.back) others), same_length)) (λ k below. get_or-drop (o - r.back) section k 0 ∙ (same (o - r.back + k) (omega (arith, starts, shape.0)) (omega (arith, starts, shape.1, below)) ∙ sym (get_or-drop (o - r.back) others k 0))) (parts.1)))
 
   pub one_same : (rs : List Original) → HaveShape n end rs → IsTrue (is_one_at rs section o)
       → IsTrue (is_one_at rs others o)

@@ -72,8 +72,7 @@ module _ (laws : Groups) (l : Linked) (linked : IsLinked l) (x86 : l.context.arc
       let made = by_name t.name t.is_name t.is in
       let same : name ≡ t.name = is_name.named t.name (made.0) t.is_name.r_type_is in
       let there : window_of t.name chosen.kind ≡ Some w = ap (λ n. window_of n chosen.kind) (sym same) ∙ is in
-      subst (λ n. IsLawful l i chosen n w) (sym same)
-      (elim (made.1) [
+      rw same (elim (made.1) [
         | inl found ↦
             let law = found.1 in
             let e : found.0 ≡ w = ap (λ q. unwrap_or q w) (sym law.is ∙ there) in

@@ -138,8 +138,7 @@ module _ (l : Linked) (linked : IsLinked l) (x86 : l.context.architecture ≡ X8
         law c s object there.original o (operands_with X86_64 l.addresses tls_module_row symbol r entry)
         (before l i back (4 + call) kind has names.R_X86_64_TLSLD _ c s there addend) matches there.applied
         there.old
-        (subst (λ xs. Stands c.new s.pc (back + (4 + call)) (drop (o - back) xs))
-        (sym (unrelocated l i back (4 + call) kind has code)) there.new)
+        (rw (unrelocated l i back (4 + call) kind has code) there.new)
 
 -- ---- general-dynamic
 

@@ -1,6 +1,6 @@
 -- A GOT entry of a variable's offset, which rewrites of x86-64 leave in place of a call or of a
 -- descriptor.
-use Rattle.linker_final.proofs.X86Imports.{◌≡◌, ℕ, pos, ◌+◌, ◌-◌, ◌≤◌, cond, refl, sym, ap, subst, ◌∙◌, Some, None, slice_get, rewritten, offset_after, operands_after, r_type_of, value_of, x86_64_name, thread_row, tls_got_row, relocation_in, operands_by, operands_in, operands_with, Symbol, ThreadOffset, Rela, X86_64, x86_64_rewrite, RewriteKind, Linked, put_back, IsRelocated, IsRowOf, entry_is_there, rela}
+use Rattle.linker_final.proofs.X86Imports.{◌≡◌, ℕ, pos, ◌+◌, ◌-◌, ◌≤◌, cond, refl, sym, ap, subst, ◌∙◌, Some, None, slice_get, rewritten, offset_after, operands_after, r_type_of, x86_64_name, thread_row, tls_got_row, relocation_in, operands_by, operands_in, operands_with, Symbol, ThreadOffset, Rela, X86_64, x86_64_rewrite, RewriteKind, Linked, put_back, IsRelocated, IsRowOf, entry_is_there, rela}
 use Rattle.linker_elf.specs.declared.x86_64.relocations.X86_64Relocation.TheVariants as names
 use Rattle.linker_final.proofs.X86Finals.{moved}
 use Rattle.linker_final.proofs.X86ThreadRows.{plain_entry}
@@ -39,6 +39,4 @@ module _ (l : Linked) (i back end : ℕ) (kind : RewriteKind) (is : HasRewrite l
         symbol is_symbol (record { class = ThreadOffset; addend = pos 0 }) refl))
         low high
         (record (operands_after (x86_64_rewrite kind) r.offset was) { got_entry = e })
-        (ap (λ m. value_of tls_got_row (record (operands_after m r.offset was) { got_entry = e })) is.window.is
-        ∙ ap (λ x. value_of tls_got_row (record (operands_after (Some made) r.offset was) { got_entry = e; place = x }))
-        (moved l.addresses.section r.offset (made.offset r.offset) (offset_small l i back end kind is)))
+        (rw (is.window.is, moved l.addresses.section r.offset (made.offset r.offset) (offset_small l i back end kind is)))

@@ -1,5 +1,5 @@
 -- Offsets in a module's block that became offsets from the thread pointer lead to the same address.
-use Rattle.linker_final.proofs.X86Imports.{◌≡◌, ℕ, ◌+◌, ◌/◌, ◌^◌, ◌<◌, ◌≤◌, ◌⊎◌, List, length, take, drop, false, refl, sym, ap, subst, ◌∙◌, inl, inr, arith, cond, Some, Ok, cases_lt, cond-false, length-take-le, addend_after, offset_after, IsApplied, IsNamed, IsNameOf, r_type_of, number_of_bytes, sum_64, value_of, x86_64_name, x86_64_row, RelocationKind, RowInfo, Choice, Operands, X86_64Relocation, long_thread_row, thread_row, IsRelocatedBy, decision_at, relocation_after, Rewritten, Composes, IsField, begins_pair, continues, ends_pair, field_end, of_number, of_pair, entry_of, relocation_in, entry_address, is_of_got, offset_at, operands_by, operands_in, operands_of, operands_with, Addresses, Symbol, Rela, IsRow, relaxation_rewrite, Relaxation, X86_64, drop_at, UntouchedBytes, IsLinked, Linked, count, LeadsToTheSame, Offsets, put_back, block_row, long_block_row, BlockOffsets, LeadToTheSame, extended, never, AreLowest, UntouchedField, eight_bytes, four_bytes, left, len_is, last_length, last_within, relocation_left, IsPlain, back_outside, put_back_is, rela, small_byte}
+use Rattle.linker_final.proofs.X86Imports.{◌≡◌, ℕ, ◌+◌, ◌/◌, ◌^◌, ◌<◌, ◌≤◌, ◌⊎◌, List, length, take, drop, false, refl, sym, ap, subst, ◌∙◌, inl, inr, arith, cond, Some, Ok, cases_lt, length-take-le, IsApplied, IsNamed, IsNameOf, r_type_of, number_of_bytes, sum_64, value_of, x86_64_name, x86_64_row, RelocationKind, RowInfo, Choice, Operands, X86_64Relocation, long_thread_row, thread_row, IsRelocatedBy, decision_at, Rewritten, Composes, IsField, begins_pair, continues, ends_pair, field_end, of_number, of_pair, entry_of, relocation_in, entry_address, is_of_got, offset_at, operands_by, operands_in, operands_of, operands_with, Addresses, Symbol, Rela, IsRow, Relaxation, X86_64, drop_at, UntouchedBytes, IsLinked, Linked, count, LeadsToTheSame, Offsets, put_back, block_row, long_block_row, BlockOffsets, LeadToTheSame, extended, never, AreLowest, UntouchedField, eight_bytes, four_bytes, left, len_is, last_length, last_within, relocation_left, IsPlain, back_outside, put_back_is, rela, small_byte}
 use Rattle.linker_elf.specs.declared.elf.RelocationKind.TheVariants as values
 use Rattle.linker_elf.specs.declared.x86_64.relocations.X86_64Relocation.TheVariants as names
 use Rattle.linker_final.proofs.X86Chosen.{of_table}
@@ -40,9 +40,7 @@ address_is : (addresses : Addresses) (symbol : Symbol) (code weak : ℕ) → is_
     → symbol.is_undefined_weak ≡ false
     → cond (is_of_got X86_64 code) addresses.got_base (cond symbol.is_undefined_weak weak symbol.address)
     ≡ symbol.address
-address_is addresses symbol code weak not_of_got strong =
-    cond-false (is_of_got X86_64 code) addresses.got_base (cond symbol.is_undefined_weak weak symbol.address) not_of_got
-    ∙ cond-false symbol.is_undefined_weak weak symbol.address strong
+address_is addresses symbol code weak not_of_got strong = cc
 
 -- an offset in the block with that from the thread pointer
 abbrev counted_from : ℕ → Operands → Operands
@@ -128,10 +126,7 @@ module _ (n : ℕ) (read : ℕ → ℕ) (block_row thread_row : RowInfo)
 
   r_after : relocation_in l.relocations_last i ≡ relocation
   r_after =
-      relocation_left l linked i o n stays below
-      ∙ (linked.relocations i below
-      ∙ (ap (λ d. relocation_after d r) decided
-      ∙ ap (λ k. rela (offset_after (relaxation_rewrite k) o) chosen.relocation r.symbol (addend_after (relaxation_rewrite k) r.addend)) kind_is))
+      relocation_left l linked i o n stays below ∙ rw (decided, kind_is) at (linked.relocations i below)
 
   row_there : IsRow l.context.architecture (relocation_in l.relocations_last i).r_type (Some thread_row)
   row_there =

@@ -13,8 +13,7 @@ any_remainder : (v : ℤ) (m : ℕ) → m < 2 ^ 64 → v ≡ cast_signed w64 m
     → int_rem_euclid v (pos (2 ^ 64)) ≡ pos (cast_unsigned w64 v % 2 ^ 64)
 any_remainder v m below is =
     let unsigned : cast_unsigned w64 v ≡ m = ap (cast_unsigned w64) is ∙ of_z-to_z w64 m below in
-    ap (λ z. int_rem_euclid z (pos (2 ^ 64))) is
-    ∙ (cast_is m below ∙ ap pos (let e : m ≡ cast_unsigned w64 v % 2 ^ 64 = omega (arith, unsigned, below) in e))
+    cc (cast_is m below, (let e : m ≡ cast_unsigned w64 v % 2 ^ 64 = omega (arith, unsigned, below) in e))
 
 pub plain_long_thread : IsPlain 8 long_thread_row
 plain_long_thread =

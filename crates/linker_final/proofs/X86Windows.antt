@@ -1,5 +1,5 @@
 -- The window of an instruction or a sequence of x86-64 in the final bytes of a section.
-use Rattle.linker_final.proofs.X86Imports.{◌≡◌, ℕ, ◌+◌, ◌-◌, ◌*◌, ◌/◌, ◌^◌, ◌<◌, ◌≤◌, ◌⊎◌, List, ◌++◌, length, take, drop, get_or, sym, ap, subst, ◌∙◌, inl, inr, arith, Some, Ok, IsSomeAnd, IsTrue, cases_eq, cases_lt, length-drop, drop-drop, ext_get_or, get_or-drop, All-take, All-drop, w64, from_le_bytes, cast_unsigned, CanRewrite, IsRewritable, rewritten, rewrite_window, offset_after, IsNamed, r_type_of, IsWritten, low_bytes, number_of_bytes, number_written, window_len, size_len, bytes_row, difference_64, sum_64, value_of, x86_64_name, x86_64_row, RowInfo, Choice, Operands, X86_64Relocation, AreAddresses, State, IsRelocatedBy, decision_at, written_end_at, IsDone, IsMade, Rewritten, one_info, IsField, field_end, field_len, relocation_in, IsInNoField, operands_of, operands_with, offset_at, Symbol, Rela, IsRow, relaxation_rewrite, Relaxation, X86_64, x86_64_rewrite, x86_64_matches, x86_64_originals, Original, is_one_at, RewriteKind, take-append-drop, All-append, Linked, IsLinked, UntouchedByOthers, AreBytes, count, start_at, HaveSameWindow, accepted_same, neg_ℤ, pos, IsBefore, seen, refl, offset_of, HasFinal, HasObject, IsObject, LawOf, Window, put_back, window_of, Code, Stands, IsRelocated, UntouchedField, four_bytes, left, len_is, HasWindow, byte_left, last_as_many, last_length, last_within, relocation_left, IsPlain, put_back_is, back_inside, back_outside, back_rewritten, same_windows, IsRowOf, by_name, no_field, outside_of, rela, relocation_is, row_in, small_byte}
+use Rattle.linker_final.proofs.X86Imports.{◌≡◌, ℕ, ◌+◌, ◌-◌, ◌*◌, ◌/◌, ◌^◌, ◌<◌, ◌≤◌, ◌⊎◌, List, ◌++◌, length, take, drop, get_or, sym, ap, subst, ◌∙◌, inl, inr, arith, Some, Ok, IsSomeAnd, IsTrue, cases_eq, cases_lt, length-drop, drop-drop, ext_get_or, get_or-drop, All-take, All-drop, w64, from_le_bytes, cast_unsigned, CanRewrite, IsRewritable, rewritten, rewrite_window, offset_after, IsNamed, r_type_of, IsWritten, low_bytes, number_of_bytes, number_written, window_len, size_len, bytes_row, difference_64, sum_64, value_of, x86_64_name, x86_64_row, RowInfo, Choice, Operands, X86_64Relocation, AreAddresses, State, IsRelocatedBy, decision_at, IsDone, IsMade, Rewritten, one_info, IsField, field_end, field_len, relocation_in, IsInNoField, operands_of, operands_with, offset_at, Symbol, Rela, IsRow, relaxation_rewrite, Relaxation, X86_64, x86_64_rewrite, x86_64_matches, x86_64_originals, Original, is_one_at, RewriteKind, take-append-drop, All-append, Linked, IsLinked, UntouchedByOthers, AreBytes, count, HaveSameWindow, accepted_same, neg_ℤ, pos, IsBefore, seen, refl, offset_of, HasFinal, HasObject, IsObject, LawOf, Window, put_back, window_of, Code, Stands, IsRelocated, UntouchedField, four_bytes, left, len_is, HasWindow, byte_left, last_as_many, last_length, last_within, relocation_left, IsPlain, put_back_is, back_inside, back_outside, back_rewritten, same_windows, IsRowOf, by_name, no_field, outside_of, rela, relocation_is, row_in, small_byte}
 use Rattle.linker_elf.specs.declared.elf.RelocationKind.TheVariants.{None as NoValue}
 use Rattle.linker_elf.specs.declared.x86_64.relocations.X86_64Relocation.TheVariants as names
 use Rattle.linker_final.proofs.X86Lawful.{HaveShape}
@@ -12,14 +12,10 @@ use Rattle.linker_utils.specs.declared.architecture.Relaxation.TheVariants as re
 same_rest : (p : ℕ) (xs ys : List ℕ) → length ys ≡ length xs
     → ((at : ℕ) → p ≤ at → get_or xs at 0 ≡ get_or ys at 0) → drop p xs ≡ drop p ys
 same_rest p xs ys long same =
-    ext_get_or 0 (drop p xs) (drop p ys) (omega (arith, length-drop p xs, length-drop p ys, long))
-    (λ i below. get_or-drop p xs i 0 ∙ (same (p + i) (omega arith) ∙ sym (get_or-drop p ys i 0)))
+    cc (ext_get_or 0 (drop p xs) (drop p ys) (omega (arith, length-drop p xs, length-drop p ys, long)) (λ i below. get_or-drop p xs i 0 ∙ (same (p + i) (omega arith) ∙ sym (get_or-drop p ys i 0))))
 
 small_number : (bytes : List ℕ) → ((i : ℕ) → get_or bytes i 0 < 256) → from_le_bytes w64 bytes < 2 ^ 64
-small_number bytes small =
-    let b0 = small 0 in let b1 = small 1 in let b2 = small 2 in let b3 = small 3 in
-    let b4 = small 4 in let b5 = small 5 in let b6 = small 6 in let b7 = small 7 in
-    omega (arith, b0, b1, b2, b3, b4, b5, b6, b7)
+small_number bytes small = omega arith
 
 -- ---- the field in bytes that were put back
 
@@ -33,9 +29,7 @@ module _ (n : ℕ) (row : RowInfo) (plain : IsPlain n row) (operands was : Opera
   relocated =
       let v = field.value in
       let rest : drop n (drop p final) ≡ drop n (drop p bytes) =
-      drop-drop n p final
-      ∙ (sym (same_rest (p + n) bytes final (sym long) (λ at from. outside at (inr from)))
-      ∙ sym (drop-drop n p bytes)) in
+      cc (drop-drop n p final, same_rest (p + n) bytes final (sym long) (λ at from. outside at (inr from)), drop-drop n p bytes) in
       let number : low_bytes n (cast_unsigned w64 v)
       ≡ low_bytes n (number_written row.kind v (number_of_bytes n (drop p bytes))) =
       ap (low_bytes n) (sym (plain.writes v (number_of_bytes n (drop p bytes)))) in
@@ -165,8 +159,7 @@ module _ (l : Linked) (i back end : ℕ) (kind : RewriteKind) (is : HasRewrite l
     kept at from less outside =
         let window = w.outer o at can.starts is.room.0 from outside in
         linked.others at (λ j lj. elim (cases_eq j i) [
-          | inl same ↦ subst (λ k. (at < start_at l.relocations l.decisions k) ⊎ (written_end_at l.relocations l.decisions k ≤ at)) (sym same)
-              (outside_of l i chosen (Some w.made) is.decided made_is at window)
+          | inl same ↦ rw same (outside_of l i chosen (Some w.made) is.decided made_is at window)
           | inr isnt ↦ (is.alone.others j at lj isnt from less).0
         ])
 
@@ -186,12 +179,11 @@ module _ (l : Linked) (i back end : ℕ) (kind : RewriteKind) (is : HasRewrite l
         let ends = can.ends in
         let low = w.back in
         let fl = final_length in
-        ap (λ q. rewritten q object o) w.is
-        ∙ (w.same object o can.starts (omega (arith, ends, lo, fl))
-        ∙ back_rewritten start len w.inner o l.section l.rewritten l.final inside_final (sym fl)
-        (linked.same_length ∙ sym fl) (omega (arith, low, a)) (omega (arith, low, w.ends, a))
-        (w.same_made l.section l.rewritten o can.starts ends linked.same_length
-        (subst (λ q. IsMade q o l.section l.rewritten) made_is (subst (λ d. IsDone d o l.section l.rewritten) is.decided (linked.done i is.below)))) kept)
+        cc (
+          w.is,
+          w.same object o can.starts (omega (arith, ends, lo, fl)),
+          back_rewritten start len w.inner o l.section l.rewritten l.final inside_final (sym fl) (linked.same_length ∙ sym fl) (omega (arith, low, a)) (omega (arith, low, w.ends, a)) (w.same_made l.section l.rewritten o can.starts ends linked.same_length (subst (λ q. IsMade q o l.section l.rewritten) made_is (subst (λ d. IsDone d o l.section l.rewritten) is.decided (linked.done i is.below)))) kept,
+        )
 
     pub object_same : (at : ℕ) → start ≤ at → at < o + end → get_or l.section at 0 ≡ get_or object at 0
     object_same at from less =
@@ -250,13 +242,11 @@ module _ (l : Linked) (i back end : ℕ) (kind : RewriteKind) (is : HasRewrite l
         → IsInNoField l.context.architecture l.relocations_last l.last (length l.relocations_last / 24) at
     in_no_field at from less own j row lj is_field =
         elim (cases_eq j i) [
-          | inl same ↦ subst (λ k. (at < offset_at l.relocations_last k) ⊎ (field_end l.relocations_last l.last k row ≤ at)) (sym same)
-              (own row (subst (λ k. IsField l.context.architecture l.relocations_last l.last k row) same is_field))
+          | inl same ↦ rw same (own row (rw (← same) is_field))
           | inr isnt ↦ apart_by j lj isnt at from less row is_field
         ]
 
-    between_same : (at : ℕ)
-        → (start ≤ at → at < o + end → (row : RowInfo)
+    between_same : (at : ℕ) → (start ≤ at → at < o + end → (row : RowInfo)
         → IsField l.context.architecture l.relocations_last l.last i row
         → (at < offset_at l.relocations_last i) ⊎ (field_end l.relocations_last l.last i row ≤ at))
         → get_or between at 0 ≡ get_or l.final at 0
@@ -408,6 +398,5 @@ module _ (l : Linked) (linked : IsLinked l) (i : ℕ) (chosen : Choice Relaxatio
         pc = pc ∙ (e ∙ ap (λ (x : Operands). difference_64 x.place w.back) (sym object.are));
         applied = object.applied;
         old = object.old;
-        new = subst (λ a. Stands c.new a (w.back + w.end) (drop (offset_of l i - w.back) l.final)) (sym pc)
-            (final (offset_of l i - w.back) (w.back + w.end) (omega (arith, low, room.1, long)));
+        new = rw pc (final (offset_of l i - w.back) (w.back + w.end) (omega (arith, low, room.1, long)));
       })

@@ -11,6 +11,4 @@ unfolding x86_groups ones
 pass = refl
 
 pub returns : goal.returns
-returns c = record {
-  steps = all_pass (made_high 1) (quick_high 1) refl passes x86_groups pass;
-}
+returns c = record { steps = all_pass (made_high 1) (quick_high 1) refl passes x86_groups pass }
