@@ -15,11 +15,7 @@ pub record Words : Type 0 where
 -- with the numbers below 2 ^ 63 that came of words, and how far the other ones are below 2 ^ 64
 abbrev pub words : ℕ → ℕ → List (ℕ × ℕ) → List (ℕ × ℕ) → Words
 words unit bits rows below =
-    record {
-      unit = unit;
-      bits = bits;
-      rows = rows ++ map (λ row. (row.0, 2 ^ 64 - row.1)) below;
-    }
+    record { unit = unit; bits = bits; rows = rows ++ map (λ row. (row.0, 2 ^ 64 - row.1)) below }
 
 -- What is read of a word is what came of it.
 abbrev pub is_read : (ℕ → ℤ) → ℕ → ℕ → ℕ × ℕ → Bool

@@ -251,8 +251,7 @@ HasNoByte l j at =
 -- No rewrite and no field of another relocation has one of n bytes from a start on, and later
 -- phases leave them alone.
 pub record UntouchedByOthers (l : Linked) (i start len : ℕ) : Type 0 where
-  pub others :
-      (j at : ℕ) → j < count l → j ≢ i → start ≤ at → at < start + len → HasNoByte l j at
+  pub others : (j at : ℕ) → j < count l → j ≢ i → start ≤ at → at < start + len → HasNoByte l j at
   pub left : UntouchedBytes l i start len
 
 -- ---- instructions of 4 bytes

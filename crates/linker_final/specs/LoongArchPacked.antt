@@ -25,8 +25,7 @@ use Rattle.linker_elf.specs.declared.elf.architecture.Architecture.TheVariants a
 
 -- the words of n bytes of a site: one instruction, or both
 abbrev pub words_in : ℕ → List ℕ → List ℕ
-words_in kept bytes =
-    if kept == 8 then pair bytes (drop 4 bytes) else word_of bytes ∷ []
+words_in kept bytes = if kept == 8 then pair bytes (drop 4 bytes) else word_of bytes ∷ []
 
 -- the final words of a site
 abbrev pub site_words : Packed → site → List ℕ
@@ -163,8 +162,7 @@ PairMakes p o y x =
     (sum_64 x.place 8) (sum_64 y.place 8)
 
 abbrev pub LongAddressesStay : Type 0
-LongAddressesStay =
-    EachLongPair (λ p o y. SumsEnd p o y.place (final_pair p o) (PairMakes p o y))
+LongAddressesStay = EachLongPair (λ p o y. SumsEnd p o y.place (final_pair p o) (PairMakes p o y))
 
 abbrev pub LongLoadedAddressesStay : Type 0
 LongLoadedAddressesStay =

@@ -179,8 +179,7 @@ abbrev pub site_len : Packed → site → ℕ
 site_len p here = kept_len p.section.deletions (Site here)
 
 abbrev pub site_bytes : Packed → site → List ℕ
-site_bytes p here =
-    take (site_len p here) (drop (packed_offset p.section here.offset) p.final)
+site_bytes p here = take (site_len p here) (drop (packed_offset p.section here.offset) p.final)
 
 -- the addresses where it goes, the code after it and its target
 abbrev pub site_place : Packed → site → ℕ

@@ -37,8 +37,7 @@ after_base register section o = rewritten (Some (rewrites_word (with_rs1 registe
 -- A low part is a group. Old's base has what the high part leaves, and its relocation has a row and
 -- a number as its value. New's base has its address, and the value is the distance of S + A from
 -- it. What the instruction does with S + A keeps agreement.
-abbrev pub FromBase : (Action → Option RowInfo) → (Operands → ℕ) → List ℕ → ℕ → ℕ
-    → Action → Type 0
+abbrev pub FromBase : (Action → Option RowInfo) → (Operands → ℕ) → List ℕ → ℕ → ℕ → Action → Type 0
 FromBase row number section o gp action =
     let word = word_at section o in
     (c : Code) (x y : Operands) (base : ℕ × ℕ) (k k' : Kinds) (s : State)
@@ -62,8 +61,7 @@ PartsFromBase row number =
     → IsSomeAnd (action_at section o) (FromBase row number section o gp)
 
 abbrev pub LowPartsFromBase : Type 0
-LowPartsFromBase =
-    PartsFromBase low_row symbol_address × PartsFromBase labelled_row distance
+LowPartsFromBase = PartsFromBase low_row symbol_address × PartsFromBase labelled_row distance
 
 -- The relocation that `finish_gp_relaxation` leaves of such a low part has the distance of S + A
 -- from its base as its own S + A.

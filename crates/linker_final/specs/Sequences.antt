@@ -33,8 +33,7 @@ at pc =
 
 -- `adrp` and `add`; the pc is bits 64 to 127
 abbrev pub page_number : ℕ → ℤ
-page_number words =
-    page_and_offset Add 1 (at (field words 64 128)) (word 0 words) (word 1 words)
+page_number words = page_and_offset Add 1 (at (field words 64 128)) (word 0 words) (word 1 words)
 
 -- `auipc` and `jalr`, from the pc
 abbrev pub call_number : ℕ → ℤ

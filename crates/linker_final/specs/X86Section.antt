@@ -188,8 +188,7 @@ rewriting =
 -- The field of n bytes of the relocation at an index leads from the block's address, in the
 -- object's bytes with the relocation's value, to where it leads in the final ones from the thread
 -- pointer. The symbol isn't an undefined weak one.
-abbrev pub LeadsToTheSame : ℕ → (ℕ → ℕ) → X86_64Relocation → Linked → ℕ
-    → RowInfo → Type 0
+abbrev pub LeadsToTheSame : ℕ → (ℕ → ℕ) → X86_64Relocation → Linked → ℕ → RowInfo → Type 0
 LeadsToTheSame n read name l i row =
     let r = relocation_in l.relocations i in
     (symbol : Symbol)
