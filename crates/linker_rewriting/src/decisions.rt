@@ -22,7 +22,7 @@ use crate::facts::{OutputFacts, RelaxContext, SymbolFacts};
 use crate::groups::{Scope, UnrelaxableGroups, group_stays, scope_in};
 use crate::phases::Phase;
 use crate::r_types::{is_listed, lists_any, of_each};
-use crate::relocations::relocation_in;
+use crate::relocations::{Site, relocation_in};
 use crate::riscv_pcrel_groups::{high_of, label_candidate, note_labels, set_all};
 use crate::rules::{Rule, decide_by};
 use linker_base::rewrite::DeletedBytes;
@@ -264,24 +264,27 @@ impl Decision {
     }
 }
 
-/// Whether the relocation with an index, if there is one, is alone and is rewritten.
-fn is_rewritten_at(
-    context: &RelaxContext<'_>,
-    relocations: &[u8],
-    section: &[u8],
-    index: usize,
-) -> bool
-    requires { index + 3 ≤ usize.MAX }
-    ensures { IsRewrittenAt (context_of context.now) relocations.now section.now index
-        (relocation_at relocations.now index) result }
+/// Whether the relocation after one, if there is one, is alone and is rewritten.
+fn is_next_rewritten(context: &RelaxContext<'_>, site: &Site<'_>) -> bool
+    requires { site.now.index + 4 ≤ usize.MAX }
+    ensures { IsRewrittenAt (context_of context.now) site.now.relocations.now site.now.section.now
+        (site.now.index + 1) (relocation_at site.now.relocations.now (site.now.index + 1)) result }
 {
-    let Some(relocation) = relocation_at(relocations, index) else {
+    let index = site.index + 1;
+    let Some(relocation) = relocation_at(site.relocations, index) else {
         return false;
     };
     match scope_in(context.architecture, context.phase, relocation.r_type) {
         Scope::Independent => {
-            let chosen = candidate(context, relocations, section, index, &relocation);
-            chosen.is_some()
+            candidate(
+                context,
+                &Site {
+                    index,
+                    relocation,
+                    ..*site
+                },
+            )
+            .is_some()
         }
         _ => false,
     }
@@ -323,83 +326,75 @@ fn label_decision(phase: Phase, chosen: Choice<Relaxation, u32>, high: &Rela) ->
 }
 
 /// What becomes of a relocation of a label whose group stays or doesn't.
-fn decide_label(
-    stays: bool,
-    context: &RelaxContext<'_>,
-    relocations: &[u8],
-    section: &[u8],
-    index: usize,
-    relocation: &Rela,
-) -> Decision
-    requires index { index + 3 ≤ usize.MAX }
-    requires within { index < length relocations.now / 24 }
-    requires there { relocation.now ≡ relocation_in relocations.now index }
-    requires in_label { IsInLabel context.now.architecture context.now.phase relocation.now.r_type
-        true }
-    requires noted { IsLabelNote (context_of context.now) relocations.now section.now relocation.now
-        stays }
-    ensures decision { IsLabelDecision (context_of context.now) relocations.now section.now index
-        relocation.now result }
-    ensures there { IsThere result section.now relocation.now.offset }
+fn decide_label(stays: bool, context: &RelaxContext<'_>, site: &Site<'_>) -> Decision
+    requires index { site.now.index + 3 ≤ usize.MAX }
+    requires within { site.now.index < length site.now.relocations.now / 24 }
+    requires there { site.now.relocation ≡ relocation_in site.now.relocations.now site.now.index }
+    requires in_label { IsInLabel context.now.architecture context.now.phase
+        site.now.relocation.r_type true }
+    requires noted { IsLabelNote (context_of context.now) site.now.relocations.now
+        site.now.section.now site.now.relocation stays }
+    ensures decision { IsLabelDecision (context_of context.now) site.now.relocations.now
+        site.now.section.now site.now.index site.now.relocation result }
+    ensures there { IsThere result site.now.section.now site.now.relocation.offset }
 {
     if stays {
         return Decision::Kept;
     }
-    let Some(high) = high_of(context, relocations, relocation) else {
+    let Some(high) = high_of(context, site.relocations, &site.relocation) else {
         return Decision::Kept;
     };
-    match label_candidate(context, relocations, section, index, relocation, high) {
-        Some(chosen) => label_decision(context.phase, chosen, &relocation_in(relocations, high)),
+    match label_candidate(context, site, high) {
+        Some(chosen) => {
+            label_decision(
+                context.phase,
+                chosen,
+                &relocation_in(site.relocations, high),
+            )
+        }
         None => Decision::Kept,
     }
 }
 
 /// What becomes of a relocation that no other takes along. `stays` is what was noted of its label.
 /// None if its group doesn't stay, but it can't be rewritten.
-fn decide(
-    stays: bool,
-    context: &RelaxContext<'_>,
-    kept: &[UnrelaxableGroups],
-    relocations: &[u8],
-    section: &[u8],
-    index: usize,
-    relocation: &Rela,
-) -> Option<Decision>
-    requires index { index + 4 ≤ usize.MAX }
-    requires within { index < length relocations.now / 24 }
-    requires there { relocation.now ≡ relocation_in relocations.now index }
-    requires noted { IsInLabel context.now.architecture context.now.phase relocation.now.r_type true →
-        IsLabelNote (context_of context.now) relocations.now section.now relocation.now stays }
-    ensures decision { IsDecision (context_of context.now) kept.now relocations.now section.now
-        index relocation.now result }
-    ensures there { IfSome result (λ d. IsThere d section.now relocation.now.offset) }
+fn decide(rule: &Groups<'_>, stays: bool, site: &Site<'_>) -> Option<Decision>
+    requires index { site.now.index + 4 ≤ usize.MAX }
+    requires within { site.now.index < length site.now.relocations.now / 24 }
+    requires there { site.now.relocation ≡ relocation_in site.now.relocations.now site.now.index }
+    requires noted { IsInLabel rule.now.context.now.architecture rule.now.context.now.phase
+        site.now.relocation.r_type true → IsLabelNote (context_of rule.now.context.now)
+        site.now.relocations.now site.now.section.now site.now.relocation stays }
+    ensures decision { IsDecision (context_of rule.now.context.now) rule.now.kept.now
+        site.now.relocations.now site.now.section.now site.now.index site.now.relocation result }
+    ensures there { IfSome result
+        (λ d. IsThere d site.now.section.now site.now.relocation.offset) }
 {
-    let is_grouped = match scope_in(context.architecture, context.phase, relocation.r_type) {
+    let (context, symbol) = (rule.context, site.relocation.symbol);
+    let is_grouped = match scope_in(context.architecture, context.phase, site.relocation.r_type) {
         Scope::NotRelaxable => return Some(Decision::Kept),
-        Scope::Labelled => {
-            return Some(decide_label(stays, context, relocations, section, index, relocation));
-        }
+        Scope::Labelled => return Some(decide_label(stays, context, site)),
         Scope::FirstOfPair => {
-            if is_rewritten_at(context, relocations, section, index + 1) {
+            if is_next_rewritten(context, site) {
                 return Some(Decision::Consumed);
             }
             return Some(Decision::Kept);
         }
         Scope::Grouped(group) => {
-            if group_stays(kept, group, relocation.symbol) {
+            if group_stays(rule.kept, group, symbol) {
                 return Some(Decision::Kept);
             }
             true
         }
         Scope::IfGroupMatches(group) => {
-            if group_stays(kept, group, relocation.symbol) {
+            if group_stays(rule.kept, group, symbol) {
                 return Some(Decision::Kept);
             }
             false
         }
         Scope::Independent => false,
     };
-    match candidate(context, relocations, section, index, relocation) {
+    match candidate(context, site) {
         Some(choice) => Some(Decision::Rewritten(choice)),
         None if is_grouped => None,
         None => Some(Decision::Kept),
@@ -500,27 +495,11 @@ impl Rule for Groups<'_> {
     }
 
     #[inline(always)]
-    fn decide(
-        &self,
-        is_taken: bool,
-        stays: bool,
-        relocations: &[u8],
-        section: &[u8],
-        index: usize,
-        relocation: &Rela,
-    ) -> Option<Decision> {
+    fn decide(&self, is_taken: bool, stays: bool, site: &Site<'_>) -> Option<Decision> {
         if is_taken {
             return Some(Decision::Consumed);
         }
-        decide(
-            stays,
-            self.context,
-            self.kept,
-            relocations,
-            section,
-            index,
-            relocation,
-        )
+        decide(self, stays, site)
     }
 
     #[inline(always)]

@@ -33,7 +33,7 @@ use crate::decisions::{
 };
 use crate::facts::{OutputFacts, RelaxContext, SymbolFacts, address_in};
 use crate::phases::Phase;
-use crate::relocations::relocation_in;
+use crate::relocations::{Site, relocation_in};
 use crate::riscv_pcrel_groups::{high_at, is_beyond, label_at};
 use crate::rules::{Rule, decide_by};
 use crate::sections::list_deletions;
@@ -275,45 +275,38 @@ struct Parts<'a> {
 
 /// Whether a part can be rewritten, if all of its symbol can.
 #[inline(always)]
-fn fits(
-    parts: &Parts<'_>,
-    relocations: &[u8],
-    section: &[u8],
-    index: usize,
-    relocation: &Rela,
-    member: &(Part, Rela),
-) -> bool
-    requires { index < length relocations.now / 24 }
+fn fits(parts: &Parts<'_>, site: &Site<'_>, member: &(Part, Rela)) -> bool
+    requires { site.now.index < length site.now.relocations.now / 24 }
     ensures { result ≡ fits (context_of parts.now.context.now) parts.now.gp parts.now.ascends
-        relocations.now section.now index relocation.now member.now }
+        site.now.relocations.now site.now.section.now site.now.index site.now.relocation
+        member.now }
 {
-    let context = parts.context;
+    let (context, relocation) = (parts.context, &site.relocation);
     parts.ascends
-        && !is_beyond(relocations, relocation.offset, index)
+        && !is_beyond(site.relocations, relocation.offset, site.index)
         && context.output.is_executable
         && context.output.is_fixed
-        && is_marked_at(context.architecture, relocations, index, relocation)
+        && is_marked_at(
+            context.architecture,
+            site.relocations,
+            site.index,
+            relocation,
+        )
         && is_reached(context, parts.gp, &member.1)
-        && is_expected(section, relocation, member.0, &member.1)
+        && is_expected(site.section, relocation, member.0, &member.1)
 }
 
 /// The symbol that a relocation keeps, since it is of an address and doesn't fit.
-fn keeping_symbol(
-    parts: &Parts<'_>,
-    relocations: &[u8],
-    section: &[u8],
-    index: usize,
-    relocation: &Rela,
-) -> Option<usize>
-    requires index { index < length relocations.now / 24 }
-    requires ascending { IsTrue parts.now.ascends ↔ IsAscending relocations.now }
-    ensures { IsKeepingSymbol (context_of parts.now.context.now) parts.now.gp relocations.now
-        section.now index relocation.now result }
+fn keeping_symbol(parts: &Parts<'_>, site: &Site<'_>) -> Option<usize>
+    requires index { site.now.index < length site.now.relocations.now / 24 }
+    requires ascending { IsTrue parts.now.ascends ↔ IsAscending site.now.relocations.now }
+    ensures { IsKeepingSymbol (context_of parts.now.context.now) parts.now.gp
+        site.now.relocations.now site.now.section.now site.now.index site.now.relocation result }
 {
-    let Some(member) = member_of(parts.context, relocations, relocation) else {
+    let Some(member) = member_of(parts.context, site.relocations, &site.relocation) else {
         return None;
     };
-    if fits(parts, relocations, section, index, relocation, &member) {
+    if fits(parts, site, &member) {
         None
     } else {
         Some(member.1.symbol as usize)
@@ -363,8 +356,13 @@ pub fn survey_global_pointer(
         ascends: is_ascending(relocations),
     };
     for index in 0..relocations_len(relocations) {
-        let relocation = relocation_in(relocations, index);
-        let symbol = keeping_symbol(&parts, relocations, section, index, &relocation);
+        let site = Site {
+            relocations,
+            section,
+            index,
+            relocation: relocation_in(relocations, index),
+        };
+        let symbol = keeping_symbol(&parts, &site);
         keep_word(kept, symbol);
     }
     Ok(())
@@ -400,30 +398,26 @@ struct Symbols<'a, 'b> {
 }
 
 /// What becomes of a relocation. None if its symbol doesn't stay, but it can't be rewritten.
-fn decide_part(
-    rule: &Symbols<'_, '_>,
-    relocations: &[u8],
-    section: &[u8],
-    index: usize,
-    relocation: &Rela,
-) -> Option<Decision>
-    requires index { index < length relocations.now / 24 }
-    requires ascending { IsTrue rule.now.parts.ascends ↔ IsAscending relocations.now }
+fn decide_part(rule: &Symbols<'_, '_>, site: &Site<'_>) -> Option<Decision>
+    requires index { site.now.index < length site.now.relocations.now / 24 }
+    requires ascending { IsTrue rule.now.parts.ascends ↔ IsAscending site.now.relocations.now }
     ensures decision { IsPartDecided (context_of rule.now.parts.context.now) rule.now.parts.gp
-        rule.now.kept.now relocations.now section.now index relocation.now result }
-    ensures there { IfSome result (λ d. IsThere d section.now relocation.now.offset) }
-    ensures within { IfSome result (IsWithin part_start part_end relocation.now.offset) }
-    ensures ends { IfSome result (λ d. (limit : ℕ) → relocation.now.offset ≤ limit
-        → length section.now ≤ limit → part_end d relocation.now.offset ≤ limit) }
+        rule.now.kept.now site.now.relocations.now site.now.section.now site.now.index
+        site.now.relocation result }
+    ensures there { IfSome result
+        (λ d. IsThere d site.now.section.now site.now.relocation.offset) }
+    ensures within { IfSome result (IsWithin part_start part_end site.now.relocation.offset) }
+    ensures ends { IfSome result (λ d. (limit : ℕ) → site.now.relocation.offset ≤ limit
+        → length site.now.section.now ≤ limit → part_end d site.now.relocation.offset ≤ limit) }
 {
     let parts = &rule.parts;
-    let Some(member) = member_of(parts.context, relocations, relocation) else {
+    let Some(member) = member_of(parts.context, site.relocations, &site.relocation) else {
         return Some(Decision::Kept);
     };
     if word_stays(rule.kept, member.1.symbol as usize) {
         return Some(Decision::Kept);
     }
-    if fits(parts, relocations, section, index, relocation, &member) {
+    if fits(parts, site, &member) {
         Some(part_decision(member.0, &member.1))
     } else {
         None
@@ -459,16 +453,8 @@ impl Rule for Symbols<'_, '_> {
     ghost end = { part_end };
 
     #[inline(always)]
-    fn decide(
-        &self,
-        _is_taken: bool,
-        _stays: bool,
-        relocations: &[u8],
-        section: &[u8],
-        index: usize,
-        relocation: &Rela,
-    ) -> Option<Decision> {
-        decide_part(self, relocations, section, index, relocation)
+    fn decide(&self, _is_taken: bool, _stays: bool, site: &Site<'_>) -> Option<Decision> {
+        decide_part(self, site)
     }
 
     #[inline(always)]

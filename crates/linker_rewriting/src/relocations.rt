@@ -5,6 +5,19 @@ ghost use Rattle.linker_section.specs.Relocations.{relocation_in};
 
 use linker_section::relocations::{RELA_LEN, Rela, relocation_at};
 
+/// A relocation of a section.
+#[derive(Clone, Copy)]
+pub(crate) struct Site<'a> {
+    /// All of the section.
+    pub relocations: &'a [u8],
+    /// The section's bytes.
+    pub section: &'a [u8],
+    /// Its index.
+    pub index: usize,
+    /// The relocation.
+    pub relocation: Rela,
+}
+
 /// The relocation with an index below `relocations_len`. Its bounds are tested once: the compiler
 /// sees that its bytes are in the slice.
 #[inline(always)]

@@ -19,7 +19,7 @@ use crate::decisions::{AsDecision, Decision, decision_in};
 use crate::facts::{OutputFacts, RelaxContext, SymbolFacts, link_facts};
 use crate::groups::{Scope, scope_in};
 use crate::phases::Phase;
-use crate::relocations::relocation_in;
+use crate::relocations::{Site, relocation_in};
 use crate::sequences::is_marked_at;
 use linker_section::facts::{Addresses, Symbol};
 use linker_section::relocations::{Rela, first_from, is_ascending, relocations_len};
@@ -141,25 +141,19 @@ pub(crate) fn is_in_label(architecture: Architecture, phase: Phase, r_type: u32)
 
 /// Whether the mark is there that counts for a relocation with a high part.
 #[inline(always)]
-fn is_label_marked(
-    context: &RelaxContext<'_>,
-    relocations: &[u8],
-    index: usize,
-    relocation: &Rela,
-    high: usize,
-) -> bool
-    requires index { index + 3 ≤ usize.MAX }
-    requires high { high < length relocations.now / 24 }
-    ensures { result ≡ is_label_marked context.now.architecture context.now.phase relocations.now
-        index relocation.now high }
+fn is_label_marked(context: &RelaxContext<'_>, site: &Site<'_>, high: usize) -> bool
+    requires index { site.now.index + 3 ≤ usize.MAX }
+    requires high { high < length site.now.relocations.now / 24 }
+    ensures { result ≡ is_label_marked context.now.architecture context.now.phase
+        site.now.relocations.now site.now.index site.now.relocation high }
 {
-    let architecture = context.architecture;
+    let (architecture, relocations) = (context.architecture, site.relocations);
     match context.phase {
         Phase::TlsLocalExec => {
             let part = relocation_in(relocations, high);
             is_marked_at(architecture, relocations, high, &part)
         }
-        _ => is_marked_at(architecture, relocations, index, relocation),
+        _ => is_marked_at(architecture, relocations, site.index, &site.relocation),
     }
 }
 
@@ -192,45 +186,36 @@ fn without_entry(facts: Option<LinkFacts>) -> Option<LinkFacts>
 /// part.
 pub(crate) fn label_candidate(
     context: &RelaxContext<'_>,
-    relocations: &[u8],
-    section: &[u8],
-    index: usize,
-    relocation: &Rela,
+    site: &Site<'_>,
     high: usize,
 ) -> Option<Choice<Relaxation, u32>>
-    requires index { index + 3 ≤ usize.MAX }
-    requires high { high < length relocations.now / 24 }
-    ensures candidate { IsLabelCandidate (context_of context.now) relocations.now section.now index
-        relocation.now high result }
-    ensures there { IfSome result
-        (λ chosen. IsThere (Decision.Rewritten chosen) section.now relocation.now.offset) }
+    requires index { site.now.index + 3 ≤ usize.MAX }
+    requires high { high < length site.now.relocations.now / 24 }
+    ensures candidate { IsLabelCandidate (context_of context.now) site.now.relocations.now
+        site.now.section.now site.now.index site.now.relocation high result }
+    ensures there { IfSome result (λ chosen. IsThere (Decision.Rewritten chosen)
+        site.now.section.now site.now.relocation.offset) }
 {
-    let part = relocation_in(relocations, high);
-    let marked = is_label_marked(context, relocations, index, relocation, high);
+    let part = relocation_in(site.relocations, high);
+    let marked = is_label_marked(context, site, high);
     let facts = without_entry(link_facts(context, &part, &part, marked));
-    candidate_by(context, relocations, section, index, relocation, &facts)
+    candidate_by(context, site, &facts)
 }
 
 /// The index of the high part whose group stays, since this relocation is of it and has no rewrite.
-fn lacking(
-    context: &RelaxContext<'_>,
-    relocations: &[u8],
-    section: &[u8],
-    index: usize,
-    relocation: &Rela,
-) -> Option<usize>
-    requires { index + 3 ≤ usize.MAX }
-    ensures within { IfSome result (λ high. high < length relocations.now / 24) }
-    ensures lacking { IsAscending relocations.now → IsLacking (context_of context.now)
-        relocations.now section.now index relocation.now result }
+fn lacking(context: &RelaxContext<'_>, site: &Site<'_>) -> Option<usize>
+    requires { site.now.index + 3 ≤ usize.MAX }
+    ensures within { IfSome result (λ high. high < length site.now.relocations.now / 24) }
+    ensures lacking { IsAscending site.now.relocations.now → IsLacking (context_of context.now)
+        site.now.relocations.now site.now.section.now site.now.index site.now.relocation result }
 {
-    if !is_in_label(context.architecture, context.phase, relocation.r_type) {
+    if !is_in_label(context.architecture, context.phase, site.relocation.r_type) {
         return None;
     }
-    let Some(high) = high_of(context, relocations, relocation) else {
+    let Some(high) = high_of(context, site.relocations, &site.relocation) else {
         return None;
     };
-    match label_candidate(context, relocations, section, index, relocation, high) {
+    match label_candidate(context, site, high) {
         Some(_) => None,
         None => Some(high),
     }
@@ -275,8 +260,13 @@ fn note_highs<D: AsDecision>(
         ≡ drop (length relocations.now / 24) decisions.old }
 {
     for index in 0..relocations_len(relocations) {
-        let relocation = relocation_in(relocations, index);
-        let Some(high) = lacking(context, relocations, section, index, &relocation) else {
+        let site = Site {
+            relocations,
+            section,
+            index,
+            relocation: relocation_in(relocations, index),
+        };
+        let Some(high) = lacking(context, &site) else {
             continue;
         };
         decisions[high] = D::from_decision(Decision::Consumed);

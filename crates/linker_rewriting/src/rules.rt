@@ -11,9 +11,9 @@ ghost use Rattle.linker_section.specs.Relocations.{relocation_in};
 
 use crate::covered::first_covered;
 use crate::decisions::{AsDecision, Decision, RewritingError, decision_in, end_after};
-use crate::relocations::relocation_in;
+use crate::relocations::{Site, relocation_in};
 use crate::riscv_pcrel_groups::is_note;
-use linker_section::relocations::{Rela, relocations_len};
+use linker_section::relocations::relocations_len;
 use linker_utils::elf::Architecture;
 
 /// A rule by which relocations are decided: all of a group are rewritten, or none is.
@@ -56,25 +56,21 @@ pub(crate) trait Rule {
 
     /// What becomes of the relocation with an index. None if its group doesn't stay, but it can't
     /// be rewritten. `stays` is what was noted of it.
-    fn decide(
-        &self,
-        is_taken: bool,
-        stays: bool,
-        relocations: &[u8],
-        section: &[u8],
-        index: usize,
-        relocation: &Rela,
-    ) -> Option<Decision>
-        requires index { index + 4 ≤ usize.MAX }
-        requires within { index < length relocations.now / 24 }
-        requires there { relocation.now ≡ relocation_in relocations.now index }
-        requires valid { is_valid self.now relocations.now }
-        requires noted { is_noted self.now relocations.now section.now index stays }
-        ensures decided { IfSome result (IsMadeBy (decides self.now relocations.now section.now)
-            start end relocations.now section.now index is_taken) }
-        ensures lacking { IfNone result (lacks self.now relocations.now section.now index) }
-        ensures ends { IfSome result (λ d. (limit : ℕ) → relocation.now.offset ≤ limit
-            → length section.now ≤ limit → end d relocation.now.offset ≤ limit) };
+    fn decide(&self, is_taken: bool, stays: bool, site: &Site<'_>) -> Option<Decision>
+        requires index { site.now.index + 4 ≤ usize.MAX }
+        requires within { site.now.index < length site.now.relocations.now / 24 }
+        requires there { site.now.relocation
+            ≡ relocation_in site.now.relocations.now site.now.index }
+        requires valid { is_valid self.now site.now.relocations.now }
+        requires noted { is_noted self.now site.now.relocations.now site.now.section.now
+            site.now.index stays }
+        ensures decided { IfSome result (IsMadeBy
+            (decides self.now site.now.relocations.now site.now.section.now) start end
+            site.now.relocations.now site.now.section.now site.now.index is_taken) }
+        ensures lacking { IfNone result
+            (lacks self.now site.now.relocations.now site.now.section.now site.now.index) }
+        ensures ends { IfSome result (λ d. (limit : ℕ) → site.now.relocation.offset ≤ limit
+            → length site.now.section.now ≤ limit → end d site.now.relocation.offset ≤ limit) };
 
     /// Where those bytes of a decision begin and end that no other one may have.
     fn span(&self, decision: &Decision, offset: u64) -> (u64, u64)
@@ -116,8 +112,13 @@ pub(crate) fn decide_by<R: Rule, D: AsDecision>(
         }
         let relocation = relocation_in(relocations, index);
         let stays = is_note(&decision_in(decisions, index));
-        let Some(decision) = rule.decide(is_taken, stays, relocations, section, index, &relocation)
-        else {
+        let site = Site {
+            relocations,
+            section,
+            index,
+            relocation,
+        };
+        let Some(decision) = rule.decide(is_taken, stays, &site) else {
             return Err(RewritingError::NotSurveyed(index));
         };
         let (start, own) = rule.span(&decision, relocation.offset);

@@ -16,7 +16,7 @@ use crate::facts::{NO_ADDRESSES, OutputFacts, RelaxContext, SymbolFacts};
 use crate::groups::{Group, Scope, UnrelaxableGroups, marks_call, scope_in, symbol_of_group};
 use crate::phases::Phase;
 use crate::r_types::{is_surveyed, of_each};
-use crate::relocations::relocation_in;
+use crate::relocations::{Site, relocation_in};
 use linker_section::relocations::{Rela, relocations_len};
 use linker_utils::elf::Architecture;
 
@@ -55,26 +55,18 @@ fn keep_threads(kept: &mut [UnrelaxableGroups], stay: bool)
 
 /// The kind of the groups that a relocation keeps, since it has no rewrite, though it is of one.
 #[inline(always)]
-fn keeping(
-    context: &RelaxContext<'_>,
-    relocations: &[u8],
-    section: &[u8],
-    index: usize,
-    relocation: &Rela,
-) -> Option<Group>
-    requires { index + 3 ≤ usize.MAX }
-    ensures { IsKeeping (context_of context.now) relocations.now section.now index relocation.now
-        result }
+fn keeping(context: &RelaxContext<'_>, site: &Site<'_>) -> Option<Group>
+    requires { site.now.index + 3 ≤ usize.MAX }
+    ensures { IsKeeping (context_of context.now) site.now.relocations.now site.now.section.now
+        site.now.index site.now.relocation result }
 {
-    match scope_in(context.architecture, context.phase, relocation.r_type) {
-        Scope::Grouped(group) => {
-            match candidate(context, relocations, section, index, relocation) {
-                Some(_) => None,
-                None => Some(group),
-            }
-        }
+    match scope_in(context.architecture, context.phase, site.relocation.r_type) {
+        Scope::Grouped(group) => match candidate(context, site) {
+            Some(_) => None,
+            None => Some(group),
+        },
         Scope::IfGroupMatches(group) => {
-            if is_matched(context, relocations, section, index, relocation) {
+            if is_matched(context, site) {
                 None
             } else {
                 Some(group)
@@ -86,16 +78,16 @@ fn keeping(
 
 /// PowerPC64: whether the relocation before is a mark of a call at the same place.
 #[inline(always)]
-fn is_marked(relocations: &[u8], index: usize, relocation: &Rela) -> bool
-    requires { index ≤ length relocations.now / 24 }
-    ensures { IsMarked relocations.now index relocation.now result }
+fn is_marked(site: &Site<'_>) -> bool
+    requires { site.now.index ≤ length site.now.relocations.now / 24 }
+    ensures { IsMarked site.now.relocations.now site.now.index site.now.relocation result }
 {
-    if index == 0 {
+    if site.index == 0 {
         return false;
     }
-    let before = relocation_in(relocations, index - 1);
+    let before = relocation_in(site.relocations, site.index - 1);
     let is_mark = marks_call(before.r_type);
-    is_mark && before.offset == relocation.offset
+    is_mark && before.offset == site.relocation.offset
 }
 
 /// Whether a relocation is one whose mark a survey looks for: a use of `__tls_get_addr` on
@@ -119,24 +111,16 @@ fn needs_mark(
 /// Whether a relocation is one that keeps all thread-local storage of its object: it needs a mark,
 /// and has none.
 #[inline(always)]
-fn is_unmarked(
-    context: &RelaxContext<'_>,
-    relocations: &[u8],
-    index: usize,
-    relocation: &Rela,
-) -> bool
-    requires { index ≤ length relocations.now / 24 }
-    ensures { IsUnmarked (context_of context.now) relocations.now index relocation.now result }
+fn is_unmarked(context: &RelaxContext<'_>, site: &Site<'_>) -> bool
+    requires { site.now.index ≤ length site.now.relocations.now / 24 }
+    ensures { IsUnmarked (context_of context.now) site.now.relocations.now site.now.index
+        site.now.relocation result }
 {
-    if !needs_mark(
-        context.architecture,
-        context.phase,
-        context.symbols,
-        relocation,
-    ) {
+    let (architecture, phase) = (context.architecture, context.phase);
+    if !needs_mark(architecture, phase, context.symbols, &site.relocation) {
         return false;
     }
-    !is_marked(relocations, index, relocation)
+    !is_marked(site)
 }
 
 /// Whether the relocation with an index is of no group by its `r_type`, and needs no mark.
@@ -216,9 +200,15 @@ fn survey_in(
     let mut index = next_keeping(context, relocations, 0);
     while index < len {
         let relocation = relocation_in(relocations, index);
-        let group = keeping(context, relocations, section, index, &relocation);
+        let site = Site {
+            relocations,
+            section,
+            index,
+            relocation,
+        };
+        let group = keeping(context, &site);
         keep_group(kept, group, relocation.symbol);
-        let unmarked = is_unmarked(context, relocations, index, &relocation);
+        let unmarked = is_unmarked(context, &site);
         keep_threads(kept, unmarked);
         index = next_keeping(context, relocations, index + 1);
     }

@@ -22,7 +22,7 @@ use crate::candidates::candidate_by;
 use crate::decisions::{AsDecision, Decision, RewritingError, span_of, subject_of};
 use crate::facts::{OutputFacts, RelaxContext, SymbolFacts, address_in, link_facts};
 use crate::phases::Phase;
-use crate::relocations::relocation_in;
+use crate::relocations::{Site, relocation_in};
 use crate::riscv_pcrel_groups::high_at;
 use crate::rules::{Rule, decide_by};
 use crate::sections::make_all;
@@ -119,29 +119,27 @@ fn with_r_type(r_type: u32, relocation: &Rela) -> Rela
 #[inline(always)]
 fn load_candidate(
     words: &Words<'_>,
-    relocations: &[u8],
-    section: &[u8],
-    index: usize,
-    relocation: &Rela,
+    site: &Site<'_>,
     load: (u32, usize),
 ) -> Option<Choice<Relaxation, u32>>
-    requires index { index + 3 ≤ usize.MAX }
+    requires index { site.now.index + 3 ≤ usize.MAX }
     requires within { load.1 < length words.now.relocations.now / 24 }
     ensures candidate { IsLoadCandidate (context_of words.now.context.now)
-        words.now.relocations.now relocations.now section.now index relocation.now load result }
-    ensures there { IfSome result
-        (λ chosen. IsThere (Decision.Rewritten chosen) section.now relocation.now.offset) }
+        words.now.relocations.now site.now.relocations.now site.now.section.now site.now.index
+        site.now.relocation load result }
+    ensures there { IfSome result (λ chosen. IsThere (Decision.Rewritten chosen)
+        site.now.section.now site.now.relocation.offset) }
 {
     let (entry, word) = load;
     let word = relocation_in(words.relocations, word);
-    let facts = link_facts(words.context, relocation, &word, false);
-    let of_entry = with_r_type(entry, relocation);
+    let facts = link_facts(words.context, &site.relocation, &word, false);
+    let relocation = with_r_type(entry, &site.relocation);
     candidate_by(
         words.context,
-        relocations,
-        section,
-        index,
-        &of_entry,
+        &Site {
+            relocation,
+            ..*site
+        },
         &facts,
     )
 }
@@ -172,19 +170,14 @@ pub(crate) fn keep_word(kept: &mut [bool], word: Option<usize>)
 
 /// The word that a relocation keeps, since it loads it and has no rewrite.
 #[inline(always)]
-fn keeping_word(
-    words: &Words<'_>,
-    relocations: &[u8],
-    section: &[u8],
-    index: usize,
-    relocation: &Rela,
-) -> Option<usize>
-    requires { index + 3 ≤ usize.MAX }
+fn keeping_word(words: &Words<'_>, site: &Site<'_>) -> Option<usize>
+    requires { site.now.index + 3 ≤ usize.MAX }
     ensures { IsKeepingWord (context_of words.now.context.now) words.now.start
-        words.now.relocations.now relocations.now section.now index relocation.now result }
+        words.now.relocations.now site.now.relocations.now site.now.section.now site.now.index
+        site.now.relocation result }
 {
-    let load = load_of(words, relocation)?;
-    match load_candidate(words, relocations, section, index, relocation, load) {
+    let load = load_of(words, &site.relocation)?;
+    match load_candidate(words, site, load) {
         Some(_) => None,
         None => Some(load.1),
     }
@@ -233,8 +226,13 @@ pub fn survey_toc_loads(
         relocations: words,
     };
     for index in 0..relocations_len(relocations) {
-        let relocation = relocation_in(relocations, index);
-        let word = keeping_word(&words, relocations, section, index, &relocation);
+        let site = Site {
+            relocations,
+            section,
+            index,
+            relocation: relocation_in(relocations, index),
+        };
+        let word = keeping_word(&words, &site);
         keep_word(kept, word);
     }
     Ok(())
@@ -250,27 +248,22 @@ struct Loads<'a, 'b> {
 }
 
 /// What becomes of a relocation. None if it loads a word that doesn't stay, but can't be rewritten.
-fn decide_load(
-    rule: &Loads<'_, '_>,
-    relocations: &[u8],
-    section: &[u8],
-    index: usize,
-    relocation: &Rela,
-) -> Option<Decision>
-    requires { index + 3 ≤ usize.MAX }
+fn decide_load(rule: &Loads<'_, '_>, site: &Site<'_>) -> Option<Decision>
+    requires { site.now.index + 3 ≤ usize.MAX }
     ensures decision { IsLoadDecided (context_of rule.now.words.context.now) rule.now.words.start
-        rule.now.words.relocations.now rule.now.kept.now relocations.now section.now index
-        relocation.now result }
-    ensures there { IfSome result (λ d. IsThere d section.now relocation.now.offset) }
+        rule.now.words.relocations.now rule.now.kept.now site.now.relocations.now
+        site.now.section.now site.now.index site.now.relocation result }
+    ensures there { IfSome result
+        (λ d. IsThere d site.now.section.now site.now.relocation.offset) }
 {
     let words = &rule.words;
-    let Some(load) = load_of(words, relocation) else {
+    let Some(load) = load_of(words, &site.relocation) else {
         return Some(Decision::Kept);
     };
     if word_stays(rule.kept, load.1) {
         return Some(Decision::Kept);
     }
-    match load_candidate(words, relocations, section, index, relocation, load) {
+    match load_candidate(words, site, load) {
         Some(chosen) => {
             let subject = subject_of(&relocation_in(words.relocations, load.1));
             Some(Decision::RewrittenWithSymbol(chosen, subject))
@@ -295,16 +288,8 @@ impl Rule for Loads<'_, '_> {
     ghost end = { end_by };
 
     #[inline(always)]
-    fn decide(
-        &self,
-        _is_taken: bool,
-        _stays: bool,
-        relocations: &[u8],
-        section: &[u8],
-        index: usize,
-        relocation: &Rela,
-    ) -> Option<Decision> {
-        decide_load(self, relocations, section, index, relocation)
+    fn decide(&self, _is_taken: bool, _stays: bool, site: &Site<'_>) -> Option<Decision> {
+        decide_load(self, site)
     }
 
     #[inline(always)]

@@ -9,7 +9,7 @@ pub returns-in_default-clause-decision : goal.returns-in_default-clause-decision
 returns-in_default-clause-decision c =
     let a = c.args in
     let p = a.rule.now.parts in
-    of_member (context_of p.context.now) p.gp a.rule.now.kept.now a.relocations.now a.section.now a.index a.relocation.now p.ascends _ None _
+    of_member (context_of p.context.now) p.gp a.rule.now.kept.now a.site.now.relocations.now a.site.now.section.now a.site.now.index a.site.now.relocation p.ascends _ None _
     c.requires.ascending c.in_default.is c.member_of.ensures refl
 
 pub returns-then-word_stays-clause-decision : goal.returns-then-word_stays-clause-decision
@@ -18,9 +18,9 @@ returns-then-word_stays-clause-decision c =
     let p = a.rule.now.parts in
     let s = context_of p.context.now in
     let kept = a.rule.now.kept.now in
-    of_member s p.gp kept a.relocations.now a.section.now a.index a.relocation.now p.ascends _ (Some c.in-Some.member) _
+    of_member s p.gp kept a.site.now.relocations.now a.site.now.section.now a.site.now.index a.site.now.relocation p.ascends _ (Some c.in-Some.member) _
     c.requires.ascending c.in-Some.is c.member_of.ensures
-    (part_kept s p.gp p.ascends kept a.relocations.now a.section.now a.index a.relocation.now c.in-Some.member (sym c.word_stays.ensures ∙ c.if-word_stays.true))
+    (part_kept s p.gp p.ascends kept a.site.now.relocations.now a.site.now.section.now a.site.now.index a.site.now.relocation c.in-Some.member (sym c.word_stays.ensures ∙ c.if-word_stays.true))
 
 pub returns-then-fits-clause-decision : goal.returns-then-fits-clause-decision
 returns-then-fits-clause-decision c =
@@ -28,9 +28,9 @@ returns-then-fits-clause-decision c =
     let p = a.rule.now.parts in
     let s = context_of p.context.now in
     let kept = a.rule.now.kept.now in
-    of_member s p.gp kept a.relocations.now a.section.now a.index a.relocation.now p.ascends _ (Some c.in-Some.member) _
+    of_member s p.gp kept a.site.now.relocations.now a.site.now.section.now a.site.now.index a.site.now.relocation p.ascends _ (Some c.in-Some.member) _
     c.requires.ascending c.in-Some.is c.member_of.ensures
-    (part_decided s p.gp p.ascends kept a.relocations.now a.section.now a.index a.relocation.now c.in-Some.member c.part_decision.result
+    (part_decided s p.gp p.ascends kept a.site.now.relocations.now a.site.now.section.now a.site.now.index a.site.now.relocation c.in-Some.member c.part_decision.result
     (sym c.word_stays.ensures ∙ c.if-word_stays.false) (sym c.fits.ensures ∙ c.if-fits.true) c.part_decision.ensures)
 
 pub returns-else-fits-clause-decision : goal.returns-else-fits-clause-decision
@@ -39,9 +39,9 @@ returns-else-fits-clause-decision c =
     let p = a.rule.now.parts in
     let s = context_of p.context.now in
     let kept = a.rule.now.kept.now in
-    of_member s p.gp kept a.relocations.now a.section.now a.index a.relocation.now p.ascends _ (Some c.in-Some.member) _
+    of_member s p.gp kept a.site.now.relocations.now a.site.now.section.now a.site.now.index a.site.now.relocation p.ascends _ (Some c.in-Some.member) _
     c.requires.ascending c.in-Some.is c.member_of.ensures
-    (part_undecided s p.gp p.ascends kept a.relocations.now a.section.now a.index a.relocation.now c.in-Some.member
+    (part_undecided s p.gp p.ascends kept a.site.now.relocations.now a.site.now.section.now a.site.now.index a.site.now.relocation c.in-Some.member
     (sym c.word_stays.ensures ∙ c.if-word_stays.false) (sym c.fits.ensures ∙ c.if-fits.false))
 
 pub returns-then-fits-clause-there : goal.returns-then-fits-clause-there
@@ -49,13 +49,13 @@ returns-then-fits-clause-there c =
     let a = c.args in
     let p = a.rule.now.parts in
     let m = c.in-Some.member in
-    let is = expected (context_of p.context.now) p.gp p.ascends a.relocations.now a.section.now a.index a.relocation.now m (sym c.fits.ensures ∙ c.if-fits.true) in
-    subst (λ d. IsThere d a.section.now a.relocation.now.offset) (sym c.part_decision.ensures)
-    (part_made a.section.now a.relocation.now (m.0) (m.1) is, part_matches a.section.now a.relocation.now (m.0) (m.1) is)
+    let is = expected (context_of p.context.now) p.gp p.ascends a.site.now.relocations.now a.site.now.section.now a.site.now.index a.site.now.relocation m (sym c.fits.ensures ∙ c.if-fits.true) in
+    subst (λ d. IsThere d a.site.now.section.now a.site.now.relocation.offset) (sym c.part_decision.ensures)
+    (part_made a.site.now.section.now a.site.now.relocation (m.0) (m.1) is, part_matches a.site.now.section.now a.site.now.relocation (m.0) (m.1) is)
 
 pub returns-then-fits-clause-within : goal.returns-then-fits-clause-within
 returns-then-fits-clause-within c =
-    let o = c.args.relocation.now.offset in
+    let o = c.args.site.now.relocation.offset in
     subst (IsWithin part_start part_end o) (sym c.part_decision.ensures)
     (part_bytes (c.in-Some.member.0) (c.in-Some.member.1) o)
 
@@ -63,8 +63,8 @@ pub returns-then-fits-clause-ends : goal.returns-then-fits-clause-ends
 returns-then-fits-clause-ends c =
     let a = c.args in
     let p = a.rule.now.parts in
-    let o = a.relocation.now.offset in
+    let o = a.site.now.relocation.offset in
     let m = c.in-Some.member in
-    subst (λ d. (limit : ℕ) → o ≤ limit → length a.section.now ≤ limit → part_end d o ≤ limit) (sym c.part_decision.ensures)
-    (part_ends a.section.now a.relocation.now (m.0) (m.1)
-    (expected (context_of p.context.now) p.gp p.ascends a.relocations.now a.section.now a.index a.relocation.now m (sym c.fits.ensures ∙ c.if-fits.true)))
+    subst (λ d. (limit : ℕ) → o ≤ limit → length a.site.now.section.now ≤ limit → part_end d o ≤ limit) (sym c.part_decision.ensures)
+    (part_ends a.site.now.section.now a.site.now.relocation (m.0) (m.1)
+    (expected (context_of p.context.now) p.gp p.ascends a.site.now.relocations.now a.site.now.section.now a.site.now.index a.site.now.relocation m (sym c.fits.ensures ∙ c.if-fits.true)))

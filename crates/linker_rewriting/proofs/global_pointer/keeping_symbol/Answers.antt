@@ -10,7 +10,7 @@ returns-in_default c =
       ascends = a.parts.now.ascends;
       is_ascending = c.requires.ascending;
       member = None;
-      is_member = subst (IsMember (context_of a.parts.now.context.now) a.relocations.now a.relocation.now) c.in_default.is c.member_of.ensures;
+      is_member = subst (IsMember (context_of a.parts.now.context.now) a.site.now.relocations.now a.site.now.relocation) c.in_default.is c.member_of.ensures;
       keeps = refl;
     }
 
@@ -21,7 +21,7 @@ returns-then-fits c =
       ascends = a.parts.now.ascends;
       is_ascending = c.requires.ascending;
       member = Some c.in-Some.member;
-      is_member = subst (IsMember (context_of a.parts.now.context.now) a.relocations.now a.relocation.now) c.in-Some.is c.member_of.ensures;
+      is_member = subst (IsMember (context_of a.parts.now.context.now) a.site.now.relocations.now a.site.now.relocation) c.in-Some.is c.member_of.ensures;
       keeps = subst (λ b. None ≡ (if b then None else Some c.in-Some.member.1.symbol)) (sym c.if-fits.true ∙ c.fits.ensures) refl;
     }
 
@@ -33,6 +33,6 @@ returns-else-fits c =
       ascends = a.parts.now.ascends;
       is_ascending = c.requires.ascending;
       member = Some c.in-Some.member;
-      is_member = subst (IsMember (context_of a.parts.now.context.now) a.relocations.now a.relocation.now) c.in-Some.is c.member_of.ensures;
+      is_member = subst (IsMember (context_of a.parts.now.context.now) a.site.now.relocations.now a.site.now.relocation) c.in-Some.is c.member_of.ensures;
       keeps = subst (λ b. Some symbol ≡ (if b then None else Some symbol)) (sym c.if-fits.false ∙ c.fits.ensures) refl;
     }

@@ -8,15 +8,15 @@ pub returns-then-not-is_in_label-clause-lacking : goal.returns-then-not-is_in_la
 returns-then-not-is_in_label-clause-lacking c =
     let a = c.args in
     λ ascending. unlabelled_lacks (context_of a.context.now)
-    a.relocations.now a.section.now a.index a.relocation.now
-    (subst (IsInLabel a.context.now.architecture a.context.now.phase a.relocation.now.r_type) c.if-not-is_in_label.true c.is_in_label.ensures)
+    a.site.now.relocations.now a.site.now.section.now a.site.now.index a.site.now.relocation
+    (subst (IsInLabel a.context.now.architecture a.context.now.phase a.site.now.relocation.r_type) c.if-not-is_in_label.true c.is_in_label.ensures)
 
 pub returns-in-Some-label_candidate-clause-lacking : goal.returns-in-Some-label_candidate-clause-lacking
 returns-in-Some-label_candidate-clause-lacking c =
     let a = c.args in
     λ ascending. rewritten_lacks (context_of a.context.now)
-    a.relocations.now a.section.now a.index a.relocation.now c.in-Some.high _
-    (subst (IsHighOf a.context.now.phase a.context.now.addresses.now a.context.now.values.now a.relocations.now a.relocation.now) c.in-Some.is
+    a.site.now.relocations.now a.site.now.section.now a.site.now.index a.site.now.relocation c.in-Some.high _
+    (subst (IsHighOf a.context.now.phase a.context.now.addresses.now a.context.now.values.now a.site.now.relocations.now a.site.now.relocation) c.in-Some.is
     (c.high_of.ensures.high ascending))
-    (subst (IsLabelCandidate (context_of a.context.now) a.relocations.now a.section.now a.index a.relocation.now c.in-Some.high)
+    (subst (IsLabelCandidate (context_of a.context.now) a.site.now.relocations.now a.site.now.section.now a.site.now.index a.site.now.relocation c.in-Some.high)
     c.in-Some-label_candidate.is c.label_candidate.ensures.candidate)

@@ -24,8 +24,8 @@ loop-index-preserved g c =
       noted = subst (λ l. AreHighsNoted s a.relocations.now a.section.now l (k + 1)) (sym written)
           (more_noted s a.relocations.now a.section.now ds k c.in-Some.high
           c.loop-index.invariant.noted
-          (subst (λ r. IsLacking s a.relocations.now a.section.now k r (Some c.in-Some.high)) c.relocation_in-relocation.ensures
-          (subst (IsLacking s a.relocations.now a.section.now k c.relocation_in-relocation.result) c.in-Some.is
+          (subst (λ r. IsLacking s a.relocations.now a.section.now k r (Some c.in-Some.high)) c.relocation_in.ensures
+          (subst (IsLacking s a.relocations.now a.section.now k c.relocation_in.result) c.in-Some.is
           (c.lacking.ensures.lacking c.requires.ascending)))
           within_map);
       others = drop-set-lt (length a.relocations.now / 24) xs c.in-Some.high c.from_decision.result within ∙ c.loop-index.invariant.others;
@@ -38,8 +38,8 @@ loop-index-preserved-in_default g c =
     record {
       noted = same_noted (context_of a.context.now) a.relocations.now a.section.now
           (map g.D.AsDecision.decision c.loop-index.decisions) k c.loop-index.invariant.noted
-          (subst (λ r. IsLacking (context_of a.context.now) a.relocations.now a.section.now k r None) c.relocation_in-relocation.ensures
-          (subst (IsLacking (context_of a.context.now) a.relocations.now a.section.now k c.relocation_in-relocation.result) c.in_default.is
+          (subst (λ r. IsLacking (context_of a.context.now) a.relocations.now a.section.now k r None) c.relocation_in.ensures
+          (subst (IsLacking (context_of a.context.now) a.relocations.now a.section.now k c.relocation_in.result) c.in_default.is
           (c.lacking.ensures.lacking c.requires.ascending)));
       others = c.loop-index.invariant.others;
     }

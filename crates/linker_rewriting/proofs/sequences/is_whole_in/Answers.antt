@@ -7,12 +7,12 @@ returns-then-is_place c =
     let a = c.args in
     c.is_among.ensures
     ∙ sym (c.loop-place.invariant
-    ∙ places_left a.members.now a.members.now a.relocations.now a.index a.relocation.now c.loop-place.place no_member true
+    ∙ places_left a.members.now a.members.now a.site.now.relocations.now a.site.now.index a.site.now.relocation c.loop-place.place no_member true
     c.loop-place-test.true (sym c.if-is_place.true ∙ c.is_place.ensures))
 
 pub loop-place-preserved : goal.loop-place-preserved
 loop-place-preserved c =
     let a = c.args in
     c.loop-place.invariant
-    ∙ places_left a.members.now a.members.now a.relocations.now a.index a.relocation.now c.loop-place.place no_member false
+    ∙ places_left a.members.now a.members.now a.site.now.relocations.now a.site.now.index a.site.now.relocation c.loop-place.place no_member false
     c.loop-place-test.true (sym c.if-is_place.false ∙ c.is_place.ensures)

@@ -18,16 +18,16 @@ marked_by bytes (suc n) r before marked is_mark some is marks value =
 
 pub returns-then-is_mark : goal.returns-then-is_mark
 returns-then-is_mark c =
-    let same = c.relocation_in-before.result.offset == c.args.relocation.now.offset in
-    marked_by c.args.relocations.now c.args.index c.args.relocation.now
+    let same = c.relocation_in-before.result.offset == c.args.site.now.relocation.offset in
+    marked_by c.args.site.now.relocations.now c.args.site.now.index c.args.site.now.relocation
     c.relocation_in-before.result _ c.marks_call-is_mark.result
-    (λ e. omega (arith, e, c.if-index-eq0.false)) c.relocation_in-before.ensures
+    (λ e. omega (arith, e, c.if-site-eq0.false)) c.relocation_in-before.ensures
     c.marks_call-is_mark.ensures (subst (λ b. same ≡ (b && same)) (sym c.if-is_mark.true) refl)
 
 pub returns-else-is_mark : goal.returns-else-is_mark
 returns-else-is_mark c =
-    let same = c.relocation_in-before.result.offset == c.args.relocation.now.offset in
-    marked_by c.args.relocations.now c.args.index c.args.relocation.now
+    let same = c.relocation_in-before.result.offset == c.args.site.now.relocation.offset in
+    marked_by c.args.site.now.relocations.now c.args.site.now.index c.args.site.now.relocation
     c.relocation_in-before.result c.marks_call-is_mark.result c.marks_call-is_mark.result
-    (λ e. omega (arith, e, c.if-index-eq0.false)) c.relocation_in-before.ensures
+    (λ e. omega (arith, e, c.if-site-eq0.false)) c.relocation_in-before.ensures
     c.marks_call-is_mark.ensures (subst (λ b. b ≡ (b && same)) (sym c.if-is_mark.false) refl)

@@ -9,9 +9,9 @@ returns-clause-candidate c =
     let a = c.args in
     let s = context_of a.words.now.context.now in
     let candidate = c.candidate_by.result in
-    subst (λ r. IsCandidateWith s a.relocations.now a.section.now a.index r
-    (link_facts s a.relocation.now (relocation_in a.words.now.relocations.now (a.load.1)) false) candidate)
-    c.with_r_type-of_entry.ensures
-    (subst (λ facts. IsCandidateWith s a.relocations.now a.section.now a.index c.with_r_type-of_entry.result facts candidate)
-    (c.link_facts-facts.ensures ∙ ap (λ w. link_facts s a.relocation.now w false) c.relocation_in-word.ensures)
+    subst (λ r. IsCandidateWith s a.site.now.relocations.now a.site.now.section.now a.site.now.index r
+    (link_facts s a.site.now.relocation (relocation_in a.words.now.relocations.now (a.load.1)) false) candidate)
+    c.with_r_type-relocation.ensures
+    (subst (λ facts. IsCandidateWith s a.site.now.relocations.now a.site.now.section.now a.site.now.index c.with_r_type-relocation.result facts candidate)
+    (c.link_facts-facts.ensures ∙ ap (λ w. link_facts s a.site.now.relocation w false) c.relocation_in-word.ensures)
     c.candidate_by.ensures.candidate)

@@ -12,5 +12,5 @@ loop-index-preserved c =
     more_words (KeepsWord s a.words_start a.words.now a.relocations.now a.section.now) a.kept.now c.loop-index.kept
     c.keep_word.new.kept k c.keeping_word-word.result c.loop-index.invariant
     (subst (λ r. IsKeepingWord s a.words_start a.words.now a.relocations.now a.section.now k r c.keeping_word-word.result)
-    c.relocation_in-relocation.ensures c.keeping_word-word.ensures)
+    c.relocation_in.ensures c.keeping_word-word.ensures)
     c.keep_word.ensures

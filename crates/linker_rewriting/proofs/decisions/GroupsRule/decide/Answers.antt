@@ -10,7 +10,7 @@ pub returns-then-is_taken-clause-decided : goal.returns-then-is_taken-clause-dec
 returns-then-is_taken-clause-decided c =
     let a = c.args in
     record {
-      decides = subst (λ t. IsDecidedAfter (context_of a.self.now.context.now) a.self.now.kept.now a.relocations.now a.section.now a.index t Consumed) (sym c.if-is_taken.true) refl;
+      decides = subst (λ t. IsDecidedAfter (context_of a.self.now.context.now) a.self.now.kept.now a.site.now.relocations.now a.site.now.section.now a.site.now.index t Consumed) (sym c.if-is_taken.true) refl;
       made = tt;
       matches = tt;
       within = λ some. (omega arith, omega arith);
@@ -21,25 +21,25 @@ returns-clause-decided c =
     let a = c.args in
     let s = context_of a.self.now.context.now in
     let e = c.decide.ensures in
-    by_rule (IsDecidedAfter s a.self.now.kept.now a.relocations.now a.section.now) (IsDecision s a.self.now.kept.now a.relocations.now a.section.now a.index)
-    start_by end_by a.relocations.now a.section.now a.index a.is_taken a.relocation.now c.decide.result
+    by_rule (IsDecidedAfter s a.self.now.kept.now a.site.now.relocations.now a.site.now.section.now) (IsDecision s a.self.now.kept.now a.site.now.relocations.now a.site.now.section.now a.site.now.index)
+    start_by end_by a.site.now.relocations.now a.site.now.section.now a.site.now.index a.is_taken a.site.now.relocation c.decide.result
     c.requires.there e.decision
-    (λ d is. subst (λ t. IsDecidedAfter s a.self.now.kept.now a.relocations.now a.section.now a.index t d) (sym c.if-is_taken.false) is)
-    e.there (itself a.relocation.now.offset c.decide.result)
+    (λ d is. subst (λ t. IsDecidedAfter s a.self.now.kept.now a.site.now.relocations.now a.site.now.section.now a.site.now.index t d) (sym c.if-is_taken.false) is)
+    e.there (itself a.site.now.relocation.offset c.decide.result)
 
 pub returns-clause-lacking : goal.returns-clause-lacking
 returns-clause-lacking c =
     let a = c.args in
-    lacks_by (IsDecision (context_of a.self.now.context.now) a.self.now.kept.now a.relocations.now a.section.now a.index)
-    a.relocations.now a.index a.relocation.now c.decide.result c.requires.there c.decide.ensures.decision
+    lacks_by (IsDecision (context_of a.self.now.context.now) a.self.now.kept.now a.site.now.relocations.now a.site.now.section.now a.site.now.index)
+    a.site.now.relocations.now a.site.now.index a.site.now.relocation c.decide.result c.requires.there c.decide.ensures.decision
 
 pub returns-clause-ends : goal.returns-clause-ends
 returns-clause-ends c =
-    ends_in c.args.section.now c.args.relocation.now.offset c.decide.result c.decide.ensures.there
+    ends_in c.args.site.now.section.now c.args.site.now.relocation.offset c.decide.result c.decide.ensures.there
 
 pub decide-requires-clause-noted : goal.decide-requires-clause-noted
 decide-requires-clause-noted c in_label =
     let a = c.args in
     let x = a.self.now.context.now in
-    subst (λ r. IsLabelNote (context_of x) a.relocations.now a.section.now r a.stays) (sym c.requires.there)
+    subst (λ r. IsLabelNote (context_of x) a.site.now.relocations.now a.site.now.section.now r a.stays) (sym c.requires.there)
     (c.requires.noted (subst (λ r. IsInLabel x.architecture x.phase r.r_type true) c.requires.there in_label))

@@ -9,13 +9,13 @@ returns-clause-decided c =
     let p = a.self.now.parts in
     let s = context_of p.context.now in
     let e = c.decide_part.ensures in
-    by_rule (DecidesPart s p.gp a.self.now.kept.now a.relocations.now a.section.now) (IsPartDecided s p.gp a.self.now.kept.now a.relocations.now a.section.now a.index)
-    part_start part_end a.relocations.now a.section.now a.index a._is_taken a.relocation.now c.decide_part.result
+    by_rule (DecidesPart s p.gp a.self.now.kept.now a.site.now.relocations.now a.site.now.section.now) (IsPartDecided s p.gp a.self.now.kept.now a.site.now.relocations.now a.site.now.section.now a.site.now.index)
+    part_start part_end a.site.now.relocations.now a.site.now.section.now a.site.now.index a._is_taken a.site.now.relocation c.decide_part.result
     c.requires.there e.decision (λ d is. is) e.there e.within
 
 pub returns-clause-lacking : goal.returns-clause-lacking
 returns-clause-lacking c =
     let a = c.args in
     let p = a.self.now.parts in
-    lacks_by (IsPartDecided (context_of p.context.now) p.gp a.self.now.kept.now a.relocations.now a.section.now a.index)
-    a.relocations.now a.index a.relocation.now c.decide_part.result c.requires.there c.decide_part.ensures.decision
+    lacks_by (IsPartDecided (context_of p.context.now) p.gp a.self.now.kept.now a.site.now.relocations.now a.site.now.section.now a.site.now.index)
+    a.site.now.relocations.now a.site.now.index a.site.now.relocation c.decide_part.result c.requires.there c.decide_part.ensures.decision
