@@ -82,34 +82,20 @@ may_delete phase = false
 abbrev pub placed_facts : Phase → OutputFacts → Addresses → SymbolFacts → Symbol → ℕ → ℤ → Bool
     → LinkFacts
 placed_facts phase output addresses symbol value offset addend marked =
-    record {
-      is_local = symbol.is_local;
-      is_ifunc = symbol.is_ifunc;
-      is_undefined_weak = symbol.is_undefined_weak;
-      has_fixed_address = output.is_fixed || has_own_address symbol;
+    record (facts_of output symbol addend marked) {
       is_pcrel_link_time_constant = (output.is_fixed || not (has_own_address symbol))
           && not symbol.is_undefined_weak;
       is_executable = is_executable_in phase output symbol;
-      has_local_exec_base = true;
-      may_compress = false;
       is_relaxable = marked && may_delete phase;
       has_got_high_part = true;
       is_label_relaxable = marked;
       toc_base_is_exclusive = true;
-      may_change_toc = may_change_toc symbol;
-      group_fits = true;
       has_addresses = true;
-      operands = record {
-        addend = addend;
+      operands = record (facts_of output symbol addend marked).operands {
         symbol = address_in addresses value;
         place = sum_64 addresses.section offset;
-        got_entry = 0;
         got_base = addresses.got_base;
-        plt_entry = 0;
-        symbol_size = 0;
         tls_base = addresses.thread_origin;
-        has_got_entry = false;
-        has_plt_entry = false;
         has_tls_base = addresses.has_tls;
       };
     }

@@ -1,9 +1,7 @@
 //! What a linker knows of symbols and of the output, and what a rewrite is chosen by.
 
 ghost use Rattle.std.specs.Prelude.{◌≡◌, ◌||◌};
-ghost use Rattle.linker_rewriting.specs.Facts.{facts_of, placed_facts, address_in, has_own_address};
-ghost use Rattle.linker_rewriting.specs.Facts.{is_executable_in, facts_at, link_facts};
-ghost use Rattle.linker_rewriting.specs.Facts.{context_of, may_change_toc, may_delete};
+ghost use Rattle.linker_rewriting.specs.Facts as spec;
 
 use crate::phases::Phase;
 use linker_section::facts::{Addresses, Symbol};
@@ -57,7 +55,7 @@ pub(crate) const NO_ADDRESSES: Addresses = Addresses {
 /// Whether a symbol's address is a number, wherever the output is loaded.
 #[inline(always)]
 fn has_own_address(symbol: &SymbolFacts) -> bool
-    ensures { result ≡ has_own_address symbol.now }
+    ensures { result ≡ spec.has_own_address symbol.now }
 {
     symbol.is_absolute || symbol.is_undefined_weak
 }
@@ -65,7 +63,7 @@ fn has_own_address(symbol: &SymbolFacts) -> bool
 /// Whether a call of a symbol may return with another TOC pointer.
 #[inline(always)]
 pub(crate) fn may_change_toc(symbol: &SymbolFacts) -> bool
-    ensures { result ≡ may_change_toc symbol.now }
+    ensures { result ≡ spec.may_change_toc symbol.now }
 {
     let is_known = symbol.is_local || symbol.is_undefined_weak;
     symbol.is_ifunc || !is_known || symbol.other >> 5 == 1
@@ -80,7 +78,7 @@ pub(crate) fn facts_of(
     addend: i64,
     marked: bool,
 ) -> LinkFacts
-    ensures { result ≡ facts_of output.now symbol.now addend marked }
+    ensures { result ≡ spec.facts_of output.now symbol.now addend marked }
 {
     let has_own_address = has_own_address(symbol);
     LinkFacts {
@@ -137,7 +135,7 @@ pub struct RelaxContext<'a> {
 /// S, which counts as the thread pointer's address of a thread-local symbol that nothing defines.
 #[inline(always)]
 pub(crate) fn address_in(addresses: &Addresses, value: &Symbol) -> u64
-    ensures { result ≡ address_in addresses.now value.now }
+    ensures { result ≡ spec.address_in addresses.now value.now }
 {
     if !value.is_undefined_weak {
         value.address
@@ -152,7 +150,7 @@ pub(crate) fn address_in(addresses: &Addresses, value: &Symbol) -> u64
 /// offsets from the thread pointer.
 #[inline(always)]
 fn is_executable_in(phase: Phase, output: &OutputFacts, symbol: &SymbolFacts) -> bool
-    ensures { result ≡ is_executable_in phase output.now symbol.now }
+    ensures { result ≡ spec.is_executable_in phase output.now symbol.now }
 {
     match phase {
         Phase::TlsLocalExec => output.is_executable && symbol.is_local && !symbol.is_ifunc,
@@ -163,7 +161,7 @@ fn is_executable_in(phase: Phase, output: &OutputFacts, symbol: &SymbolFacts) ->
 /// Whether instructions may be deleted in a phase.
 #[inline(always)]
 fn may_delete(phase: Phase) -> bool
-    ensures { result ≡ may_delete phase }
+    ensures { result ≡ spec.may_delete phase }
 {
     matches!(phase, Phase::TlsLocalExec)
 }
@@ -179,63 +177,29 @@ fn placed_facts(
     addend: i64,
     marked: bool,
 ) -> LinkFacts
-    ensures { result ≡ placed_facts context.now.phase context.now.output.now
+    ensures { result ≡ spec.placed_facts context.now.phase context.now.output.now
         context.now.addresses.now symbol.now value.now offset addend marked }
 {
     let (phase, output, addresses) = (context.phase, context.output, context.addresses);
-    let has_own_address = has_own_address(symbol);
-    let is_near = output.is_fixed || !has_own_address;
+    let is_near = output.is_fixed || !has_own_address(symbol);
+    let facts = facts_of(output, symbol, addend, marked);
     LinkFacts {
-        is_local: symbol.is_local,
-        is_ifunc: symbol.is_ifunc,
-        is_undefined_weak: symbol.is_undefined_weak,
-        has_fixed_address: output.is_fixed || has_own_address,
         is_pcrel_link_time_constant: is_near && !symbol.is_undefined_weak,
         is_executable: is_executable_in(phase, output, symbol),
-        has_local_exec_base: true,
-        may_compress: false,
         is_relaxable: marked && may_delete(phase),
         has_got_high_part: true,
         is_label_relaxable: marked,
         toc_base_is_exclusive: true,
-        may_change_toc: may_change_toc(symbol),
-        group_fits: true,
         has_addresses: true,
         operands: Operands {
-            addend,
             symbol: address_in(addresses, value),
             place: addresses.section.wrapping_add(offset),
-            got_entry: 0,
             got_base: addresses.got_base,
-            plt_entry: 0,
-            symbol_size: 0,
             tls_base: addresses.thread_origin,
-            has_got_entry: false,
-            has_plt_entry: false,
             has_tls_base: addresses.has_tls,
+            ..facts.operands
         },
-    }
-}
-
-/// The facts of a relocation of a symbol in a phase, as `facts_at` says.
-#[inline(always)]
-fn facts_at(
-    context: &RelaxContext<'_>,
-    relocation: &Rela,
-    subject: &Rela,
-    marked: bool,
-    symbol: &SymbolFacts,
-) -> Option<LinkFacts>
-    ensures { result ≡ facts_at context.now.phase context.now.output.now context.now.addresses.now
-        context.now.values.now relocation.now subject.now marked symbol.now }
-{
-    match context.phase {
-        Phase::PreLayout => Some(facts_of(context.output, symbol, subject.addend, marked)),
-        _ => {
-            let value = context.values.get(subject.symbol as usize)?;
-            let (offset, addend) = (relocation.offset, subject.addend);
-            Some(placed_facts(context, symbol, value, offset, addend, marked))
-        }
+        ..facts
     }
 }
 
@@ -248,8 +212,16 @@ pub(crate) fn link_facts(
     subject: &Rela,
     marked: bool,
 ) -> Option<LinkFacts>
-    ensures { result ≡ link_facts (context_of context.now) relocation.now subject.now marked }
+    ensures { result ≡ spec.link_facts (spec.context_of context.now) relocation.now subject.now
+        marked }
 {
     let symbol = context.symbols.get(subject.symbol as usize)?;
-    facts_at(context, relocation, subject, marked, symbol)
+    match context.phase {
+        Phase::PreLayout => Some(facts_of(context.output, symbol, subject.addend, marked)),
+        _ => {
+            let value = context.values.get(subject.symbol as usize)?;
+            let (offset, addend) = (relocation.offset, subject.addend);
+            Some(placed_facts(context, symbol, value, offset, addend, marked))
+        }
+    }
 }
