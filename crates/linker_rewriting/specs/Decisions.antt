@@ -1,7 +1,7 @@
 -- What becomes of a section's relocations and of their instructions.
 use Rattle.std.specs.Prelude.{◌≡◌, ℕ, zero, suc, ◌+◌, ◌-◌, ◌*◌, ◌^◌, ◌%◌, ◌<◌, ◌≤◌, ◌/◌, ◌⊎◌, ◌++◌}
 use Rattle.std.specs.Prelude.{max, Bool, true, false, IsTrue, ◌↔◌, List, [], ◌∷◌, length, get_or}
-use Rattle.std.specs.Prelude.{Option, Some, None, is_some, ◌≢◌, ◌==◌}
+use Rattle.std.specs.Prelude.{Option, Some, None, is_some, ◌≢◌, ◌==◌, All, take, drop}
 use Rattle.linker_rewriting.specs.Imports.{Architecture, Choice, Consumed, Decision, DeletedBytes}
 use Rattle.linker_rewriting.specs.Imports.{FirstOfPair, Group, Grouped, IfGroupMatches, Independent}
 use Rattle.linker_rewriting.specs.Imports.{Kept, Labelled, NotRelaxable, NotSurveyed, OutputFacts}
@@ -210,6 +210,17 @@ AllCanBeMade bytes section decisions limit =
 abbrev pub AllMatch : List ℕ → List ℕ → List Decision → ℕ → Type 0
 AllMatch bytes section decisions limit =
     (n : ℕ) → n < limit → Matches (decision_at decisions n) section (relocation_in bytes n).offset
+
+-- ---- elements at the indexes of relocations
+
+-- each of them is so
+abbrev pub EachIs : {D : Type 0} → (D → Type 0) → List ℕ → List D → Type 0
+EachIs Is bytes elements = All Is (take (length bytes / 24) elements)
+
+-- all others stay
+abbrev pub RestStays : {D : Type 0} → List ℕ → List D → List D → Type 0
+RestStays bytes before after =
+    drop (length bytes / 24) after ≡ drop (length bytes / 24) before
 
 -- ---- where bytes are rewritten and deleted
 

@@ -3,9 +3,7 @@
 ghost use Rattle.std.specs.Prelude.{◌≡◌, ◌+◌, ◌<◌, ◌≤◌, slice_get, IfSome, true};
 ghost use Rattle.linker_utils.specs.Relaxations.{relaxation_skipped};
 ghost use Rattle.linker_section.specs.Relocations.{relocation_at};
-ghost use Rattle.linker_rewriting.specs.Candidates.{IsCallIn, IsTaken, IsCandidate, IsMatched};
-ghost use Rattle.linker_rewriting.specs.Candidates.{IsCandidateWith, calls_tls_get_addr, at_base};
-ghost use Rattle.linker_rewriting.specs.Candidates.{deletes_within, own_facts};
+ghost use Rattle.linker_rewriting.specs.Candidates as spec;
 ghost use Rattle.linker_rewriting.specs.Decisions.{IsThere};
 ghost use Rattle.linker_rewriting.specs.declared.decisions.Decision.TheVariants.{Rewritten};
 ghost use Rattle.linker_rewriting.specs.Facts.{context_of};
@@ -23,7 +21,7 @@ use linker_utils::elf::{Architecture, Choice, LinkFacts, Operands};
 /// Whether the symbol at an index is `__tls_get_addr`.
 #[inline(always)]
 pub(crate) fn is_tls_get_addr(symbols: &[SymbolFacts], symbol: u32) -> bool
-    ensures { result ≡ calls_tls_get_addr (slice_get symbols.now symbol) }
+    ensures { result ≡ spec.calls_tls_get_addr (slice_get symbols.now symbol) }
 {
     match symbols.get(symbol as usize) {
         Some(symbol) => symbol.is_tls_get_addr,
@@ -34,7 +32,7 @@ pub(crate) fn is_tls_get_addr(symbols: &[SymbolFacts], symbol: u32) -> bool
 /// Whether a relocation is that of a call of `__tls_get_addr` n bytes after an offset.
 #[inline(always)]
 fn is_call(context: &RelaxContext<'_>, offset: u64, distance: u64, next: Option<Rela>) -> bool
-    ensures { IsCallIn context.now.architecture context.now.symbols.now offset distance next
+    ensures { spec.IsCallIn context.now.architecture context.now.symbols.now offset distance next
         result }
 {
     let Some(next) = next else {
@@ -49,8 +47,9 @@ fn is_call(context: &RelaxContext<'_>, offset: u64, distance: u64, next: Option<
 #[inline(always)]
 fn finds_next(context: &RelaxContext<'_>, site: &Site<'_>, kind: Relaxation) -> bool
     requires { site.now.index < usize.MAX }
-    ensures { IsTaken context.now.architecture context.now.symbols.now site.now.relocations.now
-        site.now.index site.now.relocation.offset (relaxation_skipped kind) result }
+    ensures { spec.IsTaken context.now.architecture context.now.symbols.now
+        site.now.relocations.now site.now.index site.now.relocation.offset
+        (relaxation_skipped kind) result }
 {
     match kind.skipped_offset() {
         Some(distance) => {
@@ -64,7 +63,7 @@ fn finds_next(context: &RelaxContext<'_>, site: &Site<'_>, kind: Relaxation) -> 
 /// Whether what is deleted after a rewrite at an offset is in the section.
 #[inline(always)]
 pub(crate) fn deletes_within(section: &[u8], offset: u64, deleted: Option<DeletedBytes>) -> bool
-    ensures { result ≡ deletes_within section.now offset deleted }
+    ensures { result ≡ spec.deletes_within section.now offset deleted }
 {
     let Some(deleted) = deleted else {
         return true;
@@ -89,7 +88,7 @@ pub(crate) fn candidate_by(
     facts: &Option<LinkFacts>,
 ) -> Option<Choice<Relaxation, u32>>
     requires { site.now.index + 3 ≤ usize.MAX }
-    ensures candidate { IsCandidateWith (context_of context.now) site.now.relocations.now
+    ensures candidate { spec.IsCandidateWith (context_of context.now) site.now.relocations.now
         site.now.section.now site.now.index site.now.relocation facts.now result }
     ensures there { IfSome result
         (λ chosen. IsThere (Rewritten chosen) site.now.section.now site.now.relocation.offset) }
@@ -120,8 +119,8 @@ pub(crate) fn candidate_by(
 #[inline(always)]
 fn own_facts(context: &RelaxContext<'_>, site: &Site<'_>) -> Option<LinkFacts>
     requires { site.now.index + 1 ≤ usize.MAX }
-    ensures { result ≡ own_facts (context_of context.now) site.now.relocations.now site.now.index
-        site.now.relocation }
+    ensures { result ≡ spec.own_facts (context_of context.now) site.now.relocations.now
+        site.now.index site.now.relocation }
 {
     let marked = is_marked_in(context.phase, context.architecture, site);
     link_facts(context, &site.relocation, &site.relocation, marked)
@@ -135,7 +134,7 @@ pub(crate) fn candidate(
     site: &Site<'_>,
 ) -> Option<Choice<Relaxation, u32>>
     requires { site.now.index + 3 ≤ usize.MAX }
-    ensures candidate { IsCandidate (context_of context.now) site.now.relocations.now
+    ensures candidate { spec.IsCandidate (context_of context.now) site.now.relocations.now
         site.now.section.now site.now.index site.now.relocation result }
     ensures there { IfSome result
         (λ chosen. IsThere (Rewritten chosen) site.now.section.now site.now.relocation.offset) }
@@ -146,7 +145,7 @@ pub(crate) fn candidate(
 /// The same facts of what is where the GOT's or the TOC's base is, at the distance 0.
 #[inline(always)]
 fn at_base(facts: Option<LinkFacts>) -> Option<LinkFacts>
-    ensures { result ≡ at_base facts }
+    ensures { result ≡ spec.at_base facts }
 {
     let facts = facts?;
     Some(LinkFacts {
@@ -164,7 +163,7 @@ fn at_base(facts: Option<LinkFacts>) -> Option<LinkFacts>
 #[inline(always)]
 pub(crate) fn is_matched(context: &RelaxContext<'_>, site: &Site<'_>) -> bool
     requires { site.now.index + 3 ≤ usize.MAX }
-    ensures { IsMatched (context_of context.now) site.now.relocations.now site.now.section.now
+    ensures { spec.IsMatched (context_of context.now) site.now.relocations.now site.now.section.now
         site.now.index site.now.relocation result }
 {
     candidate_by(context, site, &at_base(own_facts(context, site))).is_some()

@@ -1,14 +1,12 @@
 //! Whether decisions can be made of a section's bytes as they are, by a number of the bytes that
 //! they were made on.
 
-ghost use Rattle.std.specs.Prelude.{◌≡◌, ◌↔◌, ◌≤◌, ◌<◌, ◌+◌, ◌/◌, length, map, take, drop, All};
+ghost use Rattle.std.specs.Prelude.{◌≡◌, ◌↔◌, ◌≤◌, ◌<◌, ◌+◌, ◌/◌, length, map};
 ghost use Rattle.std.specs.Prelude.{IfErr, OnOk, IsTrue, true, false};
 ghost use Rattle.linker_base.specs.Rewrite.{CanRewrite};
 ghost use Rattle.linker_base.specs.RewriteWindow.{window_of_rewrite};
 ghost use Rattle.linker_rewriting.specs.Candidates.{deletes_within};
-ghost use Rattle.linker_rewriting.specs.Decisions.{AllCanBeMade, AllKeepBytes, AllStillFit};
-ghost use Rattle.linker_rewriting.specs.Decisions.{AreApart, IsUnmade, StillFits};
-ghost use Rattle.linker_rewriting.specs.Decisions.{bytes_number, window_number, turned};
+ghost use Rattle.linker_rewriting.specs.Decisions as spec;
 ghost use Rattle.linker_rewriting.specs.Inner.Left.{AreKept};
 ghost use Rattle.linker_utils.specs.Relaxations.{relaxation_rewrite, relaxation_deleted};
 ghost use Rattle.linker_utils.specs.Relaxations.{relaxation_matches};
@@ -23,7 +21,7 @@ use linker_utils::elf::InstructionRewrite;
 /// The bits of a number, turned up by 8.
 #[inline(always)]
 fn turned(number: u32) -> u32
-    ensures { result ≡ turned number }
+    ensures { result ≡ spec.turned number }
 {
     number % (1 << 24) * (1 << 8) + number / (1 << 24)
 }
@@ -31,7 +29,7 @@ fn turned(number: u32) -> u32
 /// A number of the bytes of a section from a place on, which is another where one of them is.
 fn bytes_number(section: &[u8], start: u64, len: u64) -> u32
     requires { start + len ≤ length section.now }
-    ensures { result ≡ bytes_number section.now start len }
+    ensures { result ≡ spec.bytes_number section.now start len }
 {
     let mut number: u32 = 0;
     for index in 0..len {
@@ -44,7 +42,7 @@ fn bytes_number(section: &[u8], start: u64, len: u64) -> u32
 #[inline(always)]
 fn window_number(kind: Relaxation, section: &[u8], offset: u64) -> u32
     requires { CanRewrite (relaxation_rewrite kind) section.now offset }
-    ensures { result ≡ window_number (window_of_rewrite (relaxation_rewrite kind)) section.now
+    ensures { result ≡ spec.window_number (window_of_rewrite (relaxation_rewrite kind)) section.now
         offset }
 {
     let window = kind.window();
@@ -68,7 +66,7 @@ fn is_there(kind: Relaxation, section: &[u8], offset: u64) -> bool
 /// of bytes with a number.
 #[inline(always)]
 fn fits(decision: &Decision, number: u32, section: &[u8], offset: u64) -> bool
-    ensures { IsTrue result ↔ StillFits decision.now number section.now offset }
+    ensures { IsTrue result ↔ spec.StillFits decision.now number section.now offset }
 {
     match decision {
         Decision::Rewritten(choice) => {
@@ -90,15 +88,14 @@ pub(crate) fn keep_bytes<D: AsKeptDecision>(
     requires left { changes ≡ false → AreKept (map D.decision decisions.old)
         (length relocations.now / 24) }
     requires enough { length relocations.now / 24 ≤ length decisions.old }
-    requires made { AllCanBeMade relocations.now section.now (map D.decision decisions.old)
+    requires made { spec.AllCanBeMade relocations.now section.now (map D.decision decisions.old)
         (length relocations.now / 24) }
-    requires form { All D.is_written (take (length relocations.now / 24) decisions.old) }
+    requires form { spec.EachIs D.is_written relocations.now decisions.old }
     ensures decisions { map D.decision decisions.new ≡ map D.decision decisions.old }
-    ensures bytes { AllKeepBytes relocations.now section.now (map D.decision decisions.new)
+    ensures bytes { spec.AllKeepBytes relocations.now section.now (map D.decision decisions.new)
         (map D.bytes decisions.new) (length relocations.now / 24) }
-    ensures form { All D.is_kept (take (length relocations.now / 24) decisions.new) }
-    ensures others_stay { drop (length relocations.now / 24) decisions.new
-        ≡ drop (length relocations.now / 24) decisions.old }
+    ensures form { spec.EachIs D.is_kept relocations.now decisions.new }
+    ensures others_stay { spec.RestStays relocations.now decisions.old decisions.new }
 {
     if !changes {
         return;
@@ -119,12 +116,12 @@ pub(crate) fn check_decisions<D: AsKeptDecision>(
     decisions: &[D],
 ) -> Result<(), DecisionError>
     ensures enough { OnOk result (length relocations.now / 24 ≤ length decisions.now) }
-    ensures fit { OnOk result (AllStillFit relocations.now section.now
+    ensures fit { OnOk result (spec.AllStillFit relocations.now section.now
         (map D.decision decisions.now) (map D.bytes decisions.now)
         (length relocations.now / 24)) }
-    ensures apart { OnOk result (AreApart relocations.now (map D.decision decisions.now)
+    ensures apart { OnOk result (spec.AreApart relocations.now (map D.decision decisions.now)
         (length relocations.now / 24)) }
-    ensures unmade { IfErr result (IsUnmade relocations.now section.now
+    ensures unmade { IfErr result (spec.IsUnmade relocations.now section.now
         (map D.decision decisions.now) (map D.bytes decisions.now)) }
 {
     let len = relocations_len(relocations);

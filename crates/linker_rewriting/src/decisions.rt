@@ -1,15 +1,10 @@
 //! What becomes of each relocation of a section and of its instruction.
 
 ghost use Rattle.std.specs.Prelude.{◌≡◌, ◌<◌, ◌≤◌, ◌+◌, ◌-◌, ◌/◌, length, map, IfSome, IfErr, ℕ};
-ghost use Rattle.std.specs.Prelude.{OnOk, IfOk, All, take, drop, true, false};
+ghost use Rattle.std.specs.Prelude.{OnOk, IfOk, true, false};
 ghost use Rattle.linker_rewriting.specs.declared.decisions.Decision.{Decision as decisions};
 ghost use Rattle.linker_section.specs.Relocations.{relocation_in, relocation_at};
-ghost use Rattle.linker_rewriting.specs.Decisions.{takes_next, window_of, IsDecision, IsThere};
-ghost use Rattle.linker_rewriting.specs.Decisions.{deleted_of, deleted_end, start_by, end_by};
-ghost use Rattle.linker_rewriting.specs.Decisions.{AreAllDecided, IsDecidedAfter, IsNotSurveyed};
-ghost use Rattle.linker_rewriting.specs.Decisions.{decision_at};
-ghost use Rattle.linker_rewriting.specs.Decisions.{IsEndAfter, IsRejectedIn, IsRewrittenAt};
-ghost use Rattle.linker_rewriting.specs.Decisions.{label_decision, IsLabelDecision, takes_symbol};
+ghost use Rattle.linker_rewriting.specs.Decisions as spec;
 ghost use Rattle.linker_rewriting.specs.Facts.{context_of};
 ghost use Rattle.linker_rewriting.specs.Inner.Calls.{IsLeft};
 ghost use Rattle.linker_rewriting.specs.Inner.Left.{AreKept};
@@ -80,7 +75,7 @@ pub trait AsDecision: Copy {
 #[inline(always)]
 pub(crate) fn decision_in<D: AsDecision>(decisions: &[D], index: usize) -> Decision
     requires { index < length decisions.now }
-    ensures { result ≡ decision_at (map D.decision decisions.now) index }
+    ensures { result ≡ spec.decision_at (map D.decision decisions.now) index }
 {
     decisions[index].as_decision()
 }
@@ -200,11 +195,12 @@ pub enum RewritingError {
     /// There are fewer decisions than relocations, or less room for deletions than there are.
     TooShort,
     /// The relocation with this index can't be rewritten, though its group doesn't stay: the
-    /// section was surveyed with other facts, or not at all.
+    /// section wasn't surveyed into the table, or with other facts.
     NotSurveyed(usize),
     /// Bytes that would be rewritten or deleted at the relocation with this index are also
-    /// rewritten or deleted at one before it, or lie below such bytes; or its field, where no
-    /// rewrite takes it along, has a byte that the rewrite at another one writes or deletes.
+    /// rewritten or deleted at one before it, or lie below such bytes. Where no other error is, it
+    /// is the first whose field, where no rewrite takes it along, has a byte that the rewrite at
+    /// another one writes or deletes.
     Overlaps(usize),
     /// The tables of facts and of addresses contradict each other about the symbol with this index:
     /// it is local, and undefined and weak, or `other` isn't the same in both. That a thread-local
@@ -217,8 +213,9 @@ pub enum RewritingError {
 pub enum DecisionError {
     /// There are fewer decisions than relocations.
     TooShort,
-    /// The instructions at the relocation with this index aren't those that its decision was made
-    /// on or rewrites, or what it deletes isn't in the section.
+    /// The bytes that the rewrite at the relocation with this index overwrites have another number
+    /// than is kept, or the instructions aren't those that it is meant for, as
+    /// `Relaxation::matches` says, or what it deletes isn't in the section.
     Changed(usize),
     /// Bytes that would be rewritten or deleted at the relocation with this index are also
     /// rewritten or deleted at one before it, or lie below such bytes.
@@ -229,7 +226,7 @@ impl Decision {
     /// Whether the next relocation goes, since the rewrite takes it along.
     #[inline(always)]
     pub fn takes_next(&self) -> bool
-        ensures { result ≡ takes_next self.now }
+        ensures { result ≡ spec.takes_next self.now }
     {
         match self {
             Decision::Rewritten(choice) => choice.kind.skipped_offset().is_some(),
@@ -242,7 +239,7 @@ impl Decision {
     /// none.
     #[inline(always)]
     pub fn window(&self) -> RewriteWindow
-        ensures { result ≡ window_of self.now }
+        ensures { result ≡ spec.window_of self.now }
     {
         match self {
             Decision::Rewritten(choice) => choice.kind.window(),
@@ -254,7 +251,7 @@ impl Decision {
     /// The bytes that are deleted after the rewrite, beside the relocation's offset.
     #[inline(always)]
     pub fn deleted(&self) -> Option<DeletedBytes>
-        ensures { result ≡ deleted_of self.now }
+        ensures { result ≡ spec.deleted_of self.now }
     {
         match self {
             Decision::Rewritten(choice) => choice.kind.deleted(),
@@ -267,25 +264,21 @@ impl Decision {
 /// Whether the relocation after one, if there is one, is alone and is rewritten.
 fn is_next_rewritten(context: &RelaxContext<'_>, site: &Site<'_>) -> bool
     requires { site.now.index + 4 ≤ usize.MAX }
-    ensures { IsRewrittenAt (context_of context.now) site.now.relocations.now site.now.section.now
-        (site.now.index + 1) (relocation_at site.now.relocations.now (site.now.index + 1)) result }
+    ensures { spec.IsRewrittenAt (context_of context.now) site.now.relocations.now
+        site.now.section.now (site.now.index + 1) (relocation_at site.now.relocations.now
+        (site.now.index + 1)) result }
 {
     let index = site.index + 1;
     let Some(relocation) = relocation_at(site.relocations, index) else {
         return false;
     };
+    let next = Site {
+        index,
+        relocation,
+        ..*site
+    };
     match scope_in(context.architecture, context.phase, relocation.r_type) {
-        Scope::Independent => {
-            candidate(
-                context,
-                &Site {
-                    index,
-                    relocation,
-                    ..*site
-                },
-            )
-            .is_some()
-        }
+        Scope::Independent => candidate(context, &next).is_some(),
         _ => false,
     }
 }
@@ -294,7 +287,7 @@ fn is_next_rewritten(context: &RelaxContext<'_>, site: &Site<'_>) -> bool
 /// after the rewrite.
 #[inline(always)]
 fn takes_symbol(phase: Phase, r_type: u32) -> bool
-    ensures { result ≡ takes_symbol phase r_type }
+    ensures { result ≡ spec.takes_symbol phase r_type }
 {
     match phase {
         Phase::TlsLocalExec => true,
@@ -316,7 +309,7 @@ pub(crate) fn subject_of(relocation: &Rela) -> Subject
 /// What rewrites the instruction of a relocation of a label with a high part.
 #[inline(always)]
 fn label_decision(phase: Phase, chosen: Choice<Relaxation, u32>, high: &Rela) -> Decision
-    ensures { result ≡ label_decision phase chosen high.now }
+    ensures { result ≡ spec.label_decision phase chosen high.now }
 {
     if takes_symbol(phase, chosen.relocation) {
         Decision::RewrittenWithSymbol(chosen, subject_of(high))
@@ -334,9 +327,9 @@ fn decide_label(stays: bool, context: &RelaxContext<'_>, site: &Site<'_>) -> Dec
         site.now.relocation.r_type true }
     requires noted { IsLabelNote (context_of context.now) site.now.relocations.now
         site.now.section.now site.now.relocation stays }
-    ensures decision { IsLabelDecision (context_of context.now) site.now.relocations.now
+    ensures decision { spec.IsLabelDecision (context_of context.now) site.now.relocations.now
         site.now.section.now site.now.index site.now.relocation result }
-    ensures there { IsThere result site.now.section.now site.now.relocation.offset }
+    ensures there { spec.IsThere result site.now.section.now site.now.relocation.offset }
 {
     if stays {
         return Decision::Kept;
@@ -346,11 +339,8 @@ fn decide_label(stays: bool, context: &RelaxContext<'_>, site: &Site<'_>) -> Dec
     };
     match label_candidate(context, site, high) {
         Some(chosen) => {
-            label_decision(
-                context.phase,
-                chosen,
-                &relocation_in(site.relocations, high),
-            )
+            let part = relocation_in(site.relocations, high);
+            label_decision(context.phase, chosen, &part)
         }
         None => Decision::Kept,
     }
@@ -365,10 +355,10 @@ fn decide(rule: &Groups<'_>, stays: bool, site: &Site<'_>) -> Option<Decision>
     requires noted { IsInLabel rule.now.context.now.architecture rule.now.context.now.phase
         site.now.relocation.r_type true → IsLabelNote (context_of rule.now.context.now)
         site.now.relocations.now site.now.section.now site.now.relocation stays }
-    ensures decision { IsDecision (context_of rule.now.context.now) rule.now.kept.now
+    ensures decision { spec.IsDecision (context_of rule.now.context.now) rule.now.kept.now
         site.now.relocations.now site.now.section.now site.now.index site.now.relocation result }
     ensures there { IfSome result
-        (λ d. IsThere d site.now.section.now site.now.relocation.offset) }
+        (λ d. spec.IsThere d site.now.section.now site.now.relocation.offset) }
 {
     let (context, symbol) = (rule.context, site.relocation.symbol);
     let is_grouped = match scope_in(context.architecture, context.phase, site.relocation.r_type) {
@@ -404,8 +394,8 @@ fn decide(rule: &Groups<'_>, stays: bool, site: &Site<'_>) -> Option<Decision>
 /// Where what is deleted ends; 0 if nothing is.
 #[inline(always)]
 fn deleted_end(offset: u64, deleted: Option<DeletedBytes>) -> u64
-    requires { deleted_end offset deleted ≤ u64.MAX }
-    ensures { result ≡ deleted_end offset deleted }
+    requires { spec.deleted_end offset deleted ≤ u64.MAX }
+    ensures { result ≡ spec.deleted_end offset deleted }
 {
     match deleted {
         Some(deleted) => offset + (deleted.start + u64::from(deleted.count)),
@@ -416,8 +406,8 @@ fn deleted_end(offset: u64, deleted: Option<DeletedBytes>) -> u64
 /// Where the bytes begin that a decision rewrites, and where those end that it rewrites or deletes.
 #[inline(always)]
 pub(crate) fn span_of(decision: &Decision, offset: u64) -> (u64, u64)
-    requires { end_by decision.now offset ≤ u64.MAX }
-    ensures { result ≡ (start_by decision.now offset, end_by decision.now offset) }
+    requires { spec.end_by decision.now offset ≤ u64.MAX }
+    ensures { result ≡ (spec.start_by decision.now offset, spec.end_by decision.now offset) }
 {
     let window = decision.window();
     let start = offset.saturating_sub(window.back);
@@ -430,7 +420,7 @@ pub(crate) fn span_of(decision: &Decision, offset: u64) -> (u64, u64)
 /// those before them do. None if they aren't after those.
 #[inline(always)]
 pub(crate) fn end_after(start: u64, own: u64, end: u64) -> Option<u64>
-    ensures { IsEndAfter start own end result }
+    ensures { spec.IsEndAfter start own end result }
 {
     if own <= start {
         return Some(end);
@@ -472,11 +462,11 @@ fn is_left(rule: &Groups<'_>, is_taken: bool, relocations: &[u8], index: usize) 
 }
 
 impl Rule for Groups<'_> {
-    ghost decides = { λ s bytes section. IsDecidedAfter (context_of s.context.now) s.kept.now bytes
-        section };
+    ghost decides = { λ s bytes section. spec.IsDecidedAfter (context_of s.context.now) s.kept.now
+        bytes section };
 
-    ghost lacks = { λ s bytes section n. IsNotSurveyed (context_of s.context.now) s.kept.now bytes
-        section n (relocation_in bytes n) };
+    ghost lacks = { λ s bytes section n. spec.IsNotSurveyed (context_of s.context.now) s.kept.now
+        bytes section n (relocation_in bytes n) };
 
     ghost is_valid = { λ s bytes. (s.architecture ≡ s.context.now.architecture)
         × (s.phase ≡ s.context.now.phase) };
@@ -485,9 +475,9 @@ impl Rule for Groups<'_> {
         s.context.now.phase (relocation_in bytes n).r_type true
         → IsLabelNote (context_of s.context.now) bytes section (relocation_in bytes n) stays };
 
-    ghost start = { start_by };
+    ghost start = { spec.start_by };
 
-    ghost end = { end_by };
+    ghost end = { spec.end_by };
 
     #[inline(always)]
     fn leaves(&self, is_taken: bool, relocations: &[u8], index: usize) -> bool {
@@ -522,17 +512,15 @@ fn decide_all<D: AsDecision>(
     requires architecture { architecture ≡ context.now.architecture }
     requires phase { phase ≡ context.now.phase }
     ensures enough { OnOk result (length relocations.now / 24 ≤ length decisions.old) }
-    ensures decided { OnOk result (AreAllDecided (IsDecidedAfter (context_of context.now) kept.now
-        relocations.now section.now) start_by end_by context.now.architecture relocations.now
-        section.now (map D.decision decisions.new)) }
+    ensures decided { OnOk result (spec.AreAllDecided (spec.IsDecidedAfter (context_of context.now)
+        kept.now relocations.now section.now) spec.start_by spec.end_by context.now.architecture
+        relocations.now section.now (map D.decision decisions.new)) }
     ensures left { IfOk result (λ changes. changes ≡ false
         → AreKept (map D.decision decisions.new) (length relocations.now / 24)) }
-    ensures form { OnOk result
-        (All D.is_written (take (length relocations.now / 24) decisions.new)) }
-    ensures others_stay { drop (length relocations.now / 24) decisions.new
-        ≡ drop (length relocations.now / 24) decisions.old }
-    ensures rejected { IfErr result (IsRejectedIn (context_of context.now) kept.now relocations.now
-        section.now (map D.decision decisions.new)) }
+    ensures form { OnOk result (spec.EachIs D.is_written relocations.now decisions.new) }
+    ensures others_stay { spec.RestStays relocations.now decisions.old decisions.new }
+    ensures rejected { IfErr result (spec.IsRejectedIn (context_of context.now) kept.now
+        relocations.now section.now (map D.decision decisions.new)) }
 {
     if decisions.len() < relocations_len(relocations) {
         return Err(RewritingError::TooShort);
@@ -563,17 +551,15 @@ pub(crate) fn decide_section<D: AsDecision>(
     decisions: &mut [D],
 ) -> Result<bool, RewritingError>
     ensures enough { OnOk result (length relocations.now / 24 ≤ length decisions.old) }
-    ensures decided { OnOk result (AreAllDecided (IsDecidedAfter (context_of context.now) kept.now
-        relocations.now section.now) start_by end_by context.now.architecture relocations.now
-        section.now (map D.decision decisions.new)) }
+    ensures decided { OnOk result (spec.AreAllDecided (spec.IsDecidedAfter (context_of context.now)
+        kept.now relocations.now section.now) spec.start_by spec.end_by context.now.architecture
+        relocations.now section.now (map D.decision decisions.new)) }
     ensures left { IfOk result (λ changes. changes ≡ false
         → AreKept (map D.decision decisions.new) (length relocations.now / 24)) }
-    ensures form { OnOk result
-        (All D.is_written (take (length relocations.now / 24) decisions.new)) }
-    ensures others_stay { drop (length relocations.now / 24) decisions.new
-        ≡ drop (length relocations.now / 24) decisions.old }
-    ensures rejected { IfErr result (IsRejectedIn (context_of context.now) kept.now relocations.now
-        section.now (map D.decision decisions.new)) }
+    ensures form { OnOk result (spec.EachIs D.is_written relocations.now decisions.new) }
+    ensures others_stay { spec.RestStays relocations.now decisions.old decisions.new }
+    ensures rejected { IfErr result (spec.IsRejectedIn (context_of context.now) kept.now
+        relocations.now section.now (map D.decision decisions.new)) }
 {
     of_each!(
         context.architecture,

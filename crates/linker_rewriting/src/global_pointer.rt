@@ -2,27 +2,16 @@
 //! `auipc`: each low part takes x3 or x0 as its base, all of a symbol or none.
 
 ghost use Rattle.std.specs.Prelude.{◌≡◌, ◌↔◌, ◌+◌, ◌<◌, ◌≤◌, ◌/◌, ℕ, length, map, take, drop};
-ghost use Rattle.std.specs.Prelude.{IfSome, IfErr, IfOk, OnOk, OnErr, All, IsTrue, ◌&&◌};
+ghost use Rattle.std.specs.Prelude.{IfSome, IfErr, IfOk, OnOk, OnErr, IsTrue, ◌&&◌};
 ghost use Rattle.std.specs.Prelude.{◌==◌, true, MatchOption, None, ⊤};
 ghost use Rattle.std.specs.Int.{w32, from_le_bytes};
 ghost use Rattle.linker_rewriting.specs.Agreement.{Agree, IsContradiction};
-ghost use Rattle.linker_rewriting.specs.Decisions.{AllCanBeMade, IsThere, IsWithin};
-ghost use Rattle.linker_rewriting.specs.Decisions.{deletions_by, IsRejectedFirst};
+ghost use Rattle.linker_rewriting.specs.Decisions.{AllCanBeMade, IsThere, IsWithin, EachIs};
+ghost use Rattle.linker_rewriting.specs.Decisions.{RestStays, deletions_by, IsRejectedFirst};
 ghost use Rattle.linker_rewriting.specs.Facts.{context_of};
-ghost use Rattle.linker_rewriting.specs.GlobalPointer.{part_of, IsLabelled, IsSubject, IsMember};
-ghost use Rattle.linker_rewriting.specs.GlobalPointer.{is_near, is_bound, address_of, has_word};
-ghost use Rattle.linker_rewriting.specs.GlobalPointer.{is_reached, is_high_word, writes_none};
-ghost use Rattle.linker_rewriting.specs.GlobalPointer.{is_low_word, is_expected, fits};
-ghost use Rattle.linker_rewriting.specs.GlobalPointer.{IsKeepingSymbol, part_decision};
-ghost use Rattle.linker_rewriting.specs.GlobalPointer.{AreSymbolsSurveyed, IsPartDecided};
-ghost use Rattle.linker_rewriting.specs.GlobalPointer.{ArePartsRewrittenAs, ArePartsRejected};
-ghost use Rattle.linker_rewriting.specs.GlobalPointer.{MeansSymbolsUnsurveyed, relocation_by};
-ghost use Rattle.linker_rewriting.specs.GlobalPointer.{AreRelocationsBy, part_start, part_end};
-ghost use Rattle.linker_rewriting.specs.GlobalPointer.{DecidesPart, low_r_type, base_for, base_of};
-ghost use Rattle.linker_rewriting.specs.GlobalPointer.{is_placed, based_relocation, based_section};
-ghost use Rattle.linker_rewriting.specs.GlobalPointer.{section_based, AreBased, IsFirstUnplaced};
+ghost use Rattle.linker_rewriting.specs.GlobalPointer as spec;
 ghost use Rattle.linker_riscv64.specs.RiscVCalls.{word_at};
-ghost use Rattle.linker_riscv64.specs.RiscVFields.{opcode_of, funct3_of, rd_of, rs1_of};
+ghost use Rattle.linker_riscv64.specs.RiscVFields.{opcode_of, funct3_of};
 ghost use Rattle.linker_utils.specs.RiscVRewrites.{adds_low12, with_rs1};
 ghost use Rattle.linker_section.specs.Relocations.{relocation_in};
 ghost use Rattle.linker_section.specs.Values.{IsAscending};
@@ -68,7 +57,7 @@ pub const GPREL_S: u32 = 48;
 /// What the instruction of a relocation is of an address.
 #[inline(always)]
 fn part_of(architecture: Architecture, r_type: u32) -> Option<Part>
-    ensures { result ≡ part_of architecture r_type }
+    ensures { result ≡ spec.part_of architecture r_type }
 {
     match architecture {
         Architecture::RiscV => {
@@ -94,7 +83,7 @@ fn part_of(architecture: Architecture, r_type: u32) -> Option<Part>
 
 /// The high part at the label of a low part.
 fn labelled(context: &RelaxContext<'_>, relocations: &[u8], relocation: &Rela) -> Option<Rela>
-    ensures { IsLabelled context.now.addresses.now context.now.values.now relocations.now
+    ensures { spec.IsLabelled context.now.addresses.now context.now.values.now relocations.now
         relocation.now result }
 {
     let Some(at) = label_at(context, relocation) else {
@@ -115,7 +104,7 @@ fn part_subject(
     relocation: &Rela,
     part: Part,
 ) -> Option<Rela>
-    ensures { IsSubject context.now.addresses.now context.now.values.now relocations.now
+    ensures { spec.IsSubject context.now.addresses.now context.now.values.now relocations.now
         relocation.now part result }
 {
     match part {
@@ -130,7 +119,7 @@ fn member_of(
     relocations: &[u8],
     relocation: &Rela,
 ) -> Option<(Part, Rela)>
-    ensures { IsMember (context_of context.now) relocations.now relocation.now result }
+    ensures { spec.IsMember (context_of context.now) relocations.now relocation.now result }
 {
     let part = part_of(context.architecture, relocation.r_type)?;
     let subject = part_subject(context, relocations, relocation, part)?;
@@ -140,7 +129,7 @@ fn member_of(
 /// Whether 12 signed bits hold the distance of an address from another one.
 #[inline(always)]
 fn is_near(base: u64, address: u64) -> bool
-    ensures { result ≡ is_near base address }
+    ensures { result ≡ spec.is_near base address }
 {
     address.wrapping_sub(base).wrapping_add(0x800) < 0x1000
 }
@@ -148,7 +137,7 @@ fn is_near(base: u64, address: u64) -> bool
 /// Whether nothing replaces a symbol at run time, and its address is that of data or of code.
 #[inline(always)]
 fn is_bound(symbol: &SymbolFacts, value: &Symbol) -> bool
-    ensures { result ≡ is_bound symbol.now value.now }
+    ensures { result ≡ spec.is_bound symbol.now value.now }
 {
     (symbol.is_local || symbol.is_undefined_weak) && !symbol.is_ifunc && !value.is_thread_local
 }
@@ -156,7 +145,7 @@ fn is_bound(symbol: &SymbolFacts, value: &Symbol) -> bool
 /// S + A.
 #[inline(always)]
 fn address_of(addresses: &Addresses, relocation: &Rela, value: &Symbol) -> u64
-    ensures { result ≡ address_of addresses.now relocation.now value.now }
+    ensures { result ≡ spec.address_of addresses.now relocation.now value.now }
 {
     let addend = relocation.addend.cast_unsigned();
     address_in(addresses, value).wrapping_add(addend)
@@ -164,7 +153,7 @@ fn address_of(addresses: &Addresses, relocation: &Rela, value: &Symbol) -> u64
 
 /// Whether x3 or x0 reaches what a relocation refers to.
 fn is_reached(context: &RelaxContext<'_>, gp: u64, relocation: &Rela) -> bool
-    ensures { result ≡ is_reached (context_of context.now) gp relocation.now }
+    ensures { result ≡ spec.is_reached (context_of context.now) gp relocation.now }
 {
     let index = relocation.symbol as usize;
     match (context.symbols.get(index), context.values.get(index)) {
@@ -179,7 +168,7 @@ fn is_reached(context: &RelaxContext<'_>, gp: u64, relocation: &Rela) -> bool
 /// Whether four bytes from an offset on are in the section.
 #[inline(always)]
 fn has_word(section: &[u8], offset: u64) -> bool
-    ensures { result ≡ has_word section.now offset }
+    ensures { result ≡ spec.has_word section.now offset }
 {
     let section_len = section.len() as u64;
     4 <= section_len && offset <= section_len - 4
@@ -197,7 +186,7 @@ fn window_at(section: &[u8], offset: u64) -> u32
 /// Whether an instruction has an opcode, and is of another register than x0 and x3.
 #[inline(always)]
 fn is_high_word(r_type: u32, word: u32) -> bool
-    ensures { result ≡ is_high_word r_type word }
+    ensures { result ≡ spec.is_high_word r_type word }
 {
     opcode(word) == r_type && destination(word) != 0 && destination(word) != 3
 }
@@ -206,7 +195,7 @@ fn is_high_word(r_type: u32, word: u32) -> bool
 /// point.
 #[inline(always)]
 fn writes_none(word: u32) -> bool
-    ensures { result ≡ writes_none word }
+    ensures { result ≡ spec.writes_none word }
 {
     opcode(word) == 0x23 || opcode(word) == 0x27 || opcode(word) == 0x07
 }
@@ -226,7 +215,7 @@ fn adds_low(section: &[u8], offset: u64) -> bool
 #[inline(always)]
 fn is_low_at(section: &[u8], offset: u64) -> bool
     requires { offset + 4 ≤ length section.now }
-    ensures { result ≡ is_low_word (word_at section.now offset) }
+    ensures { result ≡ spec.is_low_word (word_at section.now offset) }
 {
     let word = word_at(section, offset);
     adds_low(section, offset)
@@ -235,19 +224,9 @@ fn is_low_at(section: &[u8], offset: u64) -> bool
         && (writes_none(word) || destination(word) != 3)
 }
 
-/// Whether the base of an instruction is what that of its high part writes.
-#[inline(always)]
-fn has_base(section: &[u8], offset: u64, high: u64) -> bool
-    requires { offset + 4 ≤ length section.now }
-    ensures { result ≡ (has_word section.now high
-        && (rs1_of (word_at section.now offset) == rd_of (word_at section.now high))) }
-{
-    has_word(section, high) && base(word_at(section, offset)) == destination(word_at(section, high))
-}
-
 /// Whether the instruction of a relocation is one of such a part.
 fn is_expected(section: &[u8], relocation: &Rela, part: Part, subject: &Rela) -> bool
-    ensures { result ≡ is_expected section.now relocation.now part subject.now }
+    ensures { result ≡ spec.is_expected section.now relocation.now part subject.now }
 {
     let offset = relocation.offset;
     if !has_word(section, offset) {
@@ -257,7 +236,9 @@ fn is_expected(section: &[u8], relocation: &Rela, part: Part, subject: &Rela) ->
         Part::High(r_type) => is_high_word(r_type, word_at(section, offset)),
         Part::Low(_) => is_low_at(section, offset),
         Part::Labelled(_) => {
-            is_low_at(section, offset) && has_base(section, offset, subject.offset)
+            is_low_at(section, offset)
+                && has_word(section, subject.offset)
+                && base(word_at(section, offset)) == destination(word_at(section, subject.offset))
         }
     }
 }
@@ -277,21 +258,17 @@ struct Parts<'a> {
 #[inline(always)]
 fn fits(parts: &Parts<'_>, site: &Site<'_>, member: &(Part, Rela)) -> bool
     requires { site.now.index < length site.now.relocations.now / 24 }
-    ensures { result ≡ fits (context_of parts.now.context.now) parts.now.gp parts.now.ascends
+    ensures { result ≡ spec.fits (context_of parts.now.context.now) parts.now.gp parts.now.ascends
         site.now.relocations.now site.now.section.now site.now.index site.now.relocation
         member.now }
 {
     let (context, relocation) = (parts.context, &site.relocation);
+    let (relocations, index) = (site.relocations, site.index);
     parts.ascends
-        && !is_beyond(site.relocations, relocation.offset, site.index)
+        && !is_beyond(relocations, relocation.offset, index)
         && context.output.is_executable
         && context.output.is_fixed
-        && is_marked_at(
-            context.architecture,
-            site.relocations,
-            site.index,
-            relocation,
-        )
+        && is_marked_at(context.architecture, relocations, index, relocation)
         && is_reached(context, parts.gp, &member.1)
         && is_expected(site.section, relocation, member.0, &member.1)
 }
@@ -300,7 +277,7 @@ fn fits(parts: &Parts<'_>, site: &Site<'_>, member: &(Part, Rela)) -> bool
 fn keeping_symbol(parts: &Parts<'_>, site: &Site<'_>) -> Option<usize>
     requires index { site.now.index < length site.now.relocations.now / 24 }
     requires ascending { IsTrue parts.now.ascends ↔ IsAscending site.now.relocations.now }
-    ensures { IsKeepingSymbol (context_of parts.now.context.now) parts.now.gp
+    ensures { spec.IsKeepingSymbol (context_of parts.now.context.now) parts.now.gp
         site.now.relocations.now site.now.section.now site.now.index site.now.relocation result }
 {
     let Some(member) = member_of(parts.context, site.relocations, &site.relocation) else {
@@ -321,17 +298,13 @@ fn keeping_symbol(parts: &Parts<'_>, site: &Site<'_>) -> Option<usize>
 /// relocations don't ascend, and all where the output isn't an executable that is always loaded at
 /// the address that it is linked for.
 ///
-/// `rewrite_global_pointer` rewrites all of a symbol or none by these notes, so survey each section
-/// of code of the object before one of them is rewritten, with one table, all of whose elements are
-/// false at first. What stays there already stays. A symbol without an element stays.
-///
-/// `gp` is the address of `__global_pointer$`, and `kept` has an element for each symbol of the
-/// object. For other architectures than RISC-V nothing is noted.
+/// As with `survey` there is one table, with an element for each symbol of the object, all of which
+/// are false at first. A symbol without an element stays. `gp` is the address of
+/// `__global_pointer$`. For other architectures than RISC-V nothing is noted.
 ///
 /// # Errors
 ///
-/// `kept` is as before. `symbols` and `values` contradict each other about the symbol of a
-/// relocation, as `RewritingError::Contradiction` says: the index of the first such symbol.
+/// `kept` is as before. The index of the first symbol that is a `RewritingError::Contradiction`.
 pub fn survey_global_pointer(
     context: &RelaxContext<'_>,
     gp: u64,
@@ -339,8 +312,8 @@ pub fn survey_global_pointer(
     section: &[u8],
     kept: &mut [bool],
 ) -> Result<(), usize>
-    ensures surveyed { OnOk result (AreSymbolsSurveyed (context_of context.now) gp relocations.now
-        section.now kept.old kept.new (length relocations.now / 24)) }
+    ensures surveyed { OnOk result (spec.AreSymbolsSurveyed (context_of context.now) gp
+        relocations.now section.now kept.old kept.new (length relocations.now / 24)) }
     ensures agree { OnOk result (Agree context.now.symbols.now context.now.values.now
         relocations.now) }
     ensures contradiction { IfErr result (IsContradiction context.now.symbols.now
@@ -371,7 +344,7 @@ pub fn survey_global_pointer(
 /// What becomes of a part that is rewritten.
 #[inline(always)]
 fn part_decision(part: Part, subject: &Rela) -> Decision
-    ensures { result ≡ part_decision part subject.now }
+    ensures { result ≡ spec.part_decision part subject.now }
 {
     match part {
         Part::High(_) => Decision::Rewritten(Choice {
@@ -401,14 +374,15 @@ struct Symbols<'a, 'b> {
 fn decide_part(rule: &Symbols<'_, '_>, site: &Site<'_>) -> Option<Decision>
     requires index { site.now.index < length site.now.relocations.now / 24 }
     requires ascending { IsTrue rule.now.parts.ascends ↔ IsAscending site.now.relocations.now }
-    ensures decision { IsPartDecided (context_of rule.now.parts.context.now) rule.now.parts.gp
+    ensures decision { spec.IsPartDecided (context_of rule.now.parts.context.now) rule.now.parts.gp
         rule.now.kept.now site.now.relocations.now site.now.section.now site.now.index
         site.now.relocation result }
     ensures there { IfSome result
         (λ d. IsThere d site.now.section.now site.now.relocation.offset) }
-    ensures within { IfSome result (IsWithin part_start part_end site.now.relocation.offset) }
-    ensures ends { IfSome result (λ d. (limit : ℕ) → site.now.relocation.offset ≤ limit
-        → length site.now.section.now ≤ limit → part_end d site.now.relocation.offset ≤ limit) }
+    ensures within { IfSome result (IsWithin spec.part_start spec.part_end
+        site.now.relocation.offset) }
+    ensures ends { IfSome result (λ d. (limit : ℕ) → site.now.relocation.offset ≤ limit → length
+        site.now.section.now ≤ limit → spec.part_end d site.now.relocation.offset ≤ limit) }
 {
     let parts = &rule.parts;
     let Some(member) = member_of(parts.context, site.relocations, &site.relocation) else {
@@ -428,8 +402,8 @@ fn decide_part(rule: &Symbols<'_, '_>, site: &Site<'_>) -> Option<Decision>
 /// here.
 #[inline(always)]
 fn part_end(decision: &Decision, offset: u64) -> u64
-    requires { part_end decision.now offset ≤ u64.MAX }
-    ensures { result ≡ part_end decision.now offset }
+    requires { spec.part_end decision.now offset ≤ u64.MAX }
+    ensures { result ≡ spec.part_end decision.now offset }
 {
     match decision {
         Decision::Rewritten(_) | Decision::RewrittenWithSymbol(_, _) => offset + 4,
@@ -438,19 +412,19 @@ fn part_end(decision: &Decision, offset: u64) -> u64
 }
 
 impl Rule for Symbols<'_, '_> {
-    ghost decides = { λ s bytes section. DecidesPart (context_of s.parts.context.now) s.parts.gp
-        s.kept.now bytes section };
+    ghost decides = { λ s bytes section. spec.DecidesPart (context_of s.parts.context.now)
+        s.parts.gp s.kept.now bytes section };
 
-    ghost lacks = { λ s bytes section n. IsPartDecided (context_of s.parts.context.now) s.parts.gp
-        s.kept.now bytes section n (relocation_in bytes n) None };
+    ghost lacks = { λ s bytes section n. spec.IsPartDecided (context_of s.parts.context.now)
+        s.parts.gp s.kept.now bytes section n (relocation_in bytes n) None };
 
     ghost is_valid = { λ s bytes. IsTrue s.parts.ascends ↔ IsAscending bytes };
 
     ghost is_noted = { λ s bytes section n stays. ⊤ };
 
-    ghost start = { part_start };
+    ghost start = { spec.part_start };
 
-    ghost end = { part_end };
+    ghost end = { spec.part_end };
 
     #[inline(always)]
     fn decide(&self, _is_taken: bool, _stays: bool, site: &Site<'_>) -> Option<Decision> {
@@ -466,7 +440,7 @@ impl Rule for Symbols<'_, '_> {
 /// A relocation after what became of it, where no bytes are rewritten.
 #[inline(always)]
 fn relocation_by(decision: &Decision, relocation: &Rela) -> Rela
-    ensures { result ≡ relocation_by decision.now relocation.now }
+    ensures { result ≡ spec.relocation_by decision.now relocation.now }
 {
     match decision {
         Decision::Kept => *relocation,
@@ -491,7 +465,7 @@ fn relocation_by(decision: &Decision, relocation: &Rela) -> Rela
 /// rewritten.
 fn turn_all<D: AsDecision>(decisions: &[D], relocations: &mut [u8])
     requires { length relocations.old / 24 ≤ length decisions.now }
-    ensures { AreRelocationsBy (map D.decision decisions.now) relocations.old relocations.new
+    ensures { spec.AreRelocationsBy (map D.decision decisions.now) relocations.old relocations.new
         (length relocations.old / 24) }
 {
     for index in 0..relocations_len(relocations) {
@@ -519,13 +493,8 @@ fn turn_all<D: AsDecision>(decisions: &[D], relocations: &mut [u8])
 ///
 /// # Errors
 ///
-/// The relocations are as before. `Contradiction`, as in `survey_global_pointer`, comes first.
-/// `TooShort`: there are more relocations than `decisions`, or `deleted` has less room than there
-/// are deletions. `NotSurveyed`: a relocation of a symbol that doesn't stay can't be rewritten; it
-/// never comes where the section was surveyed into the table with the same facts. `Overlaps`: the
-/// instruction of the relocation with the index overlaps one of a relocation before it that is
-/// rewritten too; where none do, its field is the first that has a byte of another one's `lui` or
-/// `auipc` that goes.
+/// The relocations are as before. `Contradiction` comes first. `Overlaps`: low parts count as four
+/// bytes that are rewritten, too.
 ///
 /// ```
 /// use linker_rewriting::decisions::Decision;
@@ -573,22 +542,20 @@ pub fn rewrite_global_pointer<D: AsDecision, L: FromDeletion>(
 ) -> Result<usize, RewritingError>
     ensures agree { OnOk result (Agree context.now.symbols.now context.now.values.now
         relocations.old) }
-    ensures rewritten { OnOk result (ArePartsRewrittenAs (context_of context.now) gp kept.now
+    ensures rewritten { OnOk result (spec.ArePartsRewrittenAs (context_of context.now) gp kept.now
         relocations.old relocations.new section.now (map D.decision decisions.new)) }
     ensures within { OnOk result (AllCanBeMade relocations.old section.now
         (map D.decision decisions.new) (length relocations.old / 24)) }
     ensures listed { IfOk result (λ len. take len (map L.deletion deleted.new)
         ≡ deletions_by relocations.old (map D.decision decisions.new)
         (length relocations.old / 24)) }
-    ensures form { OnOk result
-        (All D.is_written (take (length relocations.old / 24) decisions.new)) }
-    ensures others_stay { drop (length relocations.old / 24) decisions.new
-        ≡ drop (length relocations.old / 24) decisions.old }
+    ensures form { OnOk result (EachIs D.is_written relocations.old decisions.new) }
+    ensures others_stay { RestStays relocations.old decisions.old decisions.new }
     ensures deletions_stay { IfOk result (λ len. drop len deleted.new ≡ drop len deleted.old) }
     ensures rejected { IfErr result (IsRejectedFirst context.now.symbols.now context.now.values.now
-        relocations.old (ArePartsRejected (context_of context.now) gp kept.now relocations.old
+        relocations.old (spec.ArePartsRejected (context_of context.now) gp kept.now relocations.old
         section.now (map D.decision decisions.new) (length deleted.old))) }
-    ensures surveyed { IfErr result (MeansSymbolsUnsurveyed (context_of context.now) gp
+    ensures surveyed { IfErr result (spec.MeansSymbolsUnsurveyed (context_of context.now) gp
         relocations.old section.now kept.now) }
     ensures entries { OnErr result (relocations.new ≡ relocations.old) }
 {
@@ -615,7 +582,7 @@ pub fn rewrite_global_pointer<D: AsDecision, L: FromDeletion>(
 /// The type that the relocation of a low part without a base gets.
 #[inline(always)]
 fn low_r_type(r_type: u32) -> Option<u32>
-    ensures { result ≡ low_r_type r_type }
+    ensures { result ≡ spec.low_r_type r_type }
 {
     if r_type == GPREL_I {
         Some(RiscVRelocation::R_RISCV_LO12_I.r_type())
@@ -629,7 +596,7 @@ fn low_r_type(r_type: u32) -> Option<u32>
 /// The base register that reaches an address, x0 or x3, and the address that it has.
 #[inline(always)]
 fn base_for(gp: u64, address: u64) -> Option<(u32, u64)>
-    ensures base { result ≡ base_for gp address }
+    ensures base { result ≡ spec.base_for gp address }
     ensures register { IfSome result (λ base. base.0 ≤ 3) }
 {
     if is_near(0, address) {
@@ -641,57 +608,50 @@ fn base_for(gp: u64, address: u64) -> Option<(u32, u64)>
     }
 }
 
+/// What bases are chosen by: all addresses.
+#[derive(Clone, Copy)]
+struct Bases<'a> {
+    /// Those that values are counted from.
+    addresses: &'a Addresses,
+    /// Those of the object's symbols.
+    values: &'a [Symbol],
+    /// That of the global pointer.
+    gp: u64,
+}
+
 /// The base of what a relocation refers to.
 #[inline(always)]
-fn base_of(
-    addresses: &Addresses,
-    values: &[Symbol],
-    gp: u64,
-    relocation: &Rela,
-) -> Option<(u32, u64)>
-    ensures base { result ≡ base_of addresses.now values.now gp relocation.now }
+fn base_of(bases: &Bases<'_>, relocation: &Rela) -> Option<(u32, u64)>
+    ensures base { result ≡ spec.base_of bases.now.addresses.now bases.now.values.now bases.now.gp
+        relocation.now }
     ensures register { IfSome result (λ base. base.0 ≤ 3) }
 {
-    let value = values.get(relocation.symbol as usize)?;
-    base_for(gp, address_of(addresses, relocation, value))
+    let value = bases.values.get(relocation.symbol as usize)?;
+    base_for(bases.gp, address_of(bases.addresses, relocation, value))
 }
 
 /// Whether a relocation is of no low part without a base, or its instruction is in the section and
 /// a base reaches what it refers to.
-fn is_placed(
-    addresses: &Addresses,
-    values: &[Symbol],
-    gp: u64,
-    section: &[u8],
-    relocation: &Rela,
-) -> bool
-    ensures { result ≡ is_placed addresses.now values.now gp section.now relocation.now }
+fn is_placed(bases: &Bases<'_>, section: &[u8], relocation: &Rela) -> bool
+    ensures { result ≡ spec.is_placed bases.now.addresses.now bases.now.values.now bases.now.gp
+        section.now relocation.now }
 {
     match low_r_type(relocation.r_type) {
-        Some(_) => {
-            has_word(section, relocation.offset)
-                && base_of(addresses, values, gp, relocation).is_some()
-        }
+        Some(_) => has_word(section, relocation.offset) && base_of(bases, relocation).is_some(),
         None => true,
     }
 }
 
 /// The index of the first relocation that isn't placed.
-fn first_unplaced(
-    addresses: &Addresses,
-    values: &[Symbol],
-    gp: u64,
-    relocations: &[u8],
-    section: &[u8],
-) -> Option<usize>
+fn first_unplaced(bases: &Bases<'_>, relocations: &[u8], section: &[u8]) -> Option<usize>
     ensures { MatchOption result ((n : ℕ) → n < length relocations.now / 24
-        → is_placed addresses.now values.now gp section.now (relocation_in relocations.now n)
-        ≡ true)
-        (IsFirstUnplaced addresses.now values.now gp relocations.now section.now) }
+        → spec.is_placed bases.now.addresses.now bases.now.values.now bases.now.gp section.now
+        (relocation_in relocations.now n) ≡ true) (spec.IsFirstUnplaced bases.now.addresses.now
+        bases.now.values.now bases.now.gp relocations.now section.now) }
 {
     for index in 0..relocations_len(relocations) {
         let relocation = relocation_in(relocations, index);
-        if !is_placed(addresses, values, gp, section, &relocation) {
+        if !is_placed(bases, section, &relocation) {
             return Some(index);
         }
     }
@@ -709,22 +669,18 @@ fn with_base(register: u32, word: u32) -> u32
 
 /// Writes the base of a low part. Returns its relocation after it.
 #[inline(always)]
-fn set_base(
-    addresses: &Addresses,
-    values: &[Symbol],
-    gp: u64,
-    section: &mut [u8],
-    relocation: &Rela,
-) -> Rela
-    requires { is_placed addresses.now values.now gp section.old relocation.now ≡ true }
-    ensures section { section.new
-        ≡ based_section addresses.now values.now gp section.old relocation.now }
-    ensures relocation { result ≡ based_relocation addresses.now values.now gp relocation.now }
+fn set_base(bases: &Bases<'_>, section: &mut [u8], relocation: &Rela) -> Rela
+    requires { spec.is_placed bases.now.addresses.now bases.now.values.now bases.now.gp section.old
+        relocation.now ≡ true }
+    ensures section { section.new ≡ spec.based_section bases.now.addresses.now bases.now.values.now
+        bases.now.gp section.old relocation.now }
+    ensures relocation { result ≡ spec.based_relocation bases.now.addresses.now bases.now.values.now
+        bases.now.gp relocation.now }
 {
     let Some(r_type) = low_r_type(relocation.r_type) else {
         return *relocation;
     };
-    let Some((register, address)) = base_of(addresses, values, gp, relocation) else {
+    let Some((register, address)) = base_of(bases, relocation) else {
         return *relocation;
     };
     let word = with_base(register, window_at(section, relocation.offset));
@@ -738,24 +694,17 @@ fn set_base(
 }
 
 /// Writes the base of each low part of a section.
-fn set_bases(
-    addresses: &Addresses,
-    values: &[Symbol],
-    gp: u64,
-    relocations: &mut [u8],
-    section: &mut [u8],
-)
-    requires { (n : ℕ) → n < length relocations.old / 24
-        → is_placed addresses.now values.now gp section.old (relocation_in relocations.old n)
-        ≡ true }
-    ensures relocations { AreBased addresses.now values.now gp relocations.old relocations.new
-        (length relocations.old / 24) }
-    ensures section { section.new ≡ section_based addresses.now values.now gp relocations.old
-        section.old (length relocations.old / 24) }
+fn set_bases(bases: &Bases<'_>, relocations: &mut [u8], section: &mut [u8])
+    requires { (n : ℕ) → n < length relocations.old / 24 → spec.is_placed bases.now.addresses.now
+        bases.now.values.now bases.now.gp section.old (relocation_in relocations.old n) ≡ true }
+    ensures relocations { spec.AreBased bases.now.addresses.now bases.now.values.now bases.now.gp
+        relocations.old relocations.new (length relocations.old / 24) }
+    ensures section { section.new ≡ spec.section_based bases.now.addresses.now bases.now.values.now
+        bases.now.gp relocations.old section.old (length relocations.old / 24) }
 {
     for index in 0..relocations_len(relocations) {
         let relocation = relocation_in(relocations, index);
-        let based = set_base(addresses, values, gp, section, &relocation);
+        let based = set_base(bases, section, &relocation);
         set_relocation(relocations, index, &based);
     }
 }
@@ -778,23 +727,26 @@ pub fn finish_gp_relaxation(
     relocations: &mut [u8],
     section: &mut [u8],
 ) -> Result<(), usize>
-    ensures relocations { OnOk result (AreBased addresses.now values.now gp relocations.old
+    ensures relocations { OnOk result (spec.AreBased addresses.now values.now gp relocations.old
         relocations.new (length relocations.old / 24)) }
-    ensures section { OnOk result (section.new ≡ section_based addresses.now values.now gp
+    ensures section { OnOk result (section.new ≡ spec.section_based addresses.now values.now gp
         relocations.old section.old (length relocations.old / 24)) }
     ensures placed { OnOk result ((n : ℕ) → n < length relocations.old / 24
-        → is_placed addresses.now values.now gp section.old (relocation_in relocations.old n)
+        → spec.is_placed addresses.now values.now gp section.old (relocation_in relocations.old n)
         ≡ true) }
     ensures first { IfErr result
-        (IsFirstUnplaced addresses.now values.now gp relocations.old section.old) }
+        (spec.IsFirstUnplaced addresses.now values.now gp relocations.old section.old) }
     ensures bytes { OnErr result (section.new ≡ section.old) }
     ensures entries { OnErr result (relocations.new ≡ relocations.old) }
 {
-    match first_unplaced(addresses, values, gp, relocations, section) {
-        Some(index) => Err(index),
-        None => {
-            set_bases(addresses, values, gp, relocations, section);
-            Ok(())
-        }
+    let bases = Bases {
+        addresses,
+        values,
+        gp,
+    };
+    if let Some(index) = first_unplaced(&bases, relocations, section) {
+        return Err(index);
     }
+    set_bases(&bases, relocations, section);
+    Ok(())
 }

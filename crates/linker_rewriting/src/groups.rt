@@ -2,11 +2,7 @@
 //! are rewritten, or none is.
 
 ghost use Rattle.std.specs.Prelude.{◌≡◌};
-ghost use Rattle.linker_rewriting.specs.Groups.{IsScope, IsScopeIn, keeps, with_kept};
-ghost use Rattle.linker_rewriting.specs.Groups.{aarch64_scope_in, loongarch_scope_in};
-ghost use Rattle.linker_rewriting.specs.Groups.{ppc64_scope_in, riscv_scope_in, x86_64_scope_in};
-ghost use Rattle.linker_rewriting.specs.Groups.{is_mark, IsMark, symbol_of_group, stays_at};
-ghost use Rattle.linker_rewriting.specs.Groups.{group_stays, has_rewrites, IsNotRelaxableUnless};
+ghost use Rattle.linker_rewriting.specs.Groups as spec;
 
 use crate::phases::Phase;
 use linker_utils::aarch64::AArch64Relocation;
@@ -77,7 +73,7 @@ impl UnrelaxableGroups {
     /// Whether the group of a kind stays.
     #[inline(always)]
     pub fn keeps(&self, group: Group) -> bool
-        ensures { result ≡ keeps group self.now }
+        ensures { result ≡ spec.keeps group self.now }
     {
         match group {
             Group::InitialExec => self.initial_exec,
@@ -91,7 +87,7 @@ impl UnrelaxableGroups {
     /// The same, where the group of a kind stays too.
     #[inline(always)]
     pub(crate) fn with_kept(self, group: Group) -> UnrelaxableGroups
-        ensures { result ≡ with_kept group self }
+        ensures { result ≡ spec.with_kept group self }
     {
         let mut kept = self;
         match group {
@@ -124,7 +120,7 @@ macro_rules! scopes {
 /// The scope of a relocation of AArch64 in a phase.
 #[inline(always)]
 fn aarch64_scope_in(phase: Phase, name: AArch64Relocation) -> Scope
-    ensures { result ≡ aarch64_scope_in phase name }
+    ensures { result ≡ spec.aarch64_scope_in phase name }
 {
     scopes! {
         phase, name: AArch64Relocation
@@ -148,7 +144,7 @@ fn aarch64_scope_in(phase: Phase, name: AArch64Relocation) -> Scope
 /// The scope of a relocation of RISC-V, whose rewrites all wait for addresses.
 #[inline(always)]
 fn riscv_scope_in(phase: Phase, name: RiscVRelocation) -> Scope
-    ensures { result ≡ riscv_scope_in phase name }
+    ensures { result ≡ spec.riscv_scope_in phase name }
 {
     scopes! {
         phase, name: RiscVRelocation
@@ -167,7 +163,7 @@ fn riscv_scope_in(phase: Phase, name: RiscVRelocation) -> Scope
 /// The scope of a relocation of LoongArch.
 #[inline(always)]
 fn loongarch_scope_in(phase: Phase, name: LoongArch64Relocation) -> Scope
-    ensures { result ≡ loongarch_scope_in phase name }
+    ensures { result ≡ spec.loongarch_scope_in phase name }
 {
     scopes! {
         phase, name: LoongArch64Relocation
@@ -189,7 +185,7 @@ fn loongarch_scope_in(phase: Phase, name: LoongArch64Relocation) -> Scope
 /// The scope of a relocation of PowerPC64.
 #[inline(always)]
 fn ppc64_scope_in(phase: Phase, name: Ppc64Relocation) -> Scope
-    ensures { result ≡ ppc64_scope_in phase name }
+    ensures { result ≡ spec.ppc64_scope_in phase name }
 {
     scopes! {
         phase, name: Ppc64Relocation
@@ -221,7 +217,7 @@ fn ppc64_scope_in(phase: Phase, name: Ppc64Relocation) -> Scope
 /// The scope of a relocation of x86-64, whose rewrites all are made before addresses are known.
 #[inline(always)]
 fn x86_64_scope_in(phase: Phase, name: X86_64Relocation) -> Scope
-    ensures { result ≡ x86_64_scope_in phase name }
+    ensures { result ≡ spec.x86_64_scope_in phase name }
 {
     scopes! {
         phase, name: X86_64Relocation
@@ -252,7 +248,7 @@ fn x86_64_scope_in(phase: Phase, name: X86_64Relocation) -> Scope
 /// ```
 #[inline(always)]
 pub fn scope_in(architecture: Architecture, phase: Phase, r_type: u32) -> Scope
-    ensures { IsScopeIn architecture phase r_type result }
+    ensures { spec.IsScopeIn architecture phase r_type result }
 {
     match architecture {
         Architecture::AArch64 => aarch64_scope_in(phase, AArch64Relocation::from_elf(r_type)),
@@ -268,7 +264,7 @@ pub fn scope_in(architecture: Architecture, phase: Phase, r_type: u32) -> Scope
 /// The table of `has_rewrites`.
 #[inline(always)]
 fn is_listed(architecture: Architecture, phase: Phase) -> bool
-    ensures { result ≡ has_rewrites architecture phase }
+    ensures { result ≡ spec.has_rewrites architecture phase }
 {
     match architecture {
         Architecture::AArch64 => !matches!(phase, Phase::TlsLocalExec),
@@ -281,37 +277,18 @@ fn is_listed(architecture: Architecture, phase: Phase) -> bool
 
 /// Whether an architecture has rewrites in a phase. In one without them a linker surveys and
 /// rewrites nothing: each relocation is `Scope::NotRelaxable`.
-///
-/// ```
-/// use linker_rewriting::groups::has_rewrites;
-/// use linker_rewriting::phases::Phase;
-/// use linker_utils::elf::Architecture;
-///
-/// assert!(has_rewrites(Architecture::RiscV, Phase::TlsLocalExec));
-/// assert!(!has_rewrites(Architecture::X86_64, Phase::TlsLocalExec));
-/// ```
 pub fn has_rewrites(architecture: Architecture, phase: Phase) -> bool
-    ensures table { result ≡ has_rewrites architecture phase }
-    ensures unlisted { IsNotRelaxableUnless architecture phase result }
+    ensures table { result ≡ spec.has_rewrites architecture phase }
+    ensures unlisted { spec.IsNotRelaxableUnless architecture phase result }
 {
     is_listed(architecture, phase)
 }
 
 /// What is rewritten together with the instruction of a relocation with an `r_type`, before
 /// addresses are known. RISC-V's rewrites all wait for them.
-///
-/// ```
-/// use linker_rewriting::groups::{Group, Scope, scope_of};
-/// use linker_utils::elf::Architecture;
-///
-/// // R_X86_64_GOTPCRELX, R_X86_64_TLSLD and R_X86_64_PC32
-/// assert_eq!(scope_of(Architecture::X86_64, 41), Scope::Independent);
-/// assert_eq!(scope_of(Architecture::X86_64, 20), Scope::Grouped(Group::LocalDynamic));
-/// assert_eq!(scope_of(Architecture::X86_64, 2), Scope::NotRelaxable);
-/// ```
 #[inline(always)]
 pub fn scope_of(architecture: Architecture, r_type: u32) -> Scope
-    ensures { IsScope architecture r_type result }
+    ensures { spec.IsScope architecture r_type result }
 {
     scope_in(architecture, Phase::PreLayout, r_type)
 }
@@ -319,7 +296,7 @@ pub fn scope_of(architecture: Architecture, r_type: u32) -> Scope
 /// Whether a name of PowerPC64 marks a call of `__tls_get_addr`.
 #[inline(always)]
 fn is_mark(name: Ppc64Relocation) -> bool
-    ensures { result ≡ is_mark name }
+    ensures { result ≡ spec.is_mark name }
 {
     matches!(
         name,
@@ -330,7 +307,7 @@ fn is_mark(name: Ppc64Relocation) -> bool
 /// Whether a relocation with an `r_type` of PowerPC64 marks a call of `__tls_get_addr`.
 #[inline(always)]
 pub(crate) fn marks_call(r_type: u32) -> bool
-    ensures { IsMark r_type result }
+    ensures { spec.IsMark r_type result }
 {
     is_mark(Ppc64Relocation::from_elf(r_type))
 }
@@ -338,7 +315,7 @@ pub(crate) fn marks_call(r_type: u32) -> bool
 /// The index of the symbol whose groups a group is one of.
 #[inline(always)]
 pub(crate) fn symbol_of_group(group: Group, symbol: u32) -> u32
-    ensures { result ≡ symbol_of_group group symbol }
+    ensures { result ≡ spec.symbol_of_group group symbol }
 {
     match group {
         Group::LocalDynamic => 0,
@@ -349,7 +326,7 @@ pub(crate) fn symbol_of_group(group: Group, symbol: u32) -> u32
 /// Whether the group of a kind stays at an index of a table. All do where the table has none.
 #[inline(always)]
 pub(crate) fn stays_at(kept: &[UnrelaxableGroups], group: Group, symbol: u32) -> bool
-    ensures { result ≡ stays_at kept.now group symbol }
+    ensures { result ≡ spec.stays_at kept.now group symbol }
 {
     match kept.get(symbol as usize) {
         Some(kept) => kept.keeps(group),
@@ -360,7 +337,7 @@ pub(crate) fn stays_at(kept: &[UnrelaxableGroups], group: Group, symbol: u32) ->
 /// Whether the group of a kind and of a symbol stays.
 #[inline(always)]
 pub(crate) fn group_stays(kept: &[UnrelaxableGroups], group: Group, symbol: u32) -> bool
-    ensures { result ≡ group_stays kept.now group symbol }
+    ensures { result ≡ spec.group_stays kept.now group symbol }
 {
     stays_at(kept, group, 0) || stays_at(kept, group, symbol_of_group(group, symbol))
 }

@@ -4,10 +4,7 @@
 ghost use Rattle.std.specs.Prelude.{◌≡◌, ◌≤◌, ◌<◌, ◌*◌, ◌/◌, ◌^◌, ◌↔◌, length, IsTrue, IfErr};
 ghost use Rattle.std.specs.Prelude.{IfSome, IfNone, OnOk, MatchOption};
 ghost use Rattle.linker_rewriting.specs.Agreement.{Agree};
-ghost use Rattle.linker_rewriting.specs.Kept.{AreAsKept, AreKept, IsAsKept, IsFirstChanged};
-ghost use Rattle.linker_rewriting.specs.Kept.{IsWritingCause, IsRejectedOrChanged, bit_if};
-ghost use Rattle.linker_rewriting.specs.Kept.{facts_snapshot, needs_stub, lacks_stub, HaveStubs};
-ghost use Rattle.linker_rewriting.specs.Kept.{IsFirstWithoutStub};
+ghost use Rattle.linker_rewriting.specs.Kept as spec;
 ghost use Rattle.linker_section.specs.Sections.{AreAllRelocated};
 ghost use Rattle.linker_section.specs.Relocations.{relocation_in};
 ghost use Rattle.linker_section.specs.WrittenFields.{AreWritten};
@@ -36,7 +33,8 @@ pub enum WritingError {
     /// The tables of facts and of addresses contradict each other about the symbol with this index,
     /// as `RewritingError::Contradiction` says.
     Contradiction(usize),
-    /// Of the symbol of the relocation with this index other facts hold than those that are kept.
+    /// Of the symbol of the relocation with this index other facts hold than those that are kept,
+    /// or none are kept.
     Changed(usize),
     /// The relocation with this index is an `R_PPC64_REL24` of a function of another file, which
     /// may return with another TOC pointer, and whose symbol has no stub that keeps the caller's.
@@ -48,7 +46,7 @@ pub enum WritingError {
 /// A bit that is worth so much, or 0.
 #[inline(always)]
 fn bit_if(worth: u16, is_set: bool) -> u16
-    ensures bit { result ≡ bit_if worth is_set }
+    ensures bit { result ≡ spec.bit_if worth is_set }
     ensures most { result ≤ worth }
 {
     if is_set { worth } else { 0 }
@@ -66,7 +64,7 @@ fn toc_bits(other: u8) -> u16
 /// What choices read of a symbol and of the output.
 #[inline(always)]
 fn facts_snapshot(output: &OutputFacts, symbol: &SymbolFacts) -> FactsSnapshot
-    ensures { result ≡ facts_snapshot output.now symbol.now }
+    ensures { result ≡ spec.facts_snapshot output.now symbol.now }
 {
     let of_output = bit_if(1 << 10, output.has_near_symbols)
         + bit_if(1 << 9, output.is_fixed)
@@ -87,7 +85,7 @@ fn facts_snapshot(output: &OutputFacts, symbol: &SymbolFacts) -> FactsSnapshot
 /// what is kept to `relocate_rewritten_section`.
 pub fn snapshot_facts(output: &OutputFacts, symbols: &[SymbolFacts], kept: &mut [FactsSnapshot])
     requires room { length symbols.now ≡ length kept.old }
-    ensures { AreKept output.now symbols.now kept.new }
+    ensures { spec.AreKept output.now symbols.now kept.new }
 {
     for index in 0..symbols.len() {
         kept[index] = facts_snapshot(output, &symbols[index]);
@@ -102,7 +100,7 @@ fn is_as_kept(
     kept: &[FactsSnapshot],
     relocation: &Rela,
 ) -> bool
-    ensures { IsTrue result ↔ IsAsKept output.now symbols.now kept.now relocation.now }
+    ensures { IsTrue result ↔ spec.IsAsKept output.now symbols.now kept.now relocation.now }
 {
     let index = relocation.symbol as usize;
     match (kept.get(index), symbols.get(index)) {
@@ -121,8 +119,9 @@ pub fn first_changed(
     kept: &[FactsSnapshot],
     relocations: &[u8],
 ) -> Option<usize>
-    ensures some { IfSome result (IsFirstChanged output.now symbols.now kept.now relocations.now) }
-    ensures none { IfNone result (AreAsKept output.now symbols.now kept.now relocations.now
+    ensures some { IfSome result (spec.IsFirstChanged output.now symbols.now kept.now
+        relocations.now) }
+    ensures none { IfNone result (spec.AreAsKept output.now symbols.now kept.now relocations.now
         (length relocations.now / 24)) }
 {
     for index in 0..relocations_len(relocations) {
@@ -137,7 +136,7 @@ pub fn first_changed(
 /// pointer. A call of what is undefined and weak needs none.
 #[inline(always)]
 fn needs_stub(facts: &SymbolFacts, symbol: &Symbol) -> bool
-    ensures { result ≡ needs_stub facts.now symbol.now }
+    ensures { result ≡ spec.needs_stub facts.now symbol.now }
 {
     let is_imported = !(facts.is_local || facts.is_undefined_weak);
     is_imported && symbol.stub == 0 && !symbol.is_undefined_weak
@@ -151,7 +150,7 @@ fn lacks_stub(
     symbols: &[Symbol],
     relocation: &Rela,
 ) -> bool
-    ensures { result ≡ lacks_stub architecture facts.now symbols.now relocation.now }
+    ensures { result ≡ spec.lacks_stub architecture facts.now symbols.now relocation.now }
 {
     let call = Ppc64Relocation::R_PPC64_REL24.r_type();
     if !matches!(architecture, Architecture::Ppc64) || relocation.r_type != call {
@@ -171,9 +170,9 @@ fn first_without_stub(
     symbols: &[Symbol],
     relocations: &[u8],
 ) -> Option<usize>
-    ensures { MatchOption result (HaveStubs architecture facts.now symbols.now relocations.now
+    ensures { MatchOption result (spec.HaveStubs architecture facts.now symbols.now relocations.now
         (length relocations.now / 24))
-        (IsFirstWithoutStub architecture facts.now symbols.now relocations.now) }
+        (spec.IsFirstWithoutStub architecture facts.now symbols.now relocations.now) }
 {
     for index in 0..relocations_len(relocations) {
         let relocation = relocation_in(relocations, index);
@@ -192,11 +191,7 @@ fn first_without_stub(
 ///
 /// # Errors
 ///
-/// The section is as before. The first that applies of `Contradiction`: `facts` and `symbols`
-/// contradict each other about the symbol of a relocation, with the index of the first such symbol;
-/// `Changed`: of a symbol other facts hold than are kept, or none are kept, with the index of the
-/// first such relocation; `NeedsStub`: a call of PowerPC64 may lose its TOC pointer, with the index
-/// of the first one; `Section`: a value isn't written.
+/// The section is as before. The first of the list that applies, with the first such index.
 ///
 /// ```
 /// use linker_rewriting::facts::{OutputFacts, SymbolFacts};
@@ -248,17 +243,17 @@ pub fn relocate_rewritten_section(
 ) -> Result<(), WritingError>
     requires memory { length relocations.now / 24 ≤ length memory.old }
     ensures agree { OnOk result (Agree facts.now symbols.now relocations.now) }
-    ensures stubs { OnOk result (HaveStubs architecture facts.now symbols.now relocations.now
+    ensures stubs { OnOk result (spec.HaveStubs architecture facts.now symbols.now relocations.now
         (length relocations.now / 24)) }
-    ensures kept { OnOk result (AreAsKept output.now facts.now kept.now relocations.now
+    ensures kept { OnOk result (spec.AreAsKept output.now facts.now kept.now relocations.now
         (length relocations.now / 24)) }
     ensures ok { OnOk result (AreAllRelocated architecture addresses.now relocations.now symbols.now
         section.old section.new) }
     ensures fields { OnOk result (AreWritten architecture addresses.now relocations.now symbols.now
         section.old section.new) }
-    ensures rejected { IfErr result (IsRejectedOrChanged architecture addresses.now relocations.now
-        symbols.now section.old) }
-    ensures cause { IfErr result (IsWritingCause architecture output.now facts.now kept.now
+    ensures rejected { IfErr result (spec.IsRejectedOrChanged architecture addresses.now
+        relocations.now symbols.now section.old) }
+    ensures cause { IfErr result (spec.IsWritingCause architecture output.now facts.now kept.now
         addresses.now relocations.now symbols.now section.old) }
     ensures unchanged { IfErr result (λ _. section.new ≡ section.old) }
 {

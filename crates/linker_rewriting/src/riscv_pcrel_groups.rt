@@ -1,17 +1,12 @@
 //! Groups of one label of RISC-V: a high part, and the low parts whose symbol is the label at it.
 
 ghost use Rattle.std.specs.Prelude.{◌≡◌, ◌+◌, ◌<◌, ◌≤◌, ◌/◌, ◌⊎◌, ℕ, length, IfSome, map};
-ghost use Rattle.std.specs.Prelude.{drop, take, All, slice_get};
+ghost use Rattle.std.specs.Prelude.{slice_get};
 ghost use Rattle.linker_section.specs.Relocations.{relocation_in};
 ghost use Rattle.linker_section.specs.Values.{IsAscending};
-ghost use Rattle.linker_rewriting.specs.Decisions.{IsThere, decision_at};
+ghost use Rattle.linker_rewriting.specs.Decisions.{IsThere, decision_at, EachIs, RestStays};
 ghost use Rattle.linker_rewriting.specs.Facts.{context_of};
-ghost use Rattle.linker_rewriting.specs.RiscVPcrelGroups.{high_r_type, IsHighAt, label_offset};
-ghost use Rattle.linker_rewriting.specs.RiscVPcrelGroups.{IsHighIn, offset_of_label, is_beyond};
-ghost use Rattle.linker_rewriting.specs.RiscVPcrelGroups.{searched, is_labelled, IsInLabel};
-ghost use Rattle.linker_rewriting.specs.RiscVPcrelGroups.{is_label_marked, has_labels};
-ghost use Rattle.linker_rewriting.specs.RiscVPcrelGroups.{far_entry, without_entry};
-ghost use Rattle.linker_rewriting.specs.RiscVPcrelGroups.{IsLabelCandidate, IsLacking};
+ghost use Rattle.linker_rewriting.specs.RiscVPcrelGroups as spec;
 ghost use Rattle.linker_rewriting.specs.Notes.{is_note, AreHighsNoted, IsNoteOf, AreLabelsNoted};
 
 use crate::candidates::candidate_by;
@@ -30,7 +25,7 @@ use linker_utils::riscv64::RiscVRelocation;
 /// The `r_type` of the high parts whose groups a phase rewrites.
 #[inline(always)]
 fn high_r_type(phase: Phase) -> u32
-    ensures { result ≡ high_r_type phase }
+    ensures { result ≡ spec.high_r_type phase }
 {
     match phase {
         Phase::TlsLocalExec => RiscVRelocation::R_RISCV_TLSDESC_HI20.r_type(),
@@ -46,7 +41,7 @@ const SEARCHED: usize = 16;
 #[inline(always)]
 pub(crate) fn is_beyond(relocations: &[u8], at: u64, index: usize) -> bool
     requires { index < length relocations.now / 24 }
-    ensures { result ≡ is_beyond relocations.now at index }
+    ensures { result ≡ spec.is_beyond relocations.now at index }
 {
     SEARCHED <= index && relocation_in(relocations, index - SEARCHED).offset == at
 }
@@ -57,8 +52,8 @@ fn search_end(first: usize, len: usize) -> usize
     requires { first ≤ len }
     ensures from { first ≤ result }
     ensures within { result ≤ len }
-    ensures near { result ≤ first + searched }
-    ensures far { (len ≤ result) ⊎ (first + searched ≤ result) }
+    ensures near { result ≤ first + spec.searched }
+    ensures far { (len ≤ result) ⊎ (first + spec.searched ≤ result) }
 {
     if len - first < SEARCHED {
         len
@@ -71,7 +66,7 @@ fn search_end(first: usize, len: usize) -> usize
 /// of relocations that ascend. So it takes O(log n).
 pub(crate) fn high_at(relocations: &[u8], r_type: u32, at: u64) -> Option<usize>
     ensures within { IfSome result (λ high. high < length relocations.now / 24) }
-    ensures high { IsAscending relocations.now → IsHighAt relocations.now r_type at result }
+    ensures high { IsAscending relocations.now → spec.IsHighAt relocations.now r_type at result }
 {
     let first = first_from(relocations, at);
     for index in first..search_end(first, relocations_len(relocations)) {
@@ -89,7 +84,7 @@ pub(crate) fn high_at(relocations: &[u8], r_type: u32, at: u64) -> Option<usize>
 /// Where the label is in the section that is a relocation's symbol.
 #[inline(always)]
 pub(crate) fn label_at(context: &RelaxContext<'_>, relocation: &Rela) -> Option<u64>
-    ensures { result ≡ offset_of_label context.now.addresses.now
+    ensures { result ≡ spec.offset_of_label context.now.addresses.now
         (slice_get context.now.values.now relocation.now.symbol) }
 {
     let label = context.values.get(relocation.symbol as usize)?;
@@ -99,7 +94,7 @@ pub(crate) fn label_at(context: &RelaxContext<'_>, relocation: &Rela) -> Option<
 /// Where the label of a relocation is in the section.
 #[inline(always)]
 fn label_offset(context: &RelaxContext<'_>, relocation: &Rela) -> Option<u64>
-    ensures { result ≡ label_offset context.now.phase context.now.addresses.now
+    ensures { result ≡ spec.label_offset context.now.phase context.now.addresses.now
         context.now.values.now relocation.now }
 {
     if relocation.r_type == high_r_type(context.phase) {
@@ -117,26 +112,18 @@ pub(crate) fn high_of(
 ) -> Option<usize>
     ensures within { IfSome result (λ high. high < length relocations.now / 24) }
     ensures high { IsAscending relocations.now
-        → IsHighIn (context_of context.now) relocations.now relocation.now result }
+        → spec.IsHighIn (context_of context.now) relocations.now relocation.now result }
 {
     let at = label_offset(context, relocation)?;
     high_at(relocations, high_r_type(context.phase), at)
 }
 
-/// Whether a scope is that of one label.
-#[inline(always)]
-fn is_labelled(scope: Scope) -> bool
-    ensures { result ≡ is_labelled scope }
-{
-    matches!(scope, Scope::Labelled)
-}
-
 /// Whether a relocation with an `r_type` is rewritten with its label.
 #[inline(always)]
 pub(crate) fn is_in_label(architecture: Architecture, phase: Phase, r_type: u32) -> bool
-    ensures { IsInLabel architecture phase r_type result }
+    ensures { spec.IsInLabel architecture phase r_type result }
 {
-    is_labelled(scope_in(architecture, phase, r_type))
+    matches!(scope_in(architecture, phase, r_type), Scope::Labelled)
 }
 
 /// Whether the mark is there that counts for a relocation with a high part.
@@ -144,7 +131,7 @@ pub(crate) fn is_in_label(architecture: Architecture, phase: Phase, r_type: u32)
 fn is_label_marked(context: &RelaxContext<'_>, site: &Site<'_>, high: usize) -> bool
     requires index { site.now.index + 3 ≤ usize.MAX }
     requires high { high < length site.now.relocations.now / 24 }
-    ensures { result ≡ is_label_marked context.now.architecture context.now.phase
+    ensures { result ≡ spec.is_label_marked context.now.architecture context.now.phase
         site.now.relocations.now site.now.index site.now.relocation high }
 {
     let (architecture, relocations) = (context.architecture, site.relocations);
@@ -157,25 +144,17 @@ fn is_label_marked(context: &RelaxContext<'_>, site: &Site<'_>, high: usize) -> 
     }
 }
 
-/// G, where G + A is 2^63 bytes from the place.
-#[inline(always)]
-fn far_entry(operands: &Operands) -> u64
-    ensures { result ≡ far_entry operands.now }
-{
-    let addend = operands.addend.cast_unsigned();
-    let far = operands.place.wrapping_add(0x8000_0000_0000_0000);
-    far.wrapping_sub(addend)
-}
-
-/// The same facts, where no entry of the GOT is in reach.
+/// The same facts, where no entry of the GOT is in reach: G + A is 2^63 bytes from the place.
 #[inline(always)]
 fn without_entry(facts: Option<LinkFacts>) -> Option<LinkFacts>
-    ensures { result ≡ without_entry facts }
+    ensures { result ≡ spec.without_entry facts }
 {
     let facts = facts?;
+    let addend = facts.operands.addend.cast_unsigned();
+    let far = facts.operands.place.wrapping_add(0x8000_0000_0000_0000);
     Some(LinkFacts {
         operands: Operands {
-            got_entry: far_entry(&facts.operands),
+            got_entry: far.wrapping_sub(addend),
             ..facts.operands
         },
         ..facts
@@ -191,7 +170,7 @@ pub(crate) fn label_candidate(
 ) -> Option<Choice<Relaxation, u32>>
     requires index { site.now.index + 3 ≤ usize.MAX }
     requires high { high < length site.now.relocations.now / 24 }
-    ensures candidate { IsLabelCandidate (context_of context.now) site.now.relocations.now
+    ensures candidate { spec.IsLabelCandidate (context_of context.now) site.now.relocations.now
         site.now.section.now site.now.index site.now.relocation high result }
     ensures there { IfSome result (λ chosen. IsThere (Decision.Rewritten chosen)
         site.now.section.now site.now.relocation.offset) }
@@ -206,7 +185,7 @@ pub(crate) fn label_candidate(
 fn lacking(context: &RelaxContext<'_>, site: &Site<'_>) -> Option<usize>
     requires { site.now.index + 3 ≤ usize.MAX }
     ensures within { IfSome result (λ high. high < length site.now.relocations.now / 24) }
-    ensures lacking { IsAscending site.now.relocations.now → IsLacking (context_of context.now)
+    ensures lacking { IsAscending site.now.relocations.now → spec.IsLacking (context_of context.now)
         site.now.relocations.now site.now.section.now site.now.index site.now.relocation result }
 {
     if !is_in_label(context.architecture, context.phase, site.relocation.r_type) {
@@ -234,9 +213,8 @@ pub(crate) fn set_all<D: AsDecision>(relocations: &[u8], decision: Decision, dec
     requires { length relocations.now / 24 ≤ length decisions.old }
     ensures set { (n : ℕ) → n < length relocations.now / 24
         → decision_at (map D.decision decisions.new) n ≡ decision }
-    ensures form { All D.is_written (take (length relocations.now / 24) decisions.new) }
-    ensures others { drop (length relocations.now / 24) decisions.new
-        ≡ drop (length relocations.now / 24) decisions.old }
+    ensures form { EachIs D.is_written relocations.now decisions.new }
+    ensures others { RestStays relocations.now decisions.old decisions.new }
 {
     for index in 0..relocations_len(relocations) {
         decisions[index] = D::from_decision(decision);
@@ -256,8 +234,7 @@ fn note_highs<D: AsDecision>(
         → decision_at (map D.decision decisions.old) n ≡ Decision.Kept }
     ensures noted { AreHighsNoted (context_of context.now) relocations.now section.now (map
         D.decision decisions.new) (length relocations.now / 24) }
-    ensures others { drop (length relocations.now / 24) decisions.new
-        ≡ drop (length relocations.now / 24) decisions.old }
+    ensures others { RestStays relocations.now decisions.old decisions.new }
 {
     for index in 0..relocations_len(relocations) {
         let site = Site {
@@ -305,8 +282,7 @@ fn copy_notes<D: AsDecision>(
         D.decision decisions.old) (length relocations.now / 24) }
     ensures noted { AreLabelsNoted (context_of context.now) relocations.now section.now (map
         D.decision decisions.new) 0 }
-    ensures others { drop (length relocations.now / 24) decisions.new
-        ≡ drop (length relocations.now / 24) decisions.old }
+    ensures others { RestStays relocations.now decisions.old decisions.new }
 {
     for index in 0..relocations_len(relocations) {
         let relocation = relocation_in(relocations, index);
@@ -321,7 +297,7 @@ fn copy_notes<D: AsDecision>(
 /// Whether an architecture has groups of labels in a phase.
 #[inline(always)]
 fn has_labels(architecture: Architecture, phase: Phase) -> bool
-    ensures { result ≡ has_labels architecture phase }
+    ensures { result ≡ spec.has_labels architecture phase }
 {
     match architecture {
         Architecture::RiscV => matches!(phase, Phase::TlsLocalExec | Phase::GotToPcRel),
@@ -339,8 +315,7 @@ pub(crate) fn note_labels<D: AsDecision>(
     requires enough { length relocations.now / 24 ≤ length decisions.old }
     ensures noted { AreLabelsNoted (context_of context.now) relocations.now section.now (map
         D.decision decisions.new) 0 }
-    ensures others { drop (length relocations.now / 24) decisions.new
-        ≡ drop (length relocations.now / 24) decisions.old }
+    ensures others { RestStays relocations.now decisions.old decisions.new }
 {
     if !has_labels(context.architecture, context.phase) {
         return;

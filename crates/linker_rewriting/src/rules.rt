@@ -1,11 +1,11 @@
 //! The loop that decides what becomes of a section's relocations and of their instructions, by any
 //! rule.
 
-ghost use Rattle.std.specs.Prelude.{◌≡◌, ◌<◌, ◌≤◌, ◌+◌, ◌/◌, ℕ, List, Bool, length, map, take};
-ghost use Rattle.std.specs.Prelude.{drop, All, IfErr, IfNone, IfSome, OnOk, true, false};
+ghost use Rattle.std.specs.Prelude.{◌≡◌, ◌<◌, ◌≤◌, ◌+◌, ◌/◌, ℕ, List, Bool, length, map};
+ghost use Rattle.std.specs.Prelude.{IfErr, IfNone, IfSome, OnOk, true, false};
 ghost use Rattle.linker_rewriting.specs.declared.decisions.Decision.{Decision as decisions};
 ghost use Rattle.linker_rewriting.specs.Decisions.{AreAllDecided, Bound, IsMadeBy, IsRejectedBy};
-ghost use Rattle.linker_rewriting.specs.Decisions.{decision_at};
+ghost use Rattle.linker_rewriting.specs.Decisions.{EachIs, RestStays, decision_at};
 ghost use Rattle.linker_rewriting.specs.Notes.{is_note};
 ghost use Rattle.linker_section.specs.Relocations.{relocation_in};
 
@@ -95,10 +95,8 @@ pub(crate) fn decide_by<R: Rule, D: AsDecision>(
         (is_note (decision_at (map D.decision decisions.old) n)) }
     ensures decided { OnOk result (AreAllDecided (R.decides rule.now relocations.now section.now)
         R.start R.end architecture relocations.now section.now (map D.decision decisions.new)) }
-    ensures form { OnOk result
-        (All D.is_written (take (length relocations.now / 24) decisions.new)) }
-    ensures others_stay { drop (length relocations.now / 24) decisions.new
-        ≡ drop (length relocations.now / 24) decisions.old }
+    ensures form { OnOk result (EachIs D.is_written relocations.now decisions.new) }
+    ensures others_stay { RestStays relocations.now decisions.old decisions.new }
     ensures rejected { IfErr result (IsRejectedBy (R.decides rule.now relocations.now section.now)
         (R.lacks rule.now relocations.now section.now) R.start R.end architecture relocations.now
         section.now (map D.decision decisions.new)) }

@@ -1,12 +1,10 @@
 //! The rewrites of a section, made in one call for each phase.
 
 ghost use Rattle.std.specs.Prelude.{◌≡◌, ◌<◌, ◌≤◌, ◌/◌, ℕ, length, take, IfErr, IfOk, IfSome};
-ghost use Rattle.std.specs.Prelude.{IfNone, OnOk, OnErr, All, map, drop, false};
+ghost use Rattle.std.specs.Prelude.{IfNone, OnOk, OnErr, map, drop, false};
 ghost use Rattle.linker_section.specs.Relocations.{relocation_in};
 ghost use Rattle.linker_rewriting.specs.Agreement.{Agree};
-ghost use Rattle.linker_rewriting.specs.Decisions.{CanBeMade, AllCanBeMade, AreApart, IsRejected};
-ghost use Rattle.linker_rewriting.specs.Decisions.{IsRejectedPlaced, decision_at, deleted_of};
-ghost use Rattle.linker_rewriting.specs.Decisions.{deleted_end, deletions_by, IsUnmade};
+ghost use Rattle.linker_rewriting.specs.Decisions as spec;
 ghost use Rattle.linker_rewriting.specs.Facts.{pre_layout, context_of};
 ghost use Rattle.linker_rewriting.specs.Inner.Left.{AreKept};
 ghost use Rattle.linker_rewriting.specs.Rewritten.{section_after, relocation_after, AreDone};
@@ -30,7 +28,7 @@ use linker_utils::elf::{Architecture, InstructionRewrite};
 /// Rewrites the instruction of a relocation as decided. The relocation becomes the one after it.
 #[inline(always)]
 fn make(decision: Decision, relocation: &mut Rela, section: &mut [u8])
-    requires { CanBeMade decision section.old relocation.old.offset }
+    requires { spec.CanBeMade decision section.old relocation.old.offset }
     ensures section { section.new ≡ section_after decision relocation.old.offset section.old }
     ensures relocation { relocation.new ≡ relocation_after decision relocation.old }
 {
@@ -62,9 +60,9 @@ pub(crate) fn make_all<D: AsDecision>(
 )
     requires left { changes ≡ false → AreKept (map D.decision decisions.now)
         (length relocations.old / 24) }
-    requires made { AllCanBeMade relocations.old section.old (map D.decision decisions.now)
+    requires made { spec.AllCanBeMade relocations.old section.old (map D.decision decisions.now)
         (length relocations.old / 24) }
-    requires apart { AreApart relocations.old (map D.decision decisions.now)
+    requires apart { spec.AreApart relocations.old (map D.decision decisions.now)
         (length relocations.old / 24) }
     requires enough { length relocations.old / 24 ≤ length decisions.now }
     ensures relocations { AreRelocationsAfter (map D.decision decisions.now) relocations.old
@@ -112,13 +110,8 @@ pub(crate) fn make_all<D: AsDecision>(
 ///
 /// # Errors
 ///
-/// The section and its relocations are as before. `TooShort`: there are more relocations than
-/// `decisions`. `NotSurveyed`: a relocation of a group that doesn't stay has no rewrite; it never
-/// comes where the section was surveyed into the table with the same facts. `Overlaps`: the bytes
-/// of two rewrites overlap, or those of the second lie below those of the first, so the relocations
-/// of instructions that can be rewritten have to ascend by offset. Where no other error is, it is
-/// of the first relocation whose field has a byte that the rewrite of another one changes, and
-/// which that rewrite doesn't take along. All other relocations may be in any order.
+/// The section and its relocations are as before. Relocations of instructions that can be rewritten
+/// have to ascend by offset (`Overlaps`). All others may be in any order.
 pub fn rewrite_section<D: AsDecision>(
     architecture: Architecture,
     output: &OutputFacts,
@@ -131,14 +124,12 @@ pub fn rewrite_section<D: AsDecision>(
     ensures rewritten { OnOk result (IsRewrittenAs (pre_layout architecture output.now symbols.now)
         kept.now relocations.old relocations.new section.old section.new
         (map D.decision decisions.new)) }
-    ensures form { OnOk result
-        (All D.is_written (take (length relocations.old / 24) decisions.new)) }
-    ensures others_stay { drop (length relocations.old / 24) decisions.new
-        ≡ drop (length relocations.old / 24) decisions.old }
-    ensures rejected { IfErr result (IsRejected architecture output.now symbols.now kept.now
+    ensures form { OnOk result (spec.EachIs D.is_written relocations.old decisions.new) }
+    ensures others_stay { spec.RestStays relocations.old decisions.old decisions.new }
+    ensures rejected { IfErr result (spec.IsRejected architecture output.now symbols.now kept.now
         relocations.old section.old (map D.decision decisions.new)) }
-    ensures surveyed { IfErr result (MeansUnsurveyed (pre_layout architecture output.now symbols.now)
-        relocations.old section.old kept.now) }
+    ensures surveyed { IfErr result (MeansUnsurveyed (pre_layout architecture output.now
+        symbols.now) relocations.old section.old kept.now) }
     ensures section { OnErr result (section.new ≡ section.old) }
     ensures entries { OnErr result (relocations.new ≡ relocations.old) }
 {
@@ -215,14 +206,12 @@ pub fn decide_rewrites<D: AsKeptDecision>(
     ensures decided { OnOk result (AreDecidedAs (pre_layout architecture output.now symbols.now)
         kept.now relocations.now section.now (map D.decision decisions.new)
         (map D.bytes decisions.new)) }
-    ensures form { OnOk result
-        (All D.is_kept (take (length relocations.now / 24) decisions.new)) }
-    ensures others_stay { drop (length relocations.now / 24) decisions.new
-        ≡ drop (length relocations.now / 24) decisions.old }
-    ensures rejected { IfErr result (IsRejected architecture output.now symbols.now kept.now
+    ensures form { OnOk result (spec.EachIs D.is_kept relocations.now decisions.new) }
+    ensures others_stay { spec.RestStays relocations.now decisions.old decisions.new }
+    ensures rejected { IfErr result (spec.IsRejected architecture output.now symbols.now kept.now
         relocations.now section.now (map D.decision decisions.new)) }
-    ensures surveyed { IfErr result (MeansUnsurveyed (pre_layout architecture output.now symbols.now)
-        relocations.now section.now kept.now) }
+    ensures surveyed { IfErr result (MeansUnsurveyed (pre_layout architecture output.now
+        symbols.now) relocations.now section.now kept.now) }
 {
     let context = RelaxContext {
         architecture,
@@ -243,9 +232,9 @@ pub fn decide_rewrites<D: AsKeptDecision>(
 ///
 /// The relocations have to be those that were decided on, with their offsets in this section: it is
 /// called before values are written, and before the section is packed. Where these and the section
-/// are unchanged, it returns no error (`laws::decisions_are_made`). Each byte that a rewrite
-/// overwrites is tested, by a number of 32 bits that is kept with the decision. It is another one
-/// where one of the bytes is, and of up to four bytes it is those bytes (`laws::bytes_tell`).
+/// are unchanged, it returns no error. Each byte that a rewrite overwrites is tested, by a number
+/// of 32 bits that is kept with the decision. It is another one where one of the bytes is, and of
+/// up to four bytes it is those bytes (`laws::decisions_are_made`).
 ///
 /// Any decisions are accepted that pass the tests below, whoever made them. With
 /// `Decision::RewrittenWithSymbol`, which `decide_rewrites` never decides, no number is kept. What
@@ -254,12 +243,8 @@ pub fn decide_rewrites<D: AsKeptDecision>(
 ///
 /// # Errors
 ///
-/// The section and its relocations are as before. `TooShort`: there are more relocations than
-/// `decisions`. Else the error of the first relocation that has one. `Changed`: the bytes that its
-/// rewrite overwrites have another number than is kept, or the instructions aren't those that the
-/// rewrite is meant for, as `Relaxation::matches` says, or what it deletes isn't in the section.
-/// `Overlaps`: it rewrites or deletes bytes that a decision before it does too, or bytes below
-/// those.
+/// The section and its relocations are as before. `TooShort`, or else the error of the first
+/// relocation that has one.
 pub fn make_rewrites<D: AsKeptDecision>(
     relocations: &mut [u8],
     section: &mut [u8],
@@ -267,7 +252,7 @@ pub fn make_rewrites<D: AsKeptDecision>(
 ) -> Result<(), DecisionError>
     ensures made { OnOk result (AreMadeAs relocations.old relocations.new section.old section.new
         (map D.decision decisions.now) (map D.bytes decisions.now)) }
-    ensures unmade { IfErr result (IsUnmade relocations.old section.old
+    ensures unmade { IfErr result (spec.IsUnmade relocations.old section.old
         (map D.decision decisions.now) (map D.bytes decisions.now)) }
     ensures section { OnErr result (section.new ≡ section.old) }
     ensures entries { OnErr result (relocations.new ≡ relocations.old) }
@@ -289,14 +274,14 @@ pub(crate) fn list_deletions<D: AsDecision, L: FromDeletion>(
         (length relocations.now / 24) }
     requires enough { length relocations.now / 24 ≤ length decisions.now }
     requires fit { (n : ℕ) → n < length relocations.now / 24
-        → deleted_end (relocation_in relocations.now n).offset
-        (deleted_of (decision_at (map D.decision decisions.now) n)) ≤ u64.MAX }
+        → spec.deleted_end (relocation_in relocations.now n).offset
+        (spec.deleted_of (spec.decision_at (map D.decision decisions.now) n)) ≤ u64.MAX }
     ensures listed { IfSome result (λ len. take len (map L.deletion deleted.new)
-        ≡ deletions_by relocations.now (map D.decision decisions.now)
+        ≡ spec.deletions_by relocations.now (map D.decision decisions.now)
         (length relocations.now / 24)) }
     ensures others_stay { IfSome result (λ len. drop len deleted.new ≡ drop len deleted.old) }
     ensures short { IfNone result (length deleted.old
-        < length (deletions_by relocations.now (map D.decision decisions.now)
+        < length (spec.deletions_by relocations.now (map D.decision decisions.now)
         (length relocations.now / 24))) }
 {
     if !changes {
@@ -350,10 +335,9 @@ pub(crate) fn list_deletions<D: AsDecision, L: FromDeletion>(
 ///
 /// # Errors
 ///
-/// The section and its relocations are as before. `Contradiction`: `symbols` and `values`
-/// contradict each other about the symbol of a relocation, with the index of the first such symbol;
-/// an undefined weak symbol that the dynamic linker may define is none. Those of `rewrite_section`,
-/// and `TooShort` where `deleted` has less room than there are deletions.
+/// The section and its relocations are as before. Those of `rewrite_section`, and before them
+/// `Contradiction`, of the first such symbol; an undefined weak symbol that the dynamic linker may
+/// define is none.
 pub fn rewrite_placed_section<D: AsDecision, L: FromDeletion>(
     context: &RelaxContext<'_>,
     kept: &[UnrelaxableGroups],
@@ -366,19 +350,17 @@ pub fn rewrite_placed_section<D: AsDecision, L: FromDeletion>(
         relocations.old) }
     ensures rewritten { OnOk result (IsRewrittenAs (context_of context.now) kept.now relocations.old
         relocations.new section.old section.new (map D.decision decisions.new)) }
-    ensures within { OnOk result (AllCanBeMade relocations.old section.old
+    ensures within { OnOk result (spec.AllCanBeMade relocations.old section.old
         (map D.decision decisions.new) (length relocations.old / 24)) }
     ensures listed { IfOk result (λ len. take len (map L.deletion deleted.new)
-        ≡ deletions_by relocations.old (map D.decision decisions.new)
+        ≡ spec.deletions_by relocations.old (map D.decision decisions.new)
         (length relocations.old / 24)) }
     ensures labels { OnOk result (LabelsAreWhole (context_of context.now) relocations.old
         (map D.decision decisions.new) (length relocations.old / 24)) }
-    ensures form { OnOk result
-        (All D.is_written (take (length relocations.old / 24) decisions.new)) }
-    ensures others_stay { drop (length relocations.old / 24) decisions.new
-        ≡ drop (length relocations.old / 24) decisions.old }
+    ensures form { OnOk result (spec.EachIs D.is_written relocations.old decisions.new) }
+    ensures others_stay { spec.RestStays relocations.old decisions.old decisions.new }
     ensures deletions_stay { IfOk result (λ len. drop len deleted.new ≡ drop len deleted.old) }
-    ensures rejected { IfErr result (IsRejectedPlaced (context_of context.now) kept.now
+    ensures rejected { IfErr result (spec.IsRejectedPlaced (context_of context.now) kept.now
         relocations.old section.old (map D.decision decisions.new) (length deleted.old)) }
     ensures surveyed { IfErr result (MeansUnsurveyed (context_of context.now) relocations.old
         section.old kept.now) }

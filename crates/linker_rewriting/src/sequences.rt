@@ -1,11 +1,7 @@
 //! Sequences whose relocations are next to each other, and marks of what may be relaxed.
 
 ghost use Rattle.std.specs.Prelude.{◌≡◌, ◌+◌, ◌≤◌, length};
-ghost use Rattle.linker_rewriting.specs.Sequences.{mark_r_type, is_mark_of, is_marked_at};
-ghost use Rattle.linker_rewriting.specs.Sequences.{mark_r_type_in, is_marked_in, is_tied};
-ghost use Rattle.linker_rewriting.specs.Sequences.{is_member};
-ghost use Rattle.linker_rewriting.specs.Sequences.{are_members, is_among, is_place, is_whole_in};
-ghost use Rattle.linker_rewriting.specs.Sequences.{is_whole};
+ghost use Rattle.linker_rewriting.specs.Sequences as spec;
 
 use crate::phases::Phase;
 use crate::relocations::Site;
@@ -19,7 +15,7 @@ use linker_utils::riscv64::RiscVRelocation;
 /// The `r_type` of the mark of an instruction that may be relaxed.
 #[inline(always)]
 fn mark_r_type(architecture: Architecture) -> Option<u32>
-    ensures { result ≡ mark_r_type architecture }
+    ensures { result ≡ spec.mark_r_type architecture }
 {
     match architecture {
         Architecture::RiscV => Some(RiscVRelocation::R_RISCV_RELAX.r_type()),
@@ -31,7 +27,7 @@ fn mark_r_type(architecture: Architecture) -> Option<u32>
 /// Whether a relocation is a mark with an `r_type` at an offset.
 #[inline(always)]
 fn is_mark_of(r_type: Option<u32>, offset: u64, relocation: Option<Rela>) -> bool
-    ensures { result ≡ is_mark_of r_type offset relocation }
+    ensures { result ≡ spec.is_mark_of r_type offset relocation }
 {
     let Some(r_type) = r_type else {
         return false;
@@ -51,7 +47,7 @@ pub(crate) fn is_marked_at(
     relocation: &Rela,
 ) -> bool
     requires { index + 1 ≤ usize.MAX }
-    ensures { result ≡ is_marked_at architecture relocations.now index relocation.now }
+    ensures { result ≡ spec.is_marked_at architecture relocations.now index relocation.now }
 {
     let next = relocation_at(relocations, index + 1);
     is_mark_of(mark_r_type(architecture), relocation.offset, next)
@@ -61,7 +57,7 @@ pub(crate) fn is_marked_at(
 /// prefixed `r_type`, whose own relocation stands after its mark.
 #[inline(always)]
 fn mark_r_type_in(phase: Phase, architecture: Architecture) -> Option<u32>
-    ensures { result ≡ mark_r_type_in phase architecture }
+    ensures { result ≡ spec.mark_r_type_in phase architecture }
 {
     match (phase, architecture) {
         (Phase::PreLayout, Architecture::Ppc64) => {
@@ -76,7 +72,7 @@ fn mark_r_type_in(phase: Phase, architecture: Architecture) -> Option<u32>
 #[inline(always)]
 pub(crate) fn is_marked_in(phase: Phase, architecture: Architecture, site: &Site<'_>) -> bool
     requires { site.now.index + 1 ≤ usize.MAX }
-    ensures { result ≡ is_marked_in phase architecture site.now.relocations.now site.now.index
+    ensures { result ≡ spec.is_marked_in phase architecture site.now.relocations.now site.now.index
         site.now.relocation }
 {
     let next = relocation_at(site.relocations, site.index + 1);
@@ -112,7 +108,7 @@ pub(crate) struct Member {
 /// Whether a relocation is tied to another one of its sequence.
 #[inline(always)]
 fn is_tied(tie: Tie, relocation: &Rela, found: &Rela) -> bool
-    ensures { result ≡ is_tied tie relocation.now found.now }
+    ensures { result ≡ spec.is_tied tie relocation.now found.now }
 {
     let is_same = found.symbol == relocation.symbol && found.addend == relocation.addend;
     match tie {
@@ -125,7 +121,7 @@ fn is_tied(tie: Tie, relocation: &Rela, found: &Rela) -> bool
 /// Whether a relocation is a member of a sequence at an offset, tied to another one.
 #[inline(always)]
 fn is_member(member: Member, offset: u64, relocation: &Rela, found: Option<Rela>) -> bool
-    ensures { result ≡ is_member member offset relocation.now found }
+    ensures { result ≡ spec.is_member member offset relocation.now found }
 {
     let Some(found) = found else {
         return false;
@@ -145,7 +141,7 @@ fn are_members(
     relocation: &Rela,
 ) -> bool
     requires { first + length members.now ≤ usize.MAX + 1 }
-    ensures { result ≡ are_members members.now relocations.now first 0 offset relocation.now }
+    ensures { result ≡ spec.are_members members.now relocations.now first 0 offset relocation.now }
 {
     for (place, &member) in members.iter().enumerate() {
         let found = relocation_at(relocations, first + place);
@@ -161,8 +157,8 @@ fn are_members(
 #[inline(always)]
 fn is_among(members: &[Member], place: usize, distance: u64, site: &Site<'_>) -> bool
     requires { site.now.index + length members.now ≤ usize.MAX + 1 }
-    ensures { result ≡ is_among members.now place distance site.now.relocations.now site.now.index
-        site.now.relocation }
+    ensures { result ≡ spec.is_among members.now place distance site.now.relocations.now
+        site.now.index site.now.relocation }
 {
     let relocation = &site.relocation;
     if site.index < place || relocation.offset < distance {
@@ -175,7 +171,7 @@ fn is_among(members: &[Member], place: usize, distance: u64, site: &Site<'_>) ->
 /// Whether a relocation with a type may be a member, and isn't its mark.
 #[inline(always)]
 fn is_place(member: Member, r_type: u32) -> bool
-    ensures { result ≡ is_place member r_type }
+    ensures { result ≡ spec.is_place member r_type }
 {
     member.r_type == r_type && !matches!(member.tie, Tie::Mark)
 }
@@ -184,7 +180,7 @@ fn is_place(member: Member, r_type: u32) -> bool
 #[inline(always)]
 fn is_whole_in(members: &[Member], site: &Site<'_>) -> bool
     requires { site.now.index + length members.now ≤ usize.MAX + 1 }
-    ensures { result ≡ is_whole_in members.now members.now 0 site.now.relocations.now
+    ensures { result ≡ spec.is_whole_in members.now members.now 0 site.now.relocations.now
         site.now.index site.now.relocation }
 {
     for (place, &member) in members.iter().enumerate() {
@@ -218,7 +214,7 @@ macro_rules! sequences {
 #[inline(always)]
 pub(crate) fn is_whole(architecture: Architecture, site: &Site<'_>) -> bool
     requires { site.now.index + 3 ≤ usize.MAX }
-    ensures { result ≡ is_whole architecture site.now.relocations.now site.now.index
+    ensures { result ≡ spec.is_whole architecture site.now.relocations.now site.now.index
         site.now.relocation }
 {
     match architecture {

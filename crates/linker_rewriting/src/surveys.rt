@@ -1,14 +1,12 @@
 //! Which groups of an object stay as they are, since one of their instructions can't be rewritten.
 
-ghost use Rattle.std.specs.Prelude.{◌≡◌, ◌+◌, ◌<◌, ◌≤◌, ◌/◌, ℕ, length, slice_get, true, OnOk};
+ghost use Rattle.std.specs.Prelude.{◌≡◌, ◌+◌, ◌<◌, ◌≤◌, ◌/◌, ℕ, length, slice_get, OnOk};
 ghost use Rattle.std.specs.Prelude.{IfErr, OnErr};
 ghost use Rattle.linker_section.specs.Relocations.{relocation_in};
 ghost use Rattle.linker_rewriting.specs.Agreement.{Agree, IsContradiction};
 ghost use Rattle.linker_rewriting.specs.Facts.{context_of};
 ghost use Rattle.linker_rewriting.specs.Inner.RelocationTypes.{KeepsNone};
-ghost use Rattle.linker_rewriting.specs.Surveys.{IsKeeping, IsMarked, IsUnmarked, needs_mark};
-ghost use Rattle.linker_rewriting.specs.Surveys.{AreKeptToo, IsGroup, IsGroupOf, IsOfThreads};
-ghost use Rattle.linker_rewriting.specs.Surveys.{IsSurveyed, IsSurveyedIn};
+ghost use Rattle.linker_rewriting.specs.Surveys as spec;
 
 use crate::agreement::contradiction;
 use crate::candidates::{candidate, is_matched, is_tls_get_addr};
@@ -23,7 +21,7 @@ use linker_utils::elf::Architecture;
 /// Notes that the group of a kind and of a symbol stays.
 #[inline(always)]
 fn keep(kept: &mut [UnrelaxableGroups], group: Group, symbol: u32)
-    ensures { AreKeptToo kept.old kept.new (IsGroup group symbol) }
+    ensures { spec.AreKeptToo kept.old kept.new (spec.IsGroup group symbol) }
 {
     let index = symbol as usize;
     if index < kept.len() {
@@ -34,7 +32,7 @@ fn keep(kept: &mut [UnrelaxableGroups], group: Group, symbol: u32)
 /// Notes that the group of a kind, if any, among a symbol's stays.
 #[inline(always)]
 fn keep_group(kept: &mut [UnrelaxableGroups], group: Option<Group>, symbol: u32)
-    ensures { AreKeptToo kept.old kept.new (IsGroupOf group symbol) }
+    ensures { spec.AreKeptToo kept.old kept.new (spec.IsGroupOf group symbol) }
 {
     if let Some(group) = group {
         keep(kept, group, symbol_of_group(group, symbol));
@@ -44,7 +42,7 @@ fn keep_group(kept: &mut [UnrelaxableGroups], group: Option<Group>, symbol: u32)
 /// Notes that all groups of thread-local storage in the object stay, if they do.
 #[inline(always)]
 fn keep_threads(kept: &mut [UnrelaxableGroups], stay: bool)
-    ensures { AreKeptToo kept.old kept.new (IsOfThreads stay) }
+    ensures { spec.AreKeptToo kept.old kept.new (spec.IsOfThreads stay) }
 {
     if stay {
         keep(kept, Group::InitialExec, 0);
@@ -57,7 +55,7 @@ fn keep_threads(kept: &mut [UnrelaxableGroups], stay: bool)
 #[inline(always)]
 fn keeping(context: &RelaxContext<'_>, site: &Site<'_>) -> Option<Group>
     requires { site.now.index + 3 ≤ usize.MAX }
-    ensures { IsKeeping (context_of context.now) site.now.relocations.now site.now.section.now
+    ensures { spec.IsKeeping (context_of context.now) site.now.relocations.now site.now.section.now
         site.now.index site.now.relocation result }
 {
     match scope_in(context.architecture, context.phase, site.relocation.r_type) {
@@ -80,7 +78,7 @@ fn keeping(context: &RelaxContext<'_>, site: &Site<'_>) -> Option<Group>
 #[inline(always)]
 fn is_marked(site: &Site<'_>) -> bool
     requires { site.now.index ≤ length site.now.relocations.now / 24 }
-    ensures { IsMarked site.now.relocations.now site.now.index site.now.relocation result }
+    ensures { spec.IsMarked site.now.relocations.now site.now.index site.now.relocation result }
 {
     if site.index == 0 {
         return false;
@@ -99,7 +97,7 @@ fn needs_mark(
     symbols: &[SymbolFacts],
     relocation: &Rela,
 ) -> bool
-    ensures { result ≡ needs_mark phase architecture
+    ensures { result ≡ spec.needs_mark phase architecture
         (slice_get symbols.now relocation.now.symbol) }
 {
     match (phase, architecture) {
@@ -113,7 +111,7 @@ fn needs_mark(
 #[inline(always)]
 fn is_unmarked(context: &RelaxContext<'_>, site: &Site<'_>) -> bool
     requires { site.now.index ≤ length site.now.relocations.now / 24 }
-    ensures { IsUnmarked (context_of context.now) site.now.relocations.now site.now.index
+    ensures { spec.IsUnmarked (context_of context.now) site.now.relocations.now site.now.index
         site.now.relocation result }
 {
     let (architecture, phase) = (context.architecture, context.phase);
@@ -121,24 +119,6 @@ fn is_unmarked(context: &RelaxContext<'_>, site: &Site<'_>) -> bool
         return false;
     }
     !is_marked(site)
-}
-
-/// Whether the relocation with an index is of no group by its `r_type`, and needs no mark.
-#[inline(always)]
-fn keeps_none(
-    architecture: Architecture,
-    phase: Phase,
-    symbols: &[SymbolFacts],
-    relocations: &[u8],
-    index: usize,
-) -> bool
-    requires within { index < length relocations.now / 24 }
-    ensures { result ≡ true
-        → KeepsNone architecture phase symbols.now (relocation_in relocations.now index) }
-{
-    let relocation = relocation_in(relocations, index);
-    let surveyed = is_surveyed(architecture, phase, relocation.r_type);
-    !surveyed && !needs_mark(architecture, phase, symbols, &relocation)
 }
 
 /// The index of the first relocation from an index on that may keep a group, or how many
@@ -162,7 +142,11 @@ fn next_in(
 {
     let len = relocations_len(relocations);
     for index in from..len {
-        if !keeps_none(architecture, phase, context.symbols, relocations, index) {
+        let relocation = relocation_in(relocations, index);
+        if is_surveyed(architecture, phase, relocation.r_type) {
+            return index;
+        }
+        if needs_mark(architecture, phase, context.symbols, &relocation) {
             return index;
         }
     }
@@ -193,8 +177,8 @@ fn survey_in(
     section: &[u8],
     kept: &mut [UnrelaxableGroups],
 )
-    ensures { IsSurveyedIn (context_of context.now) relocations.now section.now kept.old kept.new
-        (length relocations.now / 24) }
+    ensures { spec.IsSurveyedIn (context_of context.now) relocations.now section.now kept.old
+        kept.new (length relocations.now / 24) }
 {
     let len = relocations_len(relocations);
     let mut index = next_keeping(context, relocations, 0);
@@ -250,8 +234,8 @@ pub fn survey(
     section: &[u8],
     kept: &mut [UnrelaxableGroups],
 )
-    ensures { IsSurveyed architecture output.now symbols.now relocations.now section.now kept.old
-        kept.new (length relocations.now / 24) }
+    ensures { spec.IsSurveyed architecture output.now symbols.now relocations.now section.now
+        kept.old kept.new (length relocations.now / 24) }
 {
     let context = RelaxContext {
         architecture,
@@ -265,23 +249,21 @@ pub fn survey(
 }
 
 /// Notes which groups of an object stay in a phase once addresses are known, by a section, as
-/// `survey` does before. `rewrite_placed_section` rewrites all of a group or none by these notes,
-/// so survey each section of code of an object before one of them is rewritten in the phase, with
-/// one table for the object and the phase. A group stays too where a table has no entry for its
-/// symbol. Relocations of a label of RISC-V aren't surveyed: all of a label are in one section.
+/// `survey` does before, for `rewrite_placed_section`: there is one table for the object and the
+/// phase. A group stays too where `symbols` or `values` has no entry for its symbol. Relocations of
+/// a label of RISC-V aren't surveyed: all of a label are in one section.
 ///
 /// # Errors
 ///
-/// `kept` is as before. `symbols` and `values` contradict each other about the symbol of a
-/// relocation, as `RewritingError::Contradiction` says: the index of the first such symbol.
+/// `kept` is as before. The index of the first symbol that is a `RewritingError::Contradiction`.
 pub fn survey_placed_section(
     context: &RelaxContext<'_>,
     relocations: &[u8],
     section: &[u8],
     kept: &mut [UnrelaxableGroups],
 ) -> Result<(), usize>
-    ensures surveyed { OnOk result (IsSurveyedIn (context_of context.now) relocations.now section.now
-        kept.old kept.new (length relocations.now / 24)) }
+    ensures surveyed { OnOk result (spec.IsSurveyedIn (context_of context.now) relocations.now
+        section.now kept.old kept.new (length relocations.now / 24)) }
     ensures agree { OnOk result (Agree context.now.symbols.now context.now.values.now
         relocations.now) }
     ensures contradiction { IfErr result (IsContradiction context.now.symbols.now

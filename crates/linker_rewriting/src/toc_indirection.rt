@@ -2,19 +2,13 @@
 //! `.toc`. Nothing changes such a word, so that once addresses are known the instructions may
 //! compute its address: all that load it, or none.
 
-ghost use Rattle.std.specs.Prelude.{◌≡◌, ◌⊎◌, ◌↔◌, ◌+◌, ◌<◌, ◌≤◌, ◌/◌, ℕ, length, map, take, drop};
-ghost use Rattle.std.specs.Prelude.{IfSome, IfErr, OnOk, OnErr, All, true, ⊤};
+ghost use Rattle.std.specs.Prelude.{◌≡◌, ◌⊎◌, ◌↔◌, ◌+◌, ◌<◌, ◌≤◌, ◌/◌, ℕ, length, map};
+ghost use Rattle.std.specs.Prelude.{IfSome, IfErr, OnOk, OnErr, true, ⊤};
 ghost use Rattle.linker_rewriting.specs.Agreement.{Agree, IsContradiction};
-ghost use Rattle.linker_rewriting.specs.Decisions.{IsThere, start_by, end_by};
+ghost use Rattle.linker_rewriting.specs.Decisions.{IsThere, start_by, end_by, EachIs, RestStays};
 ghost use Rattle.linker_rewriting.specs.Facts.{context_of};
 ghost use Rattle.linker_rewriting.specs.Inner.TocIndirection.{IsThatWord, with_r_type};
-ghost use Rattle.linker_rewriting.specs.TocIndirection.{entry_r_type, word_r_type, word_offset};
-ghost use Rattle.linker_rewriting.specs.TocIndirection.{DecidesLoad, IsLoad};
-ghost use Rattle.linker_rewriting.specs.TocIndirection.{IsLoadCandidate, word_stays, IsKeepingWord};
-ghost use Rattle.linker_rewriting.specs.TocIndirection.{IsLoadNotSurveyed, AreLoadsSurveyed};
-ghost use Rattle.linker_rewriting.specs.TocIndirection.{IsLoadDecided, AreLoadsRewrittenAs};
-ghost use Rattle.linker_rewriting.specs.TocIndirection.{MeansWordsUnsurveyed};
-ghost use Rattle.linker_rewriting.specs.TocIndirection.{AreLoadsRejectedFirst};
+ghost use Rattle.linker_rewriting.specs.TocIndirection as spec;
 ghost use Rattle.linker_section.specs.Relocations.{relocation_in};
 
 use crate::agreement::contradiction;
@@ -35,7 +29,7 @@ use linker_utils::ppc64::Ppc64Relocation;
 /// The `r_type` of a relocation for an entry of the GOT in place of one for a word.
 #[inline(always)]
 fn entry_r_type(architecture: Architecture, r_type: u32) -> Option<u32>
-    ensures { result ≡ entry_r_type architecture r_type }
+    ensures { result ≡ spec.entry_r_type architecture r_type }
 {
     match architecture {
         Architecture::Ppc64 => {
@@ -53,18 +47,10 @@ fn entry_r_type(architecture: Architecture, r_type: u32) -> Option<u32>
     }
 }
 
-/// The `r_type` of a word's own relocation.
-#[inline(always)]
-fn word_r_type() -> u32
-    ensures { result ≡ word_r_type }
-{
-    Ppc64Relocation::R_PPC64_ADDR64.r_type()
-}
-
 /// How far what a relocation refers to is after the start of the section of words.
 #[inline(always)]
 fn word_offset(context: &RelaxContext<'_>, start: u64, relocation: &Rela) -> Option<u64>
-    ensures { result ≡ word_offset context.now.addresses.now context.now.values.now start
+    ensures { result ≡ spec.word_offset context.now.addresses.now context.now.values.now start
         relocation.now }
 {
     let value = context.values.get(relocation.symbol as usize)?;
@@ -88,7 +74,7 @@ struct Words<'a> {
 /// relocation.
 fn load_of(words: &Words<'_>, relocation: &Rela) -> Option<(u32, usize)>
     ensures within { IfSome result (λ load. load.1 < length words.now.relocations.now / 24) }
-    ensures load { IsLoad (context_of words.now.context.now) words.now.start
+    ensures load { spec.IsLoad (context_of words.now.context.now) words.now.start
         words.now.relocations.now relocation.now result }
 {
     let context = words.context;
@@ -98,7 +84,8 @@ fn load_of(words: &Words<'_>, relocation: &Rela) -> Option<(u32, usize)>
     let Some(at) = word_offset(context, words.start, relocation) else {
         return None;
     };
-    match high_at(words.relocations, word_r_type(), at) {
+    let r_type = Ppc64Relocation::R_PPC64_ADDR64.r_type();
+    match high_at(words.relocations, r_type, at) {
         Some(word) => Some((entry, word)),
         None => None,
     }
@@ -124,7 +111,7 @@ fn load_candidate(
 ) -> Option<Choice<Relaxation, u32>>
     requires index { site.now.index + 3 ≤ usize.MAX }
     requires within { load.1 < length words.now.relocations.now / 24 }
-    ensures candidate { IsLoadCandidate (context_of words.now.context.now)
+    ensures candidate { spec.IsLoadCandidate (context_of words.now.context.now)
         words.now.relocations.now site.now.relocations.now site.now.section.now site.now.index
         site.now.relocation load result }
     ensures there { IfSome result (λ chosen. IsThere (Decision.Rewritten chosen)
@@ -133,21 +120,17 @@ fn load_candidate(
     let (entry, word) = load;
     let word = relocation_in(words.relocations, word);
     let facts = link_facts(words.context, &site.relocation, &word, false);
-    let relocation = with_r_type(entry, &site.relocation);
-    candidate_by(
-        words.context,
-        &Site {
-            relocation,
-            ..*site
-        },
-        &facts,
-    )
+    let site = Site {
+        relocation: with_r_type(entry, &site.relocation),
+        ..*site
+    };
+    candidate_by(words.context, &site, &facts)
 }
 
 /// Whether a word stays, by the index of its relocation.
 #[inline(always)]
 pub(crate) fn word_stays(kept: &[bool], word: usize) -> bool
-    ensures { result ≡ word_stays kept.now word }
+    ensures { result ≡ spec.word_stays kept.now word }
 {
     match kept.get(word) {
         Some(stays) => *stays,
@@ -158,8 +141,8 @@ pub(crate) fn word_stays(kept: &[bool], word: usize) -> bool
 /// Notes that a word, if any, stays.
 #[inline(always)]
 pub(crate) fn keep_word(kept: &mut [bool], word: Option<usize>)
-    ensures { (w : ℕ) → (word_stays kept.new w ≡ true)
-        ↔ ((word_stays kept.old w ≡ true) ⊎ IsThatWord word w) }
+    ensures { (w : ℕ) → (spec.word_stays kept.new w ≡ true)
+        ↔ ((spec.word_stays kept.old w ≡ true) ⊎ IsThatWord word w) }
 {
     if let Some(word) = word {
         if word < kept.len() {
@@ -172,7 +155,7 @@ pub(crate) fn keep_word(kept: &mut [bool], word: Option<usize>)
 #[inline(always)]
 fn keeping_word(words: &Words<'_>, site: &Site<'_>) -> Option<usize>
     requires { site.now.index + 3 ≤ usize.MAX }
-    ensures { IsKeepingWord (context_of words.now.context.now) words.now.start
+    ensures { spec.IsKeepingWord (context_of words.now.context.now) words.now.start
         words.now.relocations.now site.now.relocations.now site.now.section.now site.now.index
         site.now.relocation result }
 {
@@ -186,10 +169,8 @@ fn keeping_word(words: &Words<'_>, site: &Site<'_>) -> Option<usize>
 /// Notes which words of an object's section of addresses stay, since a relocation of this section
 /// of code is of an instruction that loads one and can't compute its address: it is none that the
 /// rewrite is meant for, the address may be of another file or in another place each time, or it is
-/// out of reach. `rewrite_toc_loads` rewrites all loads of a word or none by these notes, so
-/// survey each section of code of the object before one of them is rewritten, with one table for
-/// the section of addresses, all of whose elements are false at first. What stays there already
-/// stays. A word without an element stays.
+/// out of reach. As with `survey` there is one table, for the section of addresses, all of whose
+/// elements are false at first. A word without an element stays.
 ///
 /// `words` are the relocations of the section of addresses, as `linker_output`'s description names
 /// it, and have to ascend by offset; `kept` has an element for each. `words_start` is its address.
@@ -198,9 +179,8 @@ fn keeping_word(words: &Words<'_>, site: &Site<'_>) -> Option<usize>
 ///
 /// # Errors
 ///
-/// `kept` is as before. `symbols` and `values` contradict each other about the symbol of a
-/// relocation of the section, as `RewritingError::Contradiction` says: the index of the first such
-/// symbol. Those of words are compared by the call that writes the words' values by both tables.
+/// `kept` is as before. The index of the first symbol that is a `RewritingError::Contradiction`.
+/// Those of words are compared by the call that writes the words' values by both tables.
 pub fn survey_toc_loads(
     context: &RelaxContext<'_>,
     words_start: u64,
@@ -209,8 +189,8 @@ pub fn survey_toc_loads(
     section: &[u8],
     kept: &mut [bool],
 ) -> Result<(), usize>
-    ensures surveyed { OnOk result (AreLoadsSurveyed (context_of context.now) words_start words.now
-        relocations.now section.now kept.old kept.new (length relocations.now / 24)) }
+    ensures surveyed { OnOk result (spec.AreLoadsSurveyed (context_of context.now) words_start
+        words.now relocations.now section.now kept.old kept.new (length relocations.now / 24)) }
     ensures agree { OnOk result (Agree context.now.symbols.now context.now.values.now
         relocations.now) }
     ensures contradiction { IfErr result (IsContradiction context.now.symbols.now
@@ -250,9 +230,9 @@ struct Loads<'a, 'b> {
 /// What becomes of a relocation. None if it loads a word that doesn't stay, but can't be rewritten.
 fn decide_load(rule: &Loads<'_, '_>, site: &Site<'_>) -> Option<Decision>
     requires { site.now.index + 3 ≤ usize.MAX }
-    ensures decision { IsLoadDecided (context_of rule.now.words.context.now) rule.now.words.start
-        rule.now.words.relocations.now rule.now.kept.now site.now.relocations.now
-        site.now.section.now site.now.index site.now.relocation result }
+    ensures decision { spec.IsLoadDecided (context_of rule.now.words.context.now)
+        rule.now.words.start rule.now.words.relocations.now rule.now.kept.now
+        site.now.relocations.now site.now.section.now site.now.index site.now.relocation result }
     ensures there { IfSome result
         (λ d. IsThere d site.now.section.now site.now.relocation.offset) }
 {
@@ -273,10 +253,10 @@ fn decide_load(rule: &Loads<'_, '_>, site: &Site<'_>) -> Option<Decision>
 }
 
 impl Rule for Loads<'_, '_> {
-    ghost decides = { λ s bytes section. DecidesLoad (context_of s.words.context.now) s.words.start
-        s.words.relocations.now s.kept.now bytes section };
+    ghost decides = { λ s bytes section. spec.DecidesLoad (context_of s.words.context.now)
+        s.words.start s.words.relocations.now s.kept.now bytes section };
 
-    ghost lacks = { λ s bytes section n. IsLoadNotSurveyed (context_of s.words.context.now)
+    ghost lacks = { λ s bytes section n. spec.IsLoadNotSurveyed (context_of s.words.context.now)
         s.words.start s.words.relocations.now s.kept.now bytes section n (relocation_in bytes n) };
 
     ghost is_valid = { λ s bytes. ⊤ };
@@ -311,12 +291,7 @@ impl Rule for Loads<'_, '_> {
 ///
 /// # Errors
 ///
-/// The section and its relocations are as before. `TooShort`: there are more relocations than
-/// `decisions`. `NotSurveyed`: a load of a word that doesn't stay can't be rewritten; it never
-/// comes where the section was surveyed into the table with the same facts. `Overlaps`: the bytes
-/// of two rewrites overlap, or those of the second lie below those of the first; where none do, the
-/// field of the relocation with the index, the first such, has a byte that the rewrite of another
-/// one writes. Before these `Contradiction`, as in `survey_toc_loads`.
+/// The section and its relocations are as before. `Contradiction` comes first.
 ///
 /// ```
 /// use linker_rewriting::decisions::Decision;
@@ -369,16 +344,14 @@ pub fn rewrite_toc_loads<D: AsDecision>(
 ) -> Result<(), RewritingError>
     ensures agree { OnOk result (Agree context.now.symbols.now context.now.values.now
         relocations.old) }
-    ensures rewritten { OnOk result (AreLoadsRewrittenAs (context_of context.now) words_start
+    ensures rewritten { OnOk result (spec.AreLoadsRewrittenAs (context_of context.now) words_start
         words.now kept.now relocations.old relocations.new section.old section.new
         (map D.decision decisions.new)) }
-    ensures form { OnOk result
-        (All D.is_written (take (length relocations.old / 24) decisions.new)) }
-    ensures others_stay { drop (length relocations.old / 24) decisions.new
-        ≡ drop (length relocations.old / 24) decisions.old }
-    ensures rejected { IfErr result (AreLoadsRejectedFirst (context_of context.now) words_start
+    ensures form { OnOk result (EachIs D.is_written relocations.old decisions.new) }
+    ensures others_stay { RestStays relocations.old decisions.old decisions.new }
+    ensures rejected { IfErr result (spec.AreLoadsRejectedFirst (context_of context.now) words_start
         words.now kept.now relocations.old section.old (map D.decision decisions.new)) }
-    ensures surveyed { IfErr result (MeansWordsUnsurveyed (context_of context.now) words_start
+    ensures surveyed { IfErr result (spec.MeansWordsUnsurveyed (context_of context.now) words_start
         words.now relocations.old section.old kept.now) }
     ensures section { OnErr result (section.new ≡ section.old) }
     ensures entries { OnErr result (relocations.new ≡ relocations.old) }

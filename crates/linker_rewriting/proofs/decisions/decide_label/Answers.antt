@@ -10,12 +10,12 @@ pub returns-in-Some-label_candidate-clause-decision : goal.returns-in-Some-label
 returns-in-Some-label_candidate-clause-decision c =
     let a = c.args in
     rewritten_label (context_of a.context.now) a.site.now.relocations.now a.site.now.section.now a.site.now.index a.site.now.relocation c.in-Some.high
-    c.in-Some-label_candidate.chosen c.relocation_in.result c.label_decision.result
+    c.in-Some-label_candidate.chosen c.relocation_in-part.result c.label_decision.result
     (subst (IsLabelNote (context_of a.context.now) a.site.now.relocations.now a.site.now.section.now a.site.now.relocation) c.if-stays.false c.requires.noted)
     (λ ascending. subst (IsHighOf a.context.now.phase a.context.now.addresses.now a.context.now.values.now a.site.now.relocations.now a.site.now.relocation) c.in-Some.is (c.high_of.ensures.high ascending))
     (subst (IsLabelCandidate (context_of a.context.now) a.site.now.relocations.now a.site.now.section.now a.site.now.index a.site.now.relocation c.in-Some.high)
     c.in-Some-label_candidate.is c.label_candidate.ensures.candidate)
-    c.relocation_in.ensures c.label_decision.ensures
+    c.relocation_in-part.ensures c.label_decision.ensures
 
 pub returns-in-Some-label_candidate-clause-there : goal.returns-in-Some-label_candidate-clause-there
 returns-in-Some-label_candidate-clause-there c =
@@ -24,7 +24,7 @@ returns-in-Some-label_candidate-clause-there c =
     let there : There (Rewritten c.in-Some-label_candidate.chosen) =
     subst (λ x. IfSome x (λ y. There (Rewritten y))) c.in-Some-label_candidate.is c.label_candidate.ensures.there in
     subst There (sym c.label_decision.ensures)
-    (either_label There a.context.now.phase c.in-Some-label_candidate.chosen c.relocation_in.result there there)
+    (either_label There a.context.now.phase c.in-Some-label_candidate.chosen c.relocation_in-part.result there there)
 
 pub returns-in-None-clause-decision : goal.returns-in-None-clause-decision
 returns-in-None-clause-decision c =

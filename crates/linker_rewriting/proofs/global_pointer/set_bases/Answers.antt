@@ -12,9 +12,9 @@ set_base-based-requires c =
     (let t = c.loop-index-test.true in let e = c.relocations_len-index-end.ensures in omega arith) in
     let same : c.relocation_in-relocation.result ≡ relocation_in a.relocations.now k =
     c.relocation_in-relocation.ensures ∙ c.loop-index.invariant.turned.above k (omega arith) less in
-    same_placed a.addresses.now a.values.now a.gp c.loop-index.section a.section.now c.relocation_in-relocation.result
+    same_placed a.bases.now.addresses.now a.bases.now.values.now a.bases.now.gp c.loop-index.section a.section.now c.relocation_in-relocation.result
     c.loop-index.invariant.same_len
-    ∙ (ap (is_placed a.addresses.now a.values.now a.gp a.section.now) same ∙ c.requires k less)
+    ∙ (ap (is_placed a.bases.now.addresses.now a.bases.now.values.now a.bases.now.gp a.section.now) same ∙ c.requires k less)
 
 pub loop-index-preserved : goal.loop-index-preserved
 loop-index-preserved c =
@@ -29,15 +29,15 @@ loop-index-preserved c =
     c.relocation_in-relocation.ensures ∙ turned.above k (omega arith) less in
     let same_len : length c.loop-index.relocations ≡ length a.relocations.now = turned.same_len in
     record {
-      turned = turned_next (λ n x. based_relocation a.addresses.now a.values.now a.gp x) a.relocations.now
+      turned = turned_next (λ n x. based_relocation a.bases.now.addresses.now a.bases.now.values.now a.bases.now.gp x) a.relocations.now
           c.loop-index.relocations c.set_relocation.new.relocations limit k
           r c.set_base-based.result turned less c.relocation_in-relocation.ensures
           c.set_base-based.ensures.relocation c.set_relocation.ensures.set
           (λ n below ne. c.set_relocation.ensures.others n (subst (λ l. n < l / 24) (sym same_len) below) ne)
           (search rules);
       based = c.set_base-based.ensures.section
-          ∙ (ap (λ s. based_section a.addresses.now a.values.now a.gp s r) c.loop-index.invariant.based
-          ∙ (ap (based_section a.addresses.now a.values.now a.gp _) same
-          ∙ sym (based_next a.addresses.now a.values.now a.gp a.relocations.now a.section.now k)));
+          ∙ (ap (λ s. based_section a.bases.now.addresses.now a.bases.now.values.now a.bases.now.gp s r) c.loop-index.invariant.based
+          ∙ (ap (based_section a.bases.now.addresses.now a.bases.now.values.now a.bases.now.gp _) same
+          ∙ sym (based_next a.bases.now.addresses.now a.bases.now.values.now a.bases.now.gp a.relocations.now a.section.now k)));
       same_len = search rules;
     }

@@ -1,4 +1,4 @@
-use Rattle.std.proofs.Common.{◌≤◌, arith, refl, subst}
+use Rattle.std.proofs.Common.{◌≤◌, ◌∙◌, arith, subst, sym}
 use Rattle.linker_rewriting.specs.Inner.RelocationTypes.{KeepsNone}
 use Rattle.linker_rewriting.proofs.Imports.{relocation_in}
 use Rattle.linker_rewriting.proofs.surveys.next_in.Goals as goal
@@ -12,7 +12,9 @@ loop-index-preserved c =
     let all = below_more (λ n. a.from ≤ n → KeepsNone s.architecture s.phase s.symbols.now (relocation_in a.relocations.now n))
     c.loop-index.index (λ n less from. c.loop-index.invariant n from less)
     (λ from. subst (λ x. KeepsNone x s.phase s.symbols.now r) c.requires.architecture
-    (subst (λ x. KeepsNone a.architecture x s.symbols.now r) c.requires.phase (c.if-not-keeps_none.ensures refl))) in
+    (subst (λ x. KeepsNone a.architecture x s.symbols.now r) c.requires.phase
+    (subst (KeepsNone a.architecture a.phase s.symbols.now) c.relocation_in-relocation.ensures
+    (c.is_surveyed.ensures c.if-is_surveyed.false, sym c.needs_mark.ensures ∙ c.if-needs_mark.false)))) in
     λ n from less. all n less from
 
 pub returns-clause-between : goal.returns-clause-between

@@ -8,5 +8,5 @@ returns-in-None-clause-load c =
     let words = c.args.words.now.relocations.now in
     inr (λ up. subst (λ offset. IsHighFrom words word_r_type offset None)
     (sym (sym c.word_offset.ensures ∙ c.in-Some-word_offset.is))
-    (subst (λ r_type. IsHighAt words r_type c.in-Some-word_offset.at None) c.word_r_type.ensures
+    (subst (λ r_type. IsHighAt words r_type c.in-Some-word_offset.at None) c.r_type-r_type.ensures
     (c.in-None.ensures.high up)))
