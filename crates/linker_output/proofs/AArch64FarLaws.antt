@@ -1,17 +1,11 @@
 -- AArch64's stubs to anywhere go there.
-use Rattle.std.proofs.Common.{◌≡◌, ℕ, ◌+◌, ◌*◌, ◌%◌, ◌^◌, ◌<◌, Bool, true, false, refl, sym, ◌∙◌, ap, subst, arith, List, [], ◌∷◌, ◌++◌, eqb, cond, Some, None, drop, pos, ◌+ℤ◌}
-use Rattle.linker_output.proofs.Imports.{IsSomeAnd, ◌||◌, w64, cast_unsigned, eq-eqb, cond-true, append-nil, aarch64_name, aarch64_row, number_of_bytes, sum_64, State, load_64, go_to, in_64_bits, word_of}
+use Rattle.linker_output.proofs.Imports.{◌≡◌, ℕ, ◌+◌, ◌*◌, ◌%◌, ◌^◌, ◌<◌, Bool, true, false, refl, sym, ◌∙◌, ap, subst, arith, List, [], ◌∷◌, ◌++◌, eqb, cond, Some, None, drop, pos, ◌+ℤ◌, IsSomeAnd, ◌||◌, w64, cast_unsigned, eq-eqb, cond-true, append-nil, aarch64_name, aarch64_row, number_of_bytes, sum_64, load_64, go_to, in_64_bits, word_of, low_bytes, write_x, adr_address, Fields, aarch64_output, GoesTo, run_far, literal, registers_added, operands_of}
 use Rattle.linker_base.specs.Form.{place_sum}
-use Rattle.linker_elf.specs.Relocate.{low_bytes}
 use Rattle.linker_elf.specs.declared.aarch64.relocations.AArch64Relocation.TheVariants as r
-use Rattle.linker_laws.specs.AArch64Machine.{go_on, next_pc, write_x, adr_address}
-use Rattle.linker_laws.specs.AArch64RelocationLaws.{Fields}
+use Rattle.linker_laws.specs.AArch64Machine.{State, go_on, next_pc}
 use Rattle.linker_output.proofs.AArch64StubLaws.{some_or}
 use Rattle.linker_output.proofs.StubWords.{applies, are_addresses}
-use Rattle.linker_output.specs.AArch64Output.{aarch64_output}
-use Rattle.linker_output.specs.AArch64Stubs.{GoesTo, run_far, literal, registers_added}
 use Rattle.linker_output.specs.AArch64Stubs as stubs
-use Rattle.linker_output.specs.Stubs.{operands_of}
 
 -- ---- numbers
 

@@ -1,27 +1,17 @@
 -- AArch64's lazy PLT.
-use Rattle.std.proofs.Common.{◌≡◌, ℕ, ◌+◌, ◌-◌, ◌*◌, ◌^◌, ◌<◌, ◌≤◌, Bool, true, false, refl, sym, ◌∙◌, ap, subst, arith, List, [], ◌∷◌, ◌++◌, take, drop, eqb, cond, Some, pos, negsuc, ◌+ℤ◌}
-use Rattle.linker_output.proofs.Imports.{◌||◌, ◌==◌, IsSomeAnd, nat_lt, if◌then◌else◌, w64, from_le_bytes, cast_unsigned, cond-true, cond-false, or_parts, ints, field, aarch64_name, aarch64_row, sum_64, difference_64, Operands, State, adrp_address, added, load_64, add, ldr, go_to, in_64_bits, RelativeAddresses, word_of, stored, IsAddress, loads, set, IsAdrOf, IsInstructionOf, adrp_after, ldr_after, add_after, of_registers, wrapped_is, AArch64, sum_zero}
+use Rattle.linker_output.proofs.Imports.{◌≡◌, ℕ, ◌+◌, ◌-◌, ◌*◌, ◌^◌, ◌<◌, ◌≤◌, Bool, true, false, refl, sym, ◌∙◌, ap, subst, arith, List, [], ◌∷◌, ◌++◌, take, drop, eqb, cond, Some, pos, negsuc, ◌+ℤ◌, ◌||◌, ◌==◌, IsSomeAnd, nat_lt, if◌then◌else◌, w64, from_le_bytes, cast_unsigned, cond-true, cond-false, or_parts, ints, field, aarch64_name, aarch64_row, sum_64, difference_64, Operands, adrp_address, added, load_64, add, ldr, go_to, in_64_bits, RelativeAddresses, word_of, stored, IsAddress, loads, IsAdrOf, IsInstructionOf, adrp_after, ldr_after, add_after, of_registers, wrapped_is, AArch64, sum_zero, page_and_offset, adds_up, step_add, operands_at, header_places, aarch64_loads, aarch64_entry, aarch64_wide_entry, aarch64_landing_entry, aarch64_header, aarch64_landing_header, padded, words, or_else, field_of, code_of_words, LazyEntry, LazyField, LazyPiece, Word}
+use Rattle.linker_laws.proofs.AArch64Steps.{set}
 use Rattle.linker_elf.specs.AArch64.{aarch64_form}
 use Rattle.linker_elf.specs.declared.aarch64.forms.AArch64Instruction.TheVariants.{LdSt, Add}
 use Rattle.linker_elf.specs.declared.aarch64.relocations.AArch64Relocation.TheVariants as r
 use Rattle.linker_laws.specs.AArch64Machine as machine
-use Rattle.linker_laws.specs.AArch64Machine.{loaded, go_on}
-use Rattle.linker_laws.specs.AArch64RelocationLaws.{page_and_offset}
-use Rattle.linker_laws.proofs.AArch64Pairs.{adds_up}
-use Rattle.linker_laws.proofs.AArch64Steps.{step_add}
+use Rattle.linker_laws.specs.AArch64Machine.{State, loaded, go_on}
 use Rattle.linker_output.proofs.LazyRuns.{run_more, one_word, are_addresses_at}
 use Rattle.linker_output.proofs.StubWords.{applies, no_addend}
 use Rattle.linker_output.specs.AArch64LazyPlt.{step, further, run, pair_stored, pair_address, GoesTo, Asks, IsOffStack}
 use Rattle.linker_output.specs.AArch64LazyPlt as laws
-use Rattle.linker_output.specs.LazyPlt.{IsCode, operands_at, header_places}
-use Rattle.linker_output.specs.LazyPlts.{aarch64_loads, aarch64_entry, aarch64_wide_entry, aarch64_landing_entry, aarch64_header, aarch64_landing_header, padded}
+use Rattle.linker_output.specs.LazyPlt.{IsCode}
 use Rattle.linker_output.specs.LazyPlts as plts
-use Rattle.linker_output.specs.LazyRuns.{words, or_else}
-use Rattle.linker_output.specs.Tables.{field_of, code_of_words}
-use Rattle.linker_output.specs.declared.lazy_plt.LazyEntry.{LazyEntry}
-use Rattle.linker_output.specs.declared.lazy_plt.LazyField.{LazyField}
-use Rattle.linker_output.specs.declared.lazy_plt.LazyPiece.{LazyPiece}
-use Rattle.linker_output.specs.declared.lazy_plt.LazyTarget.TheVariants.{Word}
 
 -- ---- `adrp x16`, `ldr x17, [x16]`, `add x16, x16`, `br x17`
 

@@ -1,18 +1,11 @@
 -- AArch64's stubs go to their targets.
-use Rattle.std.proofs.Common.{◌≡◌, ℕ, Bool, true, false, refl, sym, ◌∙◌, ap, subst, arith, List, [], ◌∷◌, ◌++◌, eqb, cond, Some, None, Option, drop}
-use Rattle.linker_output.proofs.Imports.{IsSomeAnd, ◌||◌, eq-eqb, cond-true, field, sum_64, State, load_64, adrp_address, added, add, ldr, go_to, RelativeAddresses, word_of, symbol_address, loads, set, IsAdrOf, IsInstructionOf, adrp_after, ldr_after, add_after, of_registers, aarch64_name, aarch64_row, AArch64, sum_zero}
+use Rattle.linker_output.proofs.Imports.{◌≡◌, ℕ, Bool, true, false, refl, sym, ◌∙◌, ap, subst, arith, List, [], ◌∷◌, ◌++◌, eqb, cond, Some, None, Option, drop, IsSomeAnd, ◌||◌, eq-eqb, cond-true, field, sum_64, load_64, adrp_address, added, add, ldr, go_to, RelativeAddresses, word_of, symbol_address, loads, IsAdrOf, IsInstructionOf, adrp_after, ldr_after, add_after, of_registers, aarch64_name, aarch64_row, AArch64, sum_zero, adds_pair, run_pair, aarch64_output, StubCode, WritesPair, operands_of, field_of, run_stub, run_landing, then_jumped, jumped, GoesTo, eight}
+use Rattle.linker_laws.proofs.AArch64Steps.{set}
 use Rattle.linker_utils.specs.AArch64Rewrites.{rd_of, rn_of, IsLdr64}
 use Rattle.linker_elf.specs.declared.aarch64.relocations.AArch64Relocation.TheVariants as r
-use Rattle.linker_laws.specs.AArch64Machine.{step, run, loaded, go_on}
-use Rattle.linker_laws.proofs.AArch64Pairs.{adds_pair}
-use Rattle.linker_laws.proofs.AArch64Steps.{run_pair}
+use Rattle.linker_laws.specs.AArch64Machine.{State, step, run, loaded, go_on}
 use Rattle.linker_output.proofs.StubWords.{front_word, first_is, second_is, third_is, applies, no_addend, are_addresses}
-use Rattle.linker_output.specs.AArch64Output.{aarch64_output}
-use Rattle.linker_output.specs.Stubs.{StubCode, WritesPair, operands_of}
-use Rattle.linker_output.specs.Tables.{field_of}
-use Rattle.linker_output.specs.AArch64Stubs.{run_stub, run_landing, then_jumped, jumped, GoesTo}
 use Rattle.linker_output.specs.AArch64Stubs as stubs
-use Rattle.linker_laws.proofs.Sums.{eight}
 
 -- BR of a register, after two instructions that end in a state
 module _ (code : List ℕ) (x y : ℕ) (s t u : State) (first : step x s ≡ Some t) (on : t.pc ≡ sum_64 s.pc 4)

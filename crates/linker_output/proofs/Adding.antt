@@ -1,20 +1,6 @@
 -- What holds after a stub is added, or a branch goes by another stub.
-use Rattle.std.proofs.Common.{◌≡◌, ◌≢◌, ◌+◌, ◌<◌, ◌≤◌, ◌∙◌, ℕ, arith, List, [], ◌∷◌, ◌++◌, length, set, refl, ap, sym, subst, inl, inr, ⊎_elim, get_or-set_other, get_or-set_same}
-use Rattle.linker_output.proofs.Imports.{◌⊎◌, true, sum_by, cases_lt, cases_order, get_or_push, Vec}
+use Rattle.linker_output.proofs.Imports.{◌≡◌, ◌≢◌, ◌+◌, ◌<◌, ◌≤◌, ◌∙◌, ℕ, arith, List, [], ◌∷◌, ◌++◌, length, set, refl, ap, sym, subst, inl, inr, ⊎_elim, get_or-set_other, get_or-set_same, ◌⊎◌, true, sum_by, cases_lt, cases_order, get_or_push, Vec, length_push, sum_by-set, Branch, Code, Group, Part, Front, Middle, Back, State, StubAt, Way, Direct, Far, Near, at, group_at, branch_at, stub_at, stubs_in, AreOfTwo, HasNoFar, HasPart, HasSpare, AreTwo, IsCode, IsFar, IsFarFrom, IsFirst, part_of, AreLists, HasNoneAt, HasOwner, IsState, StaysUnshared, IsNew, IsWay, IsNear, level, level_of, list_at, list_of, way_at, with_one, new_way}
 use Rattle.std.proofs.Math.ListN.{get_or-append, length-set}
-use Rattle.std.proofs.lemmas.List.{length_push}
-use Rattle.std.proofs.lemmas.List.Sums.{sum_by-set}
-use Rattle.linker_output.specs.declared.placement.Branch.{Branch}
-use Rattle.linker_output.specs.declared.placement.Code.{Code}
-use Rattle.linker_output.specs.declared.placement.Group.{Group}
-use Rattle.linker_output.specs.declared.placement.Part.{Part}
-use Rattle.linker_output.specs.declared.placement.Part.TheVariants.{Front, Middle, Back}
-use Rattle.linker_output.specs.declared.placement.State.{State}
-use Rattle.linker_output.specs.declared.placement.StubAt.{StubAt}
-use Rattle.linker_output.specs.declared.placement.Way.{Way}
-use Rattle.linker_output.specs.declared.placement.Way.TheVariants.{Direct, Far, Near}
-use Rattle.linker_output.specs.Placement.{at, group_at, branch_at, stub_at, stubs_in, AreOfTwo, HasNoFar, HasPart, HasSpare, AreTwo, IsCode, IsFar, IsFarFrom, IsFirst, part_of}
-use Rattle.linker_output.specs.Inner.Placement.{AreLists, HasNoneAt, HasOwner, IsState, StaysUnshared, IsNew, IsWay, IsNear, level, level_of, list_at, list_of, way_at, with_one, new_way}
 use Rattle.linker_output.proofs.Bounds.{level_most}
 
 part_grows : (p part : Part) (g : Group) → part_of p g ≤ part_of p (with_one part g)

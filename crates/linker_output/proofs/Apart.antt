@@ -1,16 +1,5 @@
 -- Stubs don't overlap, and are at their boundaries.
-use Rattle.std.proofs.Common.{◌≡◌, ◌≢◌, ◌+◌, ◌-◌, ◌*◌, ◌<◌, ◌≤◌, ◌∙◌, ℕ, zero, suc, arith, List, length, refl, ap, sym, subst, inl, inr, ⊎_elim, add-one}
-use Rattle.linker_output.proofs.Imports.{◌⊎◌, sum_by, mul-le-mul_left, cases_lt, cases_order}
-use Rattle.linker_output.specs.declared.placement.Code.{Code}
-use Rattle.linker_output.specs.declared.placement.Group.{Group}
-use Rattle.linker_output.specs.declared.placement.Layout.{Layout}
-use Rattle.linker_output.specs.declared.placement.Part.{Part}
-use Rattle.linker_output.specs.declared.placement.Part.TheVariants.{Front, Middle, Back}
-use Rattle.linker_output.specs.declared.placement.State.{State}
-use Rattle.linker_output.specs.declared.placement.StubAt.{StubAt}
-use Rattle.linker_output.specs.declared.placement.StubShape.{StubShape}
-use Rattle.linker_output.specs.Placement.{at, group_at, stub_at, stubs_in, place_in, place_of, start_of, end_of, HasPart, AreTwo, part_of, IsCode, IsLaidOut, IsLayout}
-use Rattle.linker_output.specs.Inner.Placement.{IsState, ArePlaces}
+use Rattle.linker_output.proofs.Imports.{◌≡◌, ◌≢◌, ◌+◌, ◌-◌, ◌*◌, ◌<◌, ◌≤◌, ◌∙◌, ℕ, zero, suc, arith, List, length, refl, ap, sym, subst, inl, inr, ⊎_elim, add-one, ◌⊎◌, sum_by, mul-le-mul_left, cases_lt, cases_order, Code, Group, Layout, Part, Front, Middle, Back, State, StubAt, StubShape, at, group_at, stub_at, stubs_in, place_in, place_of, start_of, end_of, HasPart, AreTwo, part_of, IsCode, IsLaidOut, IsLayout, IsState, ArePlaces}
 use Rattle.linker_output.proofs.Groups.{size_least}
 
 -- before and after a stub of a part are its boundary's ends

@@ -1,16 +1,5 @@
 -- How many stubs there can be.
-use Rattle.std.proofs.Common.{◌+◌, ◌*◌, ◌<◌, ◌≤◌, ◌^◌, ℕ, arith, List, [], ◌∷◌, length}
-use Rattle.linker_output.proofs.Imports.{sum_by, mul-le-mul_left, get_or-le-sum_by}
-use Rattle.std.proofs.lemmas.List.Sums.{sum_by-cons}
-use Rattle.linker_output.specs.declared.placement.Code.{Code}
-use Rattle.linker_output.specs.declared.placement.Group.{Group}
-use Rattle.linker_output.specs.declared.placement.Part.{Part}
-use Rattle.linker_output.specs.declared.placement.Part.TheVariants.{Front, Middle, Back}
-use Rattle.linker_output.specs.declared.placement.State.{State}
-use Rattle.linker_output.specs.declared.placement.Way.{Way}
-use Rattle.linker_output.specs.declared.placement.Way.TheVariants.{Direct, Far, Near}
-use Rattle.linker_output.specs.Placement.{group_at, stub_at, stubs_in, part_of, IsCode, most_bytes}
-use Rattle.linker_output.specs.Inner.Placement.{IsState, level}
+use Rattle.linker_output.proofs.Imports.{◌+◌, ◌*◌, ◌<◌, ◌≤◌, ◌^◌, ℕ, arith, List, [], ◌∷◌, length, sum_by, mul-le-mul_left, get_or-le-sum_by, sum_by-cons, Code, Group, Part, Front, Middle, Back, State, Way, Direct, Far, Near, group_at, stub_at, stubs_in, part_of, IsCode, most_bytes, IsState, level}
 
 pub level_most : (w : Way) → level w ≤ 2
 level_most Direct = omega arith

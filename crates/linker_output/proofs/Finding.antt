@@ -1,14 +1,5 @@
 -- Stubs that are found by boundary, part and target.
-use Rattle.std.proofs.Common.{◌≡◌, ◌+◌, ◌<◌, ◌∙◌, ℕ, arith, List, length, ap, refl, sym, subst, ⊎_elim}
-use Rattle.linker_output.proofs.Imports.{◌⊎◌, cases_order, nat_le, prefix_len_passes, prefix_len_stops}
-use Rattle.linker_output.specs.declared.placement.Branch.{Branch}
-use Rattle.linker_output.specs.declared.placement.Code.{Code}
-use Rattle.linker_output.specs.declared.placement.Part.{Part}
-use Rattle.linker_output.specs.declared.placement.Part.TheVariants.{Front, Middle, Back}
-use Rattle.linker_output.specs.declared.placement.State.{State}
-use Rattle.linker_output.specs.declared.placement.StubAt.{StubAt}
-use Rattle.linker_output.specs.Placement.{at, group_at, part_of, passed, stub_at, IsCode}
-use Rattle.linker_output.specs.Inner.Placement.{AreLists, IsAt, IsNear, IsNearIn, IsNew, IsNewNear, IsOutAhead, IsOutAfter, IsOutThere, IsState, level_of, list_at, list_of, new_stub}
+use Rattle.linker_output.proofs.Imports.{◌≡◌, ◌+◌, ◌<◌, ◌∙◌, ℕ, arith, List, length, ap, refl, sym, subst, ⊎_elim, ◌⊎◌, cases_order, nat_le, prefix_len_passes, prefix_len_stops, Branch, Code, Part, Front, Middle, Back, State, StubAt, at, group_at, part_of, passed, stub_at, IsCode, AreLists, IsAt, IsNear, IsNearIn, IsNew, IsNewNear, IsOutAhead, IsOutAfter, IsOutThere, IsState, level_of, list_at, list_of, new_stub}
 use Rattle.linker_output.proofs.Near.{nearer}
 use Rattle.linker_output.proofs.Passed.{true_le, false_lt}
 

@@ -1,19 +1,5 @@
 -- The stubs by which branches go.
-use Rattle.std.proofs.Common.{◌≡◌, ◌<◌, ◌≤◌, ◌∙◌, ℕ, arith, List, length, refl, ap, inl, inr, sym, subst, ⊎_elim}
-use Rattle.std.specs.Prelude.{◌⊎◌, Option, None, Some, slice_index_or, true, false}
-use Rattle.std.proofs.lemmas.Bool.{false≢true}
-use Rattle.linker_output.specs.declared.placement.Branch.{Branch}
-use Rattle.linker_output.specs.declared.placement.Code.{Code}
-use Rattle.linker_output.specs.declared.placement.Layout.{Layout}
-use Rattle.linker_output.specs.declared.placement.Part.{Part}
-use Rattle.linker_output.specs.declared.placement.Part.TheVariants.{Front, Middle, Back}
-use Rattle.linker_output.specs.declared.placement.Placement.{Placement}
-use Rattle.linker_output.specs.declared.placement.State.{State}
-use Rattle.linker_output.specs.declared.placement.StubAt.{StubAt}
-use Rattle.linker_output.specs.declared.placement.Way.{Way}
-use Rattle.linker_output.specs.declared.placement.Way.TheVariants.{Direct, Far, Near}
-use Rattle.linker_output.specs.Placement.{at, branch_at, most_bytes, passed, stub_at, AllGo, AreUsed, HasNoFar, HasSpare, IsFarFrom, IsFirst, IsLaidOut, IsNextTo, IsShared, ReachesAt, target_place, Goes}
-use Rattle.linker_output.specs.Inner.Placement.{AreServed, AreStubsOf, ArePlaces, IsNearIn, IsServedBy, IsState, IsStubOf, IsWay, way_at}
+use Rattle.linker_output.proofs.Imports.{◌≡◌, ◌<◌, ◌≤◌, ◌∙◌, ℕ, arith, List, length, refl, ap, inl, inr, sym, subst, ⊎_elim, ◌⊎◌, Option, None, Some, slice_index_or, true, false, false≢true, Branch, Code, Layout, Part, Front, Middle, Back, Placement, State, StubAt, Way, Direct, Far, Near, at, branch_at, most_bytes, passed, stub_at, AllGo, AreUsed, HasNoFar, HasSpare, IsFarFrom, IsFirst, IsLaidOut, IsNextTo, IsShared, ReachesAt, target_place, Goes, AreServed, AreStubsOf, ArePlaces, IsNearIn, IsServedBy, IsState, IsStubOf, IsWay, way_at}
 use Rattle.linker_output.proofs.Near.{near_reached}
 
 -- a branch with bytes to spare reaches its target

@@ -1,10 +1,6 @@
 -- Bytes of the stubs at boundaries.
-use Rattle.std.proofs.Common.{◌≡◌, ◌+◌, ◌*◌, ◌<◌, ◌≤◌, ◌∙◌, ℕ, zero, suc, arith, List, length, get_or, take, refl, ap, sym, add-one, ⊎_elim}
-use Rattle.linker_output.proofs.Imports.{cases_lt, get_or_past, sum_by, mul-le-mul_left}
-use Rattle.std.proofs.lemmas.List.Sums.{sum_by_more, sum_by-take-le}
-use Rattle.linker_output.specs.declared.placement.Group.{Group}
-use Rattle.linker_output.specs.declared.placement.StubShape.{StubShape}
-use Rattle.linker_output.specs.Placement.{group_at, stubs_in, padded, size_of, IsLaidOut}
+use Rattle.linker_output.proofs.Imports.{◌≡◌, ◌+◌, ◌*◌, ◌<◌, ◌≤◌, ◌∙◌, ℕ, zero, suc, arith, List, length, get_or, take, refl, ap, sym, add-one, ⊎_elim, cases_lt, get_or_past, sum_by, mul-le-mul_left, sum_by_more, sum_by-take-le, Group, StubShape, group_at, stubs_in, IsLaidOut}
+use Rattle.linker_output.specs.Placement.{padded, size_of}
 use Rattle.linker_output.specs.Inner.Placement.{bytes_before}
 
 pub padded_least : (unit n : ℕ) → n ≤ padded unit n

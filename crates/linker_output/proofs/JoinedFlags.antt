@@ -1,8 +1,6 @@
 -- `e_flags` that are joined: the order of objects doesn't matter.
-use Rattle.std.proofs.Common.{ℕ, ◌≡◌, ◌∙◌, sym, ap, subst, refl, arith, true, false, Some, None, ◌⊎◌, inl, inr, bit_and, bit_or, IfSome}
-use Rattle.linker_output.proofs.Imports.{if◌then◌else◌, bit_at, or_comm, cond-true}
+use Rattle.linker_output.proofs.Imports.{ℕ, ◌≡◌, ◌∙◌, sym, ap, subst, refl, arith, true, false, Some, None, ◌⊎◌, inl, inr, bit_and, bit_or, IfSome, if◌then◌else◌, bit_at, or_comm, cond-true, bit_at_or, bit_at_and, same_from_bits, bit_at-zero}
 use Rattle.std.specs.Int.Bits.{or_self}
-use Rattle.std.proofs.lemmas.Nat.Bits.{bit_at_or, bit_at_and, same_from_bits, bit_at-zero}
 use Rattle.linker_output.specs.Flags.{go_together, undefined, joined_flags, JoinsAlike, KeepsItself, joined_to, joined_with}
 use Rattle.linker_output.specs.declared.flags.FlagRules.{FlagRules}
 

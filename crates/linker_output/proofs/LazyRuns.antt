@@ -1,11 +1,6 @@
 -- Runs of words, and the words of a lazy PLT's code.
-use Rattle.std.proofs.Common.{◌≡◌, ℕ, ◌+◌, ◌*◌, ◌/◌, ◌^◌, ◌<◌, ◌≤◌, suc, pos, negsuc, ◌+ℤ◌, Bool, false, sym, ◌∙◌, ap, arith, List, ◌∷◌, ◌++◌, eqb, Some, None, Option, take, drop, length}
-use Rattle.linker_output.proofs.Imports.{◌||◌, eq-eqb, cond-true, or_parts, drop_at, take_at, length-take, ints, sum_64, difference_64, moved, wrapped_is, AreAddresses}
+use Rattle.linker_output.proofs.Imports.{◌≡◌, ℕ, ◌+◌, ◌*◌, ◌/◌, ◌^◌, ◌<◌, ◌≤◌, suc, pos, negsuc, ◌+ℤ◌, Bool, false, sym, ◌∙◌, ap, arith, List, ◌∷◌, ◌++◌, eqb, Some, None, Option, take, drop, length, ◌||◌, eq-eqb, cond-true, or_parts, drop_at, take_at, length-take, ints, sum_64, difference_64, moved, wrapped_is, AreAddresses, operands_at, target_at, words, run_by, continue_by, LazyEntry, LazyField}
 use Rattle.linker_output.proofs.StubWords.{word, front_word}
-use Rattle.linker_output.specs.LazyPlt.{operands_at, target_at}
-use Rattle.linker_output.specs.LazyRuns.{words, run_by, continue_by}
-use Rattle.linker_output.specs.declared.lazy_plt.LazyEntry.{LazyEntry}
-use Rattle.linker_output.specs.declared.lazy_plt.LazyField.{LazyField}
 
 pub run_more : {S : Type 0} (pc : S → ℕ) (step : ℕ → S → Option S) (x y : ℕ) (rest : List ℕ)
     (s t : S) (end : Option S) → step x s ≡ Some t → pc t ≡ sum_64 (pc s) 4

@@ -1,26 +1,18 @@
 -- LoongArch's lazy PLT.
-use Rattle.std.proofs.Common.{◌≡◌, ◌≢◌, ℕ, ◌/◌, ◌^◌, ◌<◌, ◌≤◌, false, refl, sym, ◌∙◌, ap, subst, arith, List, [], ◌∷◌, ◌++◌, take, eqb, cond, Some, pos, negsuc, ◌+ℤ◌, ◌*ℤ◌}
-use Rattle.linker_output.proofs.Imports.{◌||◌, ◌==◌, IsSomeAnd, ne_eqb, cond-true, cond-false, or_parts, field, loongarch_name, loongarch_row, sum_64, difference_64, Operands, next_pc, register_target, rd_of, rj_of, wrapped, loaded, IsAddress, symbol_address, loaded_of, IsHigh, IsLow, high_after, low_after, LoongArch64, three_words, sum_zero}
-use Rattle.linker_base.specs.Bits.{signed}
+use Rattle.linker_output.proofs.Imports.{◌≡◌, ◌≢◌, ℕ, ◌/◌, ◌^◌, ◌<◌, ◌≤◌, false, refl, sym, ◌∙◌, ap, subst, arith, List, [], ◌∷◌, ◌++◌, take, eqb, cond, Some, pos, negsuc, ◌+ℤ◌, ◌*ℤ◌, ◌||◌, ◌==◌, IsSomeAnd, ne_eqb, cond-true, cond-false, or_parts, field, loongarch_name, loongarch_row, sum_64, difference_64, Operands, next_pc, register_target, rd_of, rj_of, wrapped, loaded, IsAddress, symbol_address, loaded_of, IsHigh, IsLow, high_after, low_after, LoongArch64, three_words, sum_zero, signed, read, sum_of, in_two_steps, step_load, step_sum, written, decodes_load, decodes_sum, operands_at, header_places, loongarch_entry, padded, words, or_else, field_of, field_of_32, code_of_words, LazyEntry, Word}
 use Rattle.linker_elf.specs.declared.loongarch64.relocations.LoongArch64Relocation.TheVariants as r
 use Rattle.linker_laws.specs.LoongArchMachine as machine
-use Rattle.linker_laws.specs.LoongArchMachine.{State, read, write, go_to, sum_of}
+use Rattle.linker_laws.specs.LoongArchMachine.{State, write, go_to}
 use Rattle.linker_laws.specs.LoongArchRelocationLaws as relocation_laws
 use Rattle.linker_laws.specs.LoongArchRewriteLaws.{word_of}
-use Rattle.linker_laws.proofs.AArch64Steps.{address_is, in_two_steps}
-use Rattle.linker_laws.proofs.LoongArchSteps.{set, step_load, step_sum, written}
-use Rattle.linker_laws.proofs.LoongArchWords.{decodes_load, decodes_sum}
+use Rattle.linker_laws.proofs.AArch64Steps.{address_is}
+use Rattle.linker_laws.proofs.LoongArchSteps.{set}
 use Rattle.linker_output.proofs.LazyRuns.{run_more, second_and_last, one_word, are_addresses_at, eight_on, offset_is}
 use Rattle.linker_output.proofs.LoongArchStubLaws.{stays}
 use Rattle.linker_output.proofs.StubWords.{applies, no_addend}
-use Rattle.linker_output.specs.LazyPlt.{IsCode, operands_at, header_places}
-use Rattle.linker_output.specs.LazyPlts.{loongarch_entry, padded}
-use Rattle.linker_output.specs.LazyRuns.{words, or_else}
+use Rattle.linker_output.specs.LazyPlt.{IsCode}
 use Rattle.linker_output.specs.LoongArchLazyPlt.{step, upper_address, run, GoesTo, Asks}
 use Rattle.linker_output.specs.LoongArchLazyPlt as laws
-use Rattle.linker_output.specs.Tables.{field_of, field_of_32, code_of_words}
-use Rattle.linker_output.specs.declared.lazy_plt.LazyEntry.{LazyEntry}
-use Rattle.linker_output.specs.declared.lazy_plt.LazyTarget.TheVariants.{Word}
 
 -- ---- steps
 

@@ -1,14 +1,10 @@
 -- LoongArch's stubs go to their targets.
-use Rattle.std.proofs.Common.{◌≡◌, ℕ, ◌/◌, ◌^◌, ◌<◌, Bool, true, false, refl, sym, ◌∙◌, ap, subst, arith, [], ◌∷◌, eqb, cond, Some, None, Option, drop, length, pos, ◌+ℤ◌, ◌*ℤ◌}
-use Rattle.linker_output.proofs.Imports.{IsSomeAnd, eq-eqb, cond-true, ints, append-nil, loongarch_name, loongarch_row, rd_of, rj_of, next_pc, register_target, wrapped, loaded, loaded_of, IsHigh, IsLow, high_after, low_after, sum_zero}
+use Rattle.linker_output.proofs.Imports.{◌≡◌, ℕ, ◌/◌, ◌^◌, ◌<◌, Bool, true, false, refl, sym, ◌∙◌, ap, subst, arith, [], ◌∷◌, eqb, cond, Some, None, Option, drop, length, pos, ◌+ℤ◌, ◌*ℤ◌, IsSomeAnd, eq-eqb, cond-true, ints, append-nil, loongarch_name, loongarch_row, rd_of, rj_of, next_pc, register_target, wrapped, loaded, loaded_of, IsHigh, IsLow, high_after, low_after, sum_zero, IsCall, execute, page_address, far_address, AreBytes, Relocated, entry_and_addend, StubCode, operands_of, field_of}
 use Rattle.std.proofs.lemmas.List.Elements.{All-cons, All-nil}
 use Rattle.linker_elf.specs.declared.loongarch64.relocations.LoongArch64Relocation.TheVariants as r
-use Rattle.linker_utils.specs.LoongArchRewrites.{IsCall}
-use Rattle.linker_laws.specs.LoongArchMachine.{State, step, run, execute, write, continue, go_to, go_on, page_address, far_address}
+use Rattle.linker_laws.specs.LoongArchMachine.{State, step, run, write, continue, go_to, go_on}
 use Rattle.linker_laws.specs.LoongArchRelocationLaws as relocation_laws
 use Rattle.linker_laws.specs.LoongArchRewriteLaws.{word_of}
-use Rattle.linker_laws.specs.Machine.{AreBytes, Relocated}
-use Rattle.linker_laws.specs.Schemes.{entry_and_addend}
 use Rattle.linker_laws.proofs.LoongArchCalls.{call_is, decodes_far, decodes_jirl, new_first, new_second, target_is}
 use Rattle.linker_laws.proofs.LoongArchPairs.{loads}
 use Rattle.linker_laws.proofs.LoongArchSteps.{set, run_pair}
@@ -16,8 +12,6 @@ use Rattle.linker_output.proofs.StubWords.{front_word, first_is, second_is, thir
 use Rattle.linker_output.specs.LoongArchOutput.{loongarch_output}
 use Rattle.linker_output.specs.LoongArchStubs.{GoesTo}
 use Rattle.linker_output.specs.LoongArchStubs as stubs
-use Rattle.linker_output.specs.Stubs.{StubCode, operands_of}
-use Rattle.linker_output.specs.Tables.{field_of}
 
 -- ---- steps
 

@@ -1,11 +1,5 @@
 -- Properties that are merged type by type.
-use Rattle.std.proofs.Common.{◌≡◌, ◌≢◌, ℕ, ◌+◌, ◌<◌, ◌≤◌, ◌^◌, true, List, [], ◌∷◌, ◌++◌, length, set, drop, refl, sym, ◌∙◌, ap, subst, arith, Option, Some, None, Ok, inl, inr}
-use Rattle.linker_output.proofs.Imports.{nat_tests, cases_lt, Architecture, AArch64, RiscV, LoongArch64, Ppc64, X86_64}
-use Rattle.linker_output.specs.Properties.{rule_of, merged, merged_by, merged_kind, of_kind, are_ascending, Merges}
-use Rattle.linker_output.specs.Inner.Properties.{put_all}
-use Rattle.linker_output.specs.declared.properties.Property.{Property}
-use Rattle.linker_output.specs.declared.properties.PropertyRule.{PropertyRule}
-use Rattle.linker_output.specs.declared.properties.PropertyRule.TheVariants.{All, Any, AnyOfAll, Largest, Present, Same}
+use Rattle.linker_output.proofs.Imports.{◌≡◌, ◌≢◌, ℕ, ◌+◌, ◌<◌, ◌≤◌, ◌^◌, true, List, [], ◌∷◌, ◌++◌, length, set, drop, refl, sym, ◌∙◌, ap, subst, arith, Option, Some, None, Ok, inl, inr, nat_tests, cases_lt, Architecture, AArch64, RiscV, LoongArch64, Ppc64, X86_64, rule_of, merged, merged_by, merged_kind, of_kind, are_ascending, Merges, put_all, Property, PropertyRule, All, Any, AnyOfAll, Largest, Present, Same}
 
 -- ---- lists
 

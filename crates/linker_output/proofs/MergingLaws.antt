@@ -1,12 +1,7 @@
 -- The order in which properties are merged doesn't matter.
-use Rattle.std.proofs.Common.{◌≡◌, ℕ, refl, sym, ◌∙◌, ap, arith, Option, Some, None, Ok, bit_and, bit_or, max, List}
-use Rattle.linker_output.proofs.Imports.{nat_tests, or_comm, Architecture}
-use Rattle.std.proofs.lemmas.Nat.{and_comm, and_assoc}
-use Rattle.linker_output.specs.Properties.{rule_of, of_kind, merged_kind, MergesAlike, merged_by, merged_to, merged_with, value_of, unless_zero, of_value, same_value}
+use Rattle.linker_output.proofs.Imports.{◌≡◌, ℕ, refl, sym, ◌∙◌, ap, arith, Option, Some, None, Ok, bit_and, bit_or, max, List, nat_tests, or_comm, Architecture, and_comm, and_assoc, rule_of, of_kind, merged_kind, MergesAlike, merged_by, merged_to, merged_with, unless_zero, of_value, same_value, Property, PropertyRule, All, Any, AnyOfAll, Largest, Present, Same}
+use Rattle.linker_output.specs.Properties.{value_of}
 use Rattle.linker_output.proofs.JoinedFlags.{or_assoc}
-use Rattle.linker_output.specs.declared.properties.Property.{Property}
-use Rattle.linker_output.specs.declared.properties.PropertyRule.{PropertyRule}
-use Rattle.linker_output.specs.declared.properties.PropertyRule.TheVariants.{All, Any, AnyOfAll, Largest, Present, Same}
 
 max_comm : (a b : ℕ) → max a b ≡ max b a
 max_comm a b = omega arith

@@ -1,16 +1,5 @@
 -- Stubs at the boundary next to a branch stay in its reach.
-use Rattle.std.proofs.Common.{◌≡◌, ◌+◌, ◌*◌, ◌<◌, ◌≤◌, ◌∙◌, ℕ, arith, List, length, ap, sym, subst, inl}
-use Rattle.std.proofs.Math.Nat.{mul-le-mul_left}
-use Rattle.linker_output.specs.declared.placement.Branch.{Branch}
-use Rattle.linker_output.specs.declared.placement.Code.{Code}
-use Rattle.linker_output.specs.declared.placement.Group.{Group}
-use Rattle.linker_output.specs.declared.placement.Part.{Part}
-use Rattle.linker_output.specs.declared.placement.Part.TheVariants.{Front, Middle, Back}
-use Rattle.linker_output.specs.declared.placement.State.{State}
-use Rattle.linker_output.specs.declared.placement.StubAt.{StubAt}
-use Rattle.linker_output.specs.declared.placement.Way.TheVariants.{Near}
-use Rattle.linker_output.specs.Placement.{passed, at, group_at, branch_at, stub_at, stubs_in, place_in, place_of, start_of, end_of, HasPart, ReachesAt, IsLaidOut}
-use Rattle.linker_output.specs.Inner.Placement.{IsState, IsWay, IsNear, IsNearIn, ArePlaces, IsServedBy, SameStubs, way_at}
+use Rattle.linker_output.proofs.Imports.{◌≡◌, ◌+◌, ◌*◌, ◌<◌, ◌≤◌, ◌∙◌, ℕ, arith, List, length, ap, sym, subst, inl, mul-le-mul_left, Branch, Code, Group, Part, Front, Middle, Back, State, StubAt, Near, passed, at, group_at, branch_at, stub_at, stubs_in, place_in, place_of, start_of, end_of, HasPart, ReachesAt, IsLaidOut, IsState, IsWay, IsNear, IsNearIn, ArePlaces, IsServedBy, SameStubs, way_at}
 use Rattle.linker_output.proofs.Bounds.{part_most}
 use Rattle.linker_output.proofs.Groups.{size_least}
 

@@ -1,6 +1,5 @@
 -- The boundaries at or below an offset.
-use Rattle.std.proofs.Common.{◌≡◌, ◌<◌, ◌≤◌, ℕ, true, false, rules, tests}
-use Rattle.std.specs.Prelude.{nat_le}
+use Rattle.linker_output.proofs.Imports.{◌≡◌, ◌<◌, ◌≤◌, ℕ, true, false, rules, tests, nat_le}
 
 pub le_true : (a b : ℕ) → a ≤ b → nat_le a b ≡ true
 le_true a b h = search (rules, tests)

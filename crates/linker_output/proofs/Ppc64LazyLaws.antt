@@ -1,28 +1,16 @@
 -- PowerPC64's lazy PLT.
-use Rattle.std.proofs.Common.{◌≡◌, ℕ, ℤ, ◌+◌, ◌-◌, ◌*◌, ◌%◌, ◌^◌, ◌<◌, Bool, true, false, refl, sym, ◌∙◌, ap, subst, arith, List, [], ◌∷◌, ◌++◌, take, drop, length, eqb, cond, Some, pos, negsuc, ◌+ℤ◌, ◌*ℤ◌}
-use Rattle.linker_output.proofs.Imports.{◌==◌, ◌&&◌, ◌||◌, IsSomeAnd, w64, from_le_bytes, cast_unsigned, cond-true, ints, drop-drop, take_at, length-take, field, ppc64_form, ppc64_name, ppc64_row, number_of_bytes, sum_64, difference_64, loaded, moved, wrapped, Formats, write, go_on, address_is, times_one, wrapped_is, opcode_of, sum_zero}
-use Rattle.std.specs.Prelude.{replicate}
+use Rattle.linker_output.proofs.Imports.{◌≡◌, ℕ, ℤ, ◌+◌, ◌-◌, ◌*◌, ◌%◌, ◌^◌, ◌<◌, Bool, true, false, refl, sym, ◌∙◌, ap, subst, arith, List, [], ◌∷◌, ◌++◌, take, drop, length, eqb, cond, Some, pos, negsuc, ◌+ℤ◌, ◌*ℤ◌, ◌==◌, ◌&&◌, ◌||◌, IsSomeAnd, w64, from_le_bytes, cast_unsigned, cond-true, ints, drop-drop, take_at, length-take, field, ppc64_form, ppc64_name, ppc64_row, number_of_bytes, sum_64, difference_64, loaded, moved, wrapped, Formats, write, go_on, address_is, times_one, wrapped_is, opcode_of, sum_zero, replicate, InstructionWritten, Branch24, Branches, field_kept, operands_at, header_places, padded, words, or_else, Counted, lifted, step_counted, with_state, moved_from_link, moved_to_link, linked, at_count, field_of, code_of_words, LazyField, Word, Header}
 use Rattle.linker_base.specs.Form.{bits_to, place_sum}
 use Rattle.linker_base.specs.declared.bit_misc.BitRange.{BitRange}
-use Rattle.linker_elf.specs.Relocate.{InstructionWritten}
 use Rattle.linker_elf.specs.declared.elf.AnyForm.TheVariants.{Ppc64}
-use Rattle.linker_elf.specs.declared.ppc64.forms.Ppc64Form.TheVariants.{Branch24}
 use Rattle.linker_elf.specs.declared.ppc64.relocations.Ppc64Relocation.TheVariants as r
 use Rattle.linker_laws.specs.Ppc64Machine.{go_to}
-use Rattle.linker_laws.specs.Ppc64RelocationLaws.{Branches, Fields}
+use Rattle.linker_laws.specs.Ppc64RelocationLaws.{Fields}
 use Rattle.linker_laws.specs.Ppc64RewriteLaws.{word_of}
-use Rattle.linker_laws.proofs.AArch64Words.{field_kept}
 use Rattle.linker_output.proofs.LazyRuns.{run_more, one_word, following, are_addresses_at, eight_on, no_move}
 use Rattle.linker_output.proofs.StubWords.{applies, no_addend}
-use Rattle.linker_output.specs.LazyPlt.{operands_at, header_places}
-use Rattle.linker_output.specs.LazyPlts.{padded}
-use Rattle.linker_output.specs.LazyRuns.{words, or_else}
 use Rattle.linker_output.specs.Ppc64LazyPlt.{step, run, is_b, rotated, Asks}
 use Rattle.linker_output.specs.Ppc64LazyPlt as laws
-use Rattle.linker_output.specs.Ppc64Stubs.{Counted, lifted, step_counted, with_state, moved_from_link, moved_to_link, linked, at_count}
-use Rattle.linker_output.specs.Tables.{field_of, code_of_words}
-use Rattle.linker_output.specs.declared.lazy_plt.LazyField.{LazyField}
-use Rattle.linker_output.specs.declared.lazy_plt.LazyTarget.TheVariants.{Word, Header}
 
 -- ---- `b`
 

@@ -1,16 +1,12 @@
 -- PowerPC64's functions that save and restore registers.
-use Rattle.std.proofs.Common.{◌≡◌, ◌≢◌, ℕ, zero, suc, ◌+◌, ◌-◌, ◌*◌, ◌/◌, ◌%◌, ◌^◌, ◌<◌, ◌≤◌, Bool, true, false, refl, sym, ◌∙◌, ap, subst, arith, List, [], ◌∷◌, length, eqb, Some, None, Option, pos, negsuc, ◌+ℤ◌, inl, inr}
-use Rattle.linker_output.proofs.Imports.{◌&&◌, codes, IsSomeAnd, nat_lt, nat_le, if◌then◌else◌, eq-eqb, ne_eqb, cond-true, cond-false, false≢true, le-ltb, cases_lt, ints, field, sum_64, difference_64, Memory, moved, loaded, stored, Formats, write, store, go_on, with_number, wrapped_is}
+use Rattle.linker_output.proofs.Imports.{◌≡◌, ◌≢◌, ℕ, zero, suc, ◌+◌, ◌-◌, ◌*◌, ◌/◌, ◌%◌, ◌^◌, ◌<◌, ◌≤◌, Bool, true, false, refl, sym, ◌∙◌, ap, subst, arith, List, [], ◌∷◌, length, eqb, Some, None, Option, pos, negsuc, ◌+ℤ◌, inl, inr, ◌&&◌, codes, IsSomeAnd, nat_lt, nat_le, if◌then◌else◌, eq-eqb, ne_eqb, cond-true, cond-false, false≢true, le-ltb, cases_lt, ints, field, sum_64, difference_64, Memory, moved, loaded, stored, Formats, write, store, go_on, with_number, wrapped_is, eqb-true, lt-ltb, le-leb, lt-leb, write_float, Run, spacing_with, own_word, run_word, save_link, load_link, mtlr_0, blr, returned, word_or_0, code_for, slot, is_from, saved, restored, Saves, Returns, Returned, Restores, RestoresIntegers, RestoresFloats, integers, floats, nothing_more, return_address, Counted, with_state, moved_to_link}
 use Rattle.std.specs.Prelude.{⊤}
-use Rattle.std.proofs.lemmas.Bool.{eqb-true, lt-ltb, le-leb, lt-leb}
 use Rattle.linker_base.specs.Form.{place_sum}
-use Rattle.linker_laws.specs.Ppc64Machine.{State, write_float}
+use Rattle.linker_laws.specs.Ppc64Machine.{State}
 use Rattle.linker_output.proofs.LazyRuns.{run_more}
-use Rattle.linker_output.specs.Layout.{Run, spacing_with, own_word, run_word}
-use Rattle.linker_output.specs.Ppc64Output.{of_registers, save_link, load_link, mtlr_0, blr}
-use Rattle.linker_output.specs.Ppc64Saves.{step, run, returned, words_from, word_or_0, code_for, slot, is_from, saved, restored, Saves, Returns, Returned, Restores, RestoresIntegers, RestoresFloats, integers, floats, nothing_more, return_address}
+use Rattle.linker_output.specs.Ppc64Output.{of_registers}
+use Rattle.linker_output.specs.Ppc64Saves.{step, run, words_from}
 use Rattle.linker_output.specs.Ppc64Saves as laws
-use Rattle.linker_output.specs.Ppc64Stubs.{Counted, with_state, moved_to_link}
 
 -- ---- what holds of each number below another
 

@@ -1,21 +1,14 @@
 -- PowerPC64's stubs by the TOC pointer and by prefixed instructions go to their targets.
-use Rattle.std.proofs.Common.{◌≡◌, ℕ, ◌-◌, ◌%◌, ◌^◌, ◌<◌, Bool, true, false, refl, sym, ◌∙◌, ap, subst, arith, List, [], ◌∷◌, ◌++◌, eqb, cond, Some, None, take, drop, length, pos, ◌+ℤ◌, ◌*ℤ◌}
-use Rattle.linker_output.proofs.Imports.{IsSomeAnd, ◌||◌, eq-eqb, cond-true, drop-drop, field, ppc64_form, ppc64_name, ppc64_row, sum_64, Ppc64, D, Ds, loaded, moved, Formats, go_on, TocAddresses, IsAddress, symbol_address, reads_ds, same_parts, HasParts, d_after, ds_after, sum_leads, step_addis, step_ld, times_one, address_is, opcode_of, rt_of, ra_of, sum_zero}
-use Rattle.std.proofs.Math.Seq.{take-append_seam}
-use Rattle.linker_elf.specs.declared.ppc64.forms.Ppc64Form.TheVariants.{Prefixed}
+use Rattle.linker_output.proofs.Imports.{◌≡◌, ℕ, ◌-◌, ◌%◌, ◌^◌, ◌<◌, Bool, true, false, refl, sym, ◌∙◌, ap, subst, arith, List, [], ◌∷◌, ◌++◌, eqb, cond, Some, None, take, drop, length, pos, ◌+ℤ◌, ◌*ℤ◌, IsSomeAnd, ◌||◌, eq-eqb, cond-true, drop-drop, field, ppc64_form, ppc64_name, ppc64_row, sum_64, Ppc64, D, Ds, loaded, moved, Formats, go_on, TocAddresses, IsAddress, symbol_address, reads_ds, same_parts, HasParts, d_after, ds_after, sum_leads, step_addis, step_ld, times_one, address_is, opcode_of, rt_of, ra_of, sum_zero, take-append_seam, Prefixed, step_prefixed, Prefixes, by_toc, by_prefixed, jump_to_r12, Counted, with_state, lifted, run, continue, at_count, four_words, run_prefixed, operands_of, WritesPair, field_of, code_of_words}
 use Rattle.linker_elf.specs.declared.ppc64.relocations.Ppc64Relocation.TheVariants as r
-use Rattle.linker_laws.specs.Ppc64Machine.{State, step_prefixed}
-use Rattle.linker_laws.specs.Ppc64RelocationLaws.{Prefixes}
+use Rattle.linker_laws.specs.Ppc64Machine.{State}
 use Rattle.linker_laws.specs.Ppc64RewriteLaws.{word_of, prefixed_of}
 use Rattle.linker_laws.proofs.Ppc64Prefixed.{HasPrefixedParts, prefixed_after, set_8, step_pld, step_paddi}
 use Rattle.linker_laws.proofs.Ppc64Words.{set}
 use Rattle.linker_output.proofs.Ppc64StubLaws.{run_more, of_machine}
 use Rattle.linker_output.proofs.StubWords.{front_word, first_is, second_is, third_is, applies, no_addend, are_addresses}
-use Rattle.linker_output.specs.Ppc64Output.{by_toc, by_prefixed, jump_to_r12}
-use Rattle.linker_output.specs.Ppc64Stubs.{Counted, with_state, lifted, run, continue, at, at_count, four_words, run_prefixed, GoesTo}
+use Rattle.linker_output.specs.Ppc64Stubs.{at, GoesTo}
 use Rattle.linker_output.specs.Ppc64Stubs as stubs
-use Rattle.linker_output.specs.Stubs.{operands_of, WritesPair}
-use Rattle.linker_output.specs.Tables.{field_of, code_of_words}
 
 -- `mtctr 12` and `bctr`
 abbrev tail : List ℕ

@@ -1,12 +1,8 @@
 -- PowerPC64's functions that save and restore vector registers.
-use Rattle.std.proofs.Common.{◌≡◌, ℕ, zero, suc, ◌+◌, ◌-◌, ◌*◌, ◌/◌, ◌%◌, ◌^◌, ◌<◌, ◌≤◌, refl, sym, ◌∙◌, ap, subst, arith, List, [], ◌∷◌, eqb, Some, Option, pos, negsuc, ◌+ℤ◌}
-use Rattle.linker_output.proofs.Imports.{codes, IsSomeAnd, nat_lt, if◌then◌else◌, cond-false, le-ltb, ints, field, sum_64, difference_64, Memory, moved, loaded, stored, Formats, write, store, go_on, with_number, wrapped_is}
+use Rattle.linker_output.proofs.Imports.{◌≡◌, ℕ, zero, suc, ◌+◌, ◌-◌, ◌*◌, ◌/◌, ◌%◌, ◌^◌, ◌<◌, ◌≤◌, refl, sym, ◌∙◌, ap, subst, arith, List, [], ◌∷◌, eqb, Some, Option, pos, negsuc, ◌+ℤ◌, codes, IsSomeAnd, nat_lt, if◌then◌else◌, cond-false, le-ltb, ints, field, sum_64, difference_64, Memory, moved, loaded, stored, Formats, write, store, go_on, with_number, wrapped_is, of_vectors, blr, returned, is_from, with_state}
 use Rattle.linker_base.specs.Form.{place_sum}
 use Rattle.linker_output.proofs.LazyRuns.{run_more}
 use Rattle.linker_output.proofs.Ppc64SaveLaws.{after, below_at, joined, kept, one_restored, none_from}
-use Rattle.linker_output.specs.Ppc64Output.{of_vectors, blr}
-use Rattle.linker_output.specs.Ppc64Saves.{returned, is_from}
-use Rattle.linker_output.specs.Ppc64Stubs.{with_state}
 use Rattle.linker_output.specs.Ppc64Vectors.{Vectored, step_vectored, run_vectored, vector_code, quadword, vector_slot, vectors_saved, vectors_restored, ReturnsVectored, SavesVectors, RestoresVectors}
 use Rattle.linker_output.specs.Ppc64Vectors as laws
 

@@ -1,16 +1,8 @@
 -- A note that was written is read as the properties that were written.
-use Rattle.std.proofs.Common.{◌≡◌, ℕ, ◌+◌, ◌-◌, ◌*◌, ◌/◌, ◌%◌, ◌<◌, ◌≤◌, ◌^◌, true, false, List, [], ◌∷◌, ◌++◌, length, take, drop, refl, sym, ◌∙◌, ap, subst, arith, suc, Option, Some, None, Result, Ok, Err, append_assoc, nat_lt, ◌&&◌}
-use Rattle.linker_output.proofs.Imports.{◌==◌, if◌then◌else◌, w64, to_le_bytes, from_le_bytes, drop_at, length-append, take_at, nat_tests, Architecture}
-use Rattle.std.proofs.lemmas.Nat.{from_le_bytes-to_le_bytes_8}
-use Rattle.linker_output.specs.Properties.{bytes_of, words_from, words_by, with_words, property_words, value_words, rule_of, fits, note_words, word_at, size_of, padded, property_at, visit, visit_note, read, start, properties_of, before, is_header, WritesNote}
-use Rattle.linker_output.specs.declared.properties.Property.{Property}
-use Rattle.linker_output.specs.declared.properties.Reading.{Reading}
-use Rattle.linker_output.specs.declared.properties.PropertyRule.{PropertyRule}
-use Rattle.linker_output.specs.declared.properties.PropertyRule.TheVariants.{All, Any, AnyOfAll, Largest, Present, Same}
-use Rattle.linker_output.specs.declared.properties.PropertyError.{PropertyError}
+use Rattle.linker_output.proofs.Imports.{◌≡◌, ℕ, ◌+◌, ◌-◌, ◌*◌, ◌/◌, ◌%◌, ◌<◌, ◌≤◌, ◌^◌, true, false, List, [], ◌∷◌, ◌++◌, length, take, drop, refl, sym, ◌∙◌, ap, subst, arith, suc, Option, Some, None, Result, Ok, Err, append_assoc, nat_lt, ◌&&◌, ◌==◌, if◌then◌else◌, w64, to_le_bytes, from_le_bytes, drop_at, length-append, take_at, nat_tests, Architecture, from_le_bytes-to_le_bytes_8, words_by, with_words, property_words, value_words, rule_of, fits, note_words, word_at, size_of, property_at, visit, visit_note, start, properties_of, before, is_header, WritesNote, Property, Reading, PropertyRule, All, Any, AnyOfAll, Largest, Present, Same, PropertyError, IsSlim, AreSlim}
+use Rattle.linker_output.specs.Properties.{bytes_of, words_from, padded, read}
 use Rattle.linker_output.specs.declared.properties.PropertyError.TheVariants.{TooLarge, NotAscending}
 use Rattle.linker_output.proofs.WrittenProperties.{length_bytes, bytes_append, word_count, with_header}
-use Rattle.linker_output.specs.Inner.Properties.{IsSlim, AreSlim}
 use Rattle.linker_output.proofs.ReadProperties.{on_step, at_end}
 
 -- ---- words

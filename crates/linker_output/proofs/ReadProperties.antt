@@ -1,11 +1,6 @@
 -- Properties that are read step by step.
-use Rattle.std.proofs.Common.{◌≡◌, ℕ, ◌+◌, ◌-◌, ◌/◌, ◌%◌, ◌<◌, ◌≤◌, ◌^◌, true, false, List, [], ◌∷◌, ◌++◌, length, refl, sym, ◌∙◌, ap, arith, zero, suc, Option, Some, None, Result, Ok, Err, nat_lt, append_assoc}
-use Rattle.linker_output.proofs.Imports.{◌==◌, if◌then◌else◌, nat_tests, append-nil, Architecture}
-use Rattle.linker_output.specs.Properties.{rule_of, visit, visit_by, visit_note, visit_property, before, followed, read, start, properties_of, padded, word_at}
-use Rattle.linker_output.specs.declared.properties.Property.{Property}
-use Rattle.linker_output.specs.declared.properties.Reading.{Reading}
-use Rattle.linker_output.specs.declared.properties.PropertyRule.{PropertyRule}
-use Rattle.linker_output.specs.declared.properties.PropertyError.{PropertyError}
+use Rattle.linker_output.proofs.Imports.{◌≡◌, ℕ, ◌+◌, ◌-◌, ◌/◌, ◌%◌, ◌<◌, ◌≤◌, ◌^◌, true, false, List, [], ◌∷◌, ◌++◌, length, refl, sym, ◌∙◌, ap, arith, zero, suc, Option, Some, None, Result, Ok, Err, nat_lt, append_assoc, ◌==◌, if◌then◌else◌, nat_tests, append-nil, Architecture, rule_of, visit, visit_by, visit_note, visit_property, before, followed, start, properties_of, word_at, Property, Reading, PropertyRule, PropertyError}
+use Rattle.linker_output.specs.Properties.{read, padded}
 
 -- ---- a step goes on, and stays in the section
 

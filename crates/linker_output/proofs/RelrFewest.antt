@@ -1,7 +1,6 @@
 -- No fewer words relocate the addresses.
-use Rattle.std.proofs.Common.{◌≡◌, ℕ, ◌+◌, ◌*◌, ◌<◌, ◌≤◌, Bool, true, false, List, [], ◌∷◌, ◌++◌, length, refl, arith, nat_lt, nat_le, cond, zero, suc}
-use Rattle.std.proofs.lemmas.Bool.Decides.{nat_tests}
-use Rattle.linker_output.specs.Relr.{relocated, marked}
+use Rattle.linker_output.proofs.Imports.{◌≡◌, ℕ, ◌+◌, ◌*◌, ◌<◌, ◌≤◌, Bool, true, false, List, [], ◌∷◌, ◌++◌, length, refl, arith, nat_lt, nat_le, cond, zero, suc, nat_tests, relocated}
+use Rattle.linker_output.specs.Relr.{marked}
 
 -- how many words more are needed for addresses where those below an end are in words already
 unfoldable pub cost_next : ℕ → ℕ → (ℕ → ℕ) → ℕ

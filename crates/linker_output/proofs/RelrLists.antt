@@ -1,13 +1,10 @@
 -- Lists of numbers that are written one after the other, and words without a fault.
-use Rattle.std.proofs.Common.{◌≡◌, ◌≢◌, ℕ, ◌+◌, ◌-◌, ◌*◌, ◌%◌, ◌^◌, ◌<◌, ◌≤◌, Bool, true, false, List, [], ◌∷◌, ◌++◌, length, take, drop, set, refl, sym, ◌∙◌, ap, subst, arith, nat_lt, nat_eq, cond, zero, suc, Option, Some, None, append_assoc, ◌||◌, ◌&&◌, ◌==◌, if◌then◌else◌, get_or}
-use Rattle.linker_output.proofs.Imports.{nat_tests, append-nil, take-append-drop, length-append, bit_at, list_all}
-use Rattle.std.proofs.lemmas.List.{take_more_set, drop-set-lt, length-set}
+use Rattle.linker_output.proofs.Imports.{◌≡◌, ◌≢◌, ℕ, ◌+◌, ◌-◌, ◌*◌, ◌%◌, ◌^◌, ◌<◌, ◌≤◌, Bool, true, false, List, [], ◌∷◌, ◌++◌, length, take, drop, set, refl, sym, ◌∙◌, ap, subst, arith, nat_lt, nat_eq, cond, zero, suc, Option, Some, None, append_assoc, ◌||◌, ◌&&◌, ◌==◌, if◌then◌else◌, get_or, nat_tests, append-nil, take-append-drop, length-append, bit_at, list_all, take_more_set, drop-set-lt, relocated, word_fault, relr_fault, are_addresses, RejectsWords, RelrError, Unaligned, NotAscending, NoAddress, Wraps, TooShort, capped, Leaves}
+use Rattle.std.proofs.lemmas.List.{length-set}
 use Rattle.std.proofs.lemmas.List.Folds.{list_all-append}
-use Rattle.linker_output.specs.Relr.{relocated, marked, word_fault, relr_fault, are_addresses, RejectsWords}
-use Rattle.linker_output.specs.declared.relr.RelrError.{RelrError}
-use Rattle.linker_output.specs.declared.relr.RelrError.TheVariants.{Unaligned, NotAscending, NoAddress, Wraps, TooShort}
+use Rattle.linker_output.specs.Relr.{marked}
 use Rattle.linker_output.proofs.RelrWords.{leaves_more}
-use Rattle.linker_output.specs.Inner.Relr.{capped, put_all, Leaves}
+use Rattle.linker_output.specs.Inner.Relr.{put_all}
 use Rattle.linker_elf.proofs.Terms.{and_false}
 
 -- each number where the one before it ends

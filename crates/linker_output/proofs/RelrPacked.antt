@@ -1,12 +1,6 @@
 -- The words that the code makes relocate the addresses.
-use Rattle.std.proofs.Common.{◌≡◌, ◌≢◌, ℕ, ◌+◌, ◌-◌, ◌*◌, ◌/◌, ◌%◌, ◌^◌, ◌<◌, ◌≤◌, Bool, true, false, List, [], ◌∷◌, ◌++◌, length, refl, sym, ◌∙◌, ap, subst, arith, nat_eq, cond, zero, suc, Option, Some, None, bit_or, append_assoc, ◌⊎◌, inl, inr}
-use Rattle.linker_output.proofs.Imports.{nat_tests, append-nil, bit_at, w64, list_all}
-use Rattle.std.proofs.lemmas.Nat.Bits.{bit_at_above, bit_at_set_same, bit_at_set_other, bit_at_lowest}
-use Rattle.std.proofs.lemmas.Bool.{cases_Bool}
-use Rattle.linker_output.specs.Relr.{relocated, marked, address_fault, are_addresses, relr_fault, word_fault, Packs, RejectsAddresses}
-use Rattle.linker_output.specs.Inner.Relr.{words_from, words_of, is_past}
-use Rattle.linker_output.specs.declared.relr.RelrError.{RelrError}
-use Rattle.linker_output.specs.declared.relr.RelrError.TheVariants.{Unaligned, NotAscending, NoAddress, Wraps, TooShort}
+use Rattle.linker_output.proofs.Imports.{◌≡◌, ◌≢◌, ℕ, ◌+◌, ◌-◌, ◌*◌, ◌/◌, ◌%◌, ◌^◌, ◌<◌, ◌≤◌, Bool, true, false, List, [], ◌∷◌, ◌++◌, length, refl, sym, ◌∙◌, ap, subst, arith, nat_eq, cond, zero, suc, Option, Some, None, bit_or, append_assoc, ◌⊎◌, inl, inr, nat_tests, append-nil, bit_at, w64, list_all, bit_at_above, bit_at_set_same, bit_at_set_other, bit_at_lowest, cases_Bool, relocated, address_fault, are_addresses, relr_fault, word_fault, Packs, RejectsAddresses, words_from, words_of, is_past, RelrError, Unaligned, NotAscending, NoAddress, Wraps, TooShort}
+use Rattle.linker_output.specs.Relr.{marked}
 use Rattle.linker_output.proofs.RelrLists.{is_sound, no_fault}
 use Rattle.linker_output.proofs.RelrFewest.{cost, cost_next, cost_words}
 use Rattle.linker_output.proofs.RelrWords.{past_words, near_words, far_words, clean}

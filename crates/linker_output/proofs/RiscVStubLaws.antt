@@ -1,17 +1,13 @@
 -- RISC-V's stub goes to the address in its word.
-use Rattle.std.proofs.Common.{◌≡◌, ℕ, ◌-◌, ◌%◌, ◌^◌, ◌<◌, refl, sym, ◌∙◌, ap, subst, arith, ℤ, Some, false, List, length, drop, pos, ◌+ℤ◌}
-use Rattle.linker_output.proofs.Imports.{◌==◌, ints, length-drop, length-append, field, riscv_form, sum_64, difference_64, Relative, RelativeRiscVLow12, UType, IType, wrapped, moved, loaded, Hart, register, auipc, sums, jumps, executed, of_word, load_number, upper_word, load_word, whole_number, moved_twice, address_is, other, unwritten, riscv_name, riscv_relocation, sum_zero}
+use Rattle.linker_output.proofs.Imports.{◌≡◌, ℕ, ◌-◌, ◌%◌, ◌^◌, ◌<◌, refl, sym, ◌∙◌, ap, subst, arith, ℤ, Some, false, List, length, drop, pos, ◌+ℤ◌, ◌==◌, ints, length-drop, length-append, field, riscv_form, sum_64, difference_64, Relative, RelativeRiscVLow12, UType, IType, wrapped, moved, loaded, Hart, register, auipc, sums, jumps, executed, of_word, load_number, upper_word, load_word, whole_number, moved_twice, address_is, other, unwritten, riscv_name, riscv_relocation, sum_zero, Runs, fetched, rs1_of, upper_long, low_long, at_start, at_second, fetched_word, steps, operands_of, field_of}
 use Rattle.linker_base.specs.Form.{place_sum}
 use Rattle.linker_riscv64.specs.RiscVFields.{opcode_of, funct3_of, rd_of}
-use Rattle.linker_laws.specs.RiscVMachine.{loads, Runs, fetched, rs1_of}
+use Rattle.linker_laws.specs.RiscVMachine.{loads}
 use Rattle.linker_laws.specs.RiscVRelocationLaws.{RelativeAddresses}
 use Rattle.linker_laws.specs.RiscVRewriteLaws.{word_of}
-use Rattle.linker_laws.proofs.RiscVDescriptors.{upper_long, low_long}
-use Rattle.linker_laws.proofs.RiscVMachine.{at_start, at_second, fetched_word, steps, written}
+use Rattle.linker_laws.proofs.RiscVMachine.{written}
 use Rattle.linker_elf.specs.declared.riscv64.relocations.RiscVRelocation.TheVariants as r
 use Rattle.linker_output.specs.RiscVOutput.{riscv_output}
-use Rattle.linker_output.specs.Stubs.{operands_of}
-use Rattle.linker_output.specs.Tables.{field_of}
 use Rattle.linker_output.specs.RiscVStubs.{GoesTo}
 use Rattle.linker_output.specs.RiscVStubs as stubs
 use Rattle.linker_output.proofs.StubWords.{front_word, first_is, second_is, third_is, applies, no_addend, are_addresses}

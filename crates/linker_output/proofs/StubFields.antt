@@ -1,13 +1,8 @@
 -- What the code of stubs is made of, as it is written.
-use Rattle.std.proofs.Common.{ℕ, ℤ, ◌≡◌, ◌+◌, ◌-◌, ◌++◌, ◌∙◌, List, [], Option, Some, refl, sym, ap, subst, arith, inl, inr, length, take, drop}
-use Rattle.std.specs.Prelude.{Result, Ok, Err, OnOk, IfErr}
-use Rattle.linker_output.proofs.Imports.{take_at, drop_at, drop-drop, append-nil, append_assoc, length-take, length-drop, length-append, IsCause, value_of, RowInfo, RelocateError, OutOfReach, Operands, IsRow, Architecture}
-use Rattle.std.proofs.lemmas.List.{take_all, drop_all}
+use Rattle.linker_output.proofs.Imports.{ℕ, ℤ, ◌≡◌, ◌+◌, ◌-◌, ◌++◌, ◌∙◌, List, [], Option, Some, refl, sym, ap, subst, arith, inl, inr, length, take, drop, Result, Ok, Err, OnOk, IfErr, take_at, drop_at, drop-drop, append-nil, length-take, length-drop, length-append, IsCause, value_of, RowInfo, RelocateError, OutOfReach, Operands, IsRow, Architecture, take_all, drop_all, WritesRow, RejectsValue, IsValueCause, WritesField, RejectsField, AppliesAt, offset_in, StubField}
+use Rattle.std.proofs.lemmas.List.{append_assoc}
 use Rattle.linker_elf.specs.Elf.{IsAllowed}
-use Rattle.linker_elf.specs.Relocate.{WritesRow, RejectsValue}
 use Rattle.linker_elf.specs.declared.elf.AllowedRange.{AllowedRange}
-use Rattle.linker_output.specs.Stubs.{IsValueCause, WritesField, RejectsField, AppliesAt, offset_in}
-use Rattle.linker_output.specs.declared.stubs.StubField.{StubField}
 
 -- ---- a field
 

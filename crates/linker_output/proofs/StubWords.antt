@@ -1,11 +1,6 @@
 -- The words of a stub's code, and the relocations of its fields.
-use Rattle.std.proofs.Common.{◌≡◌, ℕ, ◌^◌, ◌<◌, refl, ◌∙◌, ap, subst, arith, List, [], ◌∷◌, ◌++◌, length, take, drop, Option, Some, pos}
-use Rattle.linker_output.proofs.Imports.{IsSomeAnd, w64, from_le_bytes, cast_unsigned, drop_at, sum_64, RowInfo, Operands, AreAddresses}
-use Rattle.std.specs.Int.{w32}
+use Rattle.linker_output.proofs.Imports.{◌≡◌, ℕ, ◌^◌, ◌<◌, refl, ◌∙◌, ap, subst, arith, List, [], ◌∷◌, ◌++◌, length, take, drop, Option, Some, pos, IsSomeAnd, w64, from_le_bytes, cast_unsigned, drop_at, sum_64, RowInfo, Operands, AreAddresses, w32, AppliesAt, StubCode, operands_of, StubField, IsNamedValue}
 use Rattle.linker_elf.specs.ElfNames.{ElfName, IsNamed, r_type_of}
-use Rattle.linker_output.specs.Stubs.{AppliesAt, StubCode, operands_of}
-use Rattle.linker_output.specs.declared.stubs.StubField.{StubField}
-use Rattle.linker_elf.specs.Architectures.{IsNamedValue}
 
 abbrev pub word : List ℕ → ℕ
 word bytes = from_le_bytes w32 bytes

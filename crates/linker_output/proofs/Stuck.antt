@@ -1,17 +1,6 @@
 -- A branch that reaches no boundary next to it reaches no boundary.
-use Rattle.std.proofs.Common.{◌≡◌, ◌+◌, ◌-◌, ◌*◌, ◌<◌, ◌≤◌, ℕ, arith, List, length, refl, ap, sym, subst, ⊎_elim}
-use Rattle.linker_output.proofs.Imports.{◌⊎◌, nat_le, mul-le-mul_left, cases_lt, cases_order, prefix_len_passes, prefix_len_stops}
-use Rattle.std.proofs.lemmas.List.Sums.{prefix_len-le-length}
-use Rattle.linker_output.specs.declared.placement.Branch.{Branch}
-use Rattle.linker_output.specs.declared.placement.Code.{Code}
-use Rattle.linker_output.specs.declared.placement.Group.{Group}
-use Rattle.linker_output.specs.declared.placement.Layout.{Layout}
-use Rattle.linker_output.specs.declared.placement.Part.{Part}
-use Rattle.linker_output.specs.declared.placement.Part.TheVariants.{Front, Middle, Back}
-use Rattle.linker_output.specs.declared.placement.State.{State}
-use Rattle.linker_output.specs.declared.placement.StubAt.{StubAt}
-use Rattle.linker_output.specs.Placement.{Reaches, at, branch_at, group_at, stub_at, stubs_in, passed, moved, place_in, place_of, start_of, end_of, HasPart, part_of, ReachesAt, IsCode, IsLaidOut, IsLayout, IsStuck}
-use Rattle.linker_output.specs.Inner.Placement.{IsState, IsNear, IsNearIn, IsStuckIn}
+use Rattle.linker_output.proofs.Imports.{◌≡◌, ◌+◌, ◌-◌, ◌*◌, ◌<◌, ◌≤◌, ℕ, arith, List, length, refl, ap, sym, subst, ⊎_elim, ◌⊎◌, nat_le, mul-le-mul_left, cases_lt, cases_order, prefix_len_passes, prefix_len_stops, prefix_len-le-length, Branch, Code, Group, Layout, Part, Front, Middle, Back, State, StubAt, Reaches, at, branch_at, group_at, stub_at, stubs_in, passed, place_in, place_of, start_of, end_of, HasPart, part_of, ReachesAt, IsCode, IsLaidOut, IsLayout, IsStuck, IsState, IsNear, IsNearIn, IsStuckIn}
+use Rattle.linker_output.specs.Placement.{moved}
 use Rattle.linker_output.proofs.Apart.{fits_at, ends_before, inside_in}
 use Rattle.linker_output.proofs.Finding.{no_near}
 use Rattle.linker_output.proofs.Passed.{true_le, false_lt}

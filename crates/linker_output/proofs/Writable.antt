@@ -1,10 +1,6 @@
 -- What can be written over the first 8 bytes can be written over all, and else for the same cause.
-use Rattle.std.proofs.Common.{◌≡◌, ℕ, ℤ, ◌≤◌, List, length, take, true, sym, arith}
-use Rattle.linker_output.proofs.Imports.{length-take-le, IsAccepted, IsCause, RowInfo, RelocateError, OutOfReach}
-use Rattle.std.proofs.lemmas.List.{take-take}
-use Rattle.std.specs.Prelude.{min}
-use Rattle.linker_elf.specs.Relocate.{size_len, window_len, is_supported}
-use Rattle.linker_elf.specs.declared.elf.relocate.RelocateError.TheVariants.{Unsupported, TooShort, Misaligned}
+use Rattle.linker_output.proofs.Imports.{◌≡◌, ℕ, ℤ, ◌≤◌, List, length, take, true, sym, arith, length-take-le, IsAccepted, IsCause, RowInfo, RelocateError, OutOfReach, take-take, min, size_len, window_len, is_supported, Unsupported, Misaligned}
+use Rattle.linker_elf.specs.declared.elf.relocate.RelocateError.TheVariants.{TooShort}
 use Rattle.linker_section.proofs.Fronts.{HaveSameWindow, same_window, accepted_same, multiple_same, reached_same}
 use Rattle.linker_section.proofs.Local.{small_size}
 use Rattle.linker_elf.proofs.Relocated.{supported_size}

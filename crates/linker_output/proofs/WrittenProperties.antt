@@ -1,13 +1,6 @@
 -- Notes that are written word by word.
-use Rattle.std.proofs.Common.{◌≡◌, ◌≢◌, ℕ, ◌+◌, ◌*◌, ◌≤◌, ◌^◌, false, List, [], ◌∷◌, ◌++◌, length, take, drop, refl, sym, ◌∙◌, ap, subst, arith, Option, Some, None, Result, Ok, Err, append_assoc, nat_lt}
-use Rattle.linker_output.proofs.Imports.{w64, to_le_bytes, take-append-drop, take_at, drop_at, drop-drop, length-append, length-take-le, nat_tests, Architecture}
-use Rattle.std.proofs.Math.Seq.{drop-append-add}
-use Rattle.linker_output.specs.Properties.{bytes_of, words_from, words_by, with_words, list_words, property_words, rule_of, note_words, size_of, WritesNote}
-use Rattle.linker_output.specs.Inner.Properties.{Puts, IsWritable, AreSlim}
-use Rattle.linker_output.specs.declared.properties.Property.{Property}
-use Rattle.linker_output.specs.declared.properties.PropertyRule.{PropertyRule}
-use Rattle.linker_output.specs.declared.properties.PropertyError.{PropertyError}
-use Rattle.linker_output.specs.declared.properties.PropertyRule.TheVariants.{All, Any, AnyOfAll, Largest, Present, Same}
+use Rattle.linker_output.proofs.Imports.{◌≡◌, ◌≢◌, ℕ, ◌+◌, ◌*◌, ◌≤◌, ◌^◌, false, List, [], ◌∷◌, ◌++◌, length, take, drop, refl, sym, ◌∙◌, ap, subst, arith, Option, Some, None, Result, Ok, Err, append_assoc, nat_lt, w64, to_le_bytes, take-append-drop, take_at, drop_at, drop-drop, length-append, length-take-le, nat_tests, Architecture, drop-append-add, words_by, with_words, list_words, property_words, rule_of, note_words, size_of, WritesNote, Puts, IsWritable, AreSlim, Property, PropertyRule, PropertyError, All, Any, AnyOfAll, Largest, Present, Same}
+use Rattle.linker_output.specs.Properties.{bytes_of, words_from}
 
 -- ---- bytes
 

@@ -1,22 +1,13 @@
 -- x86-64's lazy PLT.
-use Rattle.std.proofs.Common.{◌≡◌, ℕ, ℤ, zero, suc, ◌+◌, ◌*◌, ◌%◌, ◌^◌, ◌<◌, ◌≤◌, Bool, true, false, refl, sym, ◌∙◌, ap, subst, arith, List, [], ◌∷◌, ◌++◌, take, drop, length, eqb, cond, Some, Option, pos, negsuc}
-use Rattle.linker_output.proofs.Imports.{◌==◌, IsSomeAnd, nat_lt, if◌then◌else◌, w64, cast_unsigned, cond-true, cond-false, drop-drop, number_of_bytes, sum_64, difference_64, x86_64_name, x86_64_row, Operands, load, extended, place_field, X86_64}
-use Rattle.std.specs.Int.{byte_at}
+use Rattle.linker_output.proofs.Imports.{◌≡◌, ℕ, ℤ, zero, suc, ◌+◌, ◌*◌, ◌%◌, ◌^◌, ◌<◌, ◌≤◌, Bool, true, false, refl, sym, ◌∙◌, ap, subst, arith, List, [], ◌∷◌, ◌++◌, take, drop, length, eqb, cond, Some, Option, pos, negsuc, ◌==◌, IsSomeAnd, nat_lt, if◌then◌else◌, w64, cast_unsigned, cond-true, cond-false, drop-drop, number_of_bytes, sum_64, difference_64, x86_64_name, x86_64_row, Operands, load, extended, place_field, X86_64, byte_at, store_8, with_register, signed_field, operands_at, header_places, x86_64_entry, x86_64_landing_entry, padded, fixed, with_field, field_of, LazyEntry, LazyField, LazyPiece, Word, Header, Index}
 use Rattle.linker_elf.specs.declared.x86_64.relocations.X86_64Relocation.TheVariants as r
-use Rattle.linker_laws.specs.X86Machine.{State, store_8, with_register}
-use Rattle.linker_laws.proofs.X86Fields.{signed_field}
+use Rattle.linker_laws.specs.X86Machine.{State}
 use Rattle.linker_output.proofs.LazyRuns.{following, are_addresses_at}
 use Rattle.linker_output.proofs.StubWords.{applies}
-use Rattle.linker_output.specs.LazyPlt.{IsCode, operands_at, header_places}
-use Rattle.linker_output.specs.LazyPlts.{x86_64_entry, x86_64_landing_entry, padded, fixed, with_field}
-use Rattle.linker_output.specs.Tables.{field_of}
+use Rattle.linker_output.specs.LazyPlt.{IsCode}
 use Rattle.linker_output.specs.X86LazyPlt.{step, run, and_then, pushed, Asks, IsOffStack}
 use Rattle.linker_output.specs.X86LazyPlt as laws
-use Rattle.linker_output.specs.declared.lazy_plt.LazyEntry.{LazyEntry}
-use Rattle.linker_output.specs.declared.lazy_plt.LazyField.{LazyField}
-use Rattle.linker_output.specs.declared.lazy_plt.LazyPiece.{LazyPiece}
 use Rattle.linker_output.specs.declared.lazy_plt.LazyTarget.{LazyTarget}
-use Rattle.linker_output.specs.declared.lazy_plt.LazyTarget.TheVariants.{Word, Header, Index}
 
 -- ---- steps, by the bytes of pieces
 

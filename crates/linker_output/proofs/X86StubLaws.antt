@@ -1,6 +1,6 @@
 -- x86-64's stubs go to the address that their word has.
-use Rattle.std.proofs.Common.{◌≡◌, ◌^◌, ◌<◌, refl, sym, ◌∙◌, ap, subst, arith, ◌∷◌, ◌++◌, Some, length, take, drop}
-use Rattle.linker_output.proofs.Imports.{append-nil, append_assoc, take-append-drop, number_of_bytes, sum_64, difference_64, x86_64_name, x86_64_row, load, extended, place_field}
+use Rattle.linker_output.proofs.Imports.{◌≡◌, ◌^◌, ◌<◌, refl, sym, ◌∙◌, ap, subst, arith, ◌∷◌, ◌++◌, Some, length, take, drop, append-nil, take-append-drop, number_of_bytes, sum_64, difference_64, x86_64_name, x86_64_row, load, extended, place_field, operands_of}
+use Rattle.std.proofs.lemmas.List.{append_assoc}
 use Rattle.linker_elf.specs.declared.x86_64.relocations.X86_64Relocation.TheVariants as r
 use Rattle.linker_laws.specs.X86Machine.{State, step}
 use Rattle.linker_output.proofs.AArch64StubLaws.{some_or}
@@ -9,7 +9,6 @@ use Rattle.linker_output.proofs.X86LazyLaws.{by_word, run_step, word_from_next}
 use Rattle.linker_output.specs.X86LazyPlt as lazy
 use Rattle.linker_output.specs.X86Output.{x86_64_output}
 use Rattle.linker_output.specs.X86Stubs as stubs
-use Rattle.linker_output.specs.Stubs.{operands_of}
 
 pub loads_go : stubs.Loads
 loads_go place word inside below code is s at =

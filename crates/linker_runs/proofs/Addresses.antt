@@ -1,12 +1,5 @@
 -- Addresses that are multiples of a number in every layout, and the nops that are then enough.
-use Rattle.std.proofs.Common.{◌≡◌, ℕ, zero, suc, ◌+◌, ◌-◌, ◌*◌, ◌/◌, ◌<◌, ◌≤◌, ◌∙◌, List, length, ap, sym, ⊎_elim, arith, cond}
-use Rattle.linker_runs.proofs.Imports.{nat_le, max, Option, None, Some, MatchOption, ⊤, IsPowerOfTwo, IsNextPowerOfTwo, mul_assoc, cases_lt, nat_tests, pow_pos}
-use Rattle.std.proofs.Math.Nat.{mul-le-mul_left}
-use Rattle.std.proofs.lemmas.Nat.{le-div}
-use Rattle.linker_runs.specs.declared.relaxation.Item.{Item}
-use Rattle.linker_runs.specs.declared.relaxation.Item.TheVariants.{Site, Aligned}
-use Rattle.linker_runs.specs.Relaxing.{offset_of, len_of, end_of, item_at, shape_len, needed, limit_of, kept_by, freed_before, IsSound, AreInOrder}
-use Rattle.linker_runs.specs.Choosing.{AreItems, IsAnchor, FreesMultiples, IsAlwaysMultiple}
+use Rattle.linker_runs.proofs.Imports.{◌≡◌, ℕ, zero, suc, ◌+◌, ◌-◌, ◌*◌, ◌/◌, ◌<◌, ◌≤◌, ◌∙◌, List, length, ap, sym, ⊎_elim, arith, cond, nat_le, max, Option, None, Some, MatchOption, ⊤, IsPowerOfTwo, IsNextPowerOfTwo, mul_assoc, cases_lt, nat_tests, pow_pos, mul-le-mul_left, le-div, Item, Site, Aligned, offset_of, len_of, end_of, item_at, shape_len, needed, limit_of, kept_by, freed_before, IsSound, AreInOrder, AreItems, IsAnchor, FreesMultiples, IsAlwaysMultiple}
 use Rattle.linker_runs.proofs.Units.{power_divides}
 use Rattle.linker_runs.proofs.Layouts.{freed_next, freed_none, freed_fits, ends_ascend}
 use Rattle.linker_runs.proofs.Multiples.{Multiple, multiple_of, needed_fills, needed_below}

@@ -1,11 +1,5 @@
 -- The next alignment after a relocation, by one relocation more.
-use Rattle.std.proofs.Common.{ℕ, ◌+◌, ◌<◌, ◌≤◌, List, inl, inr, ⊎_elim, arith}
-use Rattle.linker_runs.proofs.Imports.{◌⊎◌, cases_lt}
-use Rattle.linker_runs.specs.declared.items.Relocation.{Relocation}
-use Rattle.linker_runs.specs.RiscVItems.{IsNextAlignment}
-use Rattle.linker_runs.specs.Inner.Ahead.{IsAhead, MayBeAhead}
-use Rattle.linker_runs.specs.declared.packing.Machine.{Machine}
-use Rattle.linker_runs.specs.declared.packing.Machine.TheVariants.{RiscV, LoongArch64}
+use Rattle.linker_runs.proofs.Imports.{ℕ, ◌+◌, ◌<◌, ◌≤◌, List, inl, inr, ⊎_elim, arith, ◌⊎◌, cases_lt, Relocation, IsNextAlignment, IsAhead, MayBeAhead, Machine, RiscV, LoongArch64}
 
 -- the next alignment after one relocation is that after the relocation after it, or this one
 pub next_on : (relocations : List Relocation) (i j : ℕ) → IsNextAlignment relocations i j → (j ≤ i + 1) ⊎ IsNextAlignment relocations (i + 1) j

@@ -1,12 +1,5 @@
 -- A site that its shortest shape reaches while nothing is freed is in reach whatever is freed.
-use Rattle.std.proofs.Common.{◌≡◌, ℕ, zero, suc, ◌-◌, ◌*◌, ◌%◌, ◌<◌, ◌≤◌, ◌∙◌, true, List, length, refl, ap, sym, ⊎_elim, arith, cond}
-use Rattle.linker_runs.proofs.Imports.{mul_assoc, cases_lt}
-use Rattle.linker_runs.specs.declared.relaxation.Shapes.{Shapes}
-use Rattle.linker_runs.specs.declared.relaxation.Item.{Item}
-use Rattle.linker_runs.specs.declared.relaxation.Item.TheVariants.{Site, Aligned}
-use Rattle.linker_runs.specs.Relaxing.{len_of, target_of, item_at, is_reached, short_shape, freed_before, place_of, item_reaches, shape_reaches, IsSound}
-use Rattle.linker_runs.specs.Choosing.{least_len, run_granularity, AreItems, AreNested, IsFormed, cautious_before}
-use Rattle.linker_runs.specs.Inner.Relaxing.{IsAlwaysInReach}
+use Rattle.linker_runs.proofs.Imports.{◌≡◌, ℕ, zero, suc, ◌-◌, ◌*◌, ◌%◌, ◌<◌, ◌≤◌, ◌∙◌, true, List, length, refl, ap, sym, ⊎_elim, arith, cond, mul_assoc, cases_lt, Shapes, Item, Site, Aligned, len_of, target_of, item_at, is_reached, short_shape, freed_before, place_of, item_reaches, shape_reaches, IsSound, least_len, run_granularity, AreItems, AreNested, IsFormed, cautious_before, IsAlwaysInReach}
 use Rattle.linker_runs.proofs.Bounds.{all_nearer, len_fits, is_short, is_past}
 use Rattle.linker_runs.proofs.Choices.{place_is, cautious_frees}
 use Rattle.linker_runs.proofs.Frees.{exact_frees}

@@ -1,13 +1,5 @@
 -- What the rounds of a run that can be relaxed never exceed.
-use Rattle.std.proofs.Common.{◌≡◌, ℕ, zero, suc, ◌+◌, ◌-◌, ◌<◌, ◌≤◌, ◌∙◌, true, false, List, length, refl, ap, sym, ⊎_elim, arith, cond}
-use Rattle.linker_runs.proofs.Imports.{◌⊎◌, nat_lt, cases_lt, cases_Bool, cases_order, nat_tests}
-use Rattle.linker_runs.specs.declared.relaxation.Shape.{Shape}
-use Rattle.linker_runs.specs.declared.relaxation.Shapes.{Shapes}
-use Rattle.linker_runs.specs.declared.relaxation.Item.{Item}
-use Rattle.linker_runs.specs.declared.relaxation.Item.TheVariants.{Site, Aligned}
-use Rattle.linker_runs.specs.Relaxing.{offset_of, end_of, target_of, item_at, is_reached, shape_len, short_shape, freed_before, place_of, item_reaches, shape_reaches, is_in_reach, lengthened}
-use Rattle.linker_runs.specs.Choosing.{least_len, run_granularity, AreItems}
-use Rattle.linker_runs.specs.Inner.Validity.{ShapesSuit, ItemSuits}
+use Rattle.linker_runs.proofs.Imports.{◌≡◌, ℕ, zero, suc, ◌+◌, ◌-◌, ◌<◌, ◌≤◌, ◌∙◌, true, false, List, length, refl, ap, sym, ⊎_elim, arith, cond, ◌⊎◌, nat_lt, cases_lt, cases_Bool, cases_order, nat_tests, Shape, Shapes, Item, Site, Aligned, offset_of, end_of, target_of, item_at, is_reached, shape_len, short_shape, freed_before, place_of, item_reaches, shape_reaches, is_in_reach, lengthened, least_len, run_granularity, AreItems, ShapesSuit, ItemSuits}
 use Rattle.linker_runs.proofs.Units.{item_suits}
 use Rattle.linker_runs.proofs.Layouts.{lengthened_in, lengthened_out}
 use Rattle.linker_runs.proofs.Multiples.{Multiple, multiple_of}

@@ -1,12 +1,7 @@
 -- The rounds of a run that can be relaxed are nowhere longer than a choice in reach.
-use Rattle.std.proofs.Common.{◌≡◌, ◌≢◌, ◌^◌, ℕ, zero, suc, ◌+◌, ◌-◌, ◌<◌, ◌≤◌, ◌∙◌, true, false, List, length, get_or, refl, ap, sym, ⊎_elim, add-one, arith}
-use Rattle.linker_runs.proofs.Imports.{nat_le, ◌⊎◌, cases_lt, cases_order, both_ways, nat_tests, get_or_default}
-use Rattle.linker_runs.specs.declared.relaxation.Item.{Item}
-use Rattle.linker_runs.specs.declared.relaxation.Item.TheVariants.{Site, Aligned}
-use Rattle.linker_runs.specs.Relaxing.{len_of, end_of, item_at, no_item, shape_len, kept_by, freed_before, place_of, after_rounds, target_of, choice_of, item_reaches, IsSound, AreApart, AreInOrder, AreRelaxed}
-use Rattle.linker_runs.specs.Inner.Relaxing.{is_in_reach_cautiously, AreForced}
-use Rattle.linker_runs.specs.Choosing.{run_granularity, AreItems, IsSite, HaveNoAlignment, freed_cautiously, cautious_before, IsInReachCautiously, IsInReachExactly, AreNotLonger}
-use Rattle.linker_runs.specs.Inner.Validity.{ItemSuits}
+use Rattle.linker_runs.proofs.Imports.{◌≡◌, ◌≢◌, ◌^◌, ℕ, zero, suc, ◌+◌, ◌-◌, ◌<◌, ◌≤◌, ◌∙◌, true, false, List, length, get_or, refl, ap, sym, ⊎_elim, add-one, arith, nat_le, ◌⊎◌, cases_lt, cases_order, both_ways, nat_tests, get_or_default, Item, Site, Aligned, len_of, end_of, item_at, no_item, shape_len, kept_by, freed_before, place_of, target_of, choice_of, item_reaches, IsSound, AreApart, AreInOrder, AreRelaxed, is_in_reach_cautiously, AreForced, run_granularity, AreItems, IsSite, HaveNoAlignment, freed_cautiously, IsInReachCautiously, IsInReachExactly, AreNotLonger, ItemSuits}
+use Rattle.linker_runs.specs.Relaxing.{after_rounds}
+use Rattle.linker_runs.specs.Choosing.{cautious_before}
 use Rattle.linker_runs.proofs.Units.{item_suits}
 use Rattle.linker_runs.proofs.Layouts.{freed_next, freed_none, ends_apart, count_point}
 use Rattle.linker_runs.proofs.Multiples.{multiple_of}

@@ -1,15 +1,8 @@
 -- Which positions the deletions of a run take, and those of the chosen calls.
-use Rattle.std.proofs.Common.{◌≡◌, ℕ, zero, suc, ◌+◌, ◌<◌, ◌≤◌, ◌∙◌, Bool, true, false, List, [], ◌∷◌, ◌++◌, length, get_or, refl, ap, sym, subst, ⊎_elim, arith}
-use Rattle.linker_runs.proofs.Imports.{◌⊎◌, not, cases_lt, false≢true, covers, is_kept, shrinking, chosen_deletions, IsChosen}
-use Rattle.std.specs.List.{list_any}
-use Rattle.std.proofs.lemmas.Bool.{or_cases, or_left, or_right}
+use Rattle.linker_runs.proofs.Imports.{◌≡◌, ℕ, zero, suc, ◌+◌, ◌<◌, ◌≤◌, ◌∙◌, Bool, true, false, List, [], ◌∷◌, ◌++◌, length, get_or, refl, ap, sym, subst, ⊎_elim, arith, ◌⊎◌, not, cases_lt, false≢true, covers, is_kept, shrinking, chosen_deletions, IsChosen, list_any, or_cases, or_left, or_right, Item, item_at, deletion_at, deletions_before, pair_at}
 use Rattle.std.proofs.lemmas.List.Folds.{list_any-append}
 use Rattle.linker_base.specs.Deletions.{rank}
-use Rattle.linker_runs.specs.declared.relaxation.Item.{Item}
-use Rattle.linker_runs.specs.Relaxing.{item_at}
-use Rattle.linker_runs.specs.Deleting.{deletion_at, deletions_before}
 use Rattle.linker_runs.proofs.Deletions.{deletions_none, deletions_next}
-use Rattle.linker_runs.specs.Calls.{pair_at}
 
 -- whether one of the deletions takes the position
 abbrev pub takes : List (ℕ × ℕ) → ℕ → Bool

@@ -1,11 +1,8 @@
 -- The deletions of a run are valid, and translate offsets as the layout does.
-use Rattle.std.proofs.Common.{◌≡◌, ℕ, zero, suc, ◌+◌, ◌-◌, ◌<◌, ◌≤◌, ◌∙◌, true, false, List, [], ◌∷◌, ◌++◌, length, get_or, refl, ap, sym, subst, ⊎_elim, add-one, arith, cond, length-append}
-use Rattle.linker_runs.proofs.Imports.{nat_lt, common_steps, cases_lt, nat_tests, append-nil, IsValid}
-use Rattle.std.specs.Prelude.{◌^◌}
+use Rattle.linker_runs.proofs.Imports.{◌≡◌, ℕ, zero, suc, ◌+◌, ◌-◌, ◌<◌, ◌≤◌, ◌∙◌, true, false, List, [], ◌∷◌, ◌++◌, length, get_or, refl, ap, sym, subst, ⊎_elim, add-one, arith, cond, nat_lt, common_steps, cases_lt, nat_tests, append-nil, IsValid, ◌^◌, Item, offset_of, len_of, end_of, item_at, AreInOrder, deletion_at}
+use Rattle.std.proofs.Common.{length-append}
 use Rattle.linker_base.proofs.Listed.{IsValid-push, IsValid-nil}
-use Rattle.linker_runs.specs.declared.relaxation.Item.{Item}
-use Rattle.linker_runs.specs.Relaxing.{offset_of, len_of, end_of, item_at, AreInOrder}
-use Rattle.linker_runs.specs.Deleting.{deletion_at, deletions_before}
+use Rattle.linker_runs.specs.Deleting.{deletions_before}
 
 pub deletions_none : (items : List Item) (kept : List ℕ) → deletions_before items kept 0 ≡ []
 unfolding deletions_before

@@ -1,10 +1,7 @@
 -- The value of a relocation between two places of a run.
-use Rattle.std.proofs.Common.{◌≡◌, ℕ, ◌-◌, ◌^◌, ◌<◌, ◌≤◌, ◌∙◌, List, length, ap, ⊎_elim, arith, ℤ, pos, neg_ℤ, ◌-ℤ◌, ◌≤ℤ◌, ◌<ℤ◌, Some}
-use Rattle.linker_runs.proofs.Imports.{w64, cast_signed, cases_lt, ints, to_z_pos, cast_negative, IsWithin, reach_of, IsInReach, sum_64, difference_64, RowInfo, holds, IsRejected}
+use Rattle.linker_runs.proofs.Imports.{◌≡◌, ℕ, ◌-◌, ◌^◌, ◌<◌, ◌≤◌, ◌∙◌, List, length, ap, ⊎_elim, arith, ℤ, pos, neg_ℤ, ◌-ℤ◌, ◌≤ℤ◌, ◌<ℤ◌, Some, w64, cast_signed, cases_lt, ints, to_z_pos, cast_negative, IsWithin, reach_of, IsInReach, sum_64, difference_64, RowInfo, holds, IsRejected, IsAccepted, IsInUnits, window_len, value_of, operands_of}
 use Rattle.linker_elf.specs.Agrees.{RowFits}
-use Rattle.linker_elf.specs.Relocate.{IsAccepted, IsInUnits, IsInWords, window_len}
-use Rattle.linker_elf.specs.Value.{value_of}
-use Rattle.linker_runs.specs.Sites.{operands_of}
+use Rattle.linker_elf.specs.Relocate.{IsInWords}
 
 module _ (start from to : ℕ) where
   abbrev number : ℕ

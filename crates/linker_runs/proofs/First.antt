@@ -1,14 +1,6 @@
 -- The bytes that stay of an item of a relaxed run are its first ones.
-use Rattle.std.proofs.Common.{◌≡◌, ℕ, ◌+◌, ◌-◌, ◌<◌, ◌≤◌, ◌∙◌, Bool, true, false, List, length, get_or, refl, ap, sym, ⊎_elim, arith, Option, Some, None}
-use Rattle.linker_runs.proofs.Imports.{not, nat_le, nat_lt, cases_lt, cases_Bool, cond-true, cond-false, false≢true, nat_tests, covers, is_kept}
-use Rattle.std.proofs.lemmas.Bool.{leb-true, ltb-true}
-use Rattle.linker_base.specs.Deletions.{rank}
-use Rattle.linker_runs.specs.declared.relaxation.Item.{Item}
-use Rattle.linker_runs.specs.declared.relaxation.Item.TheVariants.{Site, Aligned}
-use Rattle.linker_runs.specs.Relaxing.{offset_of, len_of, end_of, item_at, kept_by, freed_before, choice_of, short_shape, needed, limit_of, AreInOrder, IsSound}
-use Rattle.linker_runs.specs.Deleting.{deletion_at, deletions_before}
+use Rattle.linker_runs.proofs.Imports.{◌≡◌, ℕ, ◌+◌, ◌-◌, ◌<◌, ◌≤◌, ◌∙◌, Bool, true, false, List, length, get_or, refl, ap, sym, ⊎_elim, arith, Option, Some, None, not, nat_le, nat_lt, cases_lt, cases_Bool, cond-true, cond-false, false≢true, nat_tests, covers, is_kept, leb-true, ltb-true, rank, Item, Site, Aligned, offset_of, len_of, end_of, item_at, kept_by, freed_before, choice_of, short_shape, needed, limit_of, AreInOrder, IsSound, deletion_at, deletions_before, rank-kept, rank-gone}
 use Rattle.linker_runs.proofs.Layouts.{ends_ascend}
-use Rattle.linker_base.proofs.Copied.{rank-kept, rank-gone}
 use Rattle.linker_runs.specs.FirstBytes.{FirstBytesAreKept}
 use Rattle.linker_runs.proofs.Covering.{takes, losing, lost}
 use Rattle.linker_runs.proofs.Reaching.{loses_some, loses_none}

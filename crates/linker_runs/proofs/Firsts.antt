@@ -1,12 +1,6 @@
 -- What the parts of a run meet, fault by fault.
-use Rattle.std.proofs.Common.{ℕ, zero, suc, ◌+◌, ◌<◌, ◌≤◌, arith}
-use Rattle.linker_runs.specs.declared.relaxation.Shape.{Shape}
-use Rattle.linker_runs.specs.declared.relaxation.Shapes.{Shapes}
-use Rattle.linker_runs.specs.declared.relaxation.Alignment.{Alignment}
-use Rattle.linker_runs.specs.declared.relaxation.faults.Fault.{Fault}
-use Rattle.linker_runs.specs.declared.relaxation.faults.Fault.TheVariants.{Overlaps, TooHigh, TooManyShapes, ShapeTooLong, ShapesNotAscending, BadGranularity, BadReach, BadAlignment, UnevenShape, Misaligned, AlignmentBelowGranularity, UnevenEnd, TooFewNops, UnevenNops, TargetInside, MayBeMisaligned}
-use Rattle.linker_runs.specs.Relaxing.{short_shape}
-use Rattle.linker_runs.specs.Faults.{number_of, ShapesMeet, AlignmentMeets}
+use Rattle.linker_runs.proofs.Imports.{ℕ, zero, suc, ◌+◌, ◌<◌, ◌≤◌, arith, Shape, Shapes, Alignment, Fault, TooHigh, TooManyShapes, ShapeTooLong, ShapesNotAscending, BadGranularity, BadReach, BadAlignment, UnevenShape, Misaligned, AlignmentBelowGranularity, UnevenEnd, TooFewNops, UnevenNops, TargetInside, MayBeMisaligned, short_shape, number_of, ShapesMeet, AlignmentMeets}
+use Rattle.linker_runs.specs.declared.relaxation.faults.Fault.TheVariants.{Overlaps}
 
 -- what shapes meet of the faults below a number
 pub shapes_upto : (shapes : Shapes) (len n : ℕ) → (2 < n → ShapesMeet shapes len TooManyShapes) → (3 < n → ShapesMeet shapes len ShapeTooLong) → (4 < n → ShapesMeet shapes len ShapesNotAscending)

@@ -1,12 +1,5 @@
 -- What runs that can be relaxed free: multiples of their granularity. What their alignments keep.
-use Rattle.std.proofs.Common.{◌≡◌, ℕ, zero, suc, ◌+◌, ◌-◌, ◌*◌, ◌%◌, ◌<◌, ◌≤◌, ◌∙◌, List, length, refl, ap, sym, ⊎_elim, arith, subst, below_more}
-use Rattle.linker_runs.proofs.Imports.{◌⊎◌, Option, None, Some, min, MatchOption, ⊤, IsNextPowerOfTwo, mul_assoc, add-mul-mod_self_right, cases_lt}
-use Rattle.linker_runs.specs.declared.relaxation.Alignment.{Alignment}
-use Rattle.linker_runs.specs.declared.relaxation.Item.{Item}
-use Rattle.linker_runs.specs.declared.relaxation.Item.TheVariants.{Site, Aligned}
-use Rattle.linker_runs.specs.Relaxing.{offset_of, len_of, item_at, shape_len, needed, limit_of, kept_by, freed_before, IsSound}
-use Rattle.linker_runs.specs.Choosing.{least_len, AlignmentFits, run_granularity, AreItems, IsExactItem, IsExact, IsStill, IsFormed, IsAlwaysMultiple, AreAlwaysEnough, HasItsNops}
-use Rattle.linker_runs.specs.Inner.Validity.{ItemSuits}
+use Rattle.linker_runs.proofs.Imports.{◌≡◌, ℕ, zero, suc, ◌+◌, ◌-◌, ◌*◌, ◌%◌, ◌<◌, ◌≤◌, ◌∙◌, List, length, refl, ap, sym, ⊎_elim, arith, subst, below_more, ◌⊎◌, Option, None, Some, min, MatchOption, ⊤, IsNextPowerOfTwo, mul_assoc, add-mul-mod_self_right, cases_lt, Alignment, Item, Site, Aligned, offset_of, len_of, item_at, shape_len, needed, limit_of, kept_by, freed_before, IsSound, least_len, AlignmentFits, run_granularity, AreItems, IsExactItem, IsExact, IsStill, IsFormed, IsAlwaysMultiple, AreAlwaysEnough, HasItsNops, ItemSuits}
 use Rattle.linker_runs.proofs.Units.{item_suits}
 use Rattle.linker_runs.proofs.Layouts.{freed_next, freed_none, freed_fits}
 use Rattle.linker_runs.proofs.Multiples.{Multiple, multiple_of, needed_fills, needed_below}

@@ -1,10 +1,6 @@
 -- What the items before an index free, and the places of offsets.
-use Rattle.std.proofs.Common.{◌≡◌, ℕ, zero, suc, ◌+◌, ◌-◌, ◌<◌, ◌≤◌, Bool, true, false, List, [], ◌∷◌, length, refl, ap, ◌∙◌, ⊎_elim, add-one, arith, cond}
-use Rattle.std.specs.Prelude.{◌⊎◌, count_by}
-use Rattle.std.specs.List.{AllWithin}
-use Rattle.std.proofs.lemmas.List.Sums.{sum_by-cons}
-use Rattle.linker_runs.specs.declared.relaxation.Item.{Item}
-use Rattle.linker_runs.specs.Relaxing.{offset_of, len_of, end_of, item_at, kept_by, freed_before, item_reaches, is_in_reach, lengthened, AreApart, AreInOrder}
+use Rattle.linker_runs.proofs.Imports.{◌≡◌, ℕ, zero, suc, ◌+◌, ◌-◌, ◌<◌, ◌≤◌, Bool, true, false, List, [], ◌∷◌, length, refl, ap, ◌∙◌, ⊎_elim, add-one, arith, cond, ◌⊎◌, count_by, AllWithin, sum_by-cons, Item, offset_of, len_of, end_of, item_at, kept_by, item_reaches, is_in_reach, lengthened, AreApart, AreInOrder}
+use Rattle.linker_runs.specs.Relaxing.{freed_before}
 
 -- one item more frees what doesn't stay of it
 pub freed_next : (start : ℕ) (items : List Item) (choice : ℕ → ℕ) (i : ℕ) → freed_before start items choice (i + 1) ≡ freed_before start items choice i + (len_of (item_at items i) - kept_by start (item_at items i) (choice i) (freed_before start items choice i))

@@ -1,14 +1,6 @@
 -- The items of a section that was rewritten, by one item more.
-use Rattle.std.proofs.Common.{◌≡◌, ◌+◌, ◌∙◌, ◌<◌, ◌≤◌, ⊎_elim, List, ℕ, suc, length, map, take, drop, set, refl, ap, subst, sym, inl, inr, add-one, arith}
-use Rattle.linker_runs.proofs.Imports.{◌⊎◌, take_more_set, map_push, drop-drop, All-nil, written_more}
-use Rattle.std.specs.Prelude.{◌-◌}
-use Rattle.linker_runs.specs.declared.relaxation.Item.{Item}
-use Rattle.linker_runs.specs.declared.relaxation.Item.TheVariants.{Site, Aligned}
-use Rattle.linker_runs.specs.Relaxing.{offset_of, end_of}
-use Rattle.linker_runs.specs.SectionItems.{Makes}
-use Rattle.linker_runs.specs.RewrittenItems.{AreListed, IsDeleted, deleted_at}
+use Rattle.linker_runs.proofs.Imports.{◌≡◌, ◌+◌, ◌∙◌, ◌<◌, ◌≤◌, ⊎_elim, List, ℕ, suc, length, map, take, drop, set, refl, ap, subst, sym, inl, inr, add-one, arith, ◌⊎◌, take_more_set, map_push, drop-drop, All-nil, written_more, ◌-◌, Item, Site, Aligned, offset_of, end_of, Makes, AreListed, IsDeleted, deleted_at, Rewritten, AreListedIn}
 use Rattle.linker_runs.specs.RewrittenItems.AreListed.{none, left_out, made, deleted}
-use Rattle.linker_runs.specs.Inner.Listed.{Rewritten, AreListedIn}
 
 -- where a deletion is
 pub deleted_offset : (base : ℕ) (d : ℕ × ℕ) (item : Item) → IsDeleted base d item → offset_of item ≡ base + d.0

@@ -1,19 +1,5 @@
 -- A site of a relaxed run can be written if its eight bytes can where it stays long.
-use Rattle.std.proofs.Common.{◌≡◌, ℕ, ◌-◌, ◌<◌, ◌≤◌, ◌∙◌, List, length, ap, sym, subst, inl, inr, ⊎_elim, arith}
-use Rattle.linker_runs.proofs.Imports.{nat_lt, ◌⊎◌, cases_lt, cond-true, cond-false, nat_tests, sum_64}
-use Rattle.linker_base.specs.Deletions.{rank}
-use Rattle.linker_runs.specs.declared.relaxation.Item.{Item}
-use Rattle.linker_runs.specs.declared.relaxation.Item.TheVariants.{Site, Aligned}
-use Rattle.linker_runs.specs.declared.relaxation.Shapes.{Shapes}
-use Rattle.linker_runs.specs.Relaxing.{offset_of, target_of, item_at, short_shape, kept_by, freed_before, choice_of, place_of}
-use Rattle.linker_runs.specs.Choosing.{AreItems, IsRelaxation}
-use Rattle.linker_runs.specs.Deleting.{deletions_of_run}
-use Rattle.linker_runs.specs.Origins.{HasItsInstructions}
-use Rattle.linker_runs.specs.Packing.{section_of, kept_len, CodeCause, IsUnwritable}
-use Rattle.linker_runs.specs.declared.packing.Machine.{Machine}
-use Rattle.linker_runs.specs.declared.packing.ItemError.{ItemError}
-use Rattle.linker_runs.specs.declared.packing.ItemError.TheVariants.{NotItsFirstBytes}
-use Rattle.linker_runs.specs.Writable.{HasShapesOf, IsShortened}
+use Rattle.linker_runs.proofs.Imports.{◌≡◌, ℕ, ◌-◌, ◌<◌, ◌≤◌, ◌∙◌, List, length, ap, sym, subst, inl, inr, ⊎_elim, arith, nat_lt, ◌⊎◌, cases_lt, cond-true, cond-false, nat_tests, sum_64, rank, Item, Site, Aligned, Shapes, offset_of, target_of, item_at, short_shape, kept_by, freed_before, choice_of, place_of, AreItems, IsRelaxation, deletions_of_run, HasItsInstructions, section_of, kept_len, CodeCause, IsUnwritable, Machine, ItemError, NotItsFirstBytes, HasShapesOf, IsShortened}
 use Rattle.linker_runs.proofs.First.{first_bytes}
 use Rattle.linker_runs.proofs.Translations.{translations_exact}
 use Rattle.linker_runs.proofs.Writable.{site_free, short_sites}

@@ -1,27 +1,13 @@
 -- A call of LoongArch that stays long can be written in a run of less than 128 GiB less 128 KiB.
-use Rattle.std.proofs.Common.{◌≡◌, ℕ, zero, suc, ◌+◌, ◌-◌, ◌*◌, ◌%◌, ◌^◌, ◌<◌, ◌≤◌, ◌∙◌, true, false, List, length, take, drop, refl, ap, sym, subst, inl, inr, ⊎_elim, arith, pos, ◌-ℤ◌, mul_assoc}
-use Rattle.linker_runs.proofs.Imports.{cases_lt, false≢true, nat_lt, if◌then◌else◌, ints, length-take, length-drop, IsAligned, sum_64, loongarch_fits}
-use Rattle.linker_elf.specs.declared.loongarch64.relocations.LoongArch64Relocation.TheVariants.{R_LARCH_CALL36}
-use Rattle.linker_runs.specs.declared.relaxation.Item.{Item}
-use Rattle.linker_runs.specs.declared.relaxation.Item.TheVariants.{Site, Aligned}
-use Rattle.linker_runs.specs.declared.shapes.loongarch64.TheConstants.{CALL36, PCALA}
-use Rattle.linker_runs.specs.Relaxing.{offset_of, target_of, item_at, short_shape, freed_before, choice_of, place_of}
-use Rattle.linker_runs.specs.Choosing.{run_granularity, IsInWords}
-use Rattle.linker_runs.specs.Inner.Validity.{ItemSuits}
+use Rattle.linker_runs.proofs.Imports.{◌≡◌, ℕ, zero, suc, ◌+◌, ◌-◌, ◌*◌, ◌%◌, ◌^◌, ◌<◌, ◌≤◌, ◌∙◌, true, false, List, length, take, drop, refl, ap, sym, subst, inl, inr, ⊎_elim, arith, pos, ◌-ℤ◌, cases_lt, false≢true, nat_lt, if◌then◌else◌, ints, length-take, length-drop, IsAligned, sum_64, loongarch_fits, R_LARCH_CALL36, Item, Site, Aligned, CALL36, PCALA, offset_of, target_of, item_at, short_shape, freed_before, choice_of, place_of, run_granularity, IsInWords, ItemSuits, IsOutOfReach, IsCall36At, IsPcalaAt, call_template, LoongArchCause, far_from_branch, far_from_call, far_from_pcaddi, far_from_pair, HasItsInstructions, LoongArch64, ItemError, Overlaps, OutOfSection, DeletedOutside, NotItsFirstBytes, NotItsInstructions, NoShape, OutOfReach, IsNearCall36, NearCalls36AreWritable}
+use Rattle.std.proofs.Common.{mul_assoc}
 use Rattle.linker_runs.proofs.Choices.{place_is}
 use Rattle.linker_runs.proofs.Frees.{exact_frees}
 use Rattle.linker_runs.proofs.Multiples.{Multiple, multiple_of, no_rest}
 use Rattle.linker_runs.proofs.Layouts.{freed_fits}
 use Rattle.linker_runs.proofs.Nearer.{Frees, place_fits}
 use Rattle.linker_runs.proofs.Units.{item_suits}
-use Rattle.linker_runs.specs.Sites.{IsOutOfReach}
-use Rattle.linker_runs.specs.LoongArchSites.{IsCall36At, IsPcalaAt, call_template, LoongArchCause, far_from_branch, far_from_call, far_from_pcaddi, far_from_pair}
-use Rattle.linker_runs.specs.Origins.{HasItsInstructions}
-use Rattle.linker_runs.specs.declared.packing.Machine.TheVariants.{LoongArch64}
-use Rattle.linker_runs.specs.declared.packing.ItemError.{ItemError}
-use Rattle.linker_runs.specs.declared.packing.ItemError.TheVariants.{Overlaps, OutOfSection, DeletedOutside, NotItsFirstBytes, NotItsInstructions, NoShape, OutOfReach}
 use Rattle.linker_runs.proofs.LoongArch.{not_both}
-use Rattle.linker_runs.specs.Writable.{IsNearCall36, NearCalls36AreWritable}
 use Rattle.linker_runs.proofs.LongSites.{LongCause, is_long, long_sites}
 use Rattle.linker_runs.proofs.Distances.{not_rejected}
 use Rattle.linker_runs.proofs.Reaches.{up, down, fours}

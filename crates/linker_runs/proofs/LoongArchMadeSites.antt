@@ -1,13 +1,5 @@
 -- The sites that relocations of LoongArch make are of the section's bytes.
-use Rattle.std.proofs.Common.{◌≡◌, ℕ, ◌+◌, ◌-◌, ◌≤◌, List, length, subst, inl, inr, ⊎_elim, arith}
-use Rattle.linker_runs.specs.declared.relaxation.Item.{Item}
-use Rattle.linker_runs.specs.declared.relaxation.Item.TheVariants.{Site, Aligned}
-use Rattle.linker_runs.specs.declared.shapes.loongarch64.TheConstants.{CALL36, PCALA}
-use Rattle.linker_runs.specs.Relocations.{relocation_at}
-use Rattle.linker_runs.specs.LoongArchItems.{LoongArchMakes, IsCall36, IsPcala}
-use Rattle.linker_runs.specs.declared.items.Relocation.{Relocation}
-use Rattle.linker_runs.specs.Origins.{HasItsInstructions, HasLoongArchShapes}
-use Rattle.linker_runs.specs.declared.packing.Machine.TheVariants.{LoongArch64}
+use Rattle.linker_runs.proofs.Imports.{◌≡◌, ℕ, ◌+◌, ◌-◌, ◌≤◌, List, length, subst, inl, inr, ⊎_elim, arith, Item, Site, Aligned, CALL36, PCALA, relocation_at, LoongArchMakes, IsCall36, IsPcala, Relocation, HasItsInstructions, HasLoongArchShapes, LoongArch64}
 
 pub loongarch_site : (section : List ℕ) (base : ℕ) (relocations : List Relocation) (i : ℕ) (item : Item) → LoongArchMakes section base relocations i item → HasItsInstructions LoongArch64 section base item
 loongarch_site section base relocations i (Aligned alignment) makes = tt

@@ -1,10 +1,6 @@
 -- The reaches of calls and addresses of LoongArch are those of the rows of what they become.
-use Rattle.std.proofs.Common.{refl}
-use Rattle.linker_runs.proofs.Imports.{IsSomeAnd, R_LARCH_B26, R_LARCH_PCREL20_S2}
+use Rattle.linker_runs.proofs.Imports.{refl, IsSomeAnd, R_LARCH_B26, R_LARCH_PCREL20_S2, CALL36, PCALA, IsOfRow, LoongArchShapesAreOfRows, short_shape}
 use Rattle.linker_elf.specs.LoongArchRelocations.{loongarch_row}
-use Rattle.linker_runs.specs.declared.shapes.loongarch64.TheConstants.{CALL36, PCALA}
-use Rattle.linker_runs.specs.Reaches.{IsOfRow, LoongArchShapesAreOfRows}
-use Rattle.linker_runs.specs.Relaxing.{short_shape}
 use Rattle.linker_runs.proofs.Reaches.{one, fours, is_of_row, size_within}
 
 branch : IsSomeAnd (loongarch_row R_LARCH_B26) (IsOfRow (short_shape CALL36 0))

@@ -1,10 +1,5 @@
 -- The items so far, by one relocation more.
-use Rattle.std.proofs.Common.{◌≡◌, ◌+◌, ◌++◌, ◌∷◌, ◌∙◌, ◌<◌, ◌≤◌, [], List, ℕ, suc, length, map, take, drop, set, refl, ap, subst, sym, add-one, arith}
-use Rattle.std.specs.Prelude.{All}
-use Rattle.linker_runs.proofs.Imports.{take_more_set, map_push, drop-set-lt, All-nil, drop_more_same, written_more}
-use Rattle.std.proofs.lemmas.List.{length-set}
-use Rattle.linker_runs.specs.declared.relaxation.Item.{Item}
-use Rattle.linker_runs.specs.Relocations.{AreMade}
+use Rattle.linker_runs.proofs.Imports.{◌≡◌, ◌+◌, ◌++◌, ◌∷◌, ◌∙◌, ◌<◌, ◌≤◌, [], List, ℕ, suc, length, map, take, drop, set, refl, ap, subst, sym, add-one, arith, All, take_more_set, map_push, drop-set-lt, All-nil, drop_more_same, written_more, length-set, Item, AreMade}
 use Rattle.linker_runs.specs.Relocations.AreMade.{none, left_out, made}
 
 pub made_none : (Makes : ℕ → Item → Type 0) (items : List Item) (makers : List ℕ) → items ≡ [] → makers ≡ [] → AreMade Makes 0 items makers

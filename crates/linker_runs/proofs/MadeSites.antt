@@ -1,18 +1,8 @@
 -- The sites that relocations make are of the section's bytes.
-use Rattle.std.proofs.Common.{◌≡◌, ℕ, zero, suc, ◌<◌, ◌≤◌, ◌++◌, ◌∷◌, [], List, length, sym, ap, subst, ◌∙◌, ⊎_elim, arith}
-use Rattle.linker_runs.proofs.Imports.{cases_lt, length-append}
-use Rattle.std.proofs.Math.ListN.{get_or-append}
+use Rattle.linker_runs.proofs.Imports.{◌≡◌, ℕ, zero, suc, ◌<◌, ◌≤◌, ◌++◌, ◌∷◌, [], List, length, sym, ap, subst, ◌∙◌, ⊎_elim, arith, cases_lt, length-append, get_or-append, Item, item_at, no_item, relocation_at, AreMade, Relocation, HasItsInstructions, Makes, Machine, RiscV, LoongArch64, MadeSitesHaveInstructions}
 use Rattle.std.proofs.Math.Seq.{get_or-append_seam}
-use Rattle.linker_runs.specs.declared.relaxation.Item.{Item}
-use Rattle.linker_runs.specs.Relaxing.{item_at, no_item}
-use Rattle.linker_runs.specs.Relocations.{relocation_at, AreMade}
 use Rattle.linker_runs.specs.Relocations.AreMade.{none, left_out, made}
-use Rattle.linker_runs.specs.declared.items.Relocation.{Relocation}
-use Rattle.linker_runs.specs.Origins.{HasItsInstructions}
-use Rattle.linker_runs.specs.SectionItems.{Makes, IsFormed}
-use Rattle.linker_runs.specs.declared.packing.Machine.{Machine}
-use Rattle.linker_runs.specs.declared.packing.Machine.TheVariants.{RiscV, LoongArch64}
-use Rattle.linker_runs.specs.Writable.{MadeSitesHaveInstructions}
+use Rattle.linker_runs.specs.SectionItems.{IsFormed}
 use Rattle.linker_runs.proofs.RiscVMadeSites.{riscv_site}
 use Rattle.linker_runs.proofs.LoongArchMadeSites.{loongarch_site}
 

@@ -1,16 +1,8 @@
 -- The relocations of a packed section.
-use Rattle.linker_runs.proofs.Imports.{◌⊎◌, Some, None, nat_lt, cases_Bool, cases_order, cond-true, nat_tests, length-drop, is_kept, rank_kept, relocation_in}
-use Rattle.std.proofs.Common.{◌≡◌, ◌≢◌, ℕ, ◌+◌, ◌-◌, ◌*◌, ◌/◌, ◌<◌, ◌≤◌, true, false, List, ◌++◌, length, take, drop, sym, ◌∙◌, ap, arith, inl, inr, ⊎_elim}
-use Rattle.std.proofs.lemmas.List.{drop-append-le, take-append-le}
-use Rattle.linker_base.specs.Deletions.{rank}
-use Rattle.linker_base.proofs.Rank.{rank_gone}
-use Rattle.linker_runs.specs.Moved.{BeginsAt}
-use Rattle.linker_runs.specs.Packing.{IsApart}
-use Rattle.linker_runs.specs.Relaxing.{item_at, offset_of, end_of, place_of, AreApart}
-use Rattle.linker_runs.specs.declared.relaxation.Item.{Item}
+use Rattle.linker_runs.proofs.Imports.{◌⊎◌, Some, None, nat_lt, cases_Bool, cases_order, cond-true, nat_tests, length-drop, is_kept, rank_kept, relocation_in, ◌≡◌, ◌≢◌, ℕ, ◌+◌, ◌-◌, ◌*◌, ◌/◌, ◌<◌, ◌≤◌, true, false, List, ◌++◌, length, take, drop, sym, ◌∙◌, ap, arith, inl, inr, ⊎_elim, drop-append-le, take-append-le, rank, rank_gone, BeginsAt, IsApart, item_at, offset_of, end_of, place_of, AreApart, Item, relocation_of}
 use Rattle.linker_runs.proofs.Choices.{place_apart}
 use Rattle.linker_runs.proofs.Layouts.{ends_apart}
-use Rattle.linker_section.specs.Relocations.{relocation_at, relocation_of}
+use Rattle.linker_section.specs.Relocations.{relocation_at}
 use Rattle.linker_section.proofs.Fielded.{next_index}
 
 -- ---- items

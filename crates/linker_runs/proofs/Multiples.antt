@@ -1,9 +1,5 @@
 -- Multiples of a granularity, and what alignments need.
-use Rattle.std.proofs.Common.{◌≡◌, ℕ, zero, suc, ◌+◌, ◌-◌, ◌*◌, ◌/◌, ◌%◌, ◌<◌, ◌∙◌, refl, ap, inl, inr, ⊎_elim, arith}
-use Rattle.std.specs.Prelude.{◌⊎◌}
-use Rattle.std.proofs.Math.Nat.{mul-mod_left, mod_self, mod-lt, mod-eq_of_lt}
-use Rattle.std.proofs.lemmas.Nat.{div-add-mod'}
-use Rattle.linker_runs.specs.Relaxing.{needed}
+use Rattle.linker_runs.proofs.Imports.{◌≡◌, ℕ, zero, suc, ◌+◌, ◌-◌, ◌*◌, ◌/◌, ◌%◌, ◌<◌, ◌∙◌, refl, ap, inl, inr, ⊎_elim, arith, ◌⊎◌, mul-mod_left, mod_self, mod-lt, mod-eq_of_lt, div-add-mod', needed}
 
 -- a number that is a multiple of another
 abbrev pub Multiple : ℕ → ℕ → Type 0

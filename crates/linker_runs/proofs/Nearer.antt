@@ -1,12 +1,6 @@
 -- Where more is freed nothing is farther away, so that a choice which is in reach stays an upper
 -- bound.
-use Rattle.std.proofs.Common.{◌≡◌, ℕ, zero, suc, ◌+◌, ◌-◌, ◌*◌, ◌%◌, ◌<◌, ◌≤◌, ◌∙◌, true, List, length, refl, ap, sym, ⊎_elim, arith}
-use Rattle.linker_runs.proofs.Imports.{add-mul-mod_self_right, mul_assoc, cases_lt, cases_order, nat_tests}
-use Rattle.std.proofs.Math.Nat.{zero-mod, mul-sub, mul_comm}
-use Rattle.linker_runs.specs.declared.relaxation.Shape.{Shape}
-use Rattle.linker_runs.specs.declared.relaxation.Item.{Item}
-use Rattle.linker_runs.specs.Relaxing.{offset_of, len_of, end_of, item_at, is_reached, AreInOrder}
-use Rattle.linker_runs.specs.Choosing.{least_len}
+use Rattle.linker_runs.proofs.Imports.{◌≡◌, ℕ, zero, suc, ◌+◌, ◌-◌, ◌*◌, ◌%◌, ◌<◌, ◌≤◌, ◌∙◌, true, List, length, refl, ap, sym, ⊎_elim, arith, add-mul-mod_self_right, mul_assoc, cases_lt, cases_order, nat_tests, zero-mod, mul-sub, mul_comm, Shape, Item, offset_of, len_of, end_of, item_at, is_reached, AreInOrder, least_len}
 use Rattle.linker_runs.proofs.Multiples.{Multiple}
 
 -- what is freed up to each index: from item to item a multiple of u more, and at most what may go

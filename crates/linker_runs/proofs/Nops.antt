@@ -1,9 +1,6 @@
 -- Words that are repeated, and nops.
-use Rattle.std.proofs.Common.{Bool, ◌≡◌, ℕ, zero, suc, ◌+◌, ◌*◌, ◌/◌, ◌%◌, ◌≤◌, List, [], ◌∷◌, ◌++◌, length, take, drop, refl, sym, ◌∙◌, ap, arith, inl, inr}
-use Rattle.linker_runs.proofs.Imports.{if◌then◌else◌, ◌==◌, cases_Bool, eqb-true, nat_tests, append_assoc, append-nil, length-append, length-take, take_at, drop_at, drop-drop, take-append-drop}
-use Rattle.linker_runs.specs.Packing.{repeated, nops, nop_len}
-use Rattle.linker_runs.specs.declared.packing.Machine.{Machine}
-use Rattle.linker_runs.specs.declared.packing.Machine.TheVariants.{RiscV, LoongArch64}
+use Rattle.linker_runs.proofs.Imports.{Bool, ◌≡◌, ℕ, zero, suc, ◌+◌, ◌*◌, ◌/◌, ◌%◌, ◌≤◌, List, [], ◌∷◌, ◌++◌, length, take, drop, refl, sym, ◌∙◌, ap, arith, inl, inr, if◌then◌else◌, ◌==◌, cases_Bool, eqb-true, nat_tests, append_assoc, append-nil, length-append, length-take, take_at, drop_at, drop-drop, take-append-drop, nops, nop_len, Machine, RiscV, LoongArch64}
+use Rattle.linker_runs.specs.Packing.{repeated}
 
 pub repeated_none : (word : List ℕ) → repeated word 0 ≡ []
 unfolding repeated

@@ -1,12 +1,6 @@
 -- Sites whose shapes are those of the instructions that are there.
-use Rattle.std.proofs.Common.{◌≡◌, ℕ, ◌+◌, ◌-◌, ◌≤◌, ◌↔◌, Bool, false, List, [], length, sym, subst, arith}
-use Rattle.std.specs.Prelude.{IsTrue}
-use Rattle.linker_runs.specs.declared.relaxation.Item.{Item}
-use Rattle.linker_runs.specs.declared.relaxation.Item.TheVariants.{Site}
+use Rattle.linker_runs.proofs.Imports.{◌≡◌, ℕ, ◌+◌, ◌-◌, ◌≤◌, ◌↔◌, Bool, false, List, [], length, sym, subst, arith, IsTrue, Item, Site, HasShapes, HasItsInstructions, section_of, IsInside, Machine}
 use Rattle.linker_runs.specs.declared.relaxation.Site.{Site as sites}
-use Rattle.linker_runs.specs.Origins.{HasShapes, HasItsInstructions}
-use Rattle.linker_runs.specs.Packing.{section_of, IsInside}
-use Rattle.linker_runs.specs.declared.packing.Machine.{Machine}
 
 module _ (bytes : List ℕ) (base : ℕ) (item : Item) (site : sites) (is : item ≡ Site site) where
   pub placed : IsInside (section_of bytes base [] 0) item → (base ≤ site.offset) × (site.offset + site.len ≤ base + length bytes)

@@ -1,19 +1,6 @@
 -- Which items of a relaxed run are never out of reach where they are packed.
-use Rattle.std.proofs.Common.{◌≡◌, ℕ, ◌<◌, ◌≤◌, ◌∙◌, false, List, length, subst, sym, ⊎_elim, arith}
-use Rattle.linker_runs.proofs.Imports.{cases_lt, nat_tests}
-use Rattle.linker_runs.specs.declared.relaxation.Item.{Item}
-use Rattle.linker_runs.specs.declared.relaxation.Item.TheVariants.{Site, Aligned}
+use Rattle.linker_runs.proofs.Imports.{◌≡◌, ℕ, ◌<◌, ◌≤◌, ◌∙◌, false, List, length, subst, sym, ⊎_elim, arith, cases_lt, nat_tests, Item, Site, Aligned, item_at, choice_of, AreItems, IsRelaxation, IsSite, deletions_of_run, HasItsInstructions, Section, section_of, is_fixed, IsUnwritable, IsCause, KeepsEnd, Machine, RiscV, LoongArch64, ItemError, OutOfReach, DeletedOutside, IsShortened, IsNearCall36, IsNearAddress, IsNearSite, MayBePacked, NoneIsOutOfReach}
 use Rattle.linker_runs.specs.declared.relaxation.Site.{Site as sites}
-use Rattle.linker_runs.specs.Relaxing.{item_at, choice_of}
-use Rattle.linker_runs.specs.Choosing.{AreItems, IsRelaxation, IsSite}
-use Rattle.linker_runs.specs.Deleting.{deletions_of_run}
-use Rattle.linker_runs.specs.Origins.{HasItsInstructions}
-use Rattle.linker_runs.specs.Packing.{Section, section_of, is_fixed, IsUnwritable, IsCause, KeepsEnd}
-use Rattle.linker_runs.specs.declared.packing.Machine.{Machine}
-use Rattle.linker_runs.specs.declared.packing.Machine.TheVariants.{RiscV, LoongArch64}
-use Rattle.linker_runs.specs.declared.packing.ItemError.{ItemError}
-use Rattle.linker_runs.specs.declared.packing.ItemError.TheVariants.{OutOfReach, DeletedOutside}
-use Rattle.linker_runs.specs.Writable.{IsShortened, IsNearCall36, IsNearAddress, IsNearSite, MayBePacked, NoneIsOutOfReach}
 use Rattle.linker_runs.proofs.LoongArchAddresses.{near_addresses}
 use Rattle.linker_runs.proofs.RiscVLongCalls.{near_calls}
 use Rattle.linker_runs.proofs.LoongArchCalls36.{near_calls_36}

@@ -1,22 +1,7 @@
 -- What is written of each item.
-use Rattle.std.proofs.Common.{◌≡◌, ℕ, zero, suc, ◌+◌, ◌-◌, ◌<◌, ◌≤◌, true, false, List, ◌++◌, length, get_or, take, drop, refl, sym, subst, ◌∙◌, ap, arith, inl, inr}
-use Rattle.linker_runs.proofs.Imports.{if◌then◌else◌, ◌↔◌, cases_lt, cases_Bool, append_assoc, length-append, length-take, length-drop, get_or_default, take_at, drop_at, is_kept, rank_kept, rank-mono, rank_steps}
-use Rattle.std.proofs.lemmas.List.{get_or-take, get_or-drop, get_or-append_right, same_lists}
-use Rattle.linker_base.specs.Deletions.{rank}
-use Rattle.linker_base.proofs.Copied.{put_below}
-use Rattle.linker_runs.specs.declared.relaxation.Item.{Item}
-use Rattle.linker_runs.specs.declared.relaxation.Item.TheVariants.{Site, Aligned}
-use Rattle.linker_runs.specs.Relaxing.{offset_of, len_of, end_of, item_at}
-use Rattle.linker_runs.specs.Packing.{Section, packed_offset, kept_len, is_fixed, written_len, IsApart, IsInside, KeepsGap, gap_start, IsNotIn, ItemAccepts, ItemCause, ItemBecomes, IsWritable, IsUnwritable, IsCause, LosesItems, IsPackedRun}
-use Rattle.linker_runs.specs.Inner.Pieces.{piece_bytes, IsWhole, IsPieceOf}
-use Rattle.linker_base.specs.Inner.Packing.{IsFilledTo}
-use Rattle.linker_runs.specs.Inner.Packing.{AreReady, IsWrittenTo}
-use Rattle.linker_runs.specs.declared.packing.Machine.{Machine}
-use Rattle.linker_runs.specs.declared.packing.Machine.TheVariants.{RiscV, LoongArch64}
+use Rattle.linker_runs.proofs.Imports.{◌≡◌, ℕ, zero, suc, ◌+◌, ◌-◌, ◌<◌, ◌≤◌, true, false, List, ◌++◌, length, get_or, take, drop, refl, sym, subst, ◌∙◌, ap, arith, inl, inr, if◌then◌else◌, ◌↔◌, cases_lt, cases_Bool, append_assoc, length-append, length-take, length-drop, get_or_default, take_at, drop_at, is_kept, rank_kept, rank-mono, rank_steps, get_or-take, get_or-drop, get_or-append_right, same_lists, rank, put_below, Item, Site, Aligned, offset_of, len_of, end_of, item_at, Section, packed_offset, kept_len, is_fixed, written_len, IsApart, IsInside, KeepsGap, gap_start, IsNotIn, ItemAccepts, ItemCause, ItemBecomes, IsWritable, IsUnwritable, IsCause, LosesItems, IsPackedRun, piece_bytes, IsWhole, IsPieceOf, IsFilledTo, AreReady, IsWrittenTo, Machine, RiscV, LoongArch64, ItemError, Overlaps, OutOfSection, DeletedOutside, NotItsFirstBytes, NotItsInstructions, NoShape, OutOfReach}
 use Rattle.linker_runs.proofs.LoongArch.{loongarch_excludes}
 use Rattle.linker_runs.specs.declared.packing.Piece.{Piece}
-use Rattle.linker_runs.specs.declared.packing.ItemError.{ItemError}
-use Rattle.linker_runs.specs.declared.packing.ItemError.TheVariants.{Overlaps, OutOfSection, DeletedOutside, NotItsFirstBytes, NotItsInstructions, NoShape, OutOfReach}
 use Rattle.linker_runs.proofs.RiscVExcluded.{riscv_excludes}
 
 -- ---- what is accepted isn't rejected

@@ -1,10 +1,6 @@
 -- Powers of two are the numbers with one bit set.
-use Rattle.std.proofs.Common.{◌≡◌, ℕ, zero, suc, ◌+◌, ◌*◌, ◌/◌, ◌%◌, ◌^◌, ◌<◌, ◌≤◌, ◌↔◌, ◌∙◌, IsTrue, refl, ap, sym, ⊎_elim, arith}
-use Rattle.linker_runs.proofs.Imports.{IsPowerOfTwo, mod-lt, cases_lt, nat_tests, pow_pos}
-use Rattle.std.specs.Int.{is_power_of_two}
+use Rattle.linker_runs.proofs.Imports.{◌≡◌, ℕ, zero, suc, ◌+◌, ◌*◌, ◌/◌, ◌%◌, ◌^◌, ◌<◌, ◌≤◌, ◌↔◌, ◌∙◌, IsTrue, refl, ap, sym, ⊎_elim, arith, IsPowerOfTwo, mod-lt, cases_lt, nat_tests, pow_pos, is_power_of_two, two-pow-succ, shr_split, ones_cat, zero_from_ones}
 use Rattle.std.specs.Int.RustNames.{count_ones}
-use Rattle.std.proofs.Math.Nat.{two-pow-succ}
-use Rattle.std.proofs.lemmas.Nat.{shr_split, ones_cat, zero_from_ones}
 
 one_bit : (most n : ℕ) → n ≤ most → count_ones n ≡ 1 → IsPowerOfTwo n
 unfolding count_ones

@@ -1,12 +1,5 @@
 -- Shapes reach what the rows of jumps reach.
-use Rattle.std.proofs.Common.{◌≡◌, ℕ, zero, suc, ◌+◌, ◌-◌, ◌*◌, ◌%◌, ◌<◌, ◌≤◌, ◌↔◌, true, ap, sym, subst, inl, inr, arith, ℤ, pos, negsuc, neg_ℤ, ◌-ℤ◌, [], ◌∷◌, Option, Some, None}
-use Rattle.linker_runs.proofs.Imports.{IsSomeAnd, ints, cases_lt, IsWithin, IsInReach, IsAligned, RowInfo, reach_of}
-use Rattle.std.specs.Prelude.{slice_index_or}
-use Rattle.linker_elf.specs.Relocate.{is_supported, IsEncoded}
-use Rattle.linker_runs.specs.declared.relaxation.Shape.{Shape}
-use Rattle.linker_runs.specs.declared.relaxation.Shapes.{Shapes}
-use Rattle.linker_runs.specs.Reaches.{IsOfRow, AreOfRows}
-use Rattle.linker_runs.specs.Relaxing.{short_shape, is_reached}
+use Rattle.linker_runs.proofs.Imports.{◌≡◌, ℕ, zero, suc, ◌+◌, ◌-◌, ◌*◌, ◌%◌, ◌<◌, ◌≤◌, ◌↔◌, true, ap, sym, subst, inl, inr, arith, ℤ, pos, negsuc, neg_ℤ, ◌-ℤ◌, [], ◌∷◌, Option, Some, None, IsSomeAnd, ints, cases_lt, IsWithin, IsInReach, IsAligned, RowInfo, reach_of, slice_index_or, is_supported, IsEncoded, Shape, Shapes, IsOfRow, AreOfRows, short_shape, is_reached}
 use Rattle.linker_runs.proofs.Nearer.{above_is, is_above, below_is, is_below}
 
 -- distances up and down are multiples of a unit by their sizes

@@ -1,15 +1,6 @@
 -- What a call loses, and what its `jal` reaches.
-use Rattle.std.proofs.Common.{◌≡◌, ℕ, ◌+◌, ◌-◌, ◌<◌, ◌≤◌, ◌∙◌, ◌↔◌, Bool, true, false, cond, refl, ap, sym, ⊎_elim, arith}
-use Rattle.linker_runs.proofs.Imports.{nat_lt, pos, ints, cases_lt, nat_tests, covers, shrinking}
-use Rattle.std.specs.Prelude.{◌||◌, ◌-ℤ◌}
-use Rattle.linker_runs.specs.declared.relaxation.Item.{Item}
-use Rattle.linker_runs.specs.declared.relaxation.Item.TheVariants.{Site, Aligned}
-use Rattle.linker_runs.specs.Relaxing.{offset_of, len_of, target_of, shape_len, shape_reaches, kept_by, item_reaches}
-use Rattle.linker_runs.specs.Choosing.{IsSite}
-use Rattle.linker_runs.specs.Deleting.{deletion_at}
+use Rattle.linker_runs.proofs.Imports.{◌≡◌, ℕ, ◌+◌, ◌-◌, ◌<◌, ◌≤◌, ◌∙◌, ◌↔◌, Bool, true, false, cond, refl, ap, sym, ⊎_elim, arith, nat_lt, pos, ints, cases_lt, nat_tests, covers, shrinking, ◌||◌, ◌-ℤ◌, Item, Site, Aligned, offset_of, len_of, target_of, shape_len, shape_reaches, kept_by, item_reaches, IsSite, deletion_at, IsEven, IsJalDistance, call_shapes, IsCallItem, IsDeletedItem}
 use Rattle.linker_runs.proofs.Deletions.{deletion_some, deletion_none}
-use Rattle.linker_riscv64.specs.RiscVCalls.{IsEven, IsJalDistance}
-use Rattle.linker_runs.specs.Calls.{call_shapes, IsCallItem, IsDeletedItem}
 use Rattle.linker_runs.proofs.Covering.{takes}
 use Rattle.linker_runs.proofs.Reaches.{reached_is, is_within, twos}
 

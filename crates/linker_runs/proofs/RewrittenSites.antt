@@ -1,13 +1,5 @@
 -- The items of a section that was rewritten: their instructions, and what stays of deletions.
-use Rattle.std.proofs.Common.{◌≡◌, ℕ, suc, ◌<◌, true, false, List, length, refl, sym, subst, ◌∙◌, arith}
-use Rattle.linker_runs.proofs.Imports.{◌==◌, both_ways, common_steps}
-use Rattle.linker_runs.specs.declared.relaxation.Item.{Item}
-use Rattle.linker_runs.specs.declared.relaxation.Item.TheVariants.{Site, Aligned}
-use Rattle.linker_runs.specs.Relaxing.{item_at, kept_by}
-use Rattle.linker_runs.specs.Origins.{HasItsInstructions}
-use Rattle.linker_runs.specs.Packing.{is_fixed}
-use Rattle.linker_runs.specs.SectionItems.{Makes}
-use Rattle.linker_runs.specs.RewrittenItems.{AreListed, IsDeleted, deleted_at}
+use Rattle.linker_runs.proofs.Imports.{◌≡◌, ℕ, suc, ◌<◌, true, false, List, length, refl, sym, subst, ◌∙◌, arith, ◌==◌, both_ways, common_steps, Item, Site, Aligned, item_at, kept_by, HasItsInstructions, is_fixed, Makes, AreListed, IsDeleted, deleted_at}
 use Rattle.linker_runs.specs.RewrittenItems.AreListed.{none, left_out, made, deleted}
 use Rattle.linker_runs.specs.RewrittenLaws.{RewrittenSitesHaveInstructions, DeletedBytesGo}
 use Rattle.linker_runs.proofs.First.{first_bytes}

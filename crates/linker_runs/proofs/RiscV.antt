@@ -1,17 +1,12 @@
 -- What calls of RISC-V become.
-use Rattle.std.proofs.Common.{◌≡◌, ℕ, ◌+◌, ◌-◌, ◌*◌, ◌%◌, ◌^◌, ◌<◌, List, length, take, drop, refl, subst, ◌∙◌, ap, arith, inl, inr, ℤ, pos, ◌+ℤ◌, Option, Some, None, Bool, true, false, int_lt}
-use Rattle.linker_runs.proofs.Imports.{◌==◌, if◌then◌else◌, IsSomeAnd, ◌*ℤ◌, w32, w64, from_le_bytes, to_le_bytes, cases_Bool, eqb-true, agree_below, and_parts, from_le_bytes-to_le_bytes_4, field, window_of, is_placed, BitRange, InstructionWritten, bits_taken, riscv_row, link_register, OfJalr, IsApplied, IsAddress, AreAddresses, whole}
-use Rattle.std.specs.Prelude.{◌&&◌}
-use Rattle.std.specs.Int.{w16}
+use Rattle.linker_runs.proofs.Imports.{◌≡◌, ℕ, ◌+◌, ◌-◌, ◌*◌, ◌%◌, ◌^◌, ◌<◌, List, length, take, drop, refl, subst, ◌∙◌, ap, arith, inl, inr, ℤ, pos, ◌+ℤ◌, Option, Some, None, Bool, true, false, int_lt, ◌==◌, if◌then◌else◌, IsSomeAnd, ◌*ℤ◌, w32, w64, from_le_bytes, to_le_bytes, cases_Bool, eqb-true, agree_below, and_parts, from_le_bytes-to_le_bytes_4, field, window_of, is_placed, BitRange, InstructionWritten, bits_taken, riscv_row, link_register, OfJalr, IsApplied, IsAddress, AreAddresses, whole, ◌&&◌, w16, Template, operands_of, IsShortJump, short_bytes, IsJal, RiscVBecomes, short_jump, riscv_template, links_short}
 use Rattle.linker_elf.specs.RiscV.{riscv_form}
 use Rattle.linker_elf.specs.declared.elf.AnyForm.TheVariants.{RiscV}
 use Rattle.linker_elf.specs.declared.riscv64.forms.RiscVInstruction.{RiscVInstruction}
 use Rattle.linker_elf.specs.declared.riscv64.forms.RiscVInstruction.TheVariants.{JType, CjType, UiType}
 use Rattle.linker_laws.specs.RiscVRelocationLaws.{Jumps, Calls, without_bit_0}
-use Rattle.linker_runs.specs.Sites.{Template, operands_of}
-use Rattle.linker_runs.specs.RiscVSites.{IsShortJump, short_bytes, IsJal, IsFarCall, RiscVBecomes, short_jump, jump, call, riscv_template}
+use Rattle.linker_runs.specs.RiscVSites.{IsFarCall, jump, call}
 use Rattle.linker_runs.proofs.Sites.{kept_field, operands_small, unit_sum}
-use Rattle.linker_runs.specs.RiscVItems.{links_short}
 use Rattle.linker_elf.specs.declared.riscv64.relocations.RiscVRelocation.TheVariants as r
 
 -- what writing an immediate keeps: n bits from bit s up, of which none is placed

@@ -1,11 +1,7 @@
 -- What is accepted of a call of RISC-V isn't rejected.
-use Rattle.std.proofs.Common.{Bool, ℕ, List, subst}
-use Rattle.std.specs.Prelude.{IsSomeAnd}
+use Rattle.linker_runs.proofs.Imports.{Bool, ℕ, List, subst, IsSomeAnd, riscv_template, RiscVAccepts, RiscVCause, ItemError, Overlaps, OutOfSection, DeletedOutside, NotItsFirstBytes, NotItsInstructions, NoShape, OutOfReach}
 use Rattle.linker_runs.specs.Sites.{IsInReach}
-use Rattle.linker_runs.specs.RiscVSites.{riscv_template, RiscVAccepts, RiscVCause}
 use Rattle.linker_runs.proofs.Sites.{both_some, in_reach}
-use Rattle.linker_runs.specs.declared.packing.ItemError.{ItemError}
-use Rattle.linker_runs.specs.declared.packing.ItemError.TheVariants.{Overlaps, OutOfSection, DeletedOutside, NotItsFirstBytes, NotItsInstructions, NoShape, OutOfReach}
 
 pub riscv_excludes : (is_32 : Bool) (section : List ℕ) (o kept place target : ℕ) (error : ItemError) → RiscVAccepts is_32 section o kept place target → RiscVCause is_32 section o kept place target error → ⊥
 riscv_excludes is_32 section o kept place target NotItsInstructions a cause = cause a.call

@@ -1,21 +1,5 @@
 -- A call of RISC-V that stays long can be written in a run of less than 2 GiB less 2 KiB.
-use Rattle.std.proofs.Common.{◌≡◌, Bool, ℕ, ◌+◌, ◌-◌, ◌%◌, ◌^◌, ◌<◌, ◌≤◌, true, List, length, take, drop, refl, ap, sym, subst, ⊎_elim, arith, ℤ, pos, negsuc, ◌-ℤ◌}
-use Rattle.linker_runs.proofs.Imports.{IsSomeAnd, false≢true, ints, length-take, length-drop, IsAligned, sum_64, riscv_fits, link_register, OfJalr}
-use Rattle.linker_elf.specs.declared.riscv64.relocations.RiscVRelocation.TheVariants.{R_RISCV_CALL_PLT}
-use Rattle.linker_runs.specs.declared.relaxation.Shapes.{Shapes}
-use Rattle.linker_runs.specs.declared.relaxation.Item.{Item}
-use Rattle.linker_runs.specs.declared.relaxation.Item.TheVariants.{Site, Aligned}
-use Rattle.linker_runs.specs.declared.shapes.riscv64.TheConstants.{CALL, TAIL_C}
-use Rattle.linker_runs.specs.Relaxing.{offset_of, target_of, item_at, freed_before, choice_of, place_of}
-use Rattle.linker_runs.specs.Choosing.{IsSite}
-use Rattle.linker_runs.specs.Sites.{IsOutOfReach}
-use Rattle.linker_runs.specs.RiscVSites.{riscv_template, RiscVCause}
-use Rattle.linker_runs.specs.Origins.{HasRiscVShapes, HasItsInstructions}
-use Rattle.linker_runs.specs.RiscVItems.{links_short}
-use Rattle.linker_runs.specs.declared.packing.Machine.TheVariants.{RiscV}
-use Rattle.linker_runs.specs.declared.packing.ItemError.{ItemError}
-use Rattle.linker_runs.specs.declared.packing.ItemError.TheVariants.{Overlaps, OutOfSection, DeletedOutside, NotItsFirstBytes, NotItsInstructions, NoShape, OutOfReach}
-use Rattle.linker_runs.specs.Writable.{IsNear, NearCallsAreWritable}
+use Rattle.linker_runs.proofs.Imports.{◌≡◌, Bool, ℕ, ◌+◌, ◌-◌, ◌%◌, ◌^◌, ◌<◌, ◌≤◌, true, List, length, take, drop, refl, ap, sym, subst, ⊎_elim, arith, ℤ, pos, negsuc, ◌-ℤ◌, IsSomeAnd, false≢true, ints, length-take, length-drop, IsAligned, sum_64, riscv_fits, link_register, OfJalr, R_RISCV_CALL_PLT, Shapes, Item, Site, Aligned, CALL, TAIL_C, offset_of, target_of, item_at, freed_before, choice_of, place_of, IsSite, IsOutOfReach, riscv_template, RiscVCause, HasRiscVShapes, HasItsInstructions, links_short, RiscV, ItemError, Overlaps, OutOfSection, DeletedOutside, NotItsFirstBytes, NotItsInstructions, NoShape, OutOfReach, IsNear, NearCallsAreWritable}
 use Rattle.linker_runs.proofs.LongSites.{IsLongSite, LongCause, long_sites}
 use Rattle.linker_runs.proofs.Distances.{not_rejected}
 

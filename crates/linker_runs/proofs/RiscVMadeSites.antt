@@ -1,13 +1,5 @@
 -- The sites that relocations of RISC-V make are of the section's bytes.
-use Rattle.std.proofs.Common.{◌≡◌, Bool, ℕ, ◌+◌, ◌-◌, List, subst, inl, inr, ⊎_elim, arith}
-use Rattle.linker_runs.specs.declared.relaxation.Item.{Item}
-use Rattle.linker_runs.specs.declared.relaxation.Item.TheVariants.{Site, Aligned}
-use Rattle.linker_runs.specs.declared.shapes.riscv64.TheConstants.{CALL, TAIL_C}
-use Rattle.linker_runs.specs.Relocations.{relocation_at}
-use Rattle.linker_runs.specs.RiscVItems.{RiscVMakes, IsRiscVFormed, MayBeShort}
-use Rattle.linker_runs.specs.declared.items.Relocation.{Relocation}
-use Rattle.linker_runs.specs.Origins.{HasItsInstructions, HasRiscVShapes}
-use Rattle.linker_runs.specs.declared.packing.Machine.TheVariants.{RiscV}
+use Rattle.linker_runs.proofs.Imports.{◌≡◌, Bool, ℕ, ◌+◌, ◌-◌, List, subst, inl, inr, ⊎_elim, arith, Item, Site, Aligned, CALL, TAIL_C, relocation_at, RiscVMakes, IsRiscVFormed, MayBeShort, Relocation, HasItsInstructions, HasRiscVShapes, RiscV}
 
 pub riscv_site : (is_32 : Bool) (section : List ℕ) (base : ℕ) (relocations : List Relocation) (i : ℕ) (item : Item) → IsRiscVFormed section (relocation_at relocations i) → RiscVMakes is_32 section base relocations i item → HasItsInstructions (RiscV is_32) section base item
 riscv_site is_32 section base relocations i (Aligned alignment) formed makes = tt

@@ -1,16 +1,6 @@
 -- Calls of RISC-V that a relaxation made shorter can be written.
-use Rattle.std.proofs.Common.{◌≡◌, Bool, ℕ, ◌+◌, ◌*◌, ◌^◌, ◌<◌, ◌≤◌, ◌∙◌, true, List, length, inl, inr, refl, ap, subst, ⊎_elim, arith, None}
-use Rattle.linker_runs.proofs.Imports.{IsSomeAnd, w32, to_le_bytes, cases_lt, false≢true, ints, sum_64, R_RISCV_JAL, R_RISCV_RVC_JUMP, riscv_fits, link_register, cases_Bool, OfJalr, ◌==◌}
-use Rattle.linker_runs.specs.declared.relaxation.Shapes.{Shapes}
-use Rattle.linker_runs.specs.declared.shapes.riscv64.TheConstants.{CALL, TAIL_C}
-use Rattle.linker_runs.specs.Relaxing.{short_shape, is_reached}
+use Rattle.linker_runs.proofs.Imports.{◌≡◌, Bool, ℕ, ◌+◌, ◌*◌, ◌^◌, ◌<◌, ◌≤◌, ◌∙◌, true, List, length, inl, inr, refl, ap, subst, ⊎_elim, arith, None, IsSomeAnd, w32, to_le_bytes, cases_lt, false≢true, ints, sum_64, R_RISCV_JAL, R_RISCV_RVC_JUMP, riscv_fits, link_register, cases_Bool, OfJalr, ◌==◌, Shapes, CALL, TAIL_C, short_shape, is_reached, IsOutOfReach, riscv_template, short_bytes, RiscVCause, links_short, HasRiscVShapes, ItemError, Overlaps, OutOfSection, DeletedOutside, NotItsFirstBytes, NotItsInstructions, NoShape, OutOfReach}
 use Rattle.linker_runs.proofs.RiscVReaches.{riscv_shapes}
-use Rattle.linker_runs.specs.Sites.{IsOutOfReach}
-use Rattle.linker_runs.specs.RiscVSites.{riscv_template, short_bytes, RiscVCause}
-use Rattle.linker_runs.specs.RiscVItems.{links_short}
-use Rattle.linker_runs.specs.Origins.{HasRiscVShapes}
-use Rattle.linker_runs.specs.declared.packing.ItemError.{ItemError}
-use Rattle.linker_runs.specs.declared.packing.ItemError.TheVariants.{Overlaps, OutOfSection, DeletedOutside, NotItsFirstBytes, NotItsInstructions, NoShape, OutOfReach}
 use Rattle.linker_runs.proofs.Distances.{not_rejected}
 
 short_long : (link : ℕ) → 2 ≤ length (short_bytes link)

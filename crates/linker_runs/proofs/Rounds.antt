@@ -1,9 +1,6 @@
 -- What a round makes of a choice, and how many rounds there can be.
-use Rattle.std.proofs.Common.{◌≡◌, ℕ, zero, suc, ◌+◌, ◌*◌, ◌<◌, ◌≤◌, true, List, [], ◌∷◌, length, get_or, refl, ap, sym, ◌∙◌, ⊎_elim, add-one, arith, cond, sum}
-use Rattle.std.proofs.Math.ListN.{get_or-eq_default}
-use Rattle.linker_runs.proofs.Imports.{cases_lt, nat_tests, sum_by-cons}
-use Rattle.linker_runs.specs.declared.relaxation.Item.{Item}
-use Rattle.linker_runs.specs.Relaxing.{item_at, no_item, freed_before, place_of, target_of, item_reaches, is_in_reach, lengthened, after_rounds, choice_of}
+use Rattle.linker_runs.proofs.Imports.{◌≡◌, ℕ, zero, suc, ◌+◌, ◌*◌, ◌<◌, ◌≤◌, true, List, [], ◌∷◌, length, get_or, refl, ap, sym, ◌∙◌, ⊎_elim, add-one, arith, cond, sum, get_or-eq_default, cases_lt, nat_tests, sum_by-cons, Item, item_at, no_item, freed_before, place_of, target_of, item_reaches, is_in_reach, lengthened, choice_of}
+use Rattle.linker_runs.specs.Relaxing.{after_rounds}
 use Rattle.linker_runs.proofs.Layouts.{freed_agrees, reaches_alike, lengthened_in}
 
 -- what stands outside of the run reaches everything

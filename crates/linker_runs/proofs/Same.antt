@@ -1,11 +1,8 @@
 -- Shapes that are compared.
-use Rattle.std.proofs.Common.{◌≡◌, Bool, true, ◌&&◌, eqb, refl, sym, subst, ◌∙◌, rules}
+use Rattle.linker_runs.proofs.Imports.{◌≡◌, Bool, true, ◌&&◌, eqb, refl, sym, subst, ◌∙◌, rules, and_parts, eqb-true, Shape, Shapes}
 use Rattle.std.specs.Bool.{Decides}
-use Rattle.std.proofs.lemmas.Bool.{and_parts, eqb-true}
 use Rattle.std.proofs.lemmas.Slice.Eq.{slice_eq-Decides}
 use Rattle.std.specs.Cmp.Lexicographic.{pointwise}
-use Rattle.linker_runs.specs.declared.relaxation.Shape.{Shape}
-use Rattle.linker_runs.specs.declared.relaxation.Shapes.{Shapes}
 
 abbrev shape_eq : Shape → Shape → Bool
 shape_eq a b = eqb a.max_backward b.max_backward && (eqb a.max_forward b.max_forward && (eqb a.kept b.kept && eqb a.granularity b.granularity))

@@ -1,15 +1,7 @@
 -- The choice of shapes and the choice of calls are one.
-use Rattle.std.proofs.Common.{◌≡◌, ℕ, zero, suc, ◌-◌, ◌<◌, ◌≤◌, ◌∙◌, ◌↔◌, Bool, true, false, List, [], ◌∷◌, length, get_or, refl, ap, sym, subst, ⊎_elim, arith, cond, eqb}
-use Rattle.linker_runs.proofs.Imports.{◌⊎◌, cases_lt, false≢true, nat_tests, get_or_default, chosen_deletions, IsChosen}
-use Rattle.std.proofs.lemmas.Bool.{cases_eq}
-use Rattle.linker_base.specs.Deletions.{rank}
-use Rattle.linker_runs.specs.declared.relaxation.Item.{Item}
-use Rattle.linker_runs.specs.Relaxing.{item_at, offset_of, target_of, kept_by, freed_before, place_of, is_in_reach, choice_of, shape_reaches}
-use Rattle.linker_runs.specs.Choosing.{AreItems, IsRelaxation, IsInReachExactly, HaveNoAlignment, IsSite}
-use Rattle.linker_runs.specs.Deleting.{deletions_before}
+use Rattle.linker_runs.proofs.Imports.{◌≡◌, ℕ, zero, suc, ◌-◌, ◌<◌, ◌≤◌, ◌∙◌, ◌↔◌, Bool, true, false, List, [], ◌∷◌, length, get_or, refl, ap, sym, subst, ⊎_elim, arith, cond, eqb, ◌⊎◌, cases_lt, false≢true, nat_tests, get_or_default, chosen_deletions, IsChosen, cases_eq, rank, Item, item_at, offset_of, target_of, kept_by, freed_before, place_of, is_in_reach, choice_of, shape_reaches, AreItems, IsRelaxation, IsInReachExactly, HaveNoAlignment, IsSite, deletions_before, with_chosen, AreInReach, IsGreatest, call_shapes, IsRunOf, IsDeletedItem, pair_at, CallsAreShrunkAlike}
 use Rattle.linker_runs.proofs.Translations.{KeepsLayout, translations_of}
-use Rattle.linker_riscv64.specs.Shrinking.{with_chosen, IsInReach, AreInReach, IsGreatest}
-use Rattle.linker_runs.specs.Calls.{call_shapes, IsRunOf, IsDeletedItem, pair_at, CallsAreShrunkAlike}
+use Rattle.linker_riscv64.specs.Shrinking.{IsInReach}
 use Rattle.linker_runs.proofs.Covering.{takes, same_test, takes_joined, takes_left, takes_right, Loses, losing, lost, taking, taken, choosing, chosen_takes, rank_alike}
 use Rattle.linker_runs.proofs.Reaching.{call_loses, call_keeps, deleted_loses, jal_reaches, call_reaches, long_reaches, deleted_reaches, call_place, deleted_site}
 

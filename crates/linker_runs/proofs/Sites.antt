@@ -1,11 +1,7 @@
 -- Relocations of instructions: what they keep, where their operands are, and which are in reach.
-use Rattle.std.proofs.Common.{◌≡◌, ℕ, ◌+◌, ◌-◌, ◌^◌, ◌<◌, ◌∙◌, ap, arith, ℤ, pos, ◌+ℤ◌, Bool, true, false}
-use Rattle.linker_runs.proofs.Imports.{◌*ℤ◌, IsSomeAnd, Option, Some, None, agree_below, ints, field, is_placed, AreAddresses}
-use Rattle.std.specs.Int.{bit_at}
-use Rattle.std.proofs.lemmas.Bool.{agree_below_at}
-use Rattle.linker_base.specs.Form.{Form, Written}
+use Rattle.linker_runs.proofs.Imports.{◌≡◌, ℕ, ◌+◌, ◌-◌, ◌^◌, ◌<◌, ◌∙◌, ap, arith, ℤ, pos, ◌+ℤ◌, Bool, true, false, ◌*ℤ◌, IsSomeAnd, Option, Some, None, agree_below, ints, field, is_placed, AreAddresses, bit_at, agree_below_at, Form, Written, Template, operands_of, IsOutOfReach}
 use Rattle.linker_base.proofs.Fields.{same_fields}
-use Rattle.linker_runs.specs.Sites.{Template, operands_of, IsInReach, IsOutOfReach}
+use Rattle.linker_runs.specs.Sites.{IsInReach}
 
 -- ---- what a write keeps
 

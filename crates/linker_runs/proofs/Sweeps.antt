@@ -1,10 +1,5 @@
 -- Layouts of a sweep, of which a part is `more` above what the choice frees.
-use Rattle.std.proofs.Common.{◌≡◌, ◌≢◌, ◌^◌, ℕ, ◌+◌, ◌-◌, ◌<◌, ◌≤◌, ◌∙◌, false, List, length, get_or, set, refl, ap, sym, ⊎_elim, arith, get_or-set_other, get_or-set_same}
-use Rattle.linker_runs.proofs.Imports.{◌⊎◌, cases_order}
-use Rattle.linker_runs.specs.declared.relaxation.Item.{Item}
-use Rattle.linker_runs.specs.Relaxing.{item_at, choice_of}
-use Rattle.linker_runs.specs.Choosing.{run_granularity, AreItems, freed_cautiously, cautious_before}
-use Rattle.linker_runs.specs.Inner.Relaxing.{AreCautious, AreForced, is_in_reach_cautiously}
+use Rattle.linker_runs.proofs.Imports.{◌≡◌, ◌≢◌, ◌^◌, ℕ, ◌+◌, ◌-◌, ◌<◌, ◌≤◌, ◌∙◌, false, List, length, get_or, set, refl, ap, sym, ⊎_elim, arith, get_or-set_other, get_or-set_same, ◌⊎◌, cases_order, Item, item_at, choice_of, run_granularity, AreItems, freed_cautiously, cautious_before, AreCautious, AreForced, is_in_reach_cautiously}
 use Rattle.linker_runs.proofs.Units.{item_suits}
 use Rattle.linker_runs.proofs.Choices.{kept_less, forced_next, cautious_agrees, cautious_changed, cautious_up, cautious_end}
 

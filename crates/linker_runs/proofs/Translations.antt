@@ -1,16 +1,6 @@
 -- The deletions of a relaxed run translate offsets as the layout does.
-use Rattle.std.proofs.Common.{◌≡◌, ℕ, zero, suc, ◌+◌, ◌-◌, ◌<◌, ◌≤◌, ◌∙◌, List, length, get_or, ap, sym, inl, ⊎_elim, arith}
-use Rattle.linker_runs.proofs.Imports.{min, cases_lt}
-use Rattle.std.proofs.lemmas.List.Sums.{sum_by-append}
-use Rattle.linker_base.specs.Deletions.{rank}
-use Rattle.linker_base.proofs.Rank.{removed, removed_by, rank-removed}
-use Rattle.linker_runs.specs.declared.relaxation.Item.{Item}
-use Rattle.linker_runs.specs.declared.relaxation.Item.TheVariants.{Site, Aligned}
-use Rattle.linker_runs.specs.Relaxing.{offset_of, len_of, end_of, target_of, item_at, kept_by, freed_before, place_of, choice_of, AreInOrder}
-use Rattle.linker_runs.specs.Choosing.{least_len, run_granularity, AreItems}
-use Rattle.linker_runs.specs.Inner.Validity.{ItemSuits}
+use Rattle.linker_runs.proofs.Imports.{◌≡◌, ℕ, zero, suc, ◌+◌, ◌-◌, ◌<◌, ◌≤◌, ◌∙◌, List, length, get_or, ap, sym, inl, ⊎_elim, arith, min, cases_lt, sum_by-append, rank, removed, removed_by, rank-removed, Item, Site, Aligned, offset_of, len_of, end_of, target_of, item_at, kept_by, freed_before, place_of, choice_of, AreInOrder, least_len, run_granularity, AreItems, ItemSuits, deletion_at, deletions_before, TranslationsAreExact}
 use Rattle.linker_runs.proofs.Units.{item_suits}
-use Rattle.linker_runs.specs.Deleting.{deletion_at, deletions_before, TranslationsAreExact}
 use Rattle.linker_runs.proofs.Layouts.{freed_next, freed_none, ends_ascend}
 use Rattle.linker_runs.proofs.Bounds.{lens_ascend}
 use Rattle.linker_runs.proofs.Choices.{place_is}

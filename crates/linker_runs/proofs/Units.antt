@@ -1,14 +1,5 @@
 -- The granularity of a run, and what runs that can be relaxed suit.
-use Rattle.std.proofs.Common.{◌≡◌, ℕ, zero, suc, ◌+◌, ◌-◌, ◌*◌, ◌%◌, ◌^◌, ◌<◌, ◌≤◌, ◌∙◌, List, [], ◌∷◌, length, refl, ap, sym, subst, ⊎_elim, arith}
-use Rattle.linker_runs.proofs.Imports.{max, IsPowerOfTwo, mul-mod_left, cases_lt, nat_tests}
-use Rattle.std.specs.List.{fold}
-use Rattle.std.proofs.lemmas.Nat.{pow-add, pow_below}
-use Rattle.linker_runs.specs.declared.relaxation.Shapes.{Shapes}
-use Rattle.linker_runs.specs.declared.relaxation.Item.{Item}
-use Rattle.linker_runs.specs.declared.relaxation.Item.TheVariants.{Site, Aligned}
-use Rattle.linker_runs.specs.Relaxing.{item_at, shape_len, short_shape, IsSound}
-use Rattle.linker_runs.specs.Choosing.{AreNested, IsFormed, ItemFits, shapes_granularity, item_granularity, run_granularity, AreItems}
-use Rattle.linker_runs.specs.Inner.Validity.{ItemSuits}
+use Rattle.linker_runs.proofs.Imports.{◌≡◌, ℕ, zero, suc, ◌+◌, ◌-◌, ◌*◌, ◌%◌, ◌^◌, ◌<◌, ◌≤◌, ◌∙◌, List, [], ◌∷◌, length, refl, ap, sym, subst, ⊎_elim, arith, max, IsPowerOfTwo, mul-mod_left, cases_lt, nat_tests, fold, pow-add, pow_below, Shapes, Item, Site, Aligned, item_at, shape_len, short_shape, IsSound, AreNested, IsFormed, ItemFits, shapes_granularity, item_granularity, run_granularity, AreItems, ItemSuits}
 
 -- of two powers of two the less divides the other
 pub power_divides : (a b : ℕ) → IsPowerOfTwo a → IsPowerOfTwo b → a ≤ b → b % a ≡ 0

@@ -1,16 +1,7 @@
 -- What is tested of a run, and what runs that can be relaxed are.
-use Rattle.std.proofs.Common.{◌≡◌, ℕ, ◌+◌, ◌-◌, ◌%◌, ◌<◌, ◌≤◌, List, length, ap, inl, inr, ⊎_elim, arith}
-use Rattle.linker_runs.proofs.Imports.{◌⊎◌, ⊤, Option, None, Some, MatchOption, cases_lt, pow_pos}
-use Rattle.linker_runs.specs.declared.relaxation.Item.{Item}
-use Rattle.linker_runs.specs.declared.relaxation.Item.TheVariants.{Site, Aligned}
-use Rattle.linker_runs.specs.declared.relaxation.faults.Fault.{Fault}
-use Rattle.linker_runs.specs.declared.relaxation.faults.Fault.TheVariants.{Overlaps, TooHigh, TooManyShapes, ShapeTooLong, ShapesNotAscending, BadGranularity, BadReach, BadAlignment, UnevenShape, Misaligned, AlignmentBelowGranularity, UnevenEnd, TooFewNops, UnevenNops, TargetInside, MayBeMisaligned}
+use Rattle.linker_runs.proofs.Imports.{◌≡◌, ℕ, ◌+◌, ◌-◌, ◌%◌, ◌<◌, ◌≤◌, List, length, ap, inl, inr, ⊎_elim, arith, ◌⊎◌, ⊤, Option, None, Some, MatchOption, cases_lt, pow_pos, Item, Site, Aligned, Fault, TooHigh, TooManyShapes, ShapeTooLong, ShapesNotAscending, BadGranularity, BadReach, BadAlignment, UnevenShape, Misaligned, AlignmentBelowGranularity, UnevenEnd, TooFewNops, UnevenNops, TargetInside, MayBeMisaligned, offset_of, end_of, target_of, item_at, place_of, IsSound, AreInOrder, least_len, run_granularity, IsFormed, ItemFits, AlignmentFits, IsStill, AreItems, IsInWords, IsClear, HasItsNops, Alignment, number_of, ItemMeets, OwnMeets, AlignmentMeets, UnitMeets, RunMeets, AreSound, IsFirstOf, IsFirstAt, IsFirstFault, IsClearRun}
+use Rattle.linker_runs.specs.declared.relaxation.faults.Fault.TheVariants.{Overlaps}
 use Rattle.linker_runs.specs.declared.relaxation.faults.ItemFault.{ItemFault}
-use Rattle.linker_runs.specs.Relaxing.{offset_of, end_of, target_of, item_at, place_of, IsSound, AreInOrder}
-use Rattle.linker_runs.specs.Choosing.{least_len, run_granularity, IsFormed, ItemFits, AlignmentFits, IsStill, AreItems, IsInWords, IsClear, HasItsNops}
-use Rattle.linker_runs.specs.declared.relaxation.Alignment.{Alignment}
-use Rattle.linker_runs.specs.Faults.{number_of, ItemMeets, OwnMeets, AlignmentMeets, UnitMeets, RunMeets, AreSound, IsFirstOf, IsFirstAt, IsFirstFault}
-use Rattle.linker_runs.specs.Inner.Validity.{IsClearRun}
 use Rattle.linker_runs.proofs.Choices.{place_is}
 
 -- an offset is clear of all items where it is clear of that at its place

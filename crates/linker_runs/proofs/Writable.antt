@@ -1,20 +1,7 @@
 -- A site that a relaxation made shorter can be written.
-use Rattle.std.proofs.Common.{◌≡◌, ℕ, ◌-◌, ◌<◌, ◌∙◌, true, List, ap, sym, arith}
-use Rattle.linker_runs.proofs.Imports.{nat_lt, cond-true, nat_tests, sum_64}
-use Rattle.linker_base.specs.Deletions.{rank}
+use Rattle.linker_runs.proofs.Imports.{◌≡◌, ℕ, ◌-◌, ◌<◌, ◌∙◌, true, List, ap, sym, arith, nat_lt, cond-true, nat_tests, sum_64, rank, Item, Site, Aligned, offset_of, target_of, item_at, short_shape, is_reached, item_reaches, kept_by, freed_before, choice_of, place_of, deletions_of_run, HasItsInstructions, Section, section_of, kept_len, CodeCause, IsUnwritable, Machine, RiscV, LoongArch64, ItemError, Overlaps, OutOfSection, DeletedOutside, NotItsFirstBytes, NotItsInstructions, NoShape, OutOfReach, IsShortened, ShortSitesAreWritable}
 use Rattle.linker_runs.specs.declared.relaxation.Site.{Site as sites}
-use Rattle.linker_runs.specs.declared.relaxation.Item.{Item}
-use Rattle.linker_runs.specs.declared.relaxation.Item.TheVariants.{Site, Aligned}
-use Rattle.linker_runs.specs.Relaxing.{offset_of, target_of, item_at, short_shape, is_reached, item_reaches, kept_by, freed_before, choice_of, place_of}
-use Rattle.linker_runs.specs.Deleting.{deletions_of_run}
 use Rattle.linker_runs.proofs.Translations.{translations_exact}
-use Rattle.linker_runs.specs.Origins.{HasItsInstructions}
-use Rattle.linker_runs.specs.Packing.{Section, section_of, kept_len, CodeCause, IsUnwritable}
-use Rattle.linker_runs.specs.declared.packing.Machine.{Machine}
-use Rattle.linker_runs.specs.declared.packing.Machine.TheVariants.{RiscV, LoongArch64}
-use Rattle.linker_runs.specs.declared.packing.ItemError.{ItemError}
-use Rattle.linker_runs.specs.declared.packing.ItemError.TheVariants.{Overlaps, OutOfSection, DeletedOutside, NotItsFirstBytes, NotItsInstructions, NoShape, OutOfReach}
-use Rattle.linker_runs.specs.Writable.{IsShortened, ShortSitesAreWritable}
 use Rattle.linker_runs.proofs.First.{first_bytes}
 use Rattle.linker_runs.proofs.RiscVWritable.{riscv_not}
 use Rattle.linker_runs.proofs.LoongArchWritable.{loongarch_not}

@@ -1,6 +1,5 @@
-use Rattle.std.proofs.Common.{◌≡◌, drop}
+use Rattle.linker_output.proofs.Imports.{◌≡◌, drop, view_list}
 use Rattle.linker_output.specs.Dynamic.{name_in}
-use Rattle.linker_output.specs.View.{view_list}
 use Rattle.linker_output.proofs.dynamic.name_in.Given as goal
 
 abbrev pub invariant-loop-listed : goal.invariant-loop-listed

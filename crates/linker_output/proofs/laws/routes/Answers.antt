@@ -1,7 +1,4 @@
-use Rattle.std.proofs.Common.{◌≡◌, ◌≢◌, ℕ, Bool, true, false, refl, sym, subst}
-use Rattle.std.proofs.lemmas.Bool.{ne_eqb}
-use Rattle.std.specs.Prelude.{◌==◌, ◌&&◌, ◌||◌, ◌/◌, not, nat_lt, if◌then◌else◌}
-use Rattle.linker_output.specs.Routes.{has_toc, has_no_toc, by_jump, by_reach, loses_toc, stub_target}
+use Rattle.linker_output.proofs.Imports.{◌≡◌, ◌≢◌, ℕ, Bool, true, false, refl, sym, subst, ne_eqb, ◌==◌, ◌&&◌, ◌||◌, ◌/◌, not, nat_lt, if◌then◌else◌, has_toc, has_no_toc, by_jump, by_reach, loses_toc, stub_target}
 use Rattle.linker_output.proofs.laws.routes.Goals as goal
 
 never : (a : Bool) → a && false ≡ false

@@ -1,8 +1,6 @@
-use Rattle.std.proofs.Common.{◌≡◌, ◌+◌, ◌++◌, ◌∷◌, ◌≤◌, sym, subst, arith, rules, refl, length, take, drop}
-use Rattle.std.proofs.lemmas.List.{length-take-le}
+use Rattle.linker_output.proofs.Imports.{◌≡◌, ◌+◌, ◌++◌, ◌∷◌, ◌≤◌, sym, subst, arith, rules, refl, length, take, drop, length-take-le, WritesPieces, IsPiece, piece_len, pieces_len}
 use Rattle.linker_output.proofs.LazyCode.{placed}
 use Rattle.linker_output.proofs.lazy_plt.+write_pieces.Goals as goal
-use Rattle.linker_output.specs.LazyPlt.{WritesPieces, IsPiece, piece_len, pieces_len}
 
 pub returns-clause-ok : goal.returns-clause-ok
 returns-clause-ok t c =

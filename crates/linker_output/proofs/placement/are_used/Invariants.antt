@@ -1,5 +1,4 @@
-use Rattle.std.proofs.Common.{◌≡◌, ◌<◌, ℕ, length, true}
-use Rattle.std.specs.Prelude.{None, Some, false, slice_index_or}
+use Rattle.linker_output.proofs.Imports.{◌≡◌, ◌<◌, ℕ, length, true, None, Some, false, slice_index_or}
 use Rattle.linker_output.proofs.placement.are_used.Given as goal
 
 abbrev pub invariant-loop-stub : goal.invariant-loop-stub

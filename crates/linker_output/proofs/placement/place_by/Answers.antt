@@ -1,13 +1,5 @@
-use Rattle.std.proofs.Common.{◌≡◌, ◌≤◌, ◌∙◌, ℕ, List, length, refl, sym, subst, arith}
-use Rattle.std.specs.Global.{Vec}
+use Rattle.linker_output.proofs.Imports.{◌≡◌, ◌≤◌, ◌∙◌, ℕ, List, length, refl, sym, subst, arith, Vec, with_items_is, Code, Layout, Placement, State, AllGo, IsCode, IsLaidOut, IsLayout, ArePlaces, AreServed, AreStubsOf, IsState, IsStuckIn}
 use Rattle.std.specs.Vec.{with_items}
-use Rattle.std.proofs.lemmas.List.{with_items_is}
-use Rattle.linker_output.specs.declared.placement.Code.{Code}
-use Rattle.linker_output.specs.declared.placement.Layout.{Layout}
-use Rattle.linker_output.specs.declared.placement.Placement.{Placement}
-use Rattle.linker_output.specs.declared.placement.State.{State}
-use Rattle.linker_output.specs.Placement.{AllGo, IsCode, IsLaidOut, IsLayout}
-use Rattle.linker_output.specs.Inner.Placement.{ArePlaces, AreServed, AreStubsOf, IsState, IsStuckIn}
 use Rattle.linker_output.proofs.Apart.{layout_is}
 use Rattle.linker_output.proofs.Bounds.{few_stubs}
 use Rattle.linker_output.proofs.Going.{all_go, goes_all, shared_all, spared_all, used_all}

@@ -1,6 +1,4 @@
-use Rattle.std.proofs.Common.{◌≡◌, inl, inr, length, subst, arith, refl}
-use Rattle.std.proofs.lemmas.Result.{IfOk-weaker}
-use Rattle.linker_output.specs.Placement.{AreUsed}
+use Rattle.linker_output.proofs.Imports.{◌≡◌, inl, inr, length, subst, arith, refl, IfOk-weaker, AreUsed}
 use Rattle.linker_output.proofs.placement.place_stubs.Goals as goal
 
 pub returns-then-branch-clause-ok : goal.returns-then-branch-clause-ok

@@ -1,7 +1,4 @@
-use Rattle.std.proofs.Common.{arith, ◌≡◌, ◌+◌, ◌++◌, ◌∷◌, [], length, drop, get_or, subst}
-use Rattle.std.proofs.lemmas.List.{drop_more, length-append}
-use Rattle.linker_output.specs.Properties.{property_words}
-use Rattle.linker_output.specs.declared.properties.Property.{Property}
+use Rattle.linker_output.proofs.Imports.{arith, ◌≡◌, ◌+◌, ◌++◌, ◌∷◌, [], length, drop, get_or, subst, drop_more, length-append, property_words, Property}
 use Rattle.linker_output.proofs.WrittenProperties.{Words, none_yet, one_more, word_count, puts_none, puts_append}
 use Rattle.linker_output.proofs.properties.encode.Goals as goal
 

@@ -1,5 +1,4 @@
-use Rattle.std.proofs.Common.{◌≡◌, ◌≤◌, ◌+◌, ◌*◌, List, ℕ, length, drop}
-use Rattle.linker_output.specs.Inner.Properties.{Puts}
+use Rattle.linker_output.proofs.Imports.{◌≡◌, ◌≤◌, ◌+◌, ◌*◌, List, ℕ, length, drop, Puts}
 use Rattle.linker_output.proofs.WrittenProperties.{Words}
 use Rattle.linker_output.proofs.properties.encode.Given as goal
 

@@ -1,5 +1,4 @@
-use Rattle.std.proofs.Common.{◌≡◌, ◌≤◌, ◌<◌, ℕ, drop}
-use Rattle.linker_output.specs.Properties.{of_kind}
+use Rattle.linker_output.proofs.Imports.{◌≡◌, ◌≤◌, ◌<◌, ℕ, drop, of_kind}
 use Rattle.linker_output.proofs.properties.least_kind.Given as goal
 
 abbrev pub invariant-loop-property : goal.invariant-loop-property

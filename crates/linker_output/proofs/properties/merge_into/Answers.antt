@@ -1,8 +1,4 @@
-use Rattle.std.proofs.Common.{arith, ◌≡◌, ◌≤◌, ◌+◌, ◌∷◌, ◌++◌, ◌∙◌, [], List, Some, None, Ok, refl, sym, set, length}
-use Rattle.std.proofs.lemmas.List.{length-append}
-use Rattle.linker_output.specs.Properties.{merged_kind, merged, rule_of, of_kind}
-use Rattle.linker_output.specs.Inner.Properties.{put_all}
-use Rattle.linker_output.specs.declared.properties.Property.{Property}
+use Rattle.linker_output.proofs.Imports.{arith, ◌≡◌, ◌≤◌, ◌+◌, ◌∷◌, ◌++◌, ◌∙◌, [], List, Some, None, Ok, refl, sym, set, length, length-append, merged_kind, merged, rule_of, of_kind, put_all, Property}
 use Rattle.linker_output.proofs.MergedProperties.{SoFar, skip, begun, with, without, merged_is, put_more, whole}
 use Rattle.linker_output.proofs.properties.merge_into.Goals as goal
 use Rattle.linker_output.proofs.properties.merge_into.Goals.{in-Some+in_ok-merged+in-Some-merged, in-Some+in_ok-merged+in_default-merged, in_default}

@@ -1,6 +1,4 @@
-use Rattle.std.proofs.Common.{◌-◌, ◌≡◌, ◌≤◌, ◌^◌, List, length}
-use Rattle.linker_output.specs.Inner.Properties.{put_all}
-use Rattle.linker_output.specs.declared.properties.Property.{Property}
+use Rattle.linker_output.proofs.Imports.{◌-◌, ◌≡◌, ◌≤◌, ◌^◌, List, length, put_all, Property}
 use Rattle.linker_output.proofs.MergedProperties.{SoFar}
 use Rattle.linker_output.proofs.properties.merge_into.Given as goal
 

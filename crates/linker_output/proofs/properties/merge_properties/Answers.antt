@@ -1,6 +1,4 @@
-use Rattle.std.proofs.Common.{◌≤◌, arith, length, ◌∙◌, sym, ap}
-use Rattle.std.proofs.lemmas.Result.{IfOk-weaker}
-use Rattle.linker_output.specs.Properties.{WritesMerged}
+use Rattle.linker_output.proofs.Imports.{◌≤◌, arith, length, ◌∙◌, sym, ap, IfOk-weaker, WritesMerged}
 use Rattle.linker_output.proofs.MergedProperties.{put_within, one_merged}
 use Rattle.linker_output.proofs.MergingLaws.{commutative, associative}
 use Rattle.linker_output.proofs.properties.merge_properties.Goals as goal

@@ -1,8 +1,6 @@
-use Rattle.std.proofs.Common.{arith, length, [], ◌∷◌, ◌≡◌, ◌+◌, ◌*◌, ◌^◌, sym, subst, ap}
+use Rattle.linker_output.proofs.Imports.{arith, length, [], ◌∷◌, ◌≡◌, ◌+◌, ◌*◌, ◌^◌, sym, subst, ap, Puts, value_words, size_of}
 use Rattle.linker_output.proofs.WrittenProperties.{puts_append, other_words}
 use Rattle.linker_output.proofs.properties.put_property.Goals as goal
-use Rattle.linker_output.specs.Inner.Properties.{Puts}
-use Rattle.linker_output.specs.Properties.{value_words, size_of}
 
 pub returns-in-Same-clause-written : goal.returns-in-Same-clause-written
 returns-in-Same-clause-written c =

@@ -1,6 +1,4 @@
-use Rattle.std.proofs.Common.{length, ◌-◌, ◌≡◌, ◌≤◌, List}
-use Rattle.linker_output.specs.Inner.Properties.{put_all}
-use Rattle.linker_output.specs.declared.properties.Property.{Property}
+use Rattle.linker_output.proofs.Imports.{length, ◌-◌, ◌≡◌, ◌≤◌, List, put_all, Property}
 use Rattle.linker_output.proofs.ReadProperties.{Reads}
 use Rattle.linker_output.proofs.properties.read_into.Given as goal
 

@@ -1,6 +1,4 @@
-use Rattle.std.proofs.Common.{◌≡◌, ◌≤◌, arith, length, ◌∙◌, sym, ap, inl, inr}
-use Rattle.std.proofs.lemmas.Result.{IfOk-weaker, err_from_is_err_and}
-use Rattle.linker_output.specs.Properties.{WritesRead}
+use Rattle.linker_output.proofs.Imports.{◌≡◌, ◌≤◌, arith, length, ◌∙◌, sym, ap, inl, inr, IfOk-weaker, err_from_is_err_and, WritesRead}
 use Rattle.linker_output.proofs.MergedProperties.{put_within}
 use Rattle.linker_output.proofs.properties.read_properties.Goals as goal
 

@@ -1,7 +1,5 @@
-use Rattle.std.proofs.Common.{◌+◌, length, drop, arith, get_or, ◌∷◌, subst}
-use Rattle.linker_output.proofs.Imports.{Fits-lt-pow, drop_more}
-use Rattle.linker_output.specs.Inner.Relr.{put_all, capped}
-use Rattle.linker_output.specs.Relr.{relocated, word_fault}
+use Rattle.linker_output.proofs.Imports.{◌+◌, length, drop, arith, get_or, ◌∷◌, subst, Fits-lt-pow, drop_more, capped, relocated, word_fault}
+use Rattle.linker_output.specs.Inner.Relr.{put_all}
 use Rattle.linker_output.proofs.RelrLists.{Reads, reads_address, reads_bitmap}
 use Rattle.linker_output.proofs.relr.decode.Goals as goal
 use Rattle.linker_output.proofs.relr.decode.Goals.{then-word-eq0+else-word-ne0, else-word-eq0+in_ok-count}

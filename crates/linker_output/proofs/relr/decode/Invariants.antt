@@ -1,6 +1,5 @@
-use Rattle.std.proofs.Common.{◌+◌, ◌*◌, ◌≤◌, ◌^◌, length, drop}
-use Rattle.linker_output.specs.Inner.Relr.{put_all, capped}
-use Rattle.linker_output.specs.Relr.{relocated, word_fault}
+use Rattle.linker_output.proofs.Imports.{◌+◌, ◌*◌, ◌≤◌, ◌^◌, length, drop, capped, relocated, word_fault}
+use Rattle.linker_output.specs.Inner.Relr.{put_all}
 use Rattle.linker_output.proofs.RelrLists.{Reads}
 use Rattle.linker_output.proofs.relr.decode.Given as goal
 

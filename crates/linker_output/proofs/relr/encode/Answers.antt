@@ -1,8 +1,5 @@
-use Rattle.std.proofs.Common.{◌≡◌, ◌+◌, ◌∙◌, sym, subst, arith, drop, length, get_or, ◌∷◌, [], false, None}
-use Rattle.std.proofs.lemmas.Bool.Decides.{nat_tests}
-use Rattle.std.proofs.lemmas.List.{at_drop_more, at_drop_all}
-use Rattle.linker_output.specs.Inner.Relr.{words_from, words_of, put_all, capped, Leaves, is_past}
-use Rattle.linker_output.specs.Relr.{address_fault}
+use Rattle.linker_output.proofs.Imports.{◌≡◌, ◌+◌, ◌∙◌, sym, subst, arith, drop, length, get_or, ◌∷◌, [], false, None, nat_tests, at_drop_more, at_drop_all, words_from, words_of, capped, Leaves, is_past, address_fault}
+use Rattle.linker_output.specs.Inner.Relr.{put_all}
 use Rattle.linker_output.proofs.RelrWords.{Ready, Placed, past_ready, near_placed, far_placed}
 use Rattle.linker_output.proofs.relr.encode.Goals as goal
 use Rattle.linker_output.proofs.relr.encode.Goals.{then-bitmap-ne1+then-address-base, else-bitmap-ne1, else-bitmap-ne1-via-then-bitmap-ne1+else-address-base, else-bitmap-ne1-via-else-bitmap-ne1, then-distance-lt64, else-distance-lt64}

@@ -1,6 +1,5 @@
-use Rattle.std.proofs.Common.{◌≡◌, ◌+◌, ◌≤◌, ◌<◌, ◌^◌, length, drop}
-use Rattle.linker_output.specs.Inner.Relr.{words_from, words_of, put_all, capped, Leaves}
-use Rattle.linker_output.specs.Relr.{address_fault}
+use Rattle.linker_output.proofs.Imports.{◌≡◌, ◌+◌, ◌≤◌, ◌<◌, ◌^◌, length, drop, words_from, words_of, capped, Leaves, address_fault}
+use Rattle.linker_output.specs.Inner.Relr.{put_all}
 use Rattle.linker_output.proofs.relr.encode.Given as goal
 
 -- what is left gives what the whole gives

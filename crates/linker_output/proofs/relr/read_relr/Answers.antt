@@ -1,6 +1,4 @@
-use Rattle.std.proofs.Common.{◌≤◌, arith, length, ◌∙◌}
-use Rattle.std.proofs.lemmas.Result.{IfOk-weaker, err_from_is_err_and}
-use Rattle.linker_output.specs.Relr.{relocated, Unpacks}
+use Rattle.linker_output.proofs.Imports.{◌≤◌, arith, length, ◌∙◌, IfOk-weaker, err_from_is_err_and, relocated, Unpacks}
 use Rattle.linker_output.proofs.RelrLists.{refused, put_first}
 use Rattle.linker_output.proofs.relr.read_relr.Goals as goal
 

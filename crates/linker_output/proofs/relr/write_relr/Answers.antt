@@ -1,7 +1,4 @@
-use Rattle.std.proofs.Common.{◌≡◌, ◌≤◌, true, arith, length, ◌∙◌}
-use Rattle.linker_output.proofs.Imports.{Fits-lt-pow, IfOk-weaker, err_from_is_err_and}
-use Rattle.linker_output.specs.Relr.{are_addresses, WritesPacked}
-use Rattle.linker_output.specs.Inner.Relr.{words_of}
+use Rattle.linker_output.proofs.Imports.{◌≡◌, ◌≤◌, true, arith, length, ◌∙◌, Fits-lt-pow, IfOk-weaker, err_from_is_err_and, are_addresses, WritesPacked, words_of}
 use Rattle.linker_output.proofs.RelrPacked.{packs, rejected, few_words}
 use Rattle.linker_output.proofs.RelrLists.{all_fit, put_first}
 use Rattle.linker_output.proofs.relr.write_relr.Goals as goal

@@ -1,7 +1,4 @@
-use Rattle.std.proofs.Common.{rules, ◌≡◌, ◌≤◌, ℕ, ℤ, List, length, drop, subst, arith, IfNone, IfSome, Option, Some, None}
-use Rattle.std.proofs.lemmas.List.{take_rest}
-use Rattle.linker_output.proofs.Imports.{w64, cast_signed, cast_unsigned, IsAccepted, IsCause, RowInfo, RelocateError}
-use Rattle.linker_output.specs.Routes.{IsObstacle}
+use Rattle.linker_output.proofs.Imports.{rules, ◌≡◌, ◌≤◌, ℕ, ℤ, List, length, drop, subst, arith, IfNone, IfSome, Option, Some, None, take_rest, w64, cast_signed, cast_unsigned, IsAccepted, IsCause, RowInfo, RelocateError, IsObstacle}
 use Rattle.linker_output.proofs.routes.obstacle.Goals as goal
 
 obstacle_is : (row : RowInfo) (v : ℤ) (offset : ℕ) (section : List ℕ)

@@ -1,6 +1,4 @@
-use Rattle.std.proofs.Common.{map, subst, sym, below_more, arith}
-use Rattle.linker_runs.proofs.Imports.{both_ways, length-map}
-use Rattle.linker_runs.specs.Relocations.{relocation_at}
+use Rattle.linker_runs.proofs.Imports.{map, subst, sym, below_more, arith, both_ways, length-map, relocation_at}
 use Rattle.linker_runs.specs.SectionItems.{IsFormed}
 use Rattle.linker_runs.proofs.items.first_malformed.Goals as goal
 

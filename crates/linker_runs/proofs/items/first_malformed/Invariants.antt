@@ -1,5 +1,4 @@
-use Rattle.std.proofs.Common.{map}
-use Rattle.linker_runs.specs.Relocations.{AreWellFormed}
+use Rattle.linker_runs.proofs.Imports.{map, AreWellFormed}
 use Rattle.linker_runs.specs.SectionItems.{IsFormed}
 use Rattle.linker_runs.proofs.items.first_malformed.Given as goal
 

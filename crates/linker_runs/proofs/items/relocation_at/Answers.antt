@@ -1,6 +1,4 @@
-use Rattle.std.proofs.Common.{◌∙◌, ap, sym}
-use Rattle.std.proofs.lemmas.List.{get_or-map}
-use Rattle.linker_runs.specs.Relocations.{no_relocation}
+use Rattle.linker_runs.proofs.Imports.{◌∙◌, ap, sym, get_or-map, no_relocation}
 use Rattle.linker_runs.proofs.items.relocation_at.Goals as goal
 
 pub returns : goal.returns

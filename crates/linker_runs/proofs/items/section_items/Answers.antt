@@ -1,8 +1,4 @@
-use Rattle.std.proofs.Common.{ℕ, List, ◌∙◌, ap, map, arith, subst, inl}
-use Rattle.std.specs.Prelude.{MatchOption}
-use Rattle.linker_runs.specs.declared.relaxation.Item.{Item}
-use Rattle.linker_runs.specs.declared.items.Relocation.{Relocation}
-use Rattle.linker_runs.specs.SectionItems.{Makes}
+use Rattle.linker_runs.proofs.Imports.{ℕ, List, ◌∙◌, ap, map, arith, subst, inl, MatchOption, Item, Relocation, Makes}
 use Rattle.linker_runs.proofs.Alignments.{ahead_on}
 use Rattle.linker_runs.proofs.Made.{made_none, made_less, made_more}
 use Rattle.linker_runs.proofs.items.section_items.Goals as goal

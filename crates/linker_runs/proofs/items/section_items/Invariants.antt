@@ -1,7 +1,4 @@
-use Rattle.std.specs.Prelude.{map}
-use Rattle.linker_runs.specs.Inner.Ahead.{MayBeAhead}
-use Rattle.linker_runs.specs.Relocations.{AreMade}
-use Rattle.linker_runs.specs.SectionItems.{Makes}
+use Rattle.linker_runs.proofs.Imports.{map, MayBeAhead, AreMade, Makes}
 use Rattle.linker_runs.proofs.items.section_items.Given as goal
 
 -- the items so far are those of the relocations so far

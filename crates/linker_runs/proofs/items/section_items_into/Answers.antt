@@ -1,8 +1,4 @@
-use Rattle.std.proofs.Common.{ℕ, inl, List, map, arith, subst, sym}
-use Rattle.std.specs.Prelude.{MatchOption}
-use Rattle.linker_runs.specs.declared.relaxation.Item.{Item}
-use Rattle.linker_runs.specs.declared.items.Relocation.{Relocation}
-use Rattle.linker_runs.specs.SectionItems.{Makes}
+use Rattle.linker_runs.proofs.Imports.{ℕ, inl, List, map, arith, subst, sym, MatchOption, Item, Relocation, Makes}
 use Rattle.linker_runs.proofs.Alignments.{ahead_on}
 use Rattle.linker_runs.proofs.Made.{put_none, put_less, put_more}
 use Rattle.linker_runs.proofs.items.section_items_into.Goals as goal

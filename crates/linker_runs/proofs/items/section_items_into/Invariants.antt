@@ -1,6 +1,4 @@
-use Rattle.std.specs.Prelude.{map}
-use Rattle.linker_runs.specs.Inner.Ahead.{MayBeAhead}
-use Rattle.linker_runs.specs.SectionItems.{Makes}
+use Rattle.linker_runs.proofs.Imports.{map, MayBeAhead, Makes}
 use Rattle.linker_runs.proofs.Made.{ArePut}
 use Rattle.linker_runs.proofs.items.section_items_into.Given as goal
 

@@ -1,6 +1,4 @@
-use Rattle.std.proofs.Common.{◌≡◌, ◌-◌, ◌*◌, ◌≤◌, ◌<◌, ◌^◌, ◌/◌, ◌%◌, ℕ, Bool, true, rules, arith, subst, sym, ap, ◌∙◌}
-use Rattle.linker_runs.proofs.Imports.{pow_mono, mod-eq_of_lt}
-use Rattle.linker_runs.specs.LoongArchItems.{AreStated}
+use Rattle.linker_runs.proofs.Imports.{◌≡◌, ◌-◌, ◌*◌, ◌≤◌, ◌<◌, ◌^◌, ◌/◌, ◌%◌, ℕ, Bool, true, rules, arith, subst, sym, ap, ◌∙◌, pow_mono, mod-eq_of_lt, AreStated}
 use Rattle.linker_runs.proofs.loongarch64.stated.Goals as goal
 use Rattle.linker_runs.proofs.loongarch64.stated.Goals.{then-exponent-lt2-via-then-exponent-lt2, then-exponent-lt2-via-else-exponent-lt2+then-exponent-gt32}
 

@@ -1,17 +1,7 @@
-use Rattle.std.proofs.Common.{◌≡◌, ◌+◌, ◌-◌, ◌∙◌, ◌%◌, ◌^◌, ℕ, List, Result, Ok, Err, OnOk, IfOk, IfErr, ap, sym, subst}
+use Rattle.linker_runs.proofs.Imports.{◌≡◌, ◌+◌, ◌-◌, ◌∙◌, ◌%◌, ◌^◌, ℕ, List, Result, Ok, Err, OnOk, IfOk, IfErr, ap, sym, subst, deletions_of, IsPosition, rank, RiscVBecomes, RiscVAccepts, RiscVCause, LoongArchBecomes, LoongArchAccepts, LoongArchCause, section_of, Section, CodeCause, SiteBecomes, SiteAccepts, SiteCause, address_of, code_bytes, ItemError, NotItsInstructions, Machine, RiscV, LoongArch64}
 use Rattle.std.proofs.lemmas.Result.{IfErr-weaker}
-use Rattle.linker_runs.proofs.Imports.{deletions_of, IsPosition}
-use Rattle.linker_base.specs.Deletions.{rank}
 use Rattle.linker_base.specs.declared.packing.Position.{Position}
 use Rattle.linker_base.specs.declared.relaxation.RelaxDelta.{RelaxDelta}
-use Rattle.linker_runs.specs.RiscVSites.{RiscVBecomes, RiscVAccepts, RiscVCause}
-use Rattle.linker_runs.specs.LoongArchSites.{LoongArchBecomes, LoongArchAccepts, LoongArchCause}
-use Rattle.linker_runs.specs.Packing.{section_of, Section, CodeCause, SiteBecomes, SiteAccepts, SiteCause, address_of}
-use Rattle.linker_runs.specs.Inner.Pieces.{code_bytes}
-use Rattle.linker_runs.specs.declared.packing.ItemError.{ItemError}
-use Rattle.linker_runs.specs.declared.packing.ItemError.TheVariants.{NotItsInstructions}
-use Rattle.linker_runs.specs.declared.packing.Machine.{Machine}
-use Rattle.linker_runs.specs.declared.packing.Machine.TheVariants.{RiscV, LoongArch64}
 use Rattle.linker_runs.specs.declared.relaxation.Site.{Site}
 use Rattle.linker_runs.proofs.packing.code_of_site.Goals as goal
 

@@ -1,6 +1,4 @@
-use Rattle.std.proofs.Common.{[], sym, ◌∙◌, arith}
-use Rattle.std.proofs.lemmas.Bool.{false≢true}
-use Rattle.linker_runs.specs.declared.packing.Machine.TheVariants.{RiscV, LoongArch64}
+use Rattle.linker_runs.proofs.Imports.{[], sym, ◌∙◌, arith, false≢true, RiscV, LoongArch64}
 use Rattle.linker_runs.proofs.Origins.{placed, has, has_not}
 use Rattle.linker_runs.proofs.packing.has_its_instructions.Goals as goal
 use Rattle.linker_runs.proofs.packing.has_its_instructions.Goals.{then-site-ne8-via-then-site-ne8, then-site-ne8-via-else-site-ne8+then-not-is_inside}

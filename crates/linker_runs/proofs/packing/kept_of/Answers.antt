@@ -1,8 +1,4 @@
-use Rattle.std.proofs.Common.{◌≡◌, ◌+◌, ◌∙◌, ap, arith}
-use Rattle.linker_runs.proofs.Imports.{deletions_of, rank_steps}
-use Rattle.linker_base.specs.Deletions.{rank}
-use Rattle.linker_runs.specs.Relaxing.{offset_of, len_of, end_of}
-use Rattle.linker_runs.specs.Packing.{kept_len}
+use Rattle.linker_runs.proofs.Imports.{◌≡◌, ◌+◌, ◌∙◌, ap, arith, deletions_of, rank_steps, rank, offset_of, len_of, end_of, kept_len}
 use Rattle.linker_runs.proofs.packing.kept_of.Goals as goal
 
 pub returns-then-kept-len-clause-none : goal.returns-then-kept-len-clause-none

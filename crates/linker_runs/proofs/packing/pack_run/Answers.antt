@@ -1,7 +1,4 @@
-use Rattle.std.proofs.Common.{subst}
-use Rattle.linker_base.specs.Deltas.{deletions_of}
-use Rattle.linker_runs.specs.Moved.{AreMoved}
-use Rattle.linker_runs.specs.Packing.{section_of}
+use Rattle.linker_runs.proofs.Imports.{subst, deletions_of, AreMoved, section_of}
 use Rattle.linker_runs.proofs.packing.pack_run.Goals as goal
 
 pub returns-clause-moved : goal.returns-clause-moved

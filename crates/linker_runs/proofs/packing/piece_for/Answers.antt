@@ -1,6 +1,4 @@
-use Rattle.std.proofs.Common.{◌≡◌, ◌%◌, ◌∙◌, ap, sym, subst}
-use Rattle.linker_base.specs.Deltas.{deletions_of}
-use Rattle.linker_runs.specs.Packing.{section_of, nops, nop_len, ItemBecomes}
+use Rattle.linker_runs.proofs.Imports.{◌≡◌, ◌%◌, ◌∙◌, ap, sym, subst, deletions_of, section_of, nops, nop_len, ItemBecomes}
 use Rattle.linker_runs.proofs.Nops.{nops_length}
 use Rattle.linker_runs.proofs.packing.piece_for.Goals as goal
 

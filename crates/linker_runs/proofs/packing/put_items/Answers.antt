@@ -1,9 +1,4 @@
-use Rattle.std.proofs.Common.{◌≡◌, ◌+◌, ◌-◌, ◌∙◌, false, [], ap, sym, subst, arith, length}
-use Rattle.linker_runs.proofs.Imports.{both_ways, deletions_of, rank-mono}
-use Rattle.linker_base.specs.Deletions.{rank}
-use Rattle.linker_runs.specs.Relaxing.{item_at, offset_of, end_of}
-use Rattle.linker_runs.specs.Packing.{section_of, is_fixed, IsInside, IsUnwritable}
-use Rattle.linker_runs.specs.Inner.Pieces.{piece_bytes, IsPieceOf}
+use Rattle.linker_runs.proofs.Imports.{◌≡◌, ◌+◌, ◌-◌, ◌∙◌, false, [], ap, sym, subst, arith, length, both_ways, deletions_of, rank-mono, rank, item_at, offset_of, end_of, section_of, is_fixed, IsInside, IsUnwritable, piece_bytes, IsPieceOf}
 use Rattle.linker_runs.proofs.PackedItems.{writable_excludes, written_start, written_step, written_end, piece_len, piece_whole, piece_becomes}
 use Rattle.linker_runs.proofs.packing.put_items.Goals as goal
 

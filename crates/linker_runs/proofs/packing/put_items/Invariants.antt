@@ -1,9 +1,4 @@
-use Rattle.std.proofs.Common.{◌≡◌, ◌+◌, ◌<◌, ◌≤◌, length}
-use Rattle.linker_runs.proofs.Imports.{deletions_of, AreValidDeltas, IsPosition}
-use Rattle.linker_base.specs.Inner.Packing.{IsFilled}
-use Rattle.linker_runs.specs.Relaxing.{item_at, offset_of}
-use Rattle.linker_runs.specs.Packing.{section_of, packed_offset}
-use Rattle.linker_runs.specs.Inner.Packing.{AreReady, IsWrittenTo}
+use Rattle.linker_runs.proofs.Imports.{◌≡◌, ◌+◌, ◌<◌, ◌≤◌, length, deletions_of, AreValidDeltas, IsPosition, IsFilled, item_at, offset_of, section_of, packed_offset, AreReady, IsWrittenTo}
 use Rattle.linker_runs.proofs.packing.put_items.Given as goal
 
 -- the walk isn't past the next item, and the items so far are written

@@ -1,5 +1,4 @@
-use Rattle.std.proofs.Common.{◌≡◌, ℕ, List, ◌+◌, ◌-◌, ◌*◌, ◌^◌, ◌/◌, ◌%◌, ◌++◌, ◌∙◌, [], ◌∷◌, take, drop, refl, ap, sym, arith}
-use Rattle.linker_runs.specs.Packing.{repeated, nops}
+use Rattle.linker_runs.proofs.Imports.{◌≡◌, ℕ, List, ◌+◌, ◌-◌, ◌*◌, ◌^◌, ◌/◌, ◌%◌, ◌++◌, ◌∙◌, [], ◌∷◌, take, drop, refl, ap, sym, arith, repeated, nops}
 use Rattle.linker_runs.proofs.Nops.{repeated_length, put_more, nops_two}
 use Rattle.linker_runs.proofs.packing.put_nops.Goals as goal
 

@@ -1,6 +1,4 @@
-use Rattle.std.proofs.Common.{◌≡◌, ◌+◌, ◌%◌, ◌++◌, ◌∙◌, length, take, drop, ap, sym, subst, arith}
-use Rattle.linker_runs.specs.Packing.{nops, nop_len}
-use Rattle.linker_runs.specs.Inner.Pieces.{piece_bytes, IsWhole}
+use Rattle.linker_runs.proofs.Imports.{◌≡◌, ◌+◌, ◌%◌, ◌++◌, ◌∙◌, length, take, drop, ap, sym, subst, arith, nops, nop_len, piece_bytes, IsWhole}
 use Rattle.linker_runs.proofs.Nops.{nops_length}
 use Rattle.linker_runs.proofs.packing.put_piece.Goals as goal
 

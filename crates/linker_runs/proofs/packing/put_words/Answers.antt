@@ -1,5 +1,4 @@
-use Rattle.std.proofs.Common.{◌+◌, ◌*◌, ◌++◌, ◌∙◌, take, drop, ap, sym, arith}
-use Rattle.linker_runs.specs.Packing.{repeated}
+use Rattle.linker_runs.proofs.Imports.{◌+◌, ◌*◌, ◌++◌, ◌∙◌, take, drop, ap, sym, arith, repeated}
 use Rattle.linker_runs.proofs.Nops.{repeated_none, repeated_more, repeated_length, put_more, put_nothing}
 use Rattle.linker_runs.proofs.packing.put_words.Goals as goal
 

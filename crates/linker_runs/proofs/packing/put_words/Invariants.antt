@@ -1,5 +1,4 @@
-use Rattle.std.proofs.Common.{◌≡◌, ◌+◌, ◌*◌, ◌++◌, take, drop}
-use Rattle.linker_runs.specs.Packing.{repeated}
+use Rattle.linker_runs.proofs.Imports.{◌≡◌, ◌+◌, ◌*◌, ◌++◌, take, drop, repeated}
 use Rattle.linker_runs.proofs.packing.put_words.Given as goal
 
 abbrev pub invariant-loop-index : goal.invariant-loop-index

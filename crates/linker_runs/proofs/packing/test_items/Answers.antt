@@ -1,9 +1,4 @@
-use Rattle.std.proofs.Common.{◌≡◌, ◌∙◌, ap, false, List, zero, suc, ◌+◌, ◌<◌, ◌≤◌, ℕ, length, [], inl, inr, sym, subst, arith, below_more, refl}
-use Rattle.linker_runs.proofs.Imports.{both_ways, deletions_of}
-use Rattle.linker_runs.specs.declared.relaxation.Item.{Item}
-use Rattle.linker_runs.specs.Relaxing.{item_at, offset_of, end_of}
-use Rattle.linker_runs.specs.Inner.Packing.{AreReady}
-use Rattle.linker_runs.specs.Packing.{section_of, gap_start, is_fixed, IsApart, IsInside, IsUnwritable, IsWritable, StayWhole, KeepsGap, CanWrite}
+use Rattle.linker_runs.proofs.Imports.{◌≡◌, ◌∙◌, ap, false, List, zero, suc, ◌+◌, ◌<◌, ◌≤◌, ℕ, length, [], inl, inr, sym, subst, arith, below_more, refl, both_ways, deletions_of, Item, item_at, offset_of, end_of, AreReady, section_of, gap_start, is_fixed, IsApart, IsInside, IsUnwritable, IsWritable, StayWhole, KeepsGap, CanWrite}
 use Rattle.linker_runs.proofs.PackedItems.{cause_of, gap_below, gap_next, apart_from}
 use Rattle.linker_runs.proofs.packing.test_items.Goals as goal
 

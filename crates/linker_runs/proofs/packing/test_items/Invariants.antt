@@ -1,8 +1,4 @@
-use Rattle.std.proofs.Common.{◌≡◌, ℕ, List, ◌+◌, ◌<◌, ◌≤◌, length}
-use Rattle.linker_runs.proofs.Imports.{deletions_of, AreValidDeltas, IsPosition}
-use Rattle.linker_runs.specs.Relaxing.{item_at, end_of}
-use Rattle.linker_runs.specs.Packing.{section_of, gap_start}
-use Rattle.linker_runs.specs.Inner.Packing.{AreReady}
+use Rattle.linker_runs.proofs.Imports.{◌≡◌, ℕ, List, ◌+◌, ◌<◌, ◌≤◌, length, deletions_of, AreValidDeltas, IsPosition, item_at, end_of, section_of, gap_start, AreReady}
 use Rattle.linker_runs.proofs.packing.test_items.Given as goal
 
 -- the items so far lie in the section and can be written, and the walk stands after them

@@ -1,5 +1,4 @@
-use Rattle.std.proofs.Common.{◌≡◌}
-use Rattle.linker_runs.specs.Deleting.{deletions_before}
+use Rattle.linker_runs.proofs.Imports.{◌≡◌, deletions_before}
 use Rattle.linker_runs.proofs.relaxation.deletions.Given as goal
 
 abbrev pub invariant-loop-index : goal.invariant-loop-index

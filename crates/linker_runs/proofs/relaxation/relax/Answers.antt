@@ -1,5 +1,4 @@
-use Rattle.std.proofs.Common.{arith, rules}
-use Rattle.std.proofs.lemmas.List.{with_items_is}
+use Rattle.linker_runs.proofs.Imports.{arith, rules, with_items_is}
 use Rattle.linker_runs.proofs.relaxation.relax.Goals as goal
 
 pub returns-clause-relaxed : goal.returns-clause-relaxed

@@ -1,9 +1,4 @@
-use Rattle.std.proofs.Common.{ℕ, get_or, inl, inr, sym, subst}
-use Rattle.std.specs.Prelude.{List}
-use Rattle.linker_runs.specs.declared.relaxation.Item.{Item}
-use Rattle.linker_runs.specs.Relaxing.{choice_of, AreRelaxed, AreFreed}
-use Rattle.linker_runs.specs.Choosing.{AreItems, IsRelaxation, AreChosen, AreTooFewRounds, IsGreatestCautious, IsInReachExactly, HaveNoAlignment, AreNotLonger}
-use Rattle.linker_runs.specs.Inner.Relaxing.{AreForced}
+use Rattle.linker_runs.proofs.Imports.{ℕ, get_or, inl, inr, sym, subst, List, Item, choice_of, AreRelaxed, AreFreed, AreItems, IsRelaxation, AreChosen, AreTooFewRounds, IsGreatestCautious, IsInReachExactly, HaveNoAlignment, AreNotLonger, AreForced}
 use Rattle.linker_runs.proofs.Choices.{relaxed_exact, cautious_exactly, exactly_cautious}
 use Rattle.linker_runs.proofs.Frees.{all_exact}
 use Rattle.linker_runs.proofs.relaxation.relax_into.Goals as goal

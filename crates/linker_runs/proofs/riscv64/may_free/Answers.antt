@@ -1,9 +1,5 @@
-use Rattle.std.proofs.Common.{◌≡◌, ◌+◌, ◌-◌, ◌<◌, ◌%◌, ℕ, List, IsTrue, nat_eq, ⊎_elim, ap, sym, subst, arith, rules, ◌∙◌, map}
-use Rattle.linker_runs.proofs.Imports.{◌⊎◌, pos, IsNextPowerOfTwo, cases_order, length-map}
+use Rattle.linker_runs.proofs.Imports.{◌≡◌, ◌+◌, ◌-◌, ◌<◌, ◌%◌, ℕ, List, IsTrue, nat_eq, ⊎_elim, ap, sym, subst, arith, rules, ◌∙◌, map, ◌⊎◌, pos, IsNextPowerOfTwo, cases_order, length-map, Relocation, relocation_at, IsNextAlignment, AreEnoughAt, MayFree}
 use Rattle.linker_runs.proofs.Addresses.{next_unique}
-use Rattle.linker_runs.specs.declared.items.Relocation.{Relocation}
-use Rattle.linker_runs.specs.Relocations.{relocation_at}
-use Rattle.linker_runs.specs.RiscVItems.{IsNextAlignment, AreEnoughAt, MayFree}
 use Rattle.linker_runs.proofs.riscv64.may_free.Goals as goal
 
 -- there is one next alignment

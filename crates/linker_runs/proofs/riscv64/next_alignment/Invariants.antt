@@ -1,6 +1,4 @@
-use Rattle.std.proofs.Common.{◌<◌, ℕ, map}
-use Rattle.linker_runs.specs.Relocations.{relocation_at}
-use Rattle.linker_runs.specs.RiscVItems.{Aligns}
+use Rattle.linker_runs.proofs.Imports.{◌<◌, ℕ, map, relocation_at, Aligns}
 use Rattle.linker_runs.proofs.riscv64.next_alignment.Given as goal
 
 abbrev pub invariant-loop-next : goal.invariant-loop-next

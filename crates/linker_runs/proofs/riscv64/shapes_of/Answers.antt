@@ -1,5 +1,4 @@
-use Rattle.std.proofs.Common.{inl, refl, ap, sym, subst, true, ◌≡◌, ◌∙◌, rules}
-use Rattle.linker_runs.specs.RiscVItems.{links_short}
+use Rattle.linker_runs.proofs.Imports.{inl, refl, ap, sym, subst, true, ◌≡◌, ◌∙◌, rules, links_short}
 use Rattle.linker_runs.proofs.riscv64.shapes_of.Goals as goal
 
 pub returns-then-may_free : goal.returns-then-may_free

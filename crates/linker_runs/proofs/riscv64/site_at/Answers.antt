@@ -1,11 +1,5 @@
-use Rattle.std.proofs.Common.{Bool, ℕ, ◌+◌, ⊎_elim, refl, ap, subst, arith, rules, map}
+use Rattle.linker_runs.proofs.Imports.{Bool, ℕ, ◌+◌, ⊎_elim, refl, ap, subst, arith, rules, map, Item, Site, Aligned, relocation_at, IsMarked, HasRiscVName, IsOfCall, IsCallAt, RiscVMakes, MayFree, Relocation, List}
 use Rattle.linker_elf.specs.declared.riscv64.relocations.RiscVRelocation.TheVariants as r
-use Rattle.linker_runs.specs.declared.relaxation.Item.{Item}
-use Rattle.linker_runs.specs.declared.relaxation.Item.TheVariants.{Site, Aligned}
-use Rattle.linker_runs.specs.Relocations.{relocation_at, IsMarked}
-use Rattle.linker_runs.specs.RiscVItems.{HasRiscVName, IsOfCall, IsCallAt, RiscVMakes, MayFree}
-use Rattle.linker_runs.specs.declared.items.Relocation.{Relocation}
-use Rattle.std.specs.Prelude.{List}
 use Rattle.linker_runs.proofs.riscv64.site_at.Goals as goal
 
 -- a call's relocation makes no site where it may free nothing, and never an alignment

@@ -1,5 +1,4 @@
-use Rattle.std.proofs.Common.{◌≡◌, drop}
-use Rattle.std.specs.Prelude.{slice_get}
+use Rattle.linker_output.proofs.Imports.{◌≡◌, drop, slice_get}
 use Rattle.linker_output.specs.Tags.{entries}
 use Rattle.linker_output.proofs.description.Target.dynamic_entry.Given as goal
 

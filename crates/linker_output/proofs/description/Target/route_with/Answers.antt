@@ -1,6 +1,4 @@
-use Rattle.std.proofs.Common.{rules, ◌≡◌, subst}
-use Rattle.std.specs.Int.{w64, cast_signed, cast_unsigned}
-use Rattle.linker_output.specs.Routes.{IsObstacle}
+use Rattle.linker_output.proofs.Imports.{rules, ◌≡◌, subst, w64, cast_signed, cast_unsigned, IsObstacle}
 use Rattle.linker_output.proofs.description.Target.route_with.Goals as goal
 
 pub returns : goal.returns

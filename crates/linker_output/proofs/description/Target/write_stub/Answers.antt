@@ -1,7 +1,5 @@
-use Rattle.std.proofs.Common.{◌≡◌, ◌++◌, ◌+◌, sym, subst, refl, length, take, drop, rules}
+use Rattle.linker_output.proofs.Imports.{◌≡◌, ◌++◌, ◌+◌, sym, subst, refl, length, take, drop, rules, WritesStub, WritesPair, operands_of, view_stub}
 use Rattle.linker_output.proofs.StubFields.{pieces}
-use Rattle.linker_output.specs.Stubs.{WritesStub, WritesPair, operands_of}
-use Rattle.linker_output.specs.View.{view_stub}
 use Rattle.linker_output.proofs.description.Target.write_stub.Goals as goal
 
 pub returns-clause-ok : goal.returns-clause-ok

@@ -1,6 +1,4 @@
-use Rattle.std.proofs.Common.{◌≤◌, ◌<◌, length, ⊎_elim, ap, arith}
-use Rattle.linker_output.proofs.Imports.{cases_lt, get_or_past}
-use Rattle.linker_output.specs.declared.placement.Branch.{Branch}
+use Rattle.linker_output.proofs.Imports.{◌≤◌, ◌<◌, length, ⊎_elim, ap, arith, cases_lt, get_or_past, Branch}
 use Rattle.linker_output.proofs.placement.Code.has_low_branches.Goals as goal
 
 pub returns-clause-low : goal.returns-clause-low

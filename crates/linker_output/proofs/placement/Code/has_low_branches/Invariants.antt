@@ -1,5 +1,4 @@
-use Rattle.std.proofs.Common.{◌<◌, ◌^◌, ℕ}
-use Rattle.linker_output.specs.Placement.{branch_at}
+use Rattle.linker_output.proofs.Imports.{◌<◌, ◌^◌, ℕ, branch_at}
 use Rattle.linker_output.proofs.placement.Code.has_low_branches.Given as goal
 
 abbrev pub invariant-loop-branch : goal.invariant-loop-branch

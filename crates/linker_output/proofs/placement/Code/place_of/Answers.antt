@@ -1,7 +1,4 @@
-use Rattle.std.proofs.Common.{arith, ℕ, List, length, ◌≤◌, ◌<◌, ◌+◌, ◌*◌}
-use Rattle.linker_output.specs.declared.placement.Group.{Group}
-use Rattle.linker_output.specs.declared.placement.StubShape.{StubShape}
-use Rattle.linker_output.specs.Placement.{at, group_at, stubs_in, IsLaidOut}
+use Rattle.linker_output.proofs.Imports.{arith, ℕ, List, length, ◌≤◌, ◌<◌, ◌+◌, ◌*◌, Group, StubShape, at, group_at, stubs_in, IsLaidOut}
 use Rattle.linker_output.proofs.Groups.{some_least}
 use Rattle.linker_output.proofs.Products.{le_product}
 use Rattle.linker_output.proofs.placement.Code.place_of.Goals as goal

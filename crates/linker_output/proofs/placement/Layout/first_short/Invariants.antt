@@ -1,5 +1,4 @@
-use Rattle.std.proofs.Common.{◌<◌, ℕ}
-use Rattle.linker_output.specs.Placement.{StubReaches}
+use Rattle.linker_output.proofs.Imports.{◌<◌, ℕ, StubReaches}
 use Rattle.linker_output.proofs.placement.Layout.first_short.Given as goal
 
 abbrev pub invariant-loop-index : goal.invariant-loop-index

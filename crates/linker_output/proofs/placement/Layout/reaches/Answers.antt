@@ -1,8 +1,5 @@
-use Rattle.std.proofs.Common.{◌≡◌, ◌∙◌, ap, subst, arith}
-use Rattle.std.specs.Prelude.{IsTrue, ◌↔◌}
-use Rattle.std.proofs.lemmas.List.{get_or_read}
-use Rattle.linker_output.specs.declared.placement.Part.TheVariants.{Front}
-use Rattle.linker_output.specs.Placement.{Reaches, at, moved, stub_at, target_place}
+use Rattle.linker_output.proofs.Imports.{◌≡◌, ◌∙◌, ap, subst, arith, IsTrue, ◌↔◌, get_or_read, Front, Reaches, at, stub_at, target_place}
+use Rattle.linker_output.specs.Placement.{moved}
 use Rattle.linker_output.proofs.placement.Layout.reaches.Goals as goal
 
 pub returns : goal.returns

@@ -1,8 +1,4 @@
-use Rattle.std.proofs.Common.{◌≡◌, ◌∙◌, ◌<◌, ◌++◌, ◌∷◌, [], ap, length, set, refl, arith, rules}
-use Rattle.std.proofs.lemmas.List.{get_or_read}
-use Rattle.linker_output.specs.declared.placement.StubAt.{StubAt}
-use Rattle.linker_output.specs.Placement.{at, group_at, branch_at, part_of}
-use Rattle.linker_output.specs.Inner.Placement.{list_of, with_one, new_way}
+use Rattle.linker_output.proofs.Imports.{◌≡◌, ◌∙◌, ◌<◌, ◌++◌, ◌∷◌, [], ap, length, set, refl, arith, rules, get_or_read, StubAt, at, group_at, branch_at, part_of, list_of, with_one, new_way}
 use Rattle.linker_output.proofs.Adding.{added}
 use Rattle.linker_output.proofs.placement.State.add.Goals as goal
 

@@ -1,8 +1,4 @@
-use Rattle.std.proofs.Common.{◌≡◌, ◌+◌, ◌-◌, ◌<◌, ◌∙◌, ℕ, length, ap, arith, subst, sym}
-use Rattle.linker_output.proofs.Imports.{false≢true, get_or_read}
-use Rattle.linker_output.specs.declared.placement.Part.TheVariants.{Front}
-use Rattle.linker_output.specs.Placement.{at}
-use Rattle.linker_output.specs.Inner.Placement.{IsAt, IsStubAt, list_of}
+use Rattle.linker_output.proofs.Imports.{◌≡◌, ◌+◌, ◌-◌, ◌<◌, ◌∙◌, ℕ, length, ap, arith, subst, sym, false≢true, get_or_read, Front, at, IsAt, IsStubAt, list_of}
 use Rattle.linker_output.proofs.Finding.{before_head, before_next}
 use Rattle.linker_output.proofs.placement.State.find.Goals as goal
 

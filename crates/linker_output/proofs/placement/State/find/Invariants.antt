@@ -1,5 +1,4 @@
-use Rattle.std.proofs.Common.{◌≡◌, ◌+◌, ◌<◌, ◌≤◌, ℕ, length}
-use Rattle.linker_output.specs.Inner.Placement.{IsAt, list_at, list_of}
+use Rattle.linker_output.proofs.Imports.{◌≡◌, ◌+◌, ◌<◌, ◌≤◌, ℕ, length, IsAt, list_at, list_of}
 use Rattle.linker_output.proofs.placement.State.find.Given as goal
 
 abbrev pub invariant-loop-above : goal.invariant-loop-above

@@ -1,6 +1,4 @@
-use Rattle.std.proofs.Common.{◌≡◌, ◌+◌, ◌<◌, ◌∙◌, ℕ, List, [], ◌∷◌, ◌++◌, length, get_or, ap, arith, below_more}
-use Rattle.std.proofs.lemmas.List.{get_or_append_left, get_or_push, length-append}
-use Rattle.linker_output.specs.Placement.{place_of, stub_at}
+use Rattle.linker_output.proofs.Imports.{◌≡◌, ◌+◌, ◌<◌, ◌∙◌, ℕ, List, [], ◌∷◌, ◌++◌, length, get_or, ap, arith, below_more, get_or_append_left, get_or_push, length-append, place_of, stub_at}
 use Rattle.linker_output.proofs.placement.State.find_places.Goals as goal
 
 -- what holds of each number, and of one more after them, holds of all

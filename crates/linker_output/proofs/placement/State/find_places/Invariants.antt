@@ -1,5 +1,4 @@
-use Rattle.std.proofs.Common.{◌≡◌, ◌<◌, ℕ, length, get_or}
-use Rattle.linker_output.specs.Placement.{place_of, stub_at}
+use Rattle.linker_output.proofs.Imports.{◌≡◌, ◌<◌, ℕ, length, get_or, place_of, stub_at}
 use Rattle.linker_output.proofs.placement.State.find_places.Given as goal
 
 abbrev pub invariant-loop-stub : goal.invariant-loop-stub

@@ -1,6 +1,4 @@
-use Rattle.std.proofs.Common.{subst, sym}
-use Rattle.linker_output.specs.Placement.{branch_at}
-use Rattle.linker_output.specs.Inner.Placement.{IsNear}
+use Rattle.linker_output.proofs.Imports.{subst, sym, branch_at, IsNear}
 use Rattle.linker_output.proofs.Finding.{new_near, out_there}
 use Rattle.linker_output.proofs.placement.State.go_to.Goals as goal
 

@@ -1,7 +1,4 @@
-use Rattle.std.proofs.Common.{◌+◌, ◌*◌, ◌<◌, ◌^◌, subst, sym}
-use Rattle.std.proofs.lemmas.List.{get_or_read}
-use Rattle.linker_output.specs.declared.placement.Part.TheVariants.{Front}
-use Rattle.linker_output.specs.declared.placement.StubAt.{StubAt}
+use Rattle.linker_output.proofs.Imports.{◌+◌, ◌*◌, ◌<◌, ◌^◌, subst, sym, get_or_read, Front, StubAt}
 use Rattle.linker_output.proofs.Bounds.{index_fits}
 use Rattle.linker_output.proofs.placement.State.is_near.Goals as goal
 

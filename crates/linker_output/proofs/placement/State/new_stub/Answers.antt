@@ -1,6 +1,4 @@
-use Rattle.std.proofs.Common.{◌≡◌, ◌∙◌, ◌+◌, ◌*◌, ◌<◌, ◌^◌, ap, arith, subst, sym}
-use Rattle.std.proofs.lemmas.List.{get_or_read}
-use Rattle.linker_output.specs.Placement.{group_at, part_of}
+use Rattle.linker_output.proofs.Imports.{◌≡◌, ◌∙◌, ◌+◌, ◌*◌, ◌<◌, ◌^◌, ap, arith, subst, sym, get_or_read, group_at, part_of}
 use Rattle.linker_output.proofs.Bounds.{part_fits}
 use Rattle.linker_output.proofs.placement.State.new_stub.Goals as goal
 

@@ -1,12 +1,4 @@
-use Rattle.std.proofs.Common.{◌≡◌, ◌∙◌, ◌-◌, ◌<◌, ℕ, length, arith, subst, sym, true}
-use Rattle.std.specs.Prelude.{IfOk}
-use Rattle.linker_output.proofs.Imports.{sum_by, IfOk-weaker}
-use Rattle.linker_output.specs.declared.placement.Branch.{Branch}
-use Rattle.linker_output.specs.declared.placement.Code.{Code}
-use Rattle.linker_output.specs.declared.placement.Part.TheVariants.{Front, Back}
-use Rattle.linker_output.specs.declared.placement.State.{State}
-use Rattle.linker_output.specs.Placement.{branch_at, passed}
-use Rattle.linker_output.specs.Inner.Placement.{IsOutAhead, IsOutThere, StaysUnshared, level, way_at}
+use Rattle.linker_output.proofs.Imports.{◌≡◌, ◌∙◌, ◌-◌, ◌<◌, ℕ, length, arith, subst, sym, true, IfOk, sum_by, IfOk-weaker, Branch, Code, Front, Back, State, branch_at, passed, IsOutAhead, IsOutThere, StaysUnshared, level, way_at}
 use Rattle.linker_output.proofs.placement.State.raise.Goals as goal
 
 -- out of reach ahead of it, by the state before

@@ -1,8 +1,4 @@
-use Rattle.std.proofs.Common.{◌<◌, ◌+◌, ◌*◌, ◌≤◌, ◌^◌, List, sym, subst, arith, length}
-use Rattle.std.specs.List.{sum_by}
-use Rattle.linker_output.specs.declared.placement.Group.{Group}
-use Rattle.linker_output.specs.Placement.{most_bytes, stubs_in}
-use Rattle.linker_output.specs.Inner.Placement.{level}
+use Rattle.linker_output.proofs.Imports.{◌<◌, ◌+◌, ◌*◌, ◌≤◌, ◌^◌, List, sym, subst, arith, length, sum_by, Group, most_bytes, stubs_in, level}
 use Rattle.linker_output.proofs.Bounds.{levels_most, room_for, room_most}
 use Rattle.linker_output.proofs.Near.{places_kept}
 use Rattle.linker_output.proofs.placement.State.settle.Goals as goal

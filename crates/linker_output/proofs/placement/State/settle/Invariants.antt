@@ -1,6 +1,4 @@
-use Rattle.std.proofs.Common.{◌≡◌, ◌+◌, ◌*◌, ◌-◌, length}
-use Rattle.std.specs.List.{sum_by}
-use Rattle.linker_output.specs.Inner.Placement.{IsState, level}
+use Rattle.linker_output.proofs.Imports.{◌≡◌, ◌+◌, ◌*◌, ◌-◌, length, sum_by, IsState, level}
 use Rattle.linker_output.proofs.placement.State.settle.Given as goal
 
 abbrev pub invariant-loop-passes : goal.invariant-loop-passes

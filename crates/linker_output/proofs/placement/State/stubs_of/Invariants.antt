@@ -1,7 +1,4 @@
-use Rattle.std.proofs.Common.{◌≡◌, ◌<◌, ℕ, length}
-use Rattle.std.specs.Prelude.{None, slice_index_or}
-use Rattle.linker_output.specs.Placement.{branch_at}
-use Rattle.linker_output.specs.Inner.Placement.{IsStubOf, way_at}
+use Rattle.linker_output.proofs.Imports.{◌≡◌, ◌<◌, ℕ, length, None, slice_index_or, branch_at, IsStubOf, way_at}
 use Rattle.linker_output.proofs.placement.State.stubs_of.Given as goal
 
 abbrev pub invariant-loop-index : goal.invariant-loop-index

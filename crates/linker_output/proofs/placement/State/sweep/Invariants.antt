@@ -1,7 +1,4 @@
-use Rattle.std.proofs.Common.{◌≡◌, ◌<◌, ◌≤◌, ℕ, true, false}
-use Rattle.std.specs.List.{sum_by}
-use Rattle.linker_output.specs.Placement.{branch_at}
-use Rattle.linker_output.specs.Inner.Placement.{IsState, SameStubs, IsServedBy, level, way_at}
+use Rattle.linker_output.proofs.Imports.{◌≡◌, ◌<◌, ◌≤◌, ℕ, true, false, sum_by, branch_at, IsState, SameStubs, IsServedBy, level, way_at}
 use Rattle.linker_output.proofs.placement.State.sweep.Given as goal
 
 abbrev pub invariant-loop-index : goal.invariant-loop-index

@@ -1,8 +1,4 @@
-use Rattle.std.proofs.Common.{◌≡◌, ◌∙◌, subst, sym, arith}
-use Rattle.linker_output.specs.Placement.{branch_at}
-use Rattle.std.proofs.lemmas.List.{get_or_read}
-use Rattle.linker_output.specs.declared.placement.Way.TheVariants.{Direct}
-use Rattle.linker_output.specs.Inner.Placement.{IsLostBy, IsServedBy, IsState, SameStubs, way_at}
+use Rattle.linker_output.proofs.Imports.{◌≡◌, ◌∙◌, subst, sym, arith, branch_at, get_or_read, Direct, IsLostBy, IsServedBy, IsState, SameStubs, way_at}
 use Rattle.linker_output.proofs.Going.{spare_reaches}
 use Rattle.linker_output.proofs.placement.State.visit.Goals as goal
 use Rattle.linker_output.proofs.placement.State.visit.Goals.{then-late+then-not-has_spare+in_ok-raise-2+else-branch-2, else-late}

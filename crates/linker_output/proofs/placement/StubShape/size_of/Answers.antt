@@ -1,5 +1,4 @@
-use Rattle.std.proofs.Common.{arith}
-use Rattle.linker_output.specs.Placement.{stubs_in}
+use Rattle.linker_output.proofs.Imports.{arith, stubs_in}
 use Rattle.linker_output.proofs.Products.{le_product}
 use Rattle.linker_output.proofs.placement.StubShape.size_of.Goals as goal
 

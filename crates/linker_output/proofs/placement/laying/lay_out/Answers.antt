@@ -1,7 +1,4 @@
-use Rattle.std.proofs.Common.{◌≡◌, ◌≢◌, ◌+◌, ◌<◌, ◌≤◌, ◌∙◌, ℕ, List, length, get_or, set, refl, rules, ap, sym, arith, below_more, get_or-set_other, get_or-set_same}
-use Rattle.linker_output.proofs.Imports.{mul-le-mul_left, get_or-le-sum_by}
-use Rattle.linker_output.specs.Placement.{stubs_in}
-use Rattle.linker_output.specs.Inner.Placement.{bytes_before}
+use Rattle.linker_output.proofs.Imports.{◌≡◌, ◌≢◌, ◌+◌, ◌<◌, ◌≤◌, ◌∙◌, ℕ, List, length, get_or, set, refl, rules, ap, sym, arith, below_more, get_or-set_other, get_or-set_same, mul-le-mul_left, get_or-le-sum_by, stubs_in, bytes_before}
 use Rattle.linker_output.proofs.Groups.{bytes_next, bytes_none, bytes_bound, bytes_laid_out, bytes_fit}
 use Rattle.linker_output.proofs.placement.laying.lay_out.Goals as goal
 

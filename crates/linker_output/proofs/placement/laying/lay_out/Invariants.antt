@@ -1,5 +1,4 @@
-use Rattle.std.proofs.Common.{◌≡◌, ◌<◌, ℕ, get_or}
-use Rattle.linker_output.specs.Inner.Placement.{bytes_before}
+use Rattle.linker_output.proofs.Imports.{◌≡◌, ◌<◌, ℕ, get_or, bytes_before}
 use Rattle.linker_output.proofs.placement.laying.lay_out.Given as goal
 
 abbrev pub invariant-loop-index : goal.invariant-loop-index

@@ -1,6 +1,4 @@
-use Rattle.std.proofs.Common.{arith, sym}
-use Rattle.std.proofs.lemmas.List.Sums.{prefix_len_is}
-use Rattle.std.specs.Prelude.{nat_le}
+use Rattle.linker_output.proofs.Imports.{arith, sym, prefix_len_is, nat_le}
 use Rattle.linker_output.proofs.Passed.{le_true, le_false}
 use Rattle.linker_output.proofs.placement.laying.passed.Goals as goal
 

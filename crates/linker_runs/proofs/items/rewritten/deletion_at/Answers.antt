@@ -1,5 +1,4 @@
-use Rattle.std.proofs.Common.{◌∙◌, ap, sym}
-use Rattle.std.proofs.lemmas.List.{get_or-map}
+use Rattle.linker_runs.proofs.Imports.{◌∙◌, ap, sym, get_or-map}
 use Rattle.linker_runs.proofs.items.rewritten.deletion_at.Goals as goal
 
 pub returns : goal.returns

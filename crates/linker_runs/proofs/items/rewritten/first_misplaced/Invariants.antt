@@ -1,5 +1,4 @@
-use Rattle.std.specs.Prelude.{◌≡◌, length, map}
-use Rattle.linker_runs.specs.RewrittenItems.{ArePlaced, deleted_before}
+use Rattle.linker_runs.proofs.Imports.{◌≡◌, length, map, ArePlaced, deleted_before}
 use Rattle.linker_runs.proofs.items.rewritten.first_misplaced.Given as goal
 
 abbrev pub invariant-loop-index : goal.invariant-loop-index

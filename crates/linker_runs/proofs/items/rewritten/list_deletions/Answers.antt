@@ -1,8 +1,4 @@
-use Rattle.std.proofs.Common.{◌≡◌, ◌+◌, ◌<◌, ◌≤◌, ◌∙◌, ap, map, refl, inl, inr, subst, sym, length, set, arith}
-use Rattle.linker_runs.proofs.Imports.{drop-set-lt, length-map, drop_more_same}
-use Rattle.linker_runs.specs.Relaxing.{end_of}
-use Rattle.linker_runs.specs.RewrittenItems.{IsDeleted, deleted_at, deleted_end}
-use Rattle.linker_runs.specs.Inner.Listed.{Rewritten, AreListedIn, rewritten_of}
+use Rattle.linker_runs.proofs.Imports.{◌≡◌, ◌+◌, ◌<◌, ◌≤◌, ◌∙◌, ap, map, refl, inl, inr, subst, sym, length, set, arith, drop-set-lt, length-map, drop_more_same, end_of, IsDeleted, deleted_at, deleted_end, Rewritten, AreListedIn, rewritten_of}
 use Rattle.linker_runs.proofs.Listed.{put_deleted}
 use Rattle.linker_runs.proofs.items.rewritten.list_deletions.Goals as goal
 

@@ -1,8 +1,4 @@
-use Rattle.std.specs.Prelude.{◌≡◌, ◌+◌, ◌≤◌, ◌<◌, ◌⊎◌, ℕ, List, length, map, drop}
-use Rattle.linker_runs.specs.declared.items.Relocation.{Relocation}
-use Rattle.linker_runs.specs.declared.packing.Machine.{Machine}
-use Rattle.linker_runs.specs.RewrittenItems.{deleted_at, deleted_end}
-use Rattle.linker_runs.specs.Inner.Listed.{AreListedIn, rewritten_of}
+use Rattle.linker_runs.proofs.Imports.{◌≡◌, ◌+◌, ◌≤◌, ◌<◌, ◌⊎◌, ℕ, List, length, map, drop, Relocation, Machine, deleted_at, deleted_end, AreListedIn, rewritten_of}
 use Rattle.linker_runs.proofs.items.rewritten.list_deletions.Given as goal
 
 abbrev pub invariant-loop-gone : goal.invariant-loop-gone

@@ -1,9 +1,4 @@
-use Rattle.std.proofs.Common.{◌≡◌, ◌+◌, ◌<◌, ◌≤◌, ◌∙◌, ap, map, subst, sym, length, ⊎_elim, arith}
-use Rattle.linker_runs.proofs.Imports.{both_ways, cases_lt, drop-set-lt, length-map, drop_more_same}
-use Rattle.linker_runs.specs.Relaxing.{offset_of, end_of}
-use Rattle.linker_runs.specs.RewrittenItems.{deleted_at}
-use Rattle.linker_runs.specs.SectionItems.{Makes}
-use Rattle.linker_runs.specs.Inner.Listed.{rewritten_of}
+use Rattle.linker_runs.proofs.Imports.{◌≡◌, ◌+◌, ◌<◌, ◌≤◌, ◌∙◌, ap, map, subst, sym, length, ⊎_elim, arith, both_ways, cases_lt, drop-set-lt, length-map, drop_more_same, offset_of, end_of, deleted_at, Makes, rewritten_of}
 use Rattle.linker_runs.proofs.Listed.{put_made}
 use Rattle.linker_runs.proofs.items.rewritten.list_item.Goals as goal
 

@@ -1,10 +1,4 @@
-use Rattle.std.proofs.Common.{◌≡◌, ◌∙◌, ◌<◌, ◌≤◌, ℕ, List, map, inl, inr, ⊎_elim, length, suc, take, add-one, arith, subst}
-use Rattle.linker_runs.proofs.Imports.{MatchOption, cases_lt, length-map}
-use Rattle.linker_runs.specs.declared.relaxation.Item.{Item}
-use Rattle.linker_runs.specs.declared.items.Relocation.{Relocation}
-use Rattle.linker_runs.specs.Inner.Listed.{Rewritten, rewritten_of}
-use Rattle.linker_runs.specs.RewrittenItems.{AreListed}
-use Rattle.linker_runs.specs.SectionItems.{Makes}
+use Rattle.linker_runs.proofs.Imports.{◌≡◌, ◌∙◌, ◌<◌, ◌≤◌, ℕ, List, map, inl, inr, ⊎_elim, length, suc, take, add-one, arith, subst, MatchOption, cases_lt, length-map, Item, Relocation, Rewritten, rewritten_of, AreListed, Makes}
 use Rattle.linker_runs.proofs.Alignments.{ahead_on}
 use Rattle.linker_runs.proofs.Listed.{walked_none, walked_past, walked_on, drop_same_from}
 use Rattle.linker_runs.proofs.items.rewritten.list_items.Goals as goal

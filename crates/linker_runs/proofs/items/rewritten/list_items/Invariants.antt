@@ -1,6 +1,4 @@
-use Rattle.std.specs.Prelude.{map}
-use Rattle.linker_runs.specs.Inner.Ahead.{MayBeAhead}
-use Rattle.linker_runs.specs.Inner.Listed.{rewritten_of}
+use Rattle.linker_runs.proofs.Imports.{map, MayBeAhead, rewritten_of}
 use Rattle.linker_runs.proofs.Listed.{IsWalked}
 use Rattle.linker_runs.proofs.items.rewritten.list_items.Given as goal
 

@@ -1,8 +1,4 @@
-use Rattle.std.proofs.Common.{◌≡◌, ◌≤◌, ◌+◌, ◌++◌, ◌∙◌, ℕ, List, [], IsSomeAnd, ap, length, subst, sym, take, drop, arith}
-use Rattle.linker_runs.proofs.Imports.{append-nil, drop_at, drop-drop, length-drop, length-take-le, take_at, IsApplied, IsRejected, sum_64}
-use Rattle.std.proofs.lemmas.List.{drop_all, drop-take, take-take}
-use Rattle.linker_runs.specs.LoongArchSites.{far_high, far_low}
-use Rattle.linker_runs.specs.Sites.{operands_of}
+use Rattle.linker_runs.proofs.Imports.{◌≡◌, ◌≤◌, ◌+◌, ◌++◌, ◌∙◌, ℕ, List, [], IsSomeAnd, ap, length, subst, sym, take, drop, arith, append-nil, drop_at, drop-drop, length-drop, length-take-le, take_at, IsApplied, IsRejected, sum_64, drop_all, drop-take, take-take, far_high, far_low, operands_of}
 use Rattle.linker_runs.proofs.packing.loongarch64.address_of.Goals as goal
 use borrow.Rule.Slice.PartMut.{post_of, put_mid}
 

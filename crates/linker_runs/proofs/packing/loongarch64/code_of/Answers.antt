@@ -1,6 +1,4 @@
-use Rattle.std.proofs.Common.{◌∙◌, subst, arith}
-use Rattle.linker_runs.specs.Sites.{IsRelocated, IsOutOfReach}
-use Rattle.linker_runs.specs.Inner.Pieces.{code_bytes}
+use Rattle.linker_runs.proofs.Imports.{◌∙◌, subst, arith, IsRelocated, IsOutOfReach, code_bytes}
 use Rattle.linker_runs.proofs.LoongArch.{becomes_short, becomes_long, short_accepts, long_accepts, short_rejected, long_rejected}
 use Rattle.linker_runs.proofs.packing.loongarch64.code_of.Goals as goal
 

@@ -1,8 +1,4 @@
-use Rattle.std.proofs.Common.{MatchOption, IsSomeAnd, subst, sym, take, drop}
-use Rattle.linker_elf.specs.Applied.{IsApplied, IsRejected}
-use Rattle.linker_runs.specs.Inner.LoongArch.{IsLongOf, IsLongOutOfReach}
-use Rattle.linker_runs.specs.Inner.Pieces.{code_bytes}
-use Rattle.linker_runs.specs.Sites.{operands_of}
+use Rattle.linker_runs.proofs.Imports.{MatchOption, IsSomeAnd, subst, sym, take, drop, IsApplied, IsRejected, IsLongOf, IsLongOutOfReach, code_bytes, operands_of}
 use Rattle.linker_runs.proofs.packing.loongarch64.long_of.Goals as goal
 
 pub returns-in-Call-clause-long : goal.returns-in-Call-clause-long

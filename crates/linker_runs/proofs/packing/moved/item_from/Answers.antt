@@ -1,6 +1,4 @@
-use Rattle.std.proofs.Common.{◌≡◌, ◌∙◌, ap, sym, subst, arith}
-use Rattle.linker_runs.specs.Moved.{BeginsAt}
-use Rattle.linker_runs.specs.Relaxing.{item_at, offset_of}
+use Rattle.linker_runs.proofs.Imports.{◌≡◌, ◌∙◌, ap, sym, subst, arith, BeginsAt, item_at, offset_of}
 use Rattle.linker_runs.proofs.Moved.{none_past, none_at, some_at}
 use Rattle.linker_runs.proofs.packing.moved.item_from.Goals as goal
 

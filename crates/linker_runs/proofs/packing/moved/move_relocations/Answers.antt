@@ -1,8 +1,5 @@
-use Rattle.std.proofs.Common.{◌≡◌, ◌*◌, ◌/◌, ◌<◌, ◌++◌, ◌∙◌, ap, below_more, drop, length, sym, subst, take, arith}
-use Rattle.linker_runs.proofs.Imports.{drop_at, length-append, length-drop, length-take-le, take-append-drop, deletions_of, relocation_in}
+use Rattle.linker_runs.proofs.Imports.{◌≡◌, ◌*◌, ◌/◌, ◌<◌, ◌++◌, ◌∙◌, ap, below_more, drop, length, sym, subst, take, arith, drop_at, length-append, length-drop, length-take-le, take-append-drop, deletions_of, relocation_in, IsMoved, section_of}
 use Rattle.std.proofs.lemmas.Option.{same_Some}
-use Rattle.linker_runs.specs.Moved.{IsMoved}
-use Rattle.linker_runs.specs.Packing.{section_of}
 use Rattle.linker_runs.proofs.Moved.{front_in, there_at}
 use Rattle.linker_section.specs.declared.relocations.Rela.{Rela}
 use Rattle.linker_runs.proofs.packing.moved.move_relocations.Goals as goal

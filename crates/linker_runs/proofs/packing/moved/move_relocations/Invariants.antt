@@ -1,8 +1,4 @@
-use Rattle.std.proofs.Common.{◌≡◌, ℕ, ◌/◌, ◌<◌, ◌≤◌, length}
-use Rattle.linker_runs.proofs.Imports.{deletions_of, IsPosition, AreValidDeltas, relocation_in}
-use Rattle.linker_runs.specs.Moved.{IsMoved}
-use Rattle.linker_runs.specs.Packing.{section_of}
-use Rattle.linker_runs.specs.Inner.Packing.{AreReady}
+use Rattle.linker_runs.proofs.Imports.{◌≡◌, ℕ, ◌/◌, ◌<◌, ◌≤◌, length, deletions_of, IsPosition, AreValidDeltas, relocation_in, IsMoved, section_of, AreReady}
 use Rattle.linker_runs.proofs.packing.moved.move_relocations.Given as goal
 
 -- the relocations below the index are moved, and the others are as they were

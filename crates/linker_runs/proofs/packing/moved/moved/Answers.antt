@@ -1,8 +1,4 @@
-use Rattle.std.proofs.Common.{rules, ◌≡◌, ◌+◌, ◌-◌, ◌∙◌, ap, sym, subst, arith}
-use Rattle.linker_base.specs.Deltas.{deletions_of}
-use Rattle.linker_base.specs.Deletions.{rank}
-use Rattle.linker_runs.specs.Moved.{BecomesType}
-use Rattle.linker_runs.specs.Packing.{section_of}
+use Rattle.linker_runs.proofs.Imports.{rules, ◌≡◌, ◌+◌, ◌-◌, ◌∙◌, ap, sym, subst, arith, deletions_of, rank, BecomesType, section_of}
 use Rattle.linker_runs.proofs.packing.moved.moved.Goals as goal
 use Rattle.linker_runs.proofs.packing.moved.moved.Goals.{then-relocation-len-2, else-relocation-len-2}
 

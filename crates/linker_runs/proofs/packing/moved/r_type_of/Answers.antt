@@ -1,9 +1,4 @@
-use Rattle.std.proofs.Common.{◌≡◌, ◌∙◌, refl, ap, sym, subst, arith}
-use Rattle.linker_base.specs.Deltas.{deletions_of}
-use Rattle.linker_base.specs.Deletions.{rank}
-use Rattle.linker_runs.specs.Moved.{BeginsAt, r_type_at_item, gone, of_item, other}
-use Rattle.linker_runs.specs.Packing.{kept_len}
-use Rattle.linker_runs.specs.Relaxing.{item_at, end_of, offset_of}
+use Rattle.linker_runs.proofs.Imports.{◌≡◌, ◌∙◌, refl, ap, sym, subst, arith, deletions_of, rank, BeginsAt, r_type_at_item, gone, of_item, other, kept_len, item_at, end_of, offset_of}
 use Rattle.linker_runs.proofs.Moved.{apart_items, gone_of, kept_of}
 use Rattle.linker_runs.proofs.packing.moved.r_type_of.Goals as goal
 

@@ -1,6 +1,4 @@
-use Rattle.std.proofs.Common.{inl, inr, ⊎_elim, sym, ◌∙◌}
-use Rattle.std.proofs.lemmas.Bool.{false≢true}
-use Rattle.linker_runs.specs.declared.shapes.riscv64.TheConstants.{CALL, TAIL_C}
+use Rattle.linker_runs.proofs.Imports.{inl, inr, ⊎_elim, sym, ◌∙◌, false≢true, CALL, TAIL_C}
 use Rattle.linker_runs.proofs.Same.{shapes_decide}
 use Rattle.linker_runs.proofs.packing.riscv64.are_of_link.Goals as goal
 

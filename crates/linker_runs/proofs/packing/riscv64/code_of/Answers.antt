@@ -1,5 +1,4 @@
-use Rattle.std.proofs.Common.{◌∙◌, sym, subst, arith}
-use Rattle.linker_runs.specs.Inner.Pieces.{code_bytes}
+use Rattle.linker_runs.proofs.Imports.{◌∙◌, sym, subst, arith, code_bytes}
 use Rattle.linker_runs.proofs.RiscV.{IsRelocated, becomes}
 use Rattle.linker_runs.proofs.packing.riscv64.code_of.Goals as goal
 

@@ -1,7 +1,4 @@
-use Rattle.std.proofs.Common.{subst, arith}
-use Rattle.linker_runs.specs.Faults.{ItemMeets}
-use Rattle.linker_runs.specs.declared.relaxation.faults.Fault.TheVariants.{TooManyShapes, ShapeTooLong, BadAlignment}
-use Rattle.std.proofs.lemmas.Nat.{pow_pos}
+use Rattle.linker_runs.proofs.Imports.{subst, arith, ItemMeets, TooManyShapes, ShapeTooLong, BadAlignment, pow_pos}
 use Rattle.linker_runs.proofs.relaxation.Item.granularity_fault.Goals as goal
 
 pub are_even-requires-clause-count : goal.are_even-requires-clause-count

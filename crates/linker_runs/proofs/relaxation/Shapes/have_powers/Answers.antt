@@ -1,7 +1,6 @@
-use Rattle.linker_runs.specs.Choosing.{HasUnit}
+use Rattle.linker_runs.proofs.Imports.{HasUnit, arith}
 use Rattle.linker_runs.proofs.Firsts.{of_both}
 use Rattle.linker_runs.proofs.relaxation.Shapes.have_powers.Goals as goal
-use Rattle.std.proofs.Common.{arith}
 
 pub returns-then-has_granularity : goal.returns-then-has_granularity
 returns-then-has_granularity c = (

@@ -1,7 +1,4 @@
-use Rattle.linker_runs.proofs.Imports.{◌↔◌, IsTrue, false≢true, nat_tests}
-use Rattle.std.specs.Prelude.{nat_eq}
-use Rattle.std.proofs.Common.{◌≡◌, ◌%◌, ◌∙◌, ℕ, false, true, refl, sym, arith}
-use Rattle.linker_runs.specs.declared.shapes.loongarch64.TheConstants.{CALL36}
+use Rattle.linker_runs.proofs.Imports.{◌↔◌, IsTrue, false≢true, nat_tests, nat_eq, ◌≡◌, ◌%◌, ◌∙◌, ℕ, false, true, refl, sym, arith, CALL36}
 use Rattle.linker_runs.proofs.Same.{shapes_decide}
 use Rattle.linker_runs.proofs.relaxation.Site.is_in_words.Goals as goal
 

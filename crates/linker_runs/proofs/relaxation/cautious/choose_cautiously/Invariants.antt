@@ -1,6 +1,4 @@
-use Rattle.std.proofs.Common.{◌-◌, ◌*◌, ◌≤◌, ℕ, length, sum}
-use Rattle.linker_runs.specs.Relaxing.{choice_of}
-use Rattle.linker_runs.specs.Inner.Relaxing.{AreCautious, AreForced}
+use Rattle.linker_runs.proofs.Imports.{◌-◌, ◌*◌, ◌≤◌, ℕ, length, sum, choice_of, AreCautious, AreForced}
 use Rattle.linker_runs.proofs.relaxation.cautious.choose_cautiously.Given as goal
 
 abbrev pub invariant-loop-shapes : goal.invariant-loop-shapes

@@ -1,7 +1,4 @@
-use Rattle.std.proofs.Common.{◌≡◌, ◌≢◌, ◌<◌, ◌≤◌, ◌∙◌, length, ap, sym, ⊎_elim, arith, below_more, get_or-set_other, get_or-set_same}
-use Rattle.std.proofs.lemmas.Bool.{cases_lt}
-use Rattle.linker_runs.specs.Relaxing.{choice_of}
-use Rattle.linker_runs.specs.Choosing.{cautious_before, freed_cautiously}
+use Rattle.linker_runs.proofs.Imports.{◌≡◌, ◌≢◌, ◌<◌, ◌≤◌, ◌∙◌, length, ap, sym, ⊎_elim, arith, below_more, get_or-set_other, get_or-set_same, cases_lt, choice_of, cautious_before, freed_cautiously}
 use Rattle.linker_runs.proofs.Choices.{cautious_none, cautious_next, cautious_fits}
 use Rattle.linker_runs.proofs.relaxation.cautious.lay_out_cautiously.Goals as goal
 

@@ -1,6 +1,4 @@
-use Rattle.std.proofs.Common.{◌≡◌, ◌<◌, ℕ, get_or}
-use Rattle.linker_runs.specs.Relaxing.{choice_of}
-use Rattle.linker_runs.specs.Choosing.{cautious_before}
+use Rattle.linker_runs.proofs.Imports.{◌≡◌, ◌<◌, ℕ, get_or, choice_of, cautious_before}
 use Rattle.linker_runs.proofs.relaxation.cautious.lay_out_cautiously.Given as goal
 
 abbrev pub invariant-loop-index : goal.invariant-loop-index

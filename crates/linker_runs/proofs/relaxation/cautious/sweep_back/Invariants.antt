@@ -1,6 +1,4 @@
-use Rattle.std.proofs.Common.{◌≡◌, ◌-◌, ◌^◌, ◌<◌, ◌≤◌, ℕ, true, length, get_or, sum}
-use Rattle.linker_runs.specs.Relaxing.{choice_of}
-use Rattle.linker_runs.specs.Inner.Relaxing.{AreCautious, AreForced, is_in_reach_cautiously}
+use Rattle.linker_runs.proofs.Imports.{◌≡◌, ◌-◌, ◌^◌, ◌<◌, ◌≤◌, ℕ, true, length, get_or, sum, choice_of, AreCautious, AreForced, is_in_reach_cautiously}
 use Rattle.linker_runs.proofs.relaxation.cautious.sweep_back.Given as goal
 
 abbrev pub invariant-loop-following : goal.invariant-loop-following

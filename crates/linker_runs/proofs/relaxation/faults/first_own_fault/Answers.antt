@@ -1,6 +1,4 @@
-use Rattle.std.proofs.Common.{below_more, arith}
-use Rattle.linker_runs.specs.declared.relaxation.faults.Fault.{Fault}
-use Rattle.linker_runs.specs.Faults.{OwnMeets}
+use Rattle.linker_runs.proofs.Imports.{below_more, arith, Fault, OwnMeets}
 use Rattle.linker_runs.proofs.relaxation.faults.first_own_fault.Goals as goal
 
 pub loop-index-preserved : goal.loop-index-preserved

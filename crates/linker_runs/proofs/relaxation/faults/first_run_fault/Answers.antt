@@ -1,6 +1,4 @@
-use Rattle.std.proofs.Common.{◌<◌, ℕ, below_more, length, subst, arith}
-use Rattle.linker_runs.specs.declared.relaxation.faults.Fault.{Fault}
-use Rattle.linker_runs.specs.Faults.{RunMeets, IsFirstAt}
+use Rattle.linker_runs.proofs.Imports.{◌<◌, ℕ, below_more, length, subst, arith, Fault, RunMeets, IsFirstAt}
 use Rattle.linker_runs.proofs.relaxation.faults.first_run_fault.Goals as goal
 
 pub loop-index-preserved : goal.loop-index-preserved

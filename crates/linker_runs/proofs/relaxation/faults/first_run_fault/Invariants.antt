@@ -1,6 +1,4 @@
-use Rattle.std.proofs.Common.{◌<◌, ℕ}
-use Rattle.linker_runs.specs.declared.relaxation.faults.Fault.{Fault}
-use Rattle.linker_runs.specs.Faults.{RunMeets}
+use Rattle.linker_runs.proofs.Imports.{◌<◌, ℕ, Fault, RunMeets}
 use Rattle.linker_runs.proofs.relaxation.faults.first_run_fault.Given as goal
 
 abbrev pub invariant-loop-index : goal.invariant-loop-index

@@ -1,8 +1,4 @@
-use Rattle.std.proofs.Common.{◌∙◌, ap, subst, sym, arith}
-use Rattle.linker_runs.specs.declared.relaxation.faults.Fault.{Fault}
-use Rattle.linker_runs.specs.Faults.{ItemMeets, UnitMeets, IsFirstOf}
-use Rattle.linker_runs.specs.Inner.Validity.{IsClearRun}
-use Rattle.linker_runs.specs.Relaxing.{item_at, target_of}
+use Rattle.linker_runs.proofs.Imports.{◌∙◌, ap, subst, sym, arith, Fault, ItemMeets, UnitMeets, IsFirstOf, IsClearRun, item_at, target_of}
 use Rattle.linker_runs.proofs.Validity.{own_item, own_formed, run_met, run_earlier, first_unit, clear_of, clear_met}
 use Rattle.linker_runs.proofs.relaxation.faults.run_fault.Goals as goal
 

@@ -1,7 +1,4 @@
-use Rattle.std.proofs.Common.{◌≡◌, ◌∙◌, ◌<◌, ◌≢◌, length, ap, sym, inl, inr, arith, below_more, get_or-set_other, get_or-set_same}
-use Rattle.std.specs.Prelude.{◌⊎◌}
-use Rattle.linker_runs.specs.Relaxing.{place_of, target_of, item_at, item_reaches}
-use Rattle.linker_runs.specs.Inner.Relaxing.{IsAlwaysInReach}
+use Rattle.linker_runs.proofs.Imports.{◌≡◌, ◌∙◌, ◌<◌, ◌≢◌, length, ap, sym, inl, inr, arith, below_more, get_or-set_other, get_or-set_same, ◌⊎◌, place_of, target_of, item_at, item_reaches, IsAlwaysInReach}
 use Rattle.linker_runs.proofs.AlwaysInReach.{always_in_reach}
 use Rattle.linker_runs.proofs.relaxation.passes.find_places.Goals as goal
 use Rattle.linker_runs.proofs.relaxation.passes.find_places.Goals.{then-reaches, else-reaches}

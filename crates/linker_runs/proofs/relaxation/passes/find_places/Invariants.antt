@@ -1,7 +1,4 @@
-use Rattle.std.proofs.Common.{◌≡◌, ◌<◌, ℕ, length, get_or}
-use Rattle.std.specs.Prelude.{◌⊎◌}
-use Rattle.linker_runs.specs.Relaxing.{place_of, target_of, item_at}
-use Rattle.linker_runs.specs.Inner.Relaxing.{IsAlwaysInReach}
+use Rattle.linker_runs.proofs.Imports.{◌≡◌, ◌<◌, ℕ, length, get_or, ◌⊎◌, place_of, target_of, item_at, IsAlwaysInReach}
 use Rattle.linker_runs.proofs.relaxation.passes.find_places.Given as goal
 
 abbrev pub invariant-loop-index : goal.invariant-loop-index

@@ -1,5 +1,4 @@
-use Rattle.std.proofs.Common.{◌≢◌, ◌<◌, ◌∙◌, length, get_or, ap, arith, below_more, get_or-set_other, get_or-set_same}
-use Rattle.linker_runs.specs.Relaxing.{item_at, offset_of, choice_of, kept_by}
+use Rattle.linker_runs.proofs.Imports.{◌≢◌, ◌<◌, ◌∙◌, length, get_or, ap, arith, below_more, get_or-set_other, get_or-set_same, item_at, offset_of, choice_of, kept_by}
 use Rattle.linker_runs.proofs.Layouts.{freed_fits}
 use Rattle.linker_runs.proofs.relaxation.passes.keep.Goals as goal
 

@@ -1,5 +1,4 @@
-use Rattle.std.proofs.Common.{◌≡◌, ◌<◌, ℕ, get_or}
-use Rattle.linker_runs.specs.Relaxing.{item_at, choice_of, kept_by, freed_before}
+use Rattle.linker_runs.proofs.Imports.{◌≡◌, ◌<◌, ℕ, get_or, item_at, choice_of, kept_by, freed_before}
 use Rattle.linker_runs.proofs.relaxation.passes.keep.Given as goal
 
 abbrev pub invariant-loop-index : goal.invariant-loop-index

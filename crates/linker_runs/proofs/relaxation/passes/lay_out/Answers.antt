@@ -1,7 +1,4 @@
-use Rattle.std.proofs.Common.{◌≡◌, ◌+◌, ◌-◌, ◌<◌, ℕ, length, ap, sym, arith, below_more, ◌≢◌, ◌∙◌, get_or-set_other, get_or-set_same}
-use Rattle.std.specs.Prelude.{List}
-use Rattle.linker_runs.specs.declared.relaxation.Item.{Item}
-use Rattle.linker_runs.specs.Relaxing.{offset_of, len_of, end_of, item_at, choice_of, kept_by, freed_before}
+use Rattle.linker_runs.proofs.Imports.{◌≡◌, ◌+◌, ◌-◌, ◌<◌, ℕ, length, ap, sym, arith, below_more, ◌≢◌, ◌∙◌, get_or-set_other, get_or-set_same, List, Item, offset_of, len_of, end_of, item_at, choice_of, kept_by, freed_before}
 use Rattle.linker_runs.proofs.Layouts.{freed_next, freed_none, freed_fits, freed_ends}
 use Rattle.linker_runs.proofs.relaxation.passes.lay_out.Goals as goal
 

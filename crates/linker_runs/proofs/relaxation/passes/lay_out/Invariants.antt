@@ -1,5 +1,4 @@
-use Rattle.std.proofs.Common.{◌≡◌, ◌<◌, ℕ, get_or}
-use Rattle.linker_runs.specs.Relaxing.{choice_of, freed_before}
+use Rattle.linker_runs.proofs.Imports.{◌≡◌, ◌<◌, ℕ, get_or, choice_of, freed_before}
 use Rattle.linker_runs.proofs.relaxation.passes.lay_out.Given as goal
 
 abbrev pub invariant-loop-index : goal.invariant-loop-index

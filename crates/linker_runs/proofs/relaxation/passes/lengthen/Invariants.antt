@@ -1,5 +1,4 @@
-use Rattle.std.proofs.Common.{◌≡◌, ◌<◌, ◌≤◌, ℕ, true, false, sum, get_or}
-use Rattle.linker_runs.specs.Relaxing.{choice_of, lengthened, is_in_reach}
+use Rattle.linker_runs.proofs.Imports.{◌≡◌, ◌<◌, ◌≤◌, ℕ, true, false, sum, get_or, choice_of, lengthened, is_in_reach}
 use Rattle.linker_runs.proofs.relaxation.passes.lengthen.Given as goal
 
 abbrev pub invariant-loop-index : goal.invariant-loop-index

@@ -1,7 +1,4 @@
-use Rattle.std.proofs.Common.{◌∙◌, sym, subst, arith, below_more}
-use Rattle.linker_runs.specs.Relaxing.{choice_of, after_rounds}
-use Rattle.linker_runs.specs.Choosing.{IsInReachExactly}
-use Rattle.linker_runs.specs.Inner.Relaxing.{AreForced}
+use Rattle.linker_runs.proofs.Imports.{◌∙◌, sym, subst, arith, below_more, choice_of, after_rounds, IsInReachExactly, AreForced}
 use Rattle.linker_runs.proofs.Rounds.{next_round, no_round, reach_agrees}
 use Rattle.linker_runs.proofs.Choices.{relaxed_cautious}
 use Rattle.linker_runs.proofs.relaxation.passes.settle.Goals as goal

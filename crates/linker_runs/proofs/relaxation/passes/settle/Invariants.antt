@@ -1,6 +1,4 @@
-use Rattle.std.proofs.Common.{◌≡◌, ◌<◌, ◌≤◌, ℕ}
-use Rattle.linker_runs.specs.Relaxing.{choice_of, after_rounds, AreFreed}
-use Rattle.linker_runs.specs.Choosing.{IsInReachExactly}
+use Rattle.linker_runs.proofs.Imports.{◌≡◌, ◌<◌, ◌≤◌, ℕ, choice_of, after_rounds, AreFreed, IsInReachExactly}
 use Rattle.linker_runs.proofs.relaxation.passes.settle.Given as goal
 
 abbrev pub invariant-loop-round : goal.invariant-loop-round

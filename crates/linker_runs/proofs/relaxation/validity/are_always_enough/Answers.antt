@@ -1,6 +1,4 @@
-use Rattle.std.proofs.Common.{◌≡◌, ◌+◌, ◌-◌, ◌^◌, ◌<◌, ◌≤◌, ℕ, inr, ⊎_elim, sym, subst, arith}
-use Rattle.linker_runs.proofs.Imports.{IsPowerOfTwo, IsNextPowerOfTwo, pow_mono, cases_lt}
-use Rattle.linker_runs.specs.Choosing.{IsAlwaysMultiple}
+use Rattle.linker_runs.proofs.Imports.{◌≡◌, ◌+◌, ◌-◌, ◌^◌, ◌<◌, ◌≤◌, ℕ, inr, ⊎_elim, sym, subst, arith, IsPowerOfTwo, IsNextPowerOfTwo, pow_mono, cases_lt, IsAlwaysMultiple}
 use Rattle.linker_runs.proofs.Addresses.{next_unique}
 use Rattle.linker_runs.proofs.relaxation.validity.are_always_enough.Goals as goal
 

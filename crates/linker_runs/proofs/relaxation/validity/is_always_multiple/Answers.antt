@@ -1,7 +1,4 @@
-use Rattle.std.proofs.Common.{◌≡◌, ◌+◌, ◌-◌, ◌%◌, ◌<◌, ◌↔◌, ◌∙◌, ℕ, ap, nat_eq, IsTrue, false, suc, List, inl, inr, ⊎_elim, sym, subst, arith, rules}
-use Rattle.linker_runs.specs.declared.relaxation.Item.{Item}
-use Rattle.linker_runs.specs.Relaxing.{item_at, offset_of, end_of}
-use Rattle.linker_runs.specs.Choosing.{IsAnchor, FreesMultiples, IsAlwaysMultiple}
+use Rattle.linker_runs.proofs.Imports.{◌≡◌, ◌+◌, ◌-◌, ◌%◌, ◌<◌, ◌↔◌, ◌∙◌, ℕ, ap, nat_eq, IsTrue, false, suc, List, inl, inr, ⊎_elim, sym, subst, arith, rules, Item, item_at, offset_of, end_of, IsAnchor, FreesMultiples, IsAlwaysMultiple}
 use Rattle.linker_runs.proofs.Addresses.{ends_by}
 use Rattle.linker_runs.proofs.relaxation.validity.is_always_multiple.Goals as goal
 

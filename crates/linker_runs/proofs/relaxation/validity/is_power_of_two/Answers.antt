@@ -1,5 +1,4 @@
-use Rattle.std.proofs.Common.{◌↔◌, IsTrue, subst, sym}
-use Rattle.std.specs.Int.{IsPowerOfTwo}
+use Rattle.linker_runs.proofs.Imports.{◌↔◌, IsTrue, subst, sym, IsPowerOfTwo}
 use Rattle.linker_runs.proofs.Powers.{power_test}
 use Rattle.linker_runs.proofs.relaxation.validity.is_power_of_two.Goals as goal
 

@@ -1,5 +1,4 @@
-use Rattle.std.proofs.Common.{◌≡◌, ◌<◌, take}
-use Rattle.linker_runs.specs.Choosing.{run_granularity}
+use Rattle.linker_runs.proofs.Imports.{◌≡◌, ◌<◌, take, run_granularity}
 use Rattle.linker_runs.proofs.relaxation.validity.run_granularity.Given as goal
 
 abbrev pub invariant-loop-index : goal.invariant-loop-index

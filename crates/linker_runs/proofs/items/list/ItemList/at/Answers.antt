@@ -1,5 +1,4 @@
-use Rattle.std.proofs.Common.{◌≡◌, ◌<◌, ◌∙◌, length, ap, sym, arith, rules}
-use Rattle.std.proofs.lemmas.List.{length-map}
+use Rattle.linker_runs.proofs.Imports.{◌≡◌, ◌<◌, ◌∙◌, length, ap, sym, arith, rules, length-map}
 use Rattle.linker_runs.proofs.items.list.ItemList.at.Goals as goal
 
 pub offset_bounds-elements-index : goal.offset_bounds-elements-index

@@ -1,5 +1,4 @@
-use Rattle.std.proofs.Common.{◌-◌, ◌<◌, ◌≤◌, length}
-use Rattle.linker_runs.specs.Relaxing.{item_at, end_of}
+use Rattle.linker_runs.proofs.Imports.{◌-◌, ◌<◌, ◌≤◌, length, item_at, end_of}
 use Rattle.linker_runs.proofs.items.list.ItemList.place_of.Given as goal
 
 abbrev pub invariant-loop-low : goal.invariant-loop-low
