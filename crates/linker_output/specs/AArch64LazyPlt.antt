@@ -1,8 +1,7 @@
 -- AArch64: entries go to the address that their word has, and by the header to the dynamic linker's
 -- resolver (Arm Architecture Reference Manual for A-profile, DDI 0487, C6.2).
-use Rattle.std.specs.Prelude.{◌≡◌, ◌==◌, ◌||◌, ◌≤◌, ◌/◌, ◌^◌, ◌<◌, ℕ, List, Bool, false, Option}
-use Rattle.std.specs.Prelude.{Some, ◌+ℤ◌, ◌*ℤ◌, pos}
-use Rattle.std.specs.Prelude.{IsSomeAnd, if◌then◌else◌}
+use Rattle.std.specs.Prelude.{◌==◌, ◌||◌, List, Bool, false, Option, Some, IsSomeAnd, if◌then◌else◌}
+use Rattle.std.specs.Prelude.{◌≡◌, ◌≤◌, ◌/◌, ◌^◌, ◌<◌, ℕ, ◌+ℤ◌, ◌*ℤ◌, pos}
 use Rattle.linker_base.specs.Bits.{field, signed}
 use Rattle.linker_utils.specs.AArch64Rewrites.{rd_of, rn_of}
 use Rattle.linker_elf.specs.Value.{sum_64, difference_64}
@@ -12,9 +11,8 @@ use Rattle.linker_laws.specs.AArch64Machine.{in_64_bits}
 use Rattle.linker_laws.specs.Machine.{stored}
 use Rattle.linker_output.specs.AArch64Stubs.{jumped, is_bti_c}
 use Rattle.linker_output.specs.LazyPlt.{IsCode, header_places}
-use Rattle.linker_output.specs.LazyPlts.{aarch64_entry, aarch64_header}
-use Rattle.linker_output.specs.LazyPlts.{aarch64_landing_header, aarch64_wide_entry}
-use Rattle.linker_output.specs.LazyPlts.{aarch64_landing_entry}
+use Rattle.linker_output.specs.LazyPlts.{aarch64_landing_header, aarch64_landing_entry}
+use Rattle.linker_output.specs.LazyPlts.{aarch64_entry, aarch64_header, aarch64_wide_entry}
 use Rattle.linker_output.specs.LazyRuns.{words, or_else, run_by}
 use Rattle.linker_output.specs.declared.lazy_plt.LazyEntry.{LazyEntry}
 use Rattle.linker_output.specs.declared.lazy_plt.LazyPiece.{LazyPiece}

@@ -1,11 +1,9 @@
 -- The dynamic relocations of a GOT entry's words (ELF Handling For Thread-Local Storage, and the
 -- psABIs' tables of relocations).
-use Rattle.std.specs.Prelude.{ℕ, Bool, ◌&&◌, ◌==◌, if◌then◌else◌, List, [], ◌∷◌, Option}
-use Rattle.std.specs.Prelude.{Some, None}
+use Rattle.std.specs.Prelude.{ℕ, Bool, ◌&&◌, ◌==◌, if◌then◌else◌, List, [], ◌∷◌, Option, Some, None}
 use Rattle.linker_section.specs.declared.needed.EntryClass.{EntryClass}
-use Rattle.linker_section.specs.declared.needed.EntryClass.TheVariants.{Address, ThreadOffset}
-use Rattle.linker_section.specs.declared.needed.EntryClass.TheVariants.{ModuleOffset, Module}
-use Rattle.linker_section.specs.declared.needed.EntryClass.TheVariants.{Descriptor}
+use Rattle.linker_section.specs.declared.needed.EntryClass.TheVariants.{ThreadOffset, ModuleOffset}
+use Rattle.linker_section.specs.declared.needed.EntryClass.TheVariants.{Address, Module, Descriptor}
 
 -- a type of dynamic relocations: its `r_type` in ELF files, and its name
 pub record DynamicKind : Type 0 where

@@ -10,9 +10,8 @@ use Rattle.linker_output.specs.declared.got.Origins.{Origins}
 use Rattle.linker_output.specs.declared.got.ThreadPointer.{ThreadPointer}
 use Rattle.linker_output.specs.declared.got.ThreadPointer.TheVariants.{AboveImage, BelowImage}
 use Rattle.linker_section.specs.declared.needed.EntryClass.{EntryClass}
-use Rattle.linker_section.specs.declared.needed.EntryClass.TheVariants.{Address, ThreadOffset}
-use Rattle.linker_section.specs.declared.needed.EntryClass.TheVariants.{ModuleOffset, Module}
-use Rattle.linker_section.specs.declared.needed.EntryClass.TheVariants.{Descriptor}
+use Rattle.linker_section.specs.declared.needed.EntryClass.TheVariants.{ThreadOffset, ModuleOffset}
+use Rattle.linker_section.specs.declared.needed.EntryClass.TheVariants.{Address, Module, Descriptor}
 
 -- ---- thread-local storage
 

@@ -1,7 +1,6 @@
 -- A lazy PLT: pieces of code, whose fields have the values of relocations, and what its words hold.
-use Rattle.std.specs.Prelude.{◌≡◌, ◌≤◌, ◌<◌, ◌+◌, ◌-◌, ◌++◌, ◌⊎◌, ◌^◌, ℕ, List, [], ◌∷◌, length}
-use Rattle.std.specs.Prelude.{take, drop, min}
-use Rattle.std.specs.Prelude.{Option, Some, None, slice_get, true, false}
+use Rattle.std.specs.Prelude.{◌++◌, List, length, take, drop, Option, Some, None, slice_get, false}
+use Rattle.std.specs.Prelude.{◌≡◌, ◌≤◌, ◌<◌, ◌+◌, ◌-◌, ◌⊎◌, ◌^◌, ℕ, [], ◌∷◌, min, true}
 use Rattle.linker_elf.specs.Value.{sum_64}
 use Rattle.linker_elf.specs.declared.elf.relocate.RelocateError.{RelocateError}
 use Rattle.linker_elf.specs.declared.elf.value.Operands.{Operands}

@@ -1,9 +1,8 @@
 -- PowerPC64: an entry goes by the header to the dynamic linker's resolver (Power ISA, version 3.1,
 -- book I, "Branch Facility", "Fixed-Point Facility"; 64-bit ELF V2 ABI for Power, "Procedure
 -- Linkage Table").
-use Rattle.std.specs.Prelude.{◌≡◌, ◌==◌, ◌&&◌, ◌||◌, ◌+◌, ◌*◌, ◌/◌, ◌%◌, ◌-◌, ◌^◌, ◌<◌, ℕ, List}
-use Rattle.std.specs.Prelude.{Bool, false, Option, Some, None}
-use Rattle.std.specs.Prelude.{IsSomeAnd, if◌then◌else◌, drop}
+use Rattle.std.specs.Prelude.{◌==◌, ◌&&◌, ◌||◌, List, Bool, false, Option, IsSomeAnd, if◌then◌else◌}
+use Rattle.std.specs.Prelude.{◌≡◌, ◌+◌, ◌*◌, ◌/◌, ◌%◌, ◌-◌, ◌^◌, ◌<◌, ℕ, Some, None, drop}
 use Rattle.linker_base.specs.Bits.{field}
 use Rattle.linker_elf.specs.Ppc64.{ppc64_form}
 use Rattle.linker_elf.specs.Relocate.{number_of_bytes}

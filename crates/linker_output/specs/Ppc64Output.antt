@@ -6,9 +6,8 @@ use Rattle.linker_elf.specs.Ppc64Relocations.{ppc64_name}
 use Rattle.linker_elf.specs.declared.ppc64.relocations.Ppc64Relocation.TheVariants as r
 use Rattle.linker_output.specs.Layout.{Run}
 use Rattle.linker_output.specs.Stubs.{StubCode}
-use Rattle.linker_output.specs.Tables.{field_of, code_of_words, kind, kind_of, units_of, symbol}
-use Rattle.linker_output.specs.Tables.{only, tag}
-use Rattle.linker_output.specs.Tables.{four, load_of, plain_stub}
+use Rattle.linker_output.specs.Tables.{field_of, code_of_words, kind, kind_of, units_of, plain_stub}
+use Rattle.linker_output.specs.Tables.{symbol, only, tag, four, load_of}
 use Rattle.linker_output.specs.View.{Description}
 use Rattle.linker_output.specs.declared.tags.TagRule.TheVariants.{LazyPlt, Options}
 use Rattle.linker_output.specs.declared.got.ThreadPointer.TheVariants.{BelowImage}

@@ -1,9 +1,8 @@
 -- PowerPC64: what the functions do that save and restore registers (64-bit ELF V2 ABI for Power,
 -- "Register Save and Restore Functions"; Power ISA, version 3.1, book I, "Branch Facility").
-use Rattle.std.specs.Prelude.{◌≡◌, ◌==◌, ◌&&◌, Bool, ◌+◌, ◌-◌, ◌*◌, ◌/◌, ◌%◌, ◌<◌, ◌≤◌, ℕ, zero}
-use Rattle.std.specs.Prelude.{suc, List, [], ◌∷◌, false}
-use Rattle.std.specs.Prelude.{Option, Some, None, IsSomeAnd, nat_lt, nat_le, if◌then◌else◌, length}
-use Rattle.std.specs.Prelude.{slice_get, pos, negsuc}
+use Rattle.std.specs.Prelude.{Option, IsSomeAnd, nat_lt, nat_le, if◌then◌else◌, length, slice_get}
+use Rattle.std.specs.Prelude.{◌≡◌, ◌==◌, ◌&&◌, Bool, ◌+◌, zero, List, [], false, Some, None, negsuc}
+use Rattle.std.specs.Prelude.{◌-◌, ◌*◌, ◌/◌, ◌%◌, ◌<◌, ◌≤◌, ℕ, suc, ◌∷◌, pos}
 use Rattle.linker_base.specs.Bits.{field}
 use Rattle.linker_elf.specs.Value.{difference_64}
 use Rattle.linker_laws.specs.Machine.{Memory, moved, loaded, stored}

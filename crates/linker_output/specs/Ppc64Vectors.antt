@@ -1,9 +1,8 @@
 -- PowerPC64: what the functions do that save and restore vector registers (64-bit ELF V2 ABI for
 -- Power, "Vector Save and Restore Functions"; Power ISA, version 3.1, book I, "Vector Facility").
-use Rattle.std.specs.Prelude.{◌≡◌, ◌==◌, ◌&&◌, Bool, ◌+◌, ◌-◌, ◌*◌, ◌/◌, ◌%◌, ◌<◌, ◌≤◌, ℕ, List}
-use Rattle.std.specs.Prelude.{false}
-use Rattle.std.specs.Prelude.{Option, Some, None, IsSomeAnd, nat_lt, if◌then◌else◌, length}
-use Rattle.std.specs.Prelude.{slice_get, negsuc}
+use Rattle.std.specs.Prelude.{Option, IsSomeAnd, nat_lt, if◌then◌else◌, length, slice_get, negsuc}
+use Rattle.std.specs.Prelude.{◌≡◌, ◌==◌, ◌&&◌, Bool, ◌+◌, ◌-◌, ◌*◌, ◌/◌, ℕ, List, false, Some, None}
+use Rattle.std.specs.Prelude.{◌%◌, ◌<◌, ◌≤◌}
 use Rattle.linker_base.specs.Bits.{field}
 use Rattle.linker_elf.specs.Value.{difference_64}
 use Rattle.linker_laws.specs.Machine.{Memory, moved, loaded}

@@ -1,10 +1,9 @@
 -- Notes of program properties (Linux extensions to the generic ABI, "Program property"; the psABIs'
 -- processor-specific types).
-use Rattle.std.specs.Prelude.{◌≡◌, ℕ, ◌+◌, ◌-◌, ◌*◌, ◌/◌, ◌^◌, ◌%◌, ◌==◌, ◌&&◌, ◌||◌, ◌<◌, ◌≤◌}
-use Rattle.std.specs.Prelude.{◌++◌, ◌⊎◌}
-use Rattle.std.specs.Prelude.{if◌then◌else◌, nat_le, nat_lt, not, Bool, true, List, [], ◌∷◌, length}
-use Rattle.std.specs.Prelude.{drop, max}
-use Rattle.std.specs.Prelude.{suc, zero, Option, Some, None, Result, Ok, Err, bit_and, bit_or}
+use Rattle.std.specs.Prelude.{◌==◌, if◌then◌else◌, nat_le, nat_lt, length, Option, Result, bit_and}
+use Rattle.std.specs.Prelude.{ℕ, ◌&&◌, ◌||◌, ◌++◌, Bool, true, List, drop, zero, Some, None, bit_or}
+use Rattle.std.specs.Prelude.{◌≡◌, ◌+◌, ◌-◌, ◌*◌, ◌/◌, ◌^◌, ◌%◌, ◌<◌, ◌≤◌, ◌⊎◌, not, ◌∷◌, max, suc}
+use Rattle.std.specs.Prelude.{[], Ok, Err}
 use Rattle.std.specs.Int.{w64, from_le_bytes, to_le_bytes}
 use Rattle.linker_elf.specs.declared.elf.architecture.Architecture.{Architecture}
 use Rattle.linker_elf.specs.declared.elf.architecture.Architecture.TheVariants.{AArch64, RiscV}
@@ -16,11 +15,10 @@ use Rattle.linker_output.specs.declared.properties.PropertyRule.TheVariants.{All
 use Rattle.linker_output.specs.declared.properties.PropertyRule.TheVariants.{Largest, Present, Same}
 use Rattle.linker_output.specs.declared.properties.PropertyError.{PropertyError}
 use Rattle.linker_output.specs.declared.properties.PropertyError.TheVariants.{NotProperties, CutOff}
-use Rattle.linker_output.specs.declared.properties.PropertyError.TheVariants.{WrongSize}
 use Rattle.linker_output.specs.declared.properties.PropertyError.TheVariants.{NotAscending, Differs}
-use Rattle.linker_output.specs.declared.properties.PropertyError.TheVariants.{Unknown}
-use Rattle.linker_output.specs.declared.properties.PropertyError.TheVariants.{TooLarge, TooMany}
-use Rattle.linker_output.specs.declared.properties.PropertyError.TheVariants.{TooShort}
+use Rattle.linker_output.specs.declared.properties.PropertyError.TheVariants.{WrongSize, TooLarge}
+use Rattle.linker_output.specs.declared.properties.PropertyError.TheVariants.{Unknown, TooShort}
+use Rattle.linker_output.specs.declared.properties.PropertyError.TheVariants.{TooMany}
 
 -- ---- which rule a type has
 

@@ -1,16 +1,14 @@
 -- How branches go to their targets: directly, or by a stub.
-use Rattle.std.specs.Prelude.{◌≡◌, ◌≢◌, ◌↔◌, ◌==◌, ◌&&◌, ◌||◌, ◌/◌, ◌%◌, ◌^◌, ◌≤◌, ℕ, ℤ, List, []}
-use Rattle.std.specs.Prelude.{◌∷◌, Bool}
-use Rattle.std.specs.Prelude.{true, false, not, nat_lt, length, drop, if◌then◌else◌, IsTrue}
-use Rattle.std.specs.Prelude.{Option, Some, None, Result, Ok, Err}
+use Rattle.std.specs.Prelude.{◌==◌, ℕ, false, nat_lt, length, if◌then◌else◌, IsTrue, Option, Result}
+use Rattle.std.specs.Prelude.{◌≡◌, ◌≢◌, ◌↔◌, ◌&&◌, ◌||◌, ◌/◌, ℤ, List, Bool, true, drop, Some, None}
+use Rattle.std.specs.Prelude.{◌%◌, ◌^◌, ◌≤◌, [], ◌∷◌, not, Ok, Err}
 use Rattle.std.specs.Int.{w64, cast_unsigned}
 use Rattle.linker_elf.specs.ElfNames.{r_type_of}
 use Rattle.linker_elf.specs.Ppc64Relocations.{ppc64_name}
 use Rattle.linker_elf.specs.Relocate.{IsAccepted}
 use Rattle.linker_elf.specs.Value.{sum_64}
 use Rattle.linker_elf.specs.declared.aarch64.forms.AArch64Instruction.TheVariants.{JumpCall}
-use Rattle.linker_elf.specs.declared.elf.AnyForm.TheVariants.{AArch64, LoongArch64}
-use Rattle.linker_elf.specs.declared.elf.AnyForm.TheVariants.{Ppc64}
+use Rattle.linker_elf.specs.declared.elf.AnyForm.TheVariants.{AArch64, LoongArch64, Ppc64}
 use Rattle.linker_elf.specs.declared.elf.RowInfo.{RowInfo}
 use Rattle.linker_elf.specs.declared.elf.RowSize.{RowSize}
 use Rattle.linker_elf.specs.declared.elf.RowSize.TheVariants.{BitMasking}

@@ -1,7 +1,6 @@
 -- Stubs: the fields of their code have the values of relocations.
-use Rattle.std.specs.Prelude.{◌≡◌, ◌≤◌, ◌<◌, ◌+◌, ◌++◌, ◌⊎◌, ℕ, ℤ, List, length, take, drop, min}
-use Rattle.std.specs.Prelude.{◌^◌, ◌-◌}
-use Rattle.std.specs.Prelude.{Option, Some, None, true, false}
+use Rattle.std.specs.Prelude.{◌≡◌, ◌++◌, List, length, take, drop, Option, Some, None, true, false}
+use Rattle.std.specs.Prelude.{◌≤◌, ◌<◌, ◌+◌, ◌⊎◌, ℕ, ℤ, min, ◌^◌, ◌-◌}
 use Rattle.linker_elf.specs.Applied.{IsApplied}
 use Rattle.linker_elf.specs.Relocate.{IsCause}
 use Rattle.linker_elf.specs.Value.{sum_64, value_of}

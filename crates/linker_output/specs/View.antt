@@ -18,10 +18,9 @@ use Rattle.linker_output.specs.declared.layout.SymbolPlace.{SymbolPlace}
 use Rattle.linker_output.specs.declared.properties.LandingProperty.{LandingProperty}
 use Rattle.linker_output.specs.declared.stubs.Stub.{Stub}
 use Rattle.linker_output.specs.declared.stubs.StubKind.{StubKind}
-use Rattle.linker_output.specs.declared.stubs.StubKind.TheVariants.{Load, Jump}
-use Rattle.linker_output.specs.declared.stubs.StubKind.TheVariants.{Far, FarRelative, LandingLoad}
-use Rattle.linker_output.specs.declared.stubs.StubKind.TheVariants.{TocLoad, TocFar}
-use Rattle.linker_output.specs.declared.stubs.StubKind.TheVariants.{PrefixedLoad, PrefixedJump}
+use Rattle.linker_output.specs.declared.stubs.StubKind.TheVariants.{Far, PrefixedLoad, PrefixedJump}
+use Rattle.linker_output.specs.declared.stubs.StubKind.TheVariants.{Load, FarRelative, LandingLoad}
+use Rattle.linker_output.specs.declared.stubs.StubKind.TheVariants.{Jump, TocLoad, TocFar}
 use Rattle.linker_output.specs.declared.tags.DynamicTag.{DynamicTag}
 use Rattle.linker_output.specs.declared.description.Target.{Target}
 use Rattle.linker_elf.specs.declared.elf.architecture.Architecture.{Architecture}

@@ -1,9 +1,8 @@
 -- x86-64: entries go to the address that their word has, and by the header to the dynamic linker's
 -- resolver (Intel 64 and IA-32 Architectures Software Developer's Manual, volume 2, "JMP", "PUSH";
 -- x86-64 psABI, "Procedure Linkage Table").
-use Rattle.std.specs.Prelude.{◌≡◌, ◌==◌, ◌&&◌, ◌≤◌, ◌^◌, ◌<◌, ℕ, zero, suc, List, ◌∷◌, false, drop}
-use Rattle.std.specs.Prelude.{Option, Some, None}
-use Rattle.std.specs.Prelude.{IsSomeAnd, if◌then◌else◌}
+use Rattle.std.specs.Prelude.{◌==◌, ◌&&◌, zero, List, false, drop, Option, IsSomeAnd, if◌then◌else◌}
+use Rattle.std.specs.Prelude.{◌≡◌, ◌≤◌, ◌^◌, ◌<◌, ℕ, suc, ◌∷◌, Some, None}
 use Rattle.linker_elf.specs.Relocate.{number_of_bytes}
 use Rattle.linker_elf.specs.Value.{sum_64, difference_64}
 use Rattle.linker_laws.specs.X86Machine as machine

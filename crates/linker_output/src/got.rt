@@ -2,9 +2,8 @@
 
 ghost use Rattle.std.specs.Prelude.{◌≡◌, IfSome};
 ghost use Rattle.linker_elf.specs.Value.{sum_64};
-ghost use Rattle.linker_output.specs.Got.{origins_of, entry_words, static_words, got_header_of};
-ghost use Rattle.linker_output.specs.Got.{LeadsTo};
-ghost use Rattle.linker_output.specs.Got.{unit_of, at_or_below, at_or_above};
+ghost use Rattle.linker_output.specs.Got.{entry_words, static_words, got_header_of, at_or_below};
+ghost use Rattle.linker_output.specs.Got.{origins_of, LeadsTo, unit_of, at_or_above};
 
 use crate::description::Target;
 use linker_section::needed::EntryClass;

@@ -7,12 +7,10 @@
 
 ghost use Rattle.std.specs.Prelude.{◌≡◌, ◌+◌, ◌≤◌, length, min, IfOk, OnOk, IfErr};
 ghost use Rattle.std.specs.Prelude.{Some, None, IfSome, IfNone};
-ghost use Rattle.linker_output.specs.LazyPlt.{view_plt, word_by, word_in, operands_at};
-ghost use Rattle.linker_output.specs.LazyPlt.{WritesPieces};
-ghost use Rattle.linker_output.specs.LazyPlt.{piece_len, pieces_len, capped_len, IsPiece};
-ghost use Rattle.linker_output.specs.LazyPlt.{RejectsPiece};
-ghost use Rattle.linker_output.specs.LazyPlt.{RejectsPieces, WritesCode, RejectsCode};
-ghost use Rattle.linker_output.specs.LazyPlt.{header_places};
+ghost use Rattle.linker_output.specs.LazyPlt.{view_plt, WritesPieces, RejectsPieces, header_places};
+ghost use Rattle.linker_output.specs.LazyPlt.{operands_at, pieces_len, RejectsPiece, RejectsCode};
+ghost use Rattle.linker_output.specs.LazyPlt.{word_by, word_in, piece_len, capped_len, WritesCode};
+ghost use Rattle.linker_output.specs.LazyPlt.{IsPiece};
 ghost use Rattle.linker_output.specs.LazyPlts.{lazy_plt_of, plt_of_form};
 
 use crate::lazy_plts;

@@ -10,16 +10,13 @@
 
 ghost use Rattle.std.specs.Prelude.{◌≡◌, ◌≤◌, ◌<◌, ◌^◌, ◌+◌, ◌*◌, ◌∷◌, [], ℕ, IfOk, IfErr, None};
 ghost use Rattle.std.specs.Prelude.{Ok, Err, List, length, set, take};
-ghost use Rattle.linker_output.specs.Properties.{rule_of, processor_rule, of_value, unless_zero};
-ghost use Rattle.linker_output.specs.Properties.{value_of, merged};
-ghost use Rattle.linker_output.specs.Properties.{of_kind, Merges, MergesToOne, MergesAlike};
-ghost use Rattle.linker_output.specs.Properties.{merged_kind, WritesMerged, RejectsMerge};
-ghost use Rattle.linker_output.specs.Properties.{DiffersAt};
-ghost use Rattle.linker_output.specs.Properties.{word_at, size_of, padded, property_at, visit_note};
-ghost use Rattle.linker_output.specs.Properties.{visit_property, visit};
-ghost use Rattle.linker_output.specs.Properties.{properties_of, WritesRead, RejectsRead};
-ghost use Rattle.linker_output.specs.Properties.{fits, property_words, list_words, WritesNote};
-ghost use Rattle.linker_output.specs.Properties.{RejectsNote};
+ghost use Rattle.linker_output.specs.Properties.{processor_rule, visit_property, property_words};
+ghost use Rattle.linker_output.specs.Properties.{merged, WritesMerged, RejectsMerge, properties_of};
+ghost use Rattle.linker_output.specs.Properties.{unless_zero, MergesToOne, MergesAlike, visit_note};
+ghost use Rattle.linker_output.specs.Properties.{merged_kind, property_at, WritesRead, RejectsRead};
+ghost use Rattle.linker_output.specs.Properties.{DiffersAt, list_words, WritesNote, RejectsNote};
+ghost use Rattle.linker_output.specs.Properties.{rule_of, of_value, value_of, of_kind, word_at};
+ghost use Rattle.linker_output.specs.Properties.{Merges, size_of, padded, visit, fits};
 ghost use Rattle.linker_output.specs.Inner.Properties.{put_all, IsWritable, IsNotWritable, Puts};
 ghost use Rattle.linker_output.specs.Inner.Properties.{AreSlim};
 

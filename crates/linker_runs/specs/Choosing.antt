@@ -10,12 +10,10 @@ use Rattle.linker_runs.specs.declared.relaxation.Alignment.{Alignment}
 use Rattle.linker_runs.specs.declared.relaxation.Item.{Item}
 use Rattle.linker_runs.specs.declared.relaxation.Item.TheVariants.{Site, Aligned}
 use Rattle.linker_runs.specs.declared.shapes.loongarch64.TheConstants.{CALL36}
-use Rattle.linker_runs.specs.Relaxing.{offset_of, end_of, target_of, item_at, place_of, shape_len}
-use Rattle.linker_runs.specs.Relaxing.{short_shape, needed, freed_before, item_reaches}
-use Rattle.linker_runs.specs.Relaxing.{is_in_reach}
-use Rattle.linker_runs.specs.Relaxing.{choice_of, after_rounds, most_rounds, AreInOrder}
-use Rattle.linker_runs.specs.Relaxing.{AreRelaxed}
-use Rattle.linker_runs.specs.Relaxing.{AreKeptBytes, AreFreed}
+use Rattle.linker_runs.specs.Relaxing.{freed_before, item_reaches, after_rounds, AreKeptBytes}
+use Rattle.linker_runs.specs.Relaxing.{offset_of, short_shape, is_in_reach, most_rounds, AreInOrder}
+use Rattle.linker_runs.specs.Relaxing.{target_of, place_of, shape_len, choice_of, AreRelaxed}
+use Rattle.linker_runs.specs.Relaxing.{end_of, item_at, needed, AreFreed}
 
 -- the greatest granularity of short shapes, of an item and of a run
 abbrev pub shapes_granularity : Shapes → ℕ

@@ -7,18 +7,15 @@ use Rattle.linker_runs.specs.declared.relaxation.Alignment.{Alignment}
 use Rattle.linker_runs.specs.declared.relaxation.Item.{Item}
 use Rattle.linker_runs.specs.declared.relaxation.Item.TheVariants.{Site, Aligned}
 use Rattle.linker_runs.specs.declared.relaxation.faults.Fault.{Fault}
-use Rattle.linker_runs.specs.declared.relaxation.faults.Fault.TheVariants.{Overlaps, TooHigh}
-use Rattle.linker_runs.specs.declared.relaxation.faults.Fault.TheVariants.{TooManyShapes}
-use Rattle.linker_runs.specs.declared.relaxation.faults.Fault.TheVariants.{ShapeTooLong}
-use Rattle.linker_runs.specs.declared.relaxation.faults.Fault.TheVariants.{ShapesNotAscending}
-use Rattle.linker_runs.specs.declared.relaxation.faults.Fault.TheVariants.{BadGranularity, BadReach}
-use Rattle.linker_runs.specs.declared.relaxation.faults.Fault.TheVariants.{BadAlignment}
-use Rattle.linker_runs.specs.declared.relaxation.faults.Fault.TheVariants.{UnevenShape, Misaligned}
 use Rattle.linker_runs.specs.declared.relaxation.faults.Fault.TheVariants.{AlignmentBelowGranularity}
-use Rattle.linker_runs.specs.declared.relaxation.faults.Fault.TheVariants.{UnevenEnd, TooFewNops}
-use Rattle.linker_runs.specs.declared.relaxation.faults.Fault.TheVariants.{UnevenNops}
-use Rattle.linker_runs.specs.declared.relaxation.faults.Fault.TheVariants.{TargetInside}
-use Rattle.linker_runs.specs.declared.relaxation.faults.Fault.TheVariants.{MayBeMisaligned}
+use Rattle.linker_runs.specs.declared.relaxation.faults.Fault.TheVariants.{ShapesNotAscending}
+use Rattle.linker_runs.specs.declared.relaxation.faults.Fault.TheVariants.{TooHigh, MayBeMisaligned}
+use Rattle.linker_runs.specs.declared.relaxation.faults.Fault.TheVariants.{Overlaps, BadGranularity}
+use Rattle.linker_runs.specs.declared.relaxation.faults.Fault.TheVariants.{TooManyShapes, UnevenEnd}
+use Rattle.linker_runs.specs.declared.relaxation.faults.Fault.TheVariants.{ShapeTooLong, Misaligned}
+use Rattle.linker_runs.specs.declared.relaxation.faults.Fault.TheVariants.{BadAlignment, TooFewNops}
+use Rattle.linker_runs.specs.declared.relaxation.faults.Fault.TheVariants.{UnevenNops, TargetInside}
+use Rattle.linker_runs.specs.declared.relaxation.faults.Fault.TheVariants.{BadReach, UnevenShape}
 use Rattle.linker_runs.specs.declared.relaxation.faults.ItemFault.{ItemFault}
 use Rattle.linker_runs.specs.Relaxing.{offset_of, end_of, target_of, item_at, shape_len}
 use Rattle.linker_runs.specs.Relaxing.{short_shape}

@@ -1,8 +1,7 @@
 -- The items that LoongArch's relocations make (LoongArch ELF psABI, "Relocations", `R_LARCH_ALIGN`,
 -- `R_LARCH_RELAX`, and linker relaxation).
-use Rattle.std.specs.Prelude.{◌≡◌, ℕ, ◌+◌, ◌/◌, ◌^◌, ◌<◌, ◌≤◌, ◌⊎◌, List, length, pos}
-use Rattle.std.specs.Prelude.{Option, None, Some, Bool, true, false, ◌&&◌, nat_lt, ◌%◌}
-use Rattle.std.specs.Prelude.{if◌then◌else◌}
+use Rattle.std.specs.Prelude.{List, length, Option, None, Some, Bool, false, nat_lt, if◌then◌else◌}
+use Rattle.std.specs.Prelude.{◌≡◌, ℕ, ◌+◌, ◌/◌, ◌^◌, ◌<◌, ◌≤◌, ◌⊎◌, pos, true, ◌&&◌, ◌%◌}
 use Rattle.std.specs.Int.{IsNextPowerOfTwo}
 use Rattle.linker_base.specs.Bits.{field}
 use Rattle.linker_elf.specs.ElfNames.{r_type_of}

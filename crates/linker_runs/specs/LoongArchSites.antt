@@ -12,8 +12,7 @@ use Rattle.linker_elf.specs.declared.elf.Sign.TheVariants.{Signed}
 use Rattle.linker_elf.specs.declared.loongarch64.forms.LoongArch64Instruction.TheVariants.{Shift5}
 use Rattle.linker_elf.specs.declared.loongarch64.forms.LoongArch64Instruction.TheVariants.{Branch26}
 use Rattle.linker_elf.specs.declared.loongarch64.relocations.LoongArch64Relocation.TheVariants as r
-use Rattle.linker_utils.specs.LoongArchRewrites.{IsAddi, IsCall, IsPair, word_at}
-use Rattle.linker_utils.specs.LoongArchRewrites.{rd_of}
+use Rattle.linker_utils.specs.LoongArchRewrites.{IsAddi, IsCall, IsPair, word_at, rd_of}
 use Rattle.linker_laws.specs.Schemes.{IsAddress}
 use Rattle.linker_runs.specs.Sites.{Template, operands_of, IsRelocated, IsInReach, IsOutOfReach}
 use Rattle.linker_runs.specs.declared.packing.ItemError.{ItemError}

@@ -14,10 +14,9 @@ use Rattle.linker_runs.specs.LoongArchSites.{LoongArchBecomes, LoongArchAccepts,
 use Rattle.linker_runs.specs.declared.packing.Machine.{Machine}
 use Rattle.linker_runs.specs.declared.packing.Machine.TheVariants.{RiscV, LoongArch64}
 use Rattle.linker_runs.specs.declared.packing.ItemError.{ItemError}
-use Rattle.linker_runs.specs.declared.packing.ItemError.TheVariants.{Overlaps, OutOfSection}
-use Rattle.linker_runs.specs.declared.packing.ItemError.TheVariants.{DeletedOutside}
-use Rattle.linker_runs.specs.declared.packing.ItemError.TheVariants.{NotItsFirstBytes}
-use Rattle.linker_runs.specs.declared.packing.ItemError.TheVariants.{NotItsInstructions, NoShape}
+use Rattle.linker_runs.specs.declared.packing.ItemError.TheVariants.{Overlaps, NotItsInstructions}
+use Rattle.linker_runs.specs.declared.packing.ItemError.TheVariants.{OutOfSection, NotItsFirstBytes}
+use Rattle.linker_runs.specs.declared.packing.ItemError.TheVariants.{DeletedOutside, NoShape}
 use Rattle.linker_runs.specs.declared.packing.RejectedItem.{RejectedItem}
 
 -- A section of a run.

@@ -7,11 +7,10 @@ ghost use Rattle.linker_runs.specs.declared.relaxation.Site.{Site as sites};
 ghost use Rattle.linker_runs.specs.declared.relaxation.Alignment.{Alignment as alignments};
 ghost use Rattle.linker_runs.specs.Relocations.{relocation_at};
 ghost use Rattle.linker_runs.specs.LoongArchSites.{IsCall36At, IsPcalaAt};
-ghost use Rattle.linker_runs.specs.LoongArchItems.{HasLoongArchName, AreStated, stated_limit};
-ghost use Rattle.linker_runs.specs.LoongArchItems.{AreLoongArchNops, IsLoongArchAlignment};
-ghost use Rattle.linker_runs.specs.LoongArchItems.{IsRelaxable, IsCall36, IsPcala};
-ghost use Rattle.linker_runs.specs.LoongArchItems.{IsLoongArchSite, LoongArchMakes};
-ghost use Rattle.linker_runs.specs.LoongArchItems.{IsLoongArchFormed};
+ghost use Rattle.linker_runs.specs.LoongArchItems.{IsLoongArchAlignment, IsLoongArchFormed};
+ghost use Rattle.linker_runs.specs.LoongArchItems.{HasLoongArchName, AreLoongArchNops, IsRelaxable};
+ghost use Rattle.linker_runs.specs.LoongArchItems.{stated_limit, IsLoongArchSite, LoongArchMakes};
+ghost use Rattle.linker_runs.specs.LoongArchItems.{AreStated, IsCall36, IsPcala};
 
 use crate::items::{
     AsRelocation, Relocation, has_bytes, is_marked, relocation_at, unsigned_addend,

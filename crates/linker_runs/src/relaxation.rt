@@ -3,11 +3,9 @@
 
 ghost use Rattle.std.specs.Prelude.{◌≡◌, ◌+◌, ◌-◌, ◌%◌, ◌<◌, ◌≤◌, ◌^◌, ℕ};
 ghost use Rattle.std.specs.Prelude.{length, map, true, false, nat_le, IfOk};
-ghost use Rattle.linker_runs.specs.Relaxing.{offset_of, len_of, end_of, target_of, needed};
-ghost use Rattle.linker_runs.specs.Relaxing.{padding_at};
-ghost use Rattle.linker_runs.specs.Relaxing.{shape_len, short_shape, shape_reaches, is_reached};
-ghost use Rattle.linker_runs.specs.Relaxing.{kept_by, item_reaches, IsSound};
-ghost use Rattle.linker_runs.specs.Relaxing.{AreInOrder};
+ghost use Rattle.linker_runs.specs.Relaxing.{padding_at, short_shape, shape_reaches, item_reaches};
+ghost use Rattle.linker_runs.specs.Relaxing.{offset_of, target_of, is_reached, kept_by, AreInOrder};
+ghost use Rattle.linker_runs.specs.Relaxing.{len_of, end_of, needed, shape_len, IsSound};
 ghost use Rattle.linker_runs.specs.Choosing.{AreItems, IsRelaxation};
 ghost use Rattle.linker_runs.specs.Deleting.{deletions_of_run, TranslationsAreExact};
 

@@ -7,11 +7,10 @@ ghost use Rattle.linker_runs.specs.declared.relaxation.Item.{Item as items};
 ghost use Rattle.linker_riscv64.specs.RiscVCalls.{link_register};
 ghost use Rattle.linker_riscv64.specs.declared.calls.LinkRegister.TheVariants.{OfJalr};
 ghost use Rattle.linker_runs.specs.Relocations.{relocation_at};
-ghost use Rattle.linker_runs.specs.RiscVItems.{HasRiscVName, IsOfCall, AreRiscVNops, IsCallAt};
-ghost use Rattle.linker_runs.specs.RiscVItems.{links_short};
-ghost use Rattle.linker_runs.specs.RiscVItems.{Aligns, IsNextAlignment};
-ghost use Rattle.linker_runs.specs.RiscVItems.{AreEnoughAt, MayFree, IsShapesOf, IsRiscVSite};
-ghost use Rattle.linker_runs.specs.RiscVItems.{RiscVMakes, IsRiscVFormed};
+ghost use Rattle.linker_runs.specs.RiscVItems.{HasRiscVName, IsNextAlignment, IsRiscVFormed};
+ghost use Rattle.linker_runs.specs.RiscVItems.{AreRiscVNops, links_short, AreEnoughAt, IsRiscVSite};
+ghost use Rattle.linker_runs.specs.RiscVItems.{IsOfCall, IsCallAt, MayFree, IsShapesOf, RiscVMakes};
+ghost use Rattle.linker_runs.specs.RiscVItems.{Aligns};
 
 use crate::items::{
     AsRelocation, Relocation, has_bytes, is_marked, relocation_at, unsigned_addend,

@@ -1,7 +1,6 @@
 -- What holds while stubs are placed.
-use Rattle.std.specs.Prelude.{◌≡◌, ◌≢◌, ◌≤◌, ◌<◌, ◌+◌, ◌*◌, ◌%◌, ◌⊎◌, ℕ, zero, suc, List, length}
-use Rattle.std.specs.Prelude.{slice_index_or, true, ⊤}
-use Rattle.std.specs.Prelude.{Option, Some, None}
+use Rattle.std.specs.Prelude.{◌≡◌, ℕ, zero, List, length, slice_index_or, true, Option, Some, None}
+use Rattle.std.specs.Prelude.{◌≢◌, ◌≤◌, ◌<◌, ◌+◌, ◌*◌, ◌%◌, ◌⊎◌, suc, ⊤}
 use Rattle.std.specs.List.{sum_by}
 use Rattle.linker_output.specs.Placement.{Reaches, at, branch_at, stub_at, group_at}
 use Rattle.linker_output.specs.Placement.{passed, stubs_in, size_of, place_of}

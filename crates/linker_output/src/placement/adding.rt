@@ -5,12 +5,10 @@ ghost use Rattle.std.specs.Prelude.{◌↔◌, IfNone, IsTrue};
 ghost use Rattle.std.specs.List.{sum_by};
 ghost use Rattle.linker_output.specs.Placement.{branch_at, at, part_of, stub_at, HasNoFar};
 ghost use Rattle.linker_output.specs.Placement.{HasSpare, IsCode, IsFar};
-ghost use Rattle.linker_output.specs.Inner.Placement.{IsState, level, way_at, level_of, IsAt};
-ghost use Rattle.linker_output.specs.Inner.Placement.{HasNoneAt, StaysUnshared, IsNew, IsOut};
-ghost use Rattle.linker_output.specs.Inner.Placement.{IsWay};
-ghost use Rattle.linker_output.specs.Inner.Placement.{IsOutThere, IsStubAt};
-ghost use Rattle.linker_output.specs.Inner.Placement.{list_of, new_stub, new_way, with_one, IsNear};
-ghost use Rattle.linker_output.specs.Inner.Placement.{SameStubs};
+ghost use Rattle.linker_output.specs.Inner.Placement.{way_at, HasNoneAt, StaysUnshared, IsOutThere};
+ghost use Rattle.linker_output.specs.Inner.Placement.{level_of, IsStubAt, new_stub, SameStubs};
+ghost use Rattle.linker_output.specs.Inner.Placement.{IsState, list_of, new_way, with_one, IsNear};
+ghost use Rattle.linker_output.specs.Inner.Placement.{level, IsAt, IsNew, IsOut, IsWay};
 ghost use Rattle.linker_output.specs.declared.placement.Way.TheVariants.{Near, Far};
 
 use super::laying::passed;

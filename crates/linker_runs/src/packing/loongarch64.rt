@@ -4,10 +4,9 @@ ghost use Rattle.std.specs.Prelude.{◌≡◌, ◌+◌, ◌≤◌, ◌<◌, ◌*
 ghost use Rattle.std.specs.Prelude.{IfOk, IfErr, OnOk, IfSome, MatchOption, IsSomeAnd};
 ghost use Rattle.std.specs.Int.{w32, to_le_bytes};
 ghost use Rattle.linker_elf.specs.LoongArchRelocations.{loongarch_row};
-ghost use Rattle.linker_runs.specs.LoongArchSites.{IsSiteAt, destination};
-ghost use Rattle.linker_runs.specs.LoongArchSites.{ArePagesNear, IsAddressOutOfReach};
-ghost use Rattle.linker_runs.specs.LoongArchSites.{LoongArchBecomes, LoongArchAccepts};
-ghost use Rattle.linker_runs.specs.LoongArchSites.{LoongArchCause};
+ghost use Rattle.linker_runs.specs.LoongArchSites.{IsSiteAt, IsAddressOutOfReach, LoongArchBecomes};
+ghost use Rattle.linker_runs.specs.LoongArchSites.{ArePagesNear, LoongArchAccepts, LoongArchCause};
+ghost use Rattle.linker_runs.specs.LoongArchSites.{destination};
 ghost use Rattle.linker_runs.specs.Inner.LoongArch.{IsKindAt, short_template, AreRelocated};
 ghost use Rattle.linker_runs.specs.Inner.LoongArch.{IsLongOf, IsLongOutOfReach};
 ghost use Rattle.linker_runs.specs.Origins.{HasLoongArchShapes};

@@ -1,8 +1,7 @@
 //! RISC-V: what a call becomes.
 
-ghost use Rattle.std.specs.Prelude.{◌≡◌, ◌↔◌, ◌+◌, ◌≤◌, ◌<◌, ◌*◌, ◌^◌, Some};
-ghost use Rattle.std.specs.Prelude.{None, true, IfOk, IfErr, OnOk, length, IsTrue, ◌⊎◌};
-ghost use Rattle.std.specs.Prelude.{IsSomeAnd, IfSome, IfNone, ⊤};
+ghost use Rattle.std.specs.Prelude.{Some, None, IfErr, length, IsTrue, IsSomeAnd, IfSome, IfNone};
+ghost use Rattle.std.specs.Prelude.{◌≡◌, ◌↔◌, ◌+◌, ◌≤◌, ◌<◌, ◌*◌, ◌^◌, true, IfOk, OnOk, ◌⊎◌, ⊤};
 ghost use Rattle.std.specs.Int.{w32, to_le_bytes};
 ghost use Rattle.linker_elf.specs.RiscVRelocations.{riscv_relocation};
 ghost use Rattle.linker_riscv64.specs.RiscVCalls.{link_register};

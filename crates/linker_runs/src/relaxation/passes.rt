@@ -1,11 +1,8 @@
 //! Passes over a run: the places of targets, a layout, and one round.
 
-ghost use Rattle.std.specs.Prelude.{◌≡◌, ◌+◌, ◌<◌, ◌≤◌, ◌^◌, ℕ, length, true, false, sum};
-ghost use Rattle.std.specs.Prelude.{List};
-ghost use Rattle.linker_runs.specs.Relaxing.{choice_of, lengthened};
-ghost use Rattle.linker_runs.specs.Relaxing.{is_in_reach};
-ghost use Rattle.linker_runs.specs.Relaxing.{AreInOrder, AreFreed, AreKeptBytes, kept_by};
-ghost use Rattle.linker_runs.specs.Relaxing.{AreRelaxed};
+ghost use Rattle.std.specs.Prelude.{◌≡◌, ◌+◌, ◌<◌, ◌≤◌, ◌^◌, ℕ, length, true, false, sum, List};
+ghost use Rattle.linker_runs.specs.Relaxing.{lengthened, is_in_reach, AreInOrder, AreKeptBytes};
+ghost use Rattle.linker_runs.specs.Relaxing.{choice_of, AreFreed, kept_by, AreRelaxed};
 ghost use Rattle.linker_runs.specs.Choosing.{AreItems, IsInReachExactly, AreTooFewRounds};
 ghost use Rattle.linker_runs.specs.Inner.Relaxing.{ArePlaces, AreForced};
 

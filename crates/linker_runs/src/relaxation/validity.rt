@@ -10,12 +10,10 @@ ghost use Rattle.linker_runs.specs.declared.relaxation.faults.Fault.TheVariants.
 ghost use Rattle.linker_runs.specs.declared.relaxation.faults.Fault.TheVariants.{UnevenNops};
 ghost use Rattle.linker_runs.specs.Relaxing.{end_of, short_shape, IsSound, AreInOrder};
 ghost use Rattle.linker_runs.specs.Relaxing.{item_at, offset_of};
-ghost use Rattle.linker_runs.specs.Choosing.{item_granularity, run_granularity};
-ghost use Rattle.linker_runs.specs.Choosing.{least_len, shapes_granularity};
-ghost use Rattle.linker_runs.specs.Choosing.{HasUnit, ShapesFit, IsStill, IsFormed};
-ghost use Rattle.linker_runs.specs.Choosing.{IsAnchor};
+ghost use Rattle.linker_runs.specs.Choosing.{item_granularity, run_granularity, shapes_granularity};
 ghost use Rattle.linker_runs.specs.Choosing.{FreesMultiples, IsAlwaysMultiple, AreAlwaysEnough};
-ghost use Rattle.linker_runs.specs.Choosing.{HasItsNops};
+ghost use Rattle.linker_runs.specs.Choosing.{least_len, ShapesFit, IsFormed, IsAnchor, HasItsNops};
+ghost use Rattle.linker_runs.specs.Choosing.{HasUnit, IsStill};
 ghost use Rattle.linker_runs.specs.Faults.{ShapesMeet, AlignmentMeets};
 ghost use Rattle.linker_runs.specs.Inner.Validity.{IsClearRun};
 
