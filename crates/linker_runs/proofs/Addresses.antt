@@ -55,9 +55,8 @@ after_anchor w start o (Aligned alignment) k freed sound below past holds anchor
     let kept : kept_by start (Aligned alignment) k freed ≡ need = keeps_need alignment.nops need alignment.max_skip anchor.0 holds in
     let enough = need_fits alignment.nops need alignment.max_skip anchor.0 holds in
     let filled = of_multiple w alignment.alignment (need + at) (multiple_of w alignment.alignment anchor.1) (needed_fills alignment.alignment at sound) in
-    let rest = multiple_of w (o - (alignment.offset + alignment.nops)) anchor.2 in
     same_multiple w (need + at + (o - (alignment.offset + alignment.nops))) (start + o - (freed + (alignment.nops - kept_by start (Aligned alignment) k freed))) (omega arith)
-    (more_multiple w (need + at) (o - (alignment.offset + alignment.nops)) filled rest)
+    (more_multiple w (need + at) (o - (alignment.offset + alignment.nops)) filled (multiple_of w (o - (alignment.offset + alignment.nops)) anchor.2))
   where
     need_fits : (nops need : ℕ) (most : Option ℕ) → most ≡ None → MatchOption most (need ≤ nops) (λ most. ⊤) → need ≤ nops
     need_fits nops need None none holds = holds
@@ -74,27 +73,22 @@ after_multiple w start o (Aligned alignment) k freed sound below past frees befo
     let at = start + alignment.offset - freed in
     let need = needed alignment.alignment at in
     let limit = limit_of alignment.nops alignment.max_skip in
-    let power = multiple_of w alignment.alignment frees.1 in
     let here : Multiple w at = same_multiple w (start + o - freed - (o - alignment.offset)) at (omega arith) (less_multiple w (start + o - freed) (o - alignment.offset) before (multiple_of w (o - alignment.offset) frees.0)) in
-    let filled = of_multiple w alignment.alignment (need + at) power (needed_fills alignment.alignment at sound) in
+    let filled = of_multiple w alignment.alignment (need + at) (multiple_of w alignment.alignment frees.1) (needed_fills alignment.alignment at sound) in
     let needs : Multiple w need = same_multiple w (need + at - at) need (omega arith) (less_multiple w (need + at) at filled here) in
     let kept : Multiple w (padding need limit) = ⊎_elim
     (λ (above : limit < need). same_multiple w 0 (padding need limit) (sym (padding_none need limit above)) (0, omega arith))
     (λ (fits : need ≤ limit). same_multiple w need (padding need limit) (sym (padding_all need limit fits)) needs)
     (cases_lt limit need) in
     let gone = alignment.nops - padding need limit in
-    let goes = less_multiple w alignment.nops (padding need limit) (multiple_of w alignment.nops frees.2) kept in
     same_multiple w (start + o - freed - gone) (start + o - (freed + gone)) (omega arith)
-    (less_multiple w (start + o - freed) gone before goes)
+    (less_multiple w (start + o - freed) gone before (less_multiple w alignment.nops (padding need limit) (multiple_of w alignment.nops frees.2) kept))
 
 -- each item before an index ends at or below it
 pub ends_by : (start : ℕ) (items : List Item) → AreInOrder start items → (i j : ℕ) → i < length items → j < i → end_of (item_at items j) ≤ offset_of (item_at items i)
 ends_by start items order i j within before =
-    let up = ends_ascend start items order j (i - 1) (omega arith) (omega arith) in
     let z : i - 1 + 1 ≡ i = omega arith in
-    let a = ap (λ n. offset_of (item_at items n)) z in
-    let apart = order.apart (i - 1) (omega arith) in
-    omega arith
+    omega (arith, ends_ascend start items order j (i - 1) (omega arith) (omega arith), ap (λ n. offset_of (item_at items n)) z, order.apart (i - 1) (omega arith))
 
 -- what is always a multiple is one
 pub address_multiple : (start : ℕ) (items : List Item) (choice : ℕ → ℕ) → AreItems start items → (w o : ℕ) → 0 < w → (i : ℕ) → i ≤ length items
@@ -102,8 +96,7 @@ pub address_multiple : (start : ℕ) (items : List Item) (choice : ℕ → ℕ) 
     → ((j : ℕ) → j < i → HoldsAt start (item_at items j) (freed_before start items choice j))
     → IsAlwaysMultiple w start o items i → Multiple w (start + o - freed_before start items choice i)
 address_multiple start items choice are w o some zero within past holds always =
-    let none = freed_none start items choice in
-    same_multiple w (start + o) (start + o - freed_before start items choice 0) (omega arith) (multiple_of w (start + o) always)
+    same_multiple w (start + o) (start + o - freed_before start items choice 0) (omega (arith, freed_none start items choice)) (multiple_of w (start + o) always)
 address_multiple start items choice are w o some (suc i) within past holds always =
     let freed = freed_before start items choice i in
     let item = item_at items i in
@@ -112,8 +105,7 @@ address_multiple start items choice are w o some (suc i) within past holds alway
     let next = freed_next start items choice i in
     let z : i + 1 ≡ suc i = omega arith in
     let a = ap (freed_before start items choice) z in
-    let gone = len_of item - kept_by start item (choice i) freed in
-    same_multiple w (start + o - (freed + gone)) (start + o - freed_before start items choice (suc i)) (omega arith)
+    same_multiple w (start + o - (freed + (len_of item - kept_by start item (choice i) freed))) (start + o - freed_before start items choice (suc i)) (omega arith)
     (⊎_elim
     (λ (anchor : IsAnchor w o item). after_anchor w start o item (choice i) freed sound below (past i (omega arith)) (holds i (omega arith)) anchor)
     (λ (other : FreesMultiples w o item × IsAlwaysMultiple w start o items i).
@@ -130,16 +122,12 @@ next_positive n w next = let some = pow_pos next.0.0 in let e = next.0.1 in omeg
 next_least : (n w p : ℕ) → IsNextPowerOfTwo n w → IsPowerOfTwo p → n ≤ p → w ≤ p
 next_least n w p next power up = ⊎_elim
     (λ (above : p < w).
-    let some = pow_pos power.0 in
-    let is = power.1 in
     let d = multiple_of p w (power_divides p w power next.0 (omega arith)) in
-    let e = d.1 in
-    let twice : 2 ≤ d.0 = two_or_more d.0 e above in
+    let twice : 2 ≤ d.0 = two_or_more d.0 d.1 above in
     let h : p * 2 ≤ p * d.0 = mul-le-mul_left p twice in
     let half : p ≤ w / 2 = le-div p w 2 (omega arith) (omega arith) in
-    let least = next.2 in
     let most : max 1 n ≤ p = grind (arith, nat_tests) in
-    absurd (omega arith))
+    absurd (omega (arith, pow_pos power.0, power.1, next.2)))
     (λ (within : w ≤ p). within)
     (cases_lt p w)
   where
@@ -150,9 +138,7 @@ next_least n w p next power up = ⊎_elim
 
 pub next_unique : (n a b : ℕ) → IsNextPowerOfTwo n a → IsNextPowerOfTwo n b → a ≡ b
 next_unique n a b x y =
-    let below = next_least n a b x y.0 y.1 in
-    let above = next_least n b a y x.0 x.1 in
-    omega arith
+    omega (arith, next_least n a b x y.0 y.1, next_least n b a y x.0 x.1)
 
 -- At a multiple of it no more is needed than there are nops.
 pub filled_by : (power nops w at : ℕ) → IsPowerOfTwo power → IsNextPowerOfTwo (power - nops) w → Multiple w at → needed power at ≤ nops
@@ -160,12 +146,8 @@ filled_by power nops w at is next address =
     let some = pow_pos is.0 in
     let e = is.1 in
     let below = needed_below power at (omega arith) in
-    let least = next_least (power - nops) w power next is (omega arith) in
-    let parts = multiple_of w power (power_divides w power next.0 is least) in
-    let filled = of_multiple w power (needed power at + at) parts (needed_fills power at (omega arith)) in
-    let need = less_multiple w (needed power at + at) at filled address in
+    let parts = multiple_of w power (power_divides w power next.0 is (next_least (power - nops) w power next is (omega arith))) in
+    let need = less_multiple w (needed power at + at) at (of_multiple w power (needed power at + at) parts (needed_fills power at (omega arith))) address in
     let f = need.1 in
     let g = parts.1 in
-    let step = next_multiple need.0 parts.0 w (omega arith) in
-    let up = next.1 in
-    omega arith
+    omega (arith, next_multiple need.0 parts.0 w (omega arith), next.1)

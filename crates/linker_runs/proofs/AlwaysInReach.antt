@@ -18,8 +18,7 @@ multiple_of_divisor less more d whole none =
 next_reaches : (shapes : Shapes) → AreNested shapes → 1 < shapes.count → (from to : ℕ) → is_reached (short_shape shapes 0) from to ≡ true → is_reached (short_shape shapes 1) from to ≡ true
 next_reaches shapes nested two from to reached =
     let wider = nested.reaches 0 two in
-    let granularity = nested.units 0 two in
-    let divides = power_divides (short_shape shapes 1).granularity (short_shape shapes 0).granularity (nested.powers 1 two).power (nested.powers 0 (omega arith)).power granularity in
+    let divides = power_divides (short_shape shapes 1).granularity (short_shape shapes 0).granularity (nested.powers 1 two).power (nested.powers 0 (omega arith)).power (nested.units 0 two) in
     ⊎_elim
     (λ (down : to < from).
     let old = below_is (short_shape shapes 0) from to down reached in

@@ -10,10 +10,7 @@ pub lens_ascend : (u len : ℕ) (shapes : Shapes) → ShapesSuit u len shapes �
 lens_ascend u len shapes fit j zero = let z : j + 0 ≡ j = omega arith in let a = ap (shape_len shapes) z in omega arith
 lens_ascend u len shapes fit j (suc d) =
     let z : j + suc d ≡ j + d + 1 = omega arith in
-    let a = ap (shape_len shapes) z in
-    let next = fit.ascending (j + d) in
-    let rest = lens_ascend u len shapes fit j d in
-    omega arith
+    omega (arith, ap (shape_len shapes) z, fit.ascending (j + d), lens_ascend u len shapes fit j d)
 
 -- no shape of a site keeps more bytes than it has
 pub len_fits : (shapes : Shapes) (len k : ℕ) → shapes.longest ≤ len → ((k : ℕ) → k < shapes.count → (short_shape shapes k).kept ≤ len) → shape_len shapes k ≤ len
@@ -78,16 +75,14 @@ pub bound_next : (start : ℕ) (items : List Item) (choice other : ℕ → ℕ) 
 bound_next start items choice other less are g f no_more places bound reached i within =
     let c = bound i within in
     let in_reach = lengthened_in start items choice i in
-    let out = lengthened_out start items choice i in
     ⊎_elim
     (λ (same : choice i ≡ other i).
     let there = all_nearer start items less (freed_before start items choice) (choice i) are g f no_more places i within
     (ap (λ k. item_reaches (item_at items i) k (less i) (less (place_of items (target_of (item_at items i))))) same ∙ reached i within) in
-    let e = in_reach there in
-    omega arith)
+    omega (arith, in_reach there))
     (λ (other_case : (choice i < other i) ⊎ (other i < choice i)).
     ⊎_elim
     (λ (into : is_in_reach start items choice i ≡ true). let e = in_reach into in omega arith)
-    (λ (gone : is_in_reach start items choice i ≡ false). let e = out gone in omega arith)
+    (λ (gone : is_in_reach start items choice i ≡ false). let e = (lengthened_out start items choice i) gone in omega arith)
     (cases_Bool (is_in_reach start items choice i)))
     (cases_order (choice i) (other i))

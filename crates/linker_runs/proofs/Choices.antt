@@ -47,8 +47,7 @@ pub place_apart : (items : List Item) → AreApart items → (offset : ℕ) → 
 place_apart items apart offset =
     let split = split_upto items offset apart (length items) (omega arith) in
     let p = split.0 in
-    let in_items = split.1.within in
-    let count : place_of items offset ≡ p = count_point (λ item. nat_le (end_of item) offset) items p in_items
+    let count : place_of items offset ≡ p = count_point (λ item. nat_le (end_of item) offset) items p split.1.within
     (λ k d low high. passes k d (split.1.within) (split.1.below k high) high)
     (λ k d low high. fails k d (split.1.others k low high) high) in
     record {
@@ -89,12 +88,8 @@ place_unique items apart offset p within below above =
 cautious_item : (u start : ℕ) (item : Item) (k : ℕ) → ItemSuits u start item → IsSound item → ItemFrees u item (freed_cautiously item k)
 cautious_item u start (Site site) k fit sound =
     let m = multiple_of u (site.len - shape_len site.shapes k) (fit.freed k) in
-    let e = m.1 in
     let z : 0 + k ≡ k = omega arith in
-    let a = ap (shape_len site.shapes) z in
-    let up = lens_ascend u site.len site.shapes fit 0 k in
-    let in_site = len_fits site.shapes site.len k sound.1 sound.2 in
-    (m.0, e, omega arith)
+    (m.0, m.1, omega (arith, ap (shape_len site.shapes) z, lens_ascend u site.len site.shapes fit 0 k, len_fits site.shapes site.len k sound.1 sound.2))
 cautious_item u start (Aligned alignment) k fit sound = (0, omega arith, omega arith)
 
 pub cautious_next : (items : List Item) (choice : ℕ → ℕ) (i : ℕ) → cautious_before items choice (i + 1) ≡ cautious_before items choice i + freed_cautiously (item_at items i) (choice i)
@@ -117,17 +112,14 @@ cautious_frees start items choice are = record {
 item_less : (u start : ℕ) (item : Item) (k longer freed : ℕ) → ItemSuits u start item → k ≤ longer → freed_cautiously item longer ≤ len_of item - kept_by start item k freed
 item_less u start (Site site) k longer freed fit up =
     let z : k + (longer - k) ≡ longer = omega arith in
-    let a = ap (shape_len site.shapes) z in
-    let h = lens_ascend u site.len site.shapes fit k (longer - k) in
-    omega arith
+    omega (arith, ap (shape_len site.shapes) z, lens_ascend u site.len site.shapes fit k (longer - k))
 item_less u start (Aligned alignment) k longer freed fit up = omega arith
 
 pub cautious_less : (start : ℕ) (items : List Item) (choice other : ℕ → ℕ) → AreItems start items → ((i : ℕ) → i < length items → choice i ≤ other i) → FreesLess items (cautious_before items other) (freed_before start items choice)
 cautious_less start items choice other are bound j within =
     let a = cautious_next items other j in
     let b = freed_next start items choice j in
-    let c = item_less (run_granularity items) start (item_at items j) (choice j) (other j) (freed_before start items choice j) (item_suits start items are j within) (bound j within) in
-    omega arith
+    omega (arith, item_less (run_granularity items) start (item_at items j) (choice j) (other j) (freed_before start items choice j) (item_suits start items are j within) (bound j within))
 
 -- without alignments a choice frees no more than one that is no longer
 site_less : (u start : ℕ) (item : Item) (k longer freed other_freed : ℕ) → ItemSuits u start item → IsSite item → k ≤ longer → len_of item - kept_by start item longer other_freed ≤ len_of item - kept_by start item k freed
@@ -136,10 +128,8 @@ site_less u start (Aligned alignment) k longer freed other_freed fit is_site up 
 
 exact_less : (start : ℕ) (items : List Item) (choice other : ℕ → ℕ) → AreItems start items → HaveNoAlignment items → ((i : ℕ) → i < length items → choice i ≤ other i) → FreesLess items (freed_before start items other) (freed_before start items choice)
 exact_less start items choice other are sites bound j within =
-    let a = freed_next start items other j in
-    let b = freed_next start items choice j in
     let c = site_less (run_granularity items) start (item_at items j) (choice j) (other j) (freed_before start items choice j) (freed_before start items other j) (item_suits start items are j within) (sites j within) (bound j within) in
-    omega arith
+    omega (arith, freed_next start items other j, freed_next start items choice j)
 
 -- no round is longer than a choice in reach where alignments keep all
 rounds_cautious : (start : ℕ) (items : List Item) (other : ℕ → ℕ) → AreItems start items → IsInReachCautiously items other → (r i : ℕ) → i < length items → after_rounds start items r i ≤ other i
@@ -177,28 +167,24 @@ kept_less u start (Aligned alignment) k longer fit up = omega arith
 both_less : (start : ℕ) (items : List Item) (choice other : ℕ → ℕ) → AreItems start items → ((i : ℕ) → i < length items → choice i ≤ other i) → FreesLess items (cautious_before items other) (cautious_before items choice)
 both_less start items choice other are bound j within =
     let a = cautious_next items other j in
-    let b = cautious_next items choice j in
-    let c = kept_less (run_granularity items) start (item_at items j) (choice j) (other j) (item_suits start items are j within) (bound j within) in
-    omega arith
+    omega (arith, cautious_next items choice j, kept_less (run_granularity items) start (item_at items j) (choice j) (other j) (item_suits start items are j within) (bound j within))
 
 -- A site that is out of reach is so with the same shape in each choice that is nowhere shorter.
 pub still_out : (start : ℕ) (items : List Item) (choice other : ℕ → ℕ) → AreItems start items → ((i : ℕ) → i < length items → choice i ≤ other i)
     → (i : ℕ) → i < length items → choice i ≡ other i → is_in_reach_cautiously items choice i ≡ false → is_in_reach_cautiously items other i ≡ true → ⊥
 still_out start items choice other are bound i within same out reached =
-    let p = place_of items (target_of (item_at items i)) in
     let there = all_nearer start items (cautious_before items other) (cautious_before items choice) (choice i) are (cautious_frees start items other are) (cautious_frees start items choice are)
     (both_less start items choice other are bound) (place_is start items are.in_order) i within
-    (ap (λ k. item_reaches (item_at items i) k (cautious_before items other i) (cautious_before items other p)) same ∙ reached) in
+    (ap (λ k. item_reaches (item_at items i) k (cautious_before items other i) (cautious_before items other (place_of items (target_of (item_at items i))))) same ∙ reached) in
     both_ways (is_in_reach_cautiously items choice i) out there
 
 -- A site that is out of reach has a longer shape in each choice in reach.
 pub forced_next : (start : ℕ) (items : List Item) (choice other : ℕ → ℕ) → AreItems start items → ((i : ℕ) → i < length items → choice i ≤ other i) → IsInReachCautiously items other
     → (i : ℕ) → i < length items → is_in_reach_cautiously items choice i ≡ false → choice i + 1 ≤ other i
 forced_next start items choice other are bound reached i within out =
-    let up = bound i within in
     ⊎_elim
-    (λ (less : choice i < other i). omega arith)
-    (λ (more : other i ≤ choice i). absurd (still_out start items choice other are bound i within (omega arith) out (reached i within)))
+    (λ (less : choice i < other i). omega (arith, bound i within))
+    (λ (more : other i ≤ choice i). absurd (still_out start items choice other are bound i within (omega (arith, bound i within)) out (reached i within)))
     (cases_lt (choice i) (other i))
 
 -- what is in reach where alignments keep all is in reach with what it frees
@@ -217,21 +203,16 @@ layouts_same start items choice sites zero within = let a = freed_none start ite
 layouts_same start items choice sites (suc i) within =
     let rest = layouts_same start items choice sites i (omega arith) in
     let a = freed_next start items choice i in
-    let b = cautious_next items choice i in
     let z : suc i ≡ i + 1 = omega arith in
     let c = ap (freed_before start items choice) z in
-    let d = ap (cautious_before items choice) z in
-    let e = site_same start (item_at items i) (choice i) (freed_before start items choice i) (sites i (omega arith)) in
-    omega arith
+    omega (arith, cautious_next items choice i, ap (cautious_before items choice) z, site_same start (item_at items i) (choice i) (freed_before start items choice i) (sites i (omega arith)))
 
 pub exactly_cautious : (start : ℕ) (items : List Item) (choice : ℕ → ℕ) → AreItems start items → HaveNoAlignment items → IsInReachExactly start items choice → IsInReachCautiously items choice
 exactly_cautious start items choice are sites reached i within =
     let p = place_of items (target_of (item_at items i)) in
     let place = place_is start items are.in_order (target_of (item_at items i)) in
-    let a = layouts_same start items choice sites i (omega arith) in
-    let b = layouts_same start items choice sites p place.within in
-    ap (λ x. item_reaches (item_at items i) (choice i) x (cautious_before items choice p)) (sym a)
-    ∙ ap (λ x. item_reaches (item_at items i) (choice i) (freed_before start items choice i) x) (sym b)
+    ap (λ x. item_reaches (item_at items i) (choice i) x (cautious_before items choice p)) (sym (layouts_same start items choice sites i (omega arith)))
+    ∙ ap (λ x. item_reaches (item_at items i) (choice i) (freed_before start items choice i) x) (sym (layouts_same start items choice sites p place.within))
     ∙ reached i within
 
 -- ---- one shape changed
@@ -241,12 +222,8 @@ cautious_agrees items choice other zero same = cautious_none items choice ∙ sy
 cautious_agrees items choice other (suc j) same =
     let rest = cautious_agrees items choice other j (λ k below. same k (omega arith)) in
     let a = cautious_next items choice j in
-    let b = cautious_next items other j in
     let z : suc j ≡ j + 1 = omega arith in
-    let c = ap (cautious_before items choice) z in
-    let d = ap (cautious_before items other) z in
-    let e = ap (freed_cautiously (item_at items j)) (same j (omega arith)) in
-    omega arith
+    omega (arith, cautious_next items other j, ap (cautious_before items choice) z, ap (cautious_before items other) z, ap (freed_cautiously (item_at items j)) (same j (omega arith)))
 
 pub cautious_changed : (items : List Item) (choice other : ℕ → ℕ) (i j : ℕ) → ((k : ℕ) → k ≢ i → choice k ≡ other k) → i < j
     → cautious_before items choice j + freed_cautiously (item_at items i) (other i) ≡ cautious_before items other j + freed_cautiously (item_at items i) (choice i)
@@ -259,49 +236,31 @@ cautious_changed items choice other i (suc j) same below =
     let d = ap (cautious_before items other) z in
     ⊎_elim
     (λ (before : i < j).
-    let rest = cautious_changed items choice other i j same before in
-    let e = ap (freed_cautiously (item_at items j)) (same j (λ h. absurd (omega arith))) in
-    omega arith)
+    omega (arith, cautious_changed items choice other i j same before, ap (freed_cautiously (item_at items j)) (same j (λ h. absurd (omega arith)))))
     (λ (here : j ≤ i).
     let e : i ≡ j = omega arith in
     let rest = cautious_agrees items choice other j (λ k h. same k (λ g. absurd (omega arith))) in
-    let f = ap (λ n. freed_cautiously (item_at items n) (other n)) e in
-    let g = ap (λ n. freed_cautiously (item_at items n) (choice n)) e in
-    omega arith)
+    omega (arith, ap (λ n. freed_cautiously (item_at items n) (other n)) e, ap (λ n. freed_cautiously (item_at items n) (choice n)) e))
     (cases_lt i j)
 
 -- no more is freed than lies there
 pub cautious_fits : (start : ℕ) (items : List Item) (choice : ℕ → ℕ) → AreItems start items → (i : ℕ) → i < length items → cautious_before items choice (i + 1) ≤ end_of (item_at items i)
 cautious_fits start items choice are zero within =
-    let m = ((cautious_frees start items choice are).step 0 within).1 in
-    let n = ((cautious_frees start items choice are).step 0 within).2 in
-    let a = cautious_none items choice in
-    omega arith
+    omega (arith, ((cautious_frees start items choice are).step 0 within).1, ((cautious_frees start items choice are).step 0 within).2, cautious_none items choice)
 cautious_fits start items choice are (suc i) within =
     let rest = cautious_fits start items choice are i (omega arith) in
     let z : suc i ≡ i + 1 = omega arith in
-    let a = ap (λ n. cautious_before items choice (n + 1)) z in
-    let b = ap (λ n. end_of (item_at items n)) z in
     let f = (cautious_frees start items choice are).step (i + 1) (omega arith) in
-    let m = f.1 in
-    let n = f.2 in
-    let apart = are.in_order.apart i (omega arith) in
-    omega arith
+    omega (arith, ap (λ n. cautious_before items choice (n + 1)) z, ap (λ n. end_of (item_at items n)) z, f.1, f.2, are.in_order.apart i (omega arith))
 
 pub cautious_up : (start : ℕ) (items : List Item) (choice : ℕ → ℕ) (i d : ℕ) → cautious_before items choice i ≤ cautious_before items choice (i + d)
 cautious_up start items choice i zero = let z : i + 0 ≡ i = omega arith in let a = ap (cautious_before items choice) z in omega arith
 cautious_up start items choice i (suc d) =
     let z : i + suc d ≡ i + d + 1 = omega arith in
-    let a = ap (cautious_before items choice) z in
-    let rest = cautious_up start items choice i d in
-    let next = cautious_next items choice (i + d) in
-    omega arith
+    omega (arith, ap (cautious_before items choice) z, cautious_up start items choice i d, cautious_next items choice (i + d))
 
 pub cautious_end : (start : ℕ) (items : List Item) (choice : ℕ → ℕ) → AreItems start items → (n : ℕ) → n ≡ length items → cautious_before items choice n < 2 ^ 64
 cautious_end start items choice are zero last = let a = cautious_none items choice in omega arith
 cautious_end start items choice are (suc n) last =
     let z : suc n ≡ n + 1 = omega arith in
-    let a = ap (cautious_before items choice) z in
-    let fits = cautious_fits start items choice are n (omega arith) in
-    let ends = are.in_order.ends n (omega arith) in
-    omega arith
+    omega (arith, ap (cautious_before items choice) z, cautious_fits start items choice are n (omega arith), are.in_order.ends n (omega arith))

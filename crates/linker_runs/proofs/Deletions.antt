@@ -35,9 +35,7 @@ ends_push ds offset at bytes h up some fits = record {
       let z : length (ds ++ (at, bytes) ∷ []) - 1 ≡ length ds = omega arith in
       let g : get_or (ds ++ (at, bytes) ∷ []) (length ds) e ≡ (at, bytes) = grind (arith, common_steps) in
       let f : get_or (ds ++ (at, bytes) ∷ []) (length (ds ++ (at, bytes) ∷ []) - 1) e ≡ (at, bytes) = ap (λ n. get_or (ds ++ (at, bytes) ∷ []) n e) z ∙ g in
-      let a = ap (λ (d : ℕ × ℕ). d.0) f in
-      let b = ap (λ (d : ℕ × ℕ). d.1) f in
-      (omega arith, omega arith);
+      (omega (arith, ap (λ (d : ℕ × ℕ). d.0) f, ap (λ (d : ℕ × ℕ). d.1) f), omega (arith, ap (λ (d : ℕ × ℕ). d.0) f, ap (λ (d : ℕ × ℕ). d.1) f));
 }
 
 -- one item more
@@ -53,8 +51,7 @@ ends_item start items kept i offset order within up h =
     let pushed = ends_push ds offset (offset_of item + get_or kept i 0) (len_of item - get_or kept i 0) h (omega arith) (omega arith) (omega arith) in
     subst (λ xs. EndsBy xs (end_of item)) (sym e) (ends_more (ds ++ (offset_of item + get_or kept i 0, len_of item - get_or kept i 0) ∷ []) (offset_of item + get_or kept i 0 + (len_of item - get_or kept i 0)) (end_of item) (omega arith) pushed))
     (λ (all : len_of item ≤ get_or kept i 0).
-    let e = next ∙ ap (λ xs. ds ++ xs) (deletion_none item (get_or kept i 0) all) ∙ append-nil ds in
-    subst (λ xs. EndsBy xs (end_of item)) (sym e) (ends_more ds offset (end_of item) (omega arith) h))
+    subst (λ xs. EndsBy xs (end_of item)) (sym (next ∙ ap (λ xs. ds ++ xs) (deletion_none item (get_or kept i 0) all) ∙ append-nil ds)) (ends_more ds offset (end_of item) (omega arith) h))
     (cases_lt (get_or kept i 0) (len_of item))
 
 ends_all : (start : ℕ) (items : List Item) (kept : List ℕ) → AreInOrder start items → (i : ℕ) → i < length items → EndsBy (deletions_before items kept (i + 1)) (end_of (item_at items i))

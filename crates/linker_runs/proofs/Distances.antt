@@ -28,11 +28,10 @@ module _ (start from to : ℕ) where
     not_rejected near rejected =
         let v : ℤ = pos to -ℤ pos from in
         let bounds = small v near.within in
-        let is : value_of row (operands_of (sum_64 start from) (sum_64 start to)) ≡ Some v = value ∙ ap Some (distance bounds.0 bounds.1) in
         let accepted : IsAccepted row v bytes = record {
           supported = near.supported;
           long = long;
           aligned = (near.aligned, units v, words v);
           reached = (near.within, holds row.size v bytes fits.size, near.encoded);
         } in
-        rejected v is accepted
+        rejected v (value ∙ ap Some (distance bounds.0 bounds.1)) accepted

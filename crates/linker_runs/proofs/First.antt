@@ -23,20 +23,16 @@ lost_there item kept p low high =
 kept_most : (start : ℕ) (item : Item) (k freed : ℕ) → IsSound item → kept_by start item k freed ≤ len_of item
 kept_most start (Site site) k freed sound = ⊎_elim
     (λ (short : nat_lt k site.shapes.count ≡ true).
-    let e = cond-true (nat_lt k site.shapes.count) (short_shape site.shapes k).kept site.shapes.longest short in
-    let h = sound.2 k (ltb-true k site.shapes.count short) in
-    omega (arith, e, h))
+    omega (arith, (cond-true (nat_lt k site.shapes.count) (short_shape site.shapes k).kept site.shapes.longest short), (sound.2 k (ltb-true k site.shapes.count short))))
     (λ (long : nat_lt k site.shapes.count ≡ false).
-    let e = cond-false (nat_lt k site.shapes.count) (short_shape site.shapes k).kept site.shapes.longest long in
-    omega (arith, e, sound.1))
+    omega (arith, (cond-false (nat_lt k site.shapes.count) (short_shape site.shapes k).kept site.shapes.longest long), sound.1))
     (cases_Bool (nat_lt k site.shapes.count))
 kept_most start (Aligned alignment) k freed sound =
     let need = needed alignment.alignment (start + alignment.offset - freed) in
     let limit = limit_of alignment.nops alignment.max_skip in
     ⊎_elim
     (λ (fits : nat_le need limit ≡ true).
-    let e = cond-true (nat_le need limit) need 0 fits in
-    omega (arith, e, leb-true need limit fits, limited alignment.max_skip))
+    omega (arith, (cond-true (nat_le need limit) need 0 fits), leb-true need limit fits, limited alignment.max_skip))
     (λ (more : nat_le need limit ≡ false). let e = cond-false (nat_le need limit) need 0 more in omega (arith, e))
     (cases_Bool (nat_le need limit))
   where
@@ -55,20 +51,14 @@ module _ (start : ℕ) (items : List Item) (kept : List ℕ) (order : AreInOrder
   -- an item before this one ends at its offset or below
   before : (j : ℕ) → j < i → end_of (item_at items j) ≤ offset_of (item_at items i)
   before j up =
-      let h = ends_ascend start items order j (i - 1) (omega arith) (omega arith) in
       let z : i - 1 + 1 ≡ i = omega arith in
-      let a = ap (λ n. offset_of (item_at items n)) z in
-      let apart = order.apart (i - 1) (omega arith) in
-      omega arith
+      omega (arith, ends_ascend start items order j (i - 1) (omega arith) (omega arith), ap (λ n. offset_of (item_at items n)) z, order.apart (i - 1) (omega arith))
 
   -- and one after it begins at its end or above
   following : (j : ℕ) → i < j → j < length items → end_of (item_at items i) ≤ offset_of (item_at items j)
   following j up there =
-      let h = ends_ascend start items order i (j - 1) (omega arith) (omega arith) in
       let z : j - 1 + 1 ≡ j = omega arith in
-      let a = ap (λ n. offset_of (item_at items n)) z in
-      let apart = order.apart (j - 1) (omega arith) in
-      omega arith
+      omega (arith, ends_ascend start items order i (j - 1) (omega arith) (omega arith), ap (λ n. offset_of (item_at items n)) z, order.apart (j - 1) (omega arith))
 
   kept_there : (p : ℕ) → offset_of (item_at items i) ≤ p → p < offset_of (item_at items i) + get_or kept i 0
       → is_kept (deletions_before items kept (length items)) p ≡ true
@@ -83,9 +73,7 @@ module _ (start : ℕ) (items : List Item) (kept : List ℕ) (order : AreInOrder
       (λ (after : i < j). let up = following j after found.1 in omega (arith, high, most, up, from.0))
       (λ (same : j ≤ i).
       let e : j ≡ i = omega (arith, later, same) in
-      let a = ap (λ n. offset_of (item_at items n)) e in
-      let b = ap (λ n. get_or kept n 0) e in
-      omega (arith, high, a, b, from.0))
+      omega (arith, high, (ap (λ n. offset_of (item_at items n)) e), (ap (λ n. get_or kept n 0) e), from.0))
       (cases_lt i j))
       (cases_lt j i))
 
@@ -113,14 +101,10 @@ first_bytes start items shapes kept freed are is i within =
     let order = are.in_order in
     let item = item_at items i in
     let most : get_or kept i 0 ≤ len_of (item_at items i) =
-    let m = kept_most start (item_at items i) (choice_of shapes i) (freed_before start items (choice_of shapes) i) (order.sound i within) in
-    let e = is.kept_bytes.each i within in
-    omega (arith, m, e) in
-    let one = first start items kept order i within most in
-    let two = whole start items kept order i within most in
+    omega (arith, (kept_most start (item_at items i) (choice_of shapes i) (freed_before start items (choice_of shapes) i) (order.sound i within)), (is.kept_bytes.each i within)) in
     let d = deletions_before items kept (length items) in
-    let len : rank d (end_of item) - rank d (offset_of item) ≡ get_or kept i 0 = omega (arith, two) in (
+    let len : rank d (end_of item) - rank d (offset_of item) ≡ get_or kept i 0 = omega (arith, (whole start items kept order i within most)) in (
       len,
       λ machine bytes base unwritable. unwritable
-          (ap (λ n. rank d (offset_of item + n)) len ∙ one ∙ ap (λ n. rank d (offset_of item) + n) (sym len)),
+          (ap (λ n. rank d (offset_of item + n)) len ∙ (first start items kept order i within most) ∙ ap (λ n. rank d (offset_of item) + n) (sym len)),
     )

@@ -19,26 +19,15 @@ record Needs (u : ℕ) (power nops input freed need : ℕ) : Type 0 where
 enough_nops : (u power nops input freed need : ℕ) → Needs u power nops input freed need → power ≤ nops + u → need ≤ nops
 enough_nops u power nops input freed need n many = ⊎_elim
     (λ (short : nops < need).
-    let a = n.gone.1 in
-    let b = n.following.1 in
-    let c = n.filled.1 in
-    let below = n.below in
-    let fits = n.fits in
-    let next = next_multiple n.following.0 (n.filled.0 + n.gone.0) u (omega arith) in
-    absurd (omega arith))
+    absurd (omega (arith, n.gone.1, n.following.1, n.filled.1, n.below, n.fits, next_multiple n.following.0 (n.filled.0 + n.gone.0) u (omega arith))))
     (λ (done : need ≤ nops). done)
     (cases_lt nops need)
 
 -- and then what is freed is a multiple of the granularity
 rest_multiple : (u power nops input freed need : ℕ) → Needs u power nops input freed need → need ≤ nops → Multiple u (nops - need)
 rest_multiple u power nops input freed need n enough =
-    let a = n.gone.1 in
-    let b = n.following.1 in
-    let c = n.filled.1 in
-    let fits = n.fits in
     let m = multiple_between u u (n.following.0 * u) ((n.filled.0 + n.gone.0) * u) (1, omega arith) (n.following.0, refl) (n.filled.0 + n.gone.0, refl) in
-    let e = m.1 in
-    (m.0, (let same : nops - need ≡ n.following.0 * u - (n.filled.0 + n.gone.0) * u = omega arith in same ∙ e))
+    (m.0, (let same : nops - need ≡ n.following.0 * u - (n.filled.0 + n.gone.0) * u = omega (arith, n.gone.1, n.following.1, n.filled.1, n.fits) in same ∙ m.1))
 
 -- without a limit there are as many nops as are needed
 abbrev pub Enough : ℕ → ℕ → ℕ → ℕ → Option ℕ → Type 0
@@ -97,10 +86,8 @@ enough_at u power nops need (Some most) limited holds = limited
 still_need : (u power input freed : ℕ) → u % power ≡ 0 → freed ≤ input → Multiple u freed → needed power (input - freed) ≡ needed power input
 still_need u power input freed divides within gone =
     let parts = multiple_of power u divides in
-    let e = gone.1 ∙ ap (λ x. gone.0 * x) parts.1 ∙ sym (mul_assoc gone.0 parts.0 power) in
-    let whole : input - freed + gone.0 * parts.0 * power ≡ input = omega arith in
-    let same : (input - freed) % power ≡ input % power = sym (add-mul-mod_self_right (input - freed) (gone.0 * parts.0) power) ∙ ap (λ n. n % power) whole in
-    ap (λ r. (power - r) % power) same
+    let whole : input - freed + gone.0 * parts.0 * power ≡ input = omega (arith, gone.1 ∙ ap (λ x. gone.0 * x) parts.1 ∙ sym (mul_assoc gone.0 parts.0 power)) in
+    ap (λ r. (power - r) % power) (sym (add-mul-mod_self_right (input - freed) (gone.0 * parts.0) power) ∙ ap (λ n. n % power) whole)
 
 -- and keeps that
 still_keeps : (nops need here : ℕ) (most : Option ℕ) → most ≡ None → need ≤ nops → here ≡ need → padding here (limit_of nops most) ≡ need
@@ -119,24 +106,17 @@ ItemFrees u item freed = (m : ℕ) × (freed ≡ m * u) × (m * u + least_len it
 item_frees : (u start : ℕ) (item : Item) (k freed : ℕ) → ItemSuits u start item → IsSound item → freed ≤ offset_of item → Multiple u freed → HoldsAt start item freed → ItemFrees u item (len_of item - kept_by start item k freed)
 item_frees u start (Site site) k freed fit sound within gone holds =
     let m = multiple_of u (site.len - shape_len site.shapes k) (fit.freed k) in
-    let e = m.1 in
     let z : 0 + k ≡ k = omega arith in
-    let a = ap (shape_len site.shapes) z in
-    let up = lens_ascend u site.len site.shapes fit 0 k in
-    let in_site = len_fits site.shapes site.len k sound.1 sound.2 in
-    (m.0, e, omega arith)
+    (m.0, m.1, omega (arith, ap (shape_len site.shapes) z, lens_ascend u site.len site.shapes fit 0 k, len_fits site.shapes site.len k sound.1 sound.2))
 item_frees u start (Aligned alignment) k freed fit sound within gone holds = ⊎_elim
     (λ (fits : AlignmentFits u start alignment).
     let need = needed alignment.alignment (start + alignment.offset - freed) in
     let h = padding_frees u alignment.alignment alignment.nops (start + alignment.offset) freed need alignment.max_skip (needs u start alignment freed fits sound within gone)
     (enough_at u alignment.alignment alignment.nops need alignment.max_skip fits.limited holds) in
-    let e = h.0.1 in
-    (h.0.0, e, omega arith))
+    (h.0.0, h.0.1, omega arith))
     (λ (still : IsStill u start alignment).
-    let is = still_padding u start alignment freed still within gone in
     let m = multiple_of u (alignment.nops - needed alignment.alignment (start + alignment.offset)) still.others in
-    let e = m.1 in
-    (m.0, ap (λ k. alignment.nops - k) is ∙ e, omega arith))
+    (m.0, ap (λ k. alignment.nops - k) (still_padding u start alignment freed still within gone) ∙ m.1, omega arith))
     fit
 
 -- Up to an index the items free a multiple of the granularity, and each alignment has its nops.
@@ -167,9 +147,7 @@ item_holds start items choice are i within upto = by_item (item_at items i) refl
             (λ (many : alignment.alignment ≤ alignment.nops + u). ⊎_elim
             (λ (fits : AlignmentFits u start alignment). enough_nops u alignment.alignment alignment.nops (start + alignment.offset) freed need (needs u start alignment freed fits sound below upto.multiple) many)
             (λ (still : IsStill u start alignment).
-            let same = still_need u alignment.alignment (start + alignment.offset) freed still.divides (omega arith) upto.multiple in
-            let enough = still.enough in
-            omega arith)
+            omega (arith, still_need u alignment.alignment (start + alignment.offset) freed still.divides (omega arith) upto.multiple, still.enough))
             fit)
             (λ (other : (w : ℕ) × IsNextPowerOfTwo (alignment.alignment - alignment.nops) w × IsAlwaysMultiple w start alignment.offset items i).
             let o = ap offset_of is in
@@ -181,11 +159,8 @@ upto_next : (start : ℕ) (items : List Item) (choice : ℕ → ℕ) → AreItem
 upto_next start items choice are i within upto =
     let holds = item_holds start items choice are i within upto in
     let here = item_frees (run_granularity items) start (item_at items i) (choice i) (freed_before start items choice i) (item_suits start items are i within) (are.in_order.sound i within) (freed_fits start items choice are.in_order i within) upto.multiple holds in
-    let next = freed_next start items choice i in
-    let e = upto.multiple.1 in
-    let f = here.1 in
     record {
-      multiple = (upto.multiple.0 + here.0, omega arith);
+      multiple = (upto.multiple.0 + here.0, omega (arith, freed_next start items choice i, upto.multiple.1, here.1));
       holds = below_more (λ j. HoldsAt start (item_at items j) (freed_before start items choice j)) i upto.holds holds;
     }
 

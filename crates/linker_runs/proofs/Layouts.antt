@@ -16,9 +16,7 @@ pub freed_agrees : (start : ℕ) (items : List Item) (choice other : ℕ → ℕ
 unfolding freed_before
 freed_agrees start items choice other zero same = refl
 freed_agrees start items choice other (suc i) same =
-    let rest = freed_agrees start items choice other i (λ k below. same k (omega arith)) in
-    let here : choice i ≡ other i = same i (omega arith) in
-    rw (rest, here) refl
+    rw ((freed_agrees start items choice other i (λ k below. same k (omega arith))), (same i (omega arith))) refl
 
 -- the items before an index free no more than lies below it
 pub freed_fits : (start : ℕ) (items : List Item) (choice : ℕ → ℕ) → AreInOrder start items → (i : ℕ) → i < length items → freed_before start items choice i ≤ offset_of (item_at items i)
@@ -61,13 +59,11 @@ within_tail P x xs a b h k d low high = h (suc k) d (omega arith) (omega arith)
 pub count_point : {X : Type 0} (p : X → Bool) (xs : List X) (i : ℕ) → i ≤ length xs → AllWithin (λ y. p y ≡ true) xs 0 i → AllWithin (λ y. p y ≡ false) xs i (length xs) → count_by p xs ≡ i
 count_point p [] i within all none = omega arith
 count_point p (x ∷ xs) zero within all none =
-    let first : p x ≡ false = none zero x (omega arith) (omega arith) in
     let rest = count_point p xs zero (omega arith) (λ k d low high. absurd (omega arith)) (λ k d low high. none (suc k) d (omega arith) (omega arith)) in
-    rw (sum_by-cons (λ x. cond (p x) 1 0) x xs, first) (omega (arith, rest))
+    rw (sum_by-cons (λ x. cond (p x) 1 0) x xs, (none zero x (omega arith) (omega arith))) (omega (arith, rest))
 count_point p (x ∷ xs) (suc i) within all none =
-    let first : p x ≡ true = all zero x (omega arith) (omega arith) in
     let rest = count_point p xs i (omega arith) (λ k d low high. all (suc k) d (omega arith) (omega arith)) (within_tail (λ y. p y ≡ false) x xs i (length xs) none) in
-    rw (sum_by-cons (λ x. cond (p x) 1 0) x xs, first) (omega (arith, rest))
+    rw (sum_by-cons (λ x. cond (p x) 1 0) x xs, (all zero x (omega arith) (omega arith))) (omega (arith, rest))
 
 -- what an item reaches depends on its shape and on what is freed before it and its target
 pub reaches_alike : (item : Item) (k k' here here' there there' : ℕ) → k ≡ k' → here ≡ here' → there ≡ there' → item_reaches item k here there ≡ item_reaches item k' here' there'

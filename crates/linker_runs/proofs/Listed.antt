@@ -52,8 +52,7 @@ module _ {A : Type 0} (f : A → Item) (IsWritten : A → Type 0) (s : Rewritten
       → AreListedIn f IsWritten s i (g + 1) (count + 1) after (set out count x) (set makers count (length s.relocations + g))
   put_deleted i g count end after out makers x before within also is written some e next =
       let M = Makes s.machine s.section s.base s.relocations in
-      let following : end ≤ offset_of (f x) = omega (arith, before.next some, deleted_offset s.base (deleted_at s.deletions g) (f x) is) in
-      let more = deleted (f x) before.listed is following in
+      let more = deleted (f x) before.listed is (omega (arith, before.next some, deleted_offset s.base (deleted_at s.deletions g) (f x) is)) in
       record {
         few = omega (arith, before.few);
         listed = rw add-one (listed_as M s.base (length s.relocations) s.deletions i (suc g) (end_of (f x)) after _ _ _ _ more e (ap (map f) (take_more_set out count x within) ∙ map_push f (take count out) x) (take_more_set makers count (length s.relocations + g) also));

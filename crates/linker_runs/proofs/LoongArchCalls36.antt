@@ -26,10 +26,7 @@ freed_units u items freed f (suc i) within =
     let rest = freed_units u items freed f i (omega arith) in
     let next = f.step i (omega arith) in
     let z : suc i ≡ i + 1 = omega arith in
-    let e = ap freed z in
-    let r = rest.1 in
-    let n = next.1 in
-    (rest.0 + next.0, omega arith)
+    (rest.0 + next.0, omega (arith, ap freed z, rest.1, next.1))
 
 words_of : (u x : ℕ) → u % 4 ≡ 0 → Multiple u x → x % 4 ≡ 0
 words_of u x four m =
@@ -88,11 +85,7 @@ module _ (bytes : List ℕ) (base start u here there : ℕ) where
 
       apart : (target_of (Site site) - there) % 4 ≡ (site.offset - here) % 4
       apart =
-          let a = words_of u here words m in
-          let b = words_of u there words n in
-          let c = in_words near.shapes in
-          let d = target in
-          omega arith
+          omega (arith, words_of u here words m, words_of u there words n, in_words near.shapes, target)
 
 pub near_calls_36 : NearCalls36AreWritable
 near_calls_36 start base items shapes kept freed bytes are is i within near has =

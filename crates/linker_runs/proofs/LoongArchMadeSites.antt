@@ -11,5 +11,4 @@ loongarch_site section base relocations i (Site here) makes =
     (λ (call : IsCall36 section relocations i × (here.shapes ≡ CALL36)). (⊎_elim (λ one. one.within) (λ jump. jump.within) call.0.call, inl (call.0.call, call.1)))
     (λ (pair : IsPcala section relocations i × (here.shapes ≡ PCALA)). (pair.0.pair.within, inr (pair.0.pair, pair.1)))
     makes.1 in
-    let within = site.0 in
-    (makes.0.len, omega (arith, place), omega (arith, place, within), subst (λ n. HasLoongArchShapes section n here.shapes) at site.1)
+    (makes.0.len, omega (arith, place), omega (arith, place, site.0), subst (λ n. HasLoongArchShapes section n here.shapes) at site.1)

@@ -11,8 +11,7 @@ pub pushed : (P : Item → Type 0) (items : List Item) (item : Item) → ((j : �
 pushed P items item each is j below = ⊎_elim
     (λ (first : j < length items). subst P (sym (get_or-append items (item ∷ []) no_item j first)) (each j first))
     (λ (last : length items ≤ j).
-    let len = length-append items (item ∷ []) in
-    let at : length items ≡ j = omega arith in
+    let at : length items ≡ j = omega (arith, length-append items (item ∷ [])) in
     subst P (sym (get_or-append_seam items item [] no_item) ∙ ap (item_at (items ++ item ∷ [])) at) is)
     (cases_lt j (length items))
 

@@ -11,9 +11,7 @@ use Rattle.linker_section.proofs.Fielded.{next_index}
 pub apart_items : (items : List Item) → ((i : ℕ) → i < length items → IsApart items i) → AreApart items
 apart_items items apart i within =
     let z : i + 1 - 1 ≡ i = omega arith in
-    let e = ap (λ n. end_of (item_at items n)) z in
-    let h = apart (i + 1) within (omega arith) in
-    omega arith
+    omega (arith, ap (λ n. end_of (item_at items n)) z, apart (i + 1) within (omega arith))
 
 module _ (items : List Item) (apart : AreApart items) (o p : ℕ) (is : p ≡ place_of items o) where
   place_below : (i : ℕ) → i < p → end_of (item_at items i) ≤ o
@@ -31,11 +29,8 @@ module _ (items : List Item) (apart : AreApart items) (o p : ℕ) (is : p ≡ pl
       (λ (below : i < p). let h = place_below i below in absurd (omega (arith, h, begins.1)))
       (λ (above : p < i).
       let past = (place_apart items apart o).others p (omega arith) inside in
-      let up = ends_apart items apart p (i - 1) (omega arith) (omega arith) in
       let z : i - 1 + 1 ≡ i = omega arith in
-      let e = ap (λ n. offset_of (item_at items n)) z in
-      let next_index = apart (i - 1) (omega arith) in
-      absurd (omega (arith, past, up, e, next_index, begins.0)))
+      absurd (omega (arith, past, (ends_apart items apart p (i - 1) (omega arith) (omega arith)), (ap (λ n. offset_of (item_at items n)) z), (apart (i - 1) (omega arith)), begins.0)))
       apart_case)
       (cases_order i p)
 
@@ -60,12 +55,10 @@ kept_of ds p n is other = elim (cases_Bool (is_kept ds p)) [
 
 pub there_at : (xs : List ℕ) (i : ℕ) → i < length xs / 24 → relocation_at xs i ≡ Some (relocation_in xs i)
 there_at xs i low =
-    let some : nat_lt i (length xs / 24) ≡ true = grind (arith, nat_tests) in
-    cond-true (nat_lt i (length xs / 24)) (Some (relocation_in xs i)) None some
+    cond-true (nat_lt i (length xs / 24)) (Some (relocation_in xs i)) None (grind (arith, nat_tests))
 
 -- those of the first bytes
 pub front_in : (xs ys : List ℕ) (i : ℕ) → i < length xs / 24 → relocation_in (xs ++ ys) i ≡ relocation_in xs i
 front_in xs ys i low =
-    let d = length-drop (i * 24) xs in
-    ap (λ bytes. relocation_of (take 24 bytes)) (drop-append-le (i * 24) xs ys (omega (arith, low)))
-    ∙ ap relocation_of (take-append-le 24 (drop (i * 24) xs) ys (omega (arith, low)))
+    ap (λ bytes. relocation_of (take 24 bytes)) (drop-append-le (i * 24) xs ys (omega (arith, length-drop (i * 24) xs, low)))
+    ∙ ap relocation_of (take-append-le 24 (drop (i * 24) xs) ys (omega (arith, length-drop (i * 24) xs, low)))

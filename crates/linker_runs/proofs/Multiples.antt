@@ -20,9 +20,8 @@ needed_fills power address some =
     let e : needed power address ≡ 0 = ap (λ r. (power - r) % power) none ∙ ap (λ n. n % power) z ∙ mod_self power in
     (address / power, (let h = div-add-mod' address power in omega arith)))
     (λ (rest : 0 < address % power).
-    let below = mod-lt address some in
     let e : needed power address ≡ power - address % power = mod-eq_of_lt (omega arith) in
-    (address / power + 1, (let h = div-add-mod' address power in omega arith)))
+    (address / power + 1, (let h = div-add-mod' address power in omega (arith, mod-lt address some))))
     (zero_or (address % power))
   where
     zero_or : (n : ℕ) → (n ≡ 0) ⊎ (0 < n)

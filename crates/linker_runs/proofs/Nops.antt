@@ -31,12 +31,11 @@ pub put_more : (xs ys zs now new : List ℕ) (at m n : ℕ) → at ≤ length xs
     → new ≡ take at xs ++ (ys ++ zs) ++ drop (at + (m + n)) xs
 put_more xs ys zs now new at m n inside len len' was is =
     let front : length (take at xs ++ ys) ≡ at + m = length-append (take at xs) ys ∙ omega (arith, length-take at xs) in
-    let low : take (at + m) now ≡ take at xs ++ ys = ap (take (at + m)) was ∙ take_at (take at xs ++ ys) (drop (at + m) xs) (at + m) front in
     let rest : drop (at + m) now ≡ drop (at + m) xs = ap (drop (at + m)) was ∙ drop_at (take at xs ++ ys) (drop (at + m) xs) (at + m) front in
     let high : drop (at + m + n) now ≡ drop (at + (m + n)) xs =
     ap (λ k. drop k now) (let e : at + m + n ≡ at + m + n = refl in e)
     ∙ sym (drop-drop n (at + m) now) ∙ ap (drop n) rest ∙ drop-drop n (at + m) xs ∙ ap (λ k. drop k xs) (omega arith) in
-    is ∙ ap (λ l. l ++ zs ++ drop (at + m + n) now) low ∙ ap (λ l. (take at xs ++ ys) ++ zs ++ l) high
+    is ∙ ap (λ l. l ++ zs ++ drop (at + m + n) now) (ap (take (at + m)) was ∙ take_at (take at xs ++ ys) (drop (at + m) xs) (at + m) front) ∙ ap (λ l. (take at xs ++ ys) ++ zs ++ l) high
     ∙ ap (λ l. l ++ drop (at + (m + n)) xs) (append_assoc (take at xs) ys zs)
 
 -- nothing is put
@@ -50,7 +49,6 @@ put_nothing xs at =
 pub nops_length : (machine : Machine) (n : ℕ) → n % nop_len machine ≡ 0 → length (nops machine n) ≡ n
 nops_length (RiscV is_32) n even =
     let word : List ℕ = 0x13 ∷ 0x00 ∷ 0x00 ∷ 0x00 ∷ [] in
-    let words = repeated_length word (n / 4) refl in
     let short : List ℕ = 0x01 ∷ 0x00 ∷ [] in
     let none : List ℕ = [] in
     let tail : length (if n % 4 == 2 then short else none) ≡ n % 4 =
@@ -58,7 +56,7 @@ nops_length (RiscV is_32) n even =
       | inl two ↦ let e = eqb-true (n % 4) 2 two in ap (λ b. length (if b then short else none)) two ∙ sym e
       | inr other ↦ ap (λ b. length (if b then short else none)) other ∙ (let e : 0 ≡ n % 4 = grind (arith, nat_tests, other) in e)
     ] in
-    length-append (repeated word (n / 4)) (if n % 4 == 2 then short else none) ∙ omega (arith, words, tail)
+    length-append (repeated word (n / 4)) (if n % 4 == 2 then short else none) ∙ omega (arith, (repeated_length word (n / 4) refl), tail)
 nops_length LoongArch64 n even = repeated_length (0x00 ∷ 0x00 ∷ 0x40 ∷ 0x03 ∷ []) (n / 4) refl ∙ omega arith
 
 pub nops_two : (is_32 : Bool) (n : ℕ) → n % 4 ≡ 2 → nops (RiscV is_32) n ≡ repeated (0x13 ∷ 0x00 ∷ 0x00 ∷ 0x00 ∷ []) (n / 4) ++ 0x01 ∷ 0x00 ∷ []

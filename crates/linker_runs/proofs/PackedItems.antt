@@ -73,9 +73,7 @@ pub gap_below : (s : Section) (items : List Item) (i : ℕ) → IsApart items i 
 gap_below s items zero apart inside = inside.0
 gap_below s items (suc i) apart inside =
     let z : suc i - 1 ≡ i = omega arith in
-    let a = ap (λ n. end_of (item_at items n)) z in
-    let h = apart (omega arith) in
-    omega arith
+    omega (arith, ap (λ n. end_of (item_at items n)) z, apart (omega arith))
 
 -- ---- bytes put over others
 
@@ -115,21 +113,16 @@ same_window xs ys o k len same =
 
 ends_below : (items : List Item) → ((i : ℕ) → i < length items → IsApart items i) → (i d : ℕ) → i + d + 1 < length items → end_of (item_at items i) ≤ offset_of (item_at items (i + d + 1))
 ends_below items apart i zero within =
-    let h = apart (i + 0 + 1) within (omega arith) in
     let e = ap (λ n. end_of (item_at items n)) (let z : i + 0 + 1 - 1 ≡ i = omega arith in z) in
-    omega arith
+    omega (arith, apart (i + 0 + 1) within (omega arith))
 ends_below items apart i (suc d) within =
-    let rest = ends_below items apart i d (omega arith) in
-    let h = apart (i + suc d + 1) within (omega arith) in
     let e = ap (λ n. end_of (item_at items n)) (let z : i + suc d + 1 - 1 ≡ i + d + 1 = omega arith in z) in
-    omega arith
+    omega (arith, ends_below items apart i d (omega arith), apart (i + suc d + 1) within (omega arith))
 
 pub earlier_ends : (items : List Item) → ((i : ℕ) → i < length items → IsApart items i) → (i n : ℕ) → i < n → n < length items → end_of (item_at items i) ≤ offset_of (item_at items n)
 earlier_ends items apart i n below within =
     let z : i + (n - i - 1) + 1 ≡ n = omega arith in
-    let h = ends_below items apart i (n - i - 1) (omega arith) in
-    let e = ap (λ m. offset_of (item_at items m)) z in
-    omega arith
+    omega (arith, ends_below items apart i (n - i - 1) (omega arith), ap (λ m. offset_of (item_at items m)) z)
 
 -- ---- one item
 
@@ -211,15 +204,11 @@ module _ (machine : Machine) (s : Section) (items : List Item) (n at : ℕ) (p0 
   stays : (p : ℕ) → is_kept s.deletions (s.base + p) ≡ true → IsNotIn s.deletions (s.base + p) (item_at items n) → get_or p1 (packed_offset s (s.base + p)) 0 ≡ get_or p0 (packed_offset s (s.base + p)) 0
   stays p kept off = elim (cases_lt (s.base + p) (offset_of (item_at items n))) [
     | inl low ↦
-        let a = rank_kept s.deletions (s.base + p) kept in
         let b = rank-mono s.deletions (suc (s.base + p)) (offset_of (item_at items n)) (omega arith) in
-        let c = rank-mono s.deletions s.base (s.base + p) (omega arith) in
-        below (packed_offset s (s.base + p)) (omega arith)
+        below (packed_offset s (s.base + p)) (omega (arith, rank_kept s.deletions (s.base + p) kept, rank-mono s.deletions s.base (s.base + p) (omega arith)))
     | inr high ↦
         let a = rank-mono s.deletions (offset_of (item_at items n) + written_len s.deletions (item_at items n)) (s.base + p) (off high) in
-        let f = first in
-        let b = from_base in
-        above (packed_offset s (s.base + p)) (omega arith)
+        above (packed_offset s (s.base + p)) (omega (arith, first, from_base))
   ]
 
   earlier : (i : ℕ) → i < n → is_fixed (item_at items i) ≡ false → packed_offset s (offset_of (item_at items i)) + kept_len s.deletions (item_at items i) ≤ at
@@ -228,13 +217,11 @@ module _ (machine : Machine) (s : Section) (items : List Item) (n at : ℕ) (p0 
       let ends = earlier_ends items (λ j h. (ready j h).apart) i n low within in
       let k = kept_within s.deletions (item_at items i) in
       let m = rank-mono s.deletions (offset_of (item_at items i) + kept_len s.deletions (item_at items i)) (offset_of (item_at items n)) (omega arith) in
-      let b = rank-mono s.deletions s.base (offset_of (item_at items i)) (ready i (omega arith)).inside.0 in
-      omega arith
+      omega (arith, rank-mono s.deletions s.base (offset_of (item_at items i)) (ready i (omega arith)).inside.0)
 
   here : is_fixed (item_at items n) ≡ false → take (kept_len s.deletions (item_at items n)) (drop (packed_offset s (offset_of (item_at items n))) p1) ≡ bytes
   here free =
-      let z : kept_len s.deletions (item_at items n) ≡ length bytes = sym (free_len free) ∙ sym long in
-      ap (λ k. take k (drop (packed_offset s (offset_of (item_at items n))) p1)) z
+      ap (λ k. take k (drop (packed_offset s (offset_of (item_at items n))) p1)) (sym (free_len free) ∙ sym long)
       ∙ ap (λ o. take (length bytes) (drop o p1)) (sym at_is)
       ∙ ap (λ l. take (length bytes) (drop at l)) is_put
       ∙ window_at p0 bytes at fits
@@ -244,9 +231,8 @@ module _ (machine : Machine) (s : Section) (items : List Item) (n at : ℕ) (p0 
     kept = λ p low kept off. stays p kept (off n (omega arith)) ∙ before.kept p low kept (λ i h. off i (omega arith));
     written = λ i low free. elim (cases_lt i n) [
       | inl early ↦
-          let e = earlier i early free in
           subst (ItemBecomes machine s (item_at items i))
-          (same_window p0 p1 (packed_offset s (offset_of (item_at items i))) (kept_len s.deletions (item_at items i)) (sym len) (λ y h. sym (below y (omega arith))))
+          (same_window p0 p1 (packed_offset s (offset_of (item_at items i))) (kept_len s.deletions (item_at items i)) (sym len) (λ y h. sym (below y (omega (arith, earlier i early free)))))
           (before.written i early free)
       | inr late ↦
           let same : i ≡ n = omega arith in

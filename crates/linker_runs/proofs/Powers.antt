@@ -26,8 +26,7 @@ one_bit (suc most) n within one =
     (λ (odd : 1 ≤ rest).
     let one_more : rest ≡ 1 = omega arith in
     let e : count_ones rest ≡ 1 = ap count_ones one_more in
-    let none = zero_from_ones half (omega arith) in
-    (0, (let h : n ≡ 1 = omega arith in h)))
+    (0, (let h : n ≡ 1 = omega (arith, zero_from_ones half (omega arith)) in h)))
     (cases_lt rest 1)
 
 bits_of_power : (k : ℕ) → count_ones (2 ^ k) ≡ 1

@@ -31,8 +31,7 @@ pub call_keeps : (start : ℕ) (item : Item) (call : ℕ × ℕ) (k freed kept p
 call_keeps start (Site site) call k freed kept p is keeps long =
     let past : nat_lt k 1 ≡ false = grind (arith, nat_tests) in
     let eight : kept ≡ 8 = keeps ∙ ap (λ s. shape_len s k) is.3 ∙ grind (arith, nat_tests) in
-    let len = is.2 in
-    loses_none (Site site) kept p (omega arith)
+    loses_none (Site site) kept p (omega (arith, is.2))
 call_keeps start (Aligned alignment) call k freed kept p is keeps long = absurd is
 
 -- a decided deletion loses all

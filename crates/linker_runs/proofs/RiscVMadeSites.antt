@@ -5,7 +5,6 @@ pub riscv_site : (is_32 : Bool) (section : List ℕ) (base : ℕ) (relocations :
 riscv_site is_32 section base relocations i (Aligned alignment) formed makes = tt
 riscv_site is_32 section base relocations i (Site call) formed makes =
     let o = (relocation_at relocations i).offset in
-    let within = formed.call makes.name in
     let place : call.offset ≡ base + o = makes.place in
     let at : o ≡ call.offset - base = omega (arith, place) in
     let shapes : HasRiscVShapes is_32 section o call.shapes = (
@@ -15,4 +14,4 @@ riscv_site is_32 section base relocations i (Site call) formed makes =
           (λ (other : (MayBeShort is_32 section relocations i → ⊥) × (call.shapes ≡ CALL)). inl other.1)
           makes.shapes,
     ) in
-    (makes.len, omega (arith, place), omega (arith, place, within), subst (λ n. HasRiscVShapes is_32 section n call.shapes) at shapes)
+    (makes.len, omega (arith, place), omega (arith, place, (formed.call makes.name)), subst (λ n. HasRiscVShapes is_32 section n call.shapes) at shapes)

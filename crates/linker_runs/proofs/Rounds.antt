@@ -34,9 +34,7 @@ next_round start items old new r eold enew each before i = rw add-one
     (⊎_elim
     (λ (within : i < length items). each i within ∙ lengthened_agrees start items (choice_of old) (after_rounds start items r) before i)
     (λ (outside : length items ≤ i).
-    let past_new : length new ≤ i = omega arith in
-    let past_old : length old ≤ i = omega arith in
-    get_or-eq_default new 0 past_new ∙ sym (get_or-eq_default old 0 past_old)
+    get_or-eq_default new 0 (omega arith) ∙ sym (get_or-eq_default old 0 (omega arith))
     ∙ sym (lengthened_in start items (choice_of old) i (reach_outside start items (choice_of old) i outside))
     ∙ lengthened_agrees start items (choice_of old) (after_rounds start items r) before i)
     (cases_lt i (length items)))

@@ -15,9 +15,7 @@ shape_decides a b = (
       let r = and_parts (eqb a.kept b.kept) (eqb a.granularity b.granularity) q.1 in
       let following = eqb-true a.max_backward b.max_backward p.0 in
       let ahead = eqb-true a.max_forward b.max_forward q.0 in
-      let kept = eqb-true a.kept b.kept r.0 in
-      let granularity = eqb-true a.granularity b.granularity r.1 in
-      λ i. record { max_backward = following i; max_forward = ahead i; kept = kept i; granularity = granularity i },
+      λ i. record { max_backward = following i; max_forward = ahead i; kept = (eqb-true a.kept b.kept r.0) i; granularity = (eqb-true a.granularity b.granularity r.1) i },
   λ e. subst (λ c. shape_eq a c ≡ true) e (same a),
 )
   where
@@ -33,9 +31,7 @@ shapes_decide a b r told = (
       let p = and_parts (pointwise shape_eq a.short b.short) (eqb a.longest b.longest && eqb a.count b.count) (sym told ∙ h) in
       let q = and_parts (eqb a.longest b.longest) (eqb a.count b.count) p.1 in
       let short = (slice_eq-Decides shape_decides a.short b.short (pointwise shape_eq a.short b.short) refl).0 p.0 in
-      let longest = eqb-true a.longest b.longest q.0 in
-      let count = eqb-true a.count b.count q.1 in
-      λ i. record { short = short i; longest = longest i; count = count i },
+      λ i. record { short = short i; longest = (eqb-true a.longest b.longest q.0) i; count = (eqb-true a.count b.count q.1) i },
   λ e. told ∙ subst (λ c. shapes_eq a c ≡ true) e (same a),
 )
   where

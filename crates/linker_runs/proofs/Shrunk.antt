@@ -30,8 +30,7 @@ takes_same start deletions calls items place choice kept chosen rel keeps agree 
     takes_right deletions (chosen_deletions calls chosen) p (chosen_takes calls chosen p i call.1 (agree.into i call.1 is_zero) (sym e ∙ here)))
     (cases_lt 0 (choice (place i))))
     (λ (gone : (i : ℕ) × (i < length deletions) × IsDeletedItem (pair_at deletions i) (item_at items j)).
-    let e = deleted_loses start (item_at items j) (pair_at deletions gone.0) (choice j) (freed_before start items choice j) (get_or kept j 0) p gone.2 (keeps j found.1) in
-    takes_left deletions (chosen_deletions calls chosen) p (taken deletions p gone.0 gone.1 (sym e ∙ found.2)))
+    takes_left deletions (chosen_deletions calls chosen) p (taken deletions p gone.0 gone.1 (sym (deleted_loses start (item_at items j) (pair_at deletions gone.0) (choice j) (freed_before start items choice j) (get_or kept j 0) p gone.2 (keeps j found.1)) ∙ found.2)))
     (rel.all j found.1))
     (λ h. ⊎_elim
     (λ (gone : takes deletions p ≡ true).
@@ -57,12 +56,11 @@ reach_same start deletions calls items place choice kept chosen are rel keeps ag
     let at = call_place item call is.1 in
     let t = translations_of start items choice kept are keeps (place i) is.0 in
     let same = rank_alike (deletions_before items kept (length items)) ds (takes_same start deletions calls items place choice kept chosen rel keeps agree) in
-    let from : offset_of item - here ≡ rank ds call.0 = sym t.0 ∙ same (offset_of item) ∙ ap (rank ds) at.0 in
     let to : target_of item - there ≡ rank ds call.1 = sym t.1 ∙ same (target_of item) ∙ ap (rank ds) at.1 in
     let reaches = call_reaches item call (choice (place i)) here there is.1 short in
     let jal = jal_reaches (rank ds call.0) (rank ds call.1) in
     let moved : shape_reaches call_shapes 0 (offset_of item - here) (target_of item - there) ≡ shape_reaches call_shapes 0 (rank ds call.0) (rank ds call.1) =
-    ap (λ f. shape_reaches call_shapes 0 f (target_of item - there)) from ∙ ap (λ g. shape_reaches call_shapes 0 (rank ds call.0) g) to in (
+    ap (λ f. shape_reaches call_shapes 0 f (target_of item - there)) (sym t.0 ∙ same (offset_of item) ∙ ap (rank ds) at.0) ∙ ap (λ g. shape_reaches call_shapes 0 (rank ds call.0) g) to in (
       λ h. jal.0 (sym moved ∙ sym reaches ∙ h),
       λ h. reaches ∙ moved ∙ jal.1 h,
     )
@@ -72,8 +70,7 @@ tabled : {X : Type 0} (f : ℕ → X) (n : ℕ) → (xs : List X) × (length xs 
 tabled f zero = ([], refl, λ i d within. absurd (omega arith))
 tabled {X} f (suc n) =
     let rest = tabled (λ i. f (suc i)) n in
-    let len = rest.1 in
-    (f 0 ∷ rest.0, omega arith, at (f 0) rest.0 rest.2)
+    (f 0 ∷ rest.0, omega (arith, rest.1), at (f 0) rest.0 rest.2)
   where
     at : (x : X) (xs : List X) → ((i : ℕ) (d : X) → i < n → get_or xs i d ≡ f (suc i)) → (i : ℕ) (d : X) → i < suc n → get_or (f 0 ∷ xs) i d ≡ f i
     at x xs others zero d within = refl
@@ -93,9 +90,8 @@ unfolding long_at
 long_is place chosen zero i within once = absurd (omega arith)
 long_is place chosen (suc n) i within once = ⊎_elim
     (λ (same : place n ≡ place i).
-    let e : n ≡ i = once n (omega arith) same in
     let test : eqb (place n) (place i) ≡ true = grind (arith, nat_tests) in
-    ap (λ b. cond b (shape_of (get_or chosen n false)) (long_at place chosen n (place i))) test ∙ ap (λ m. shape_of (get_or chosen m false)) e)
+    ap (λ b. cond b (shape_of (get_or chosen n false)) (long_at place chosen n (place i))) test ∙ ap (λ m. shape_of (get_or chosen m false)) (once n (omega arith) same))
     (λ (other : place n ≡ place i → ⊥).
     let test : eqb (place n) (place i) ≡ false = grind (arith, nat_tests) in
     let below : i < n = ⊎_elim (λ (h : i < n). h) (λ (h : n ≤ i). let e : n ≡ i = omega arith in absurd (other (ap place e))) (cases_lt i n) in
@@ -139,7 +135,6 @@ from_greatest start deletions calls items place shapes kept freed chosen are rel
     let other = long_at place chosen (length calls) in
     let value : (k : ℕ) → k < length calls → other (place k) ≡ shape_of (get_or chosen k false) = λ k below. long_is place chosen (length calls) k below (λ j h e. rel.once j k h below e) in
     let table = tabled (λ j. kept_by start (item_at items j) (other j) (freed_before start items other j)) (length items) in
-    let keeps : KeepsLayout start items other table.0 = λ j below. table.2 j 0 below in
     let agree : Agree calls place other chosen = record {
       into = λ k below zero_at. in_chosen (get_or chosen k false) (sym (value k below) ∙ zero_at);
       from = λ k below in_chosen. value k below ∙ one_or_none (get_or chosen k false) in_chosen;
@@ -155,16 +150,14 @@ from_greatest start deletions calls items place shapes kept freed chosen are rel
     (λ (long : 0 < other (place k)). long_reaches item (pair_at calls k) (other (place k)) (freed_before start items other (place k)) (freed_before start items other (place_of items (target_of item))) at.1 long)
     (λ (short : other (place k) ≤ 0).
     let zero_at : other (place k) ≡ 0 = omega arith in
-    (reach_same start deletions calls items place other table.0 chosen are rel keeps agree k below zero_at).1 (greatest.in_reach k (0, 0) below (agree.into k below zero_at)))
+    (reach_same start deletions calls items place other table.0 chosen are rel (λ j below. table.2 j 0 below) agree k below zero_at).1 (greatest.in_reach k (0, 0) below (agree.into k below zero_at)))
     (cases_lt 0 (other (place k))) in
     let reach : IsInReachExactly start items other = λ j below. ⊎_elim
     (λ (call : (k : ℕ) × (k < length calls) × (place k ≡ j)). subst (λ n. is_in_reach start items other n ≡ true) call.2 (call_in call.0 call.1))
     (λ (gone : (k : ℕ) × (k < length deletions) × IsDeletedItem (pair_at deletions k) (item_at items j)).
     deleted_reaches (item_at items j) (pair_at deletions gone.0) (other j) (freed_before start items other j) (freed_before start items other (place_of items (target_of (item_at items j)))) gone.2)
     (rel.all j below) in
-    let most = relaxed.greatest sites other reach (place i) (rel.calls_in i within).0 in
-    let least = agree.from i within is in
-    omega arith
+    omega (arith, relaxed.greatest sites other reach (place i) (rel.calls_in i within).0, agree.from i within is)
   where
     in_chosen : (b : Bool) → shape_of b ≡ 0 → b ≡ true
     in_chosen true e = refl

@@ -17,11 +17,8 @@ module _ (start : ℕ) (items : List Item) (old new : List ℕ) (i : ℕ) (are :
   next_layout freed more less_freed more_freed most least laid = record {
     below = λ j low. laid.below j low ∙ cautious_agrees items (choice_of old) (choice_of new) j (λ k h. sym (others k (λ e. absurd (omega arith))));
     above = λ j high inside.
-        let was = laid.above j high inside in
-        let change = cautious_changed items (choice_of new) (choice_of old) i j others (omega arith) in
         let less = kept_less (run_granularity items) start (item_at items i) (choice_of old i) (choice_of old i + 1) (item_suits start items are i within) (omega arith) in
-        let same = ap (freed_cautiously (item_at items i)) here in
-        omega arith;
+        omega (arith, laid.above j high inside, cautious_changed items (choice_of new) (choice_of old) i j others (omega arith), ap (freed_cautiously (item_at items i)) here);
   }
 
   pub next_short : choice_of old i < 2 → ((k : ℕ) → choice_of old k ≤ 2) → (k : ℕ) → choice_of new k ≤ 2
@@ -33,11 +30,7 @@ module _ (start : ℕ) (items : List Item) (old new : List ℕ) (i : ℕ) (are :
   pub next_forced : is_in_reach_cautiously items (choice_of old) i ≡ false → AreForced items old → AreForced items new
   next_forced out forced other reached k low = ⊎_elim
       (λ (same : k ≡ i).
-      let next = forced_next start items (choice_of old) other are (forced other reached) reached i within out in
-      let a = ap (choice_of new) same in
-      let b = ap other same in
-      let c = here in
-      omega arith)
+      omega (arith, forced_next start items (choice_of old) other are (forced other reached) reached i within out, ap (choice_of new) same, ap other same, here))
       (λ (apart : (k < i) ⊎ (i < k)). let e = others k (λ e. absurd (omega arith)) in let h = forced other reached k low in omega arith)
       (cases_order k i)
 
@@ -48,10 +41,7 @@ back_step items shapes freed new i more low laid is = record {
   above = λ j h inside. ⊎_elim
       (λ (same : j ≡ i).
       let a = ap (λ n. get_or new n 0) same in
-      let b = ap (cautious_before items (choice_of shapes)) same in
-      let c = ap (λ xs. get_or xs i 0) is ∙ get_or-set_same freed i (get_or freed i 0 + more) 0 low in
-      let d = laid.below i (omega arith) in
-      omega arith)
+      omega (arith, ap (cautious_before items (choice_of shapes)) same, ap (λ xs. get_or xs i 0) is ∙ get_or-set_same freed i (get_or freed i 0 + more) 0 low, laid.below i (omega arith)))
       (λ (apart : (j < i) ⊎ (i < j)). let e = other j (λ e. absurd (omega arith)) in let d = laid.above j (omega arith) inside in omega arith)
       (cases_order j i);
 }
@@ -63,11 +53,8 @@ pub ahead_step : (items : List Item) (shapes freed new : List ℕ) (i more : ℕ
 ahead_step items shapes freed new i more low within laid is = record {
   below = λ j h. ⊎_elim
       (λ (same : j ≡ i).
-      let a = ap (λ n. get_or new n 0) same in
       let b = ap (cautious_before items (choice_of shapes)) same in
-      let c = ap (λ xs. get_or xs i 0) is ∙ get_or-set_same freed i (get_or freed i 0 - more) 0 low in
-      let d = laid.above i (omega arith) within in
-      omega arith)
+      omega (arith, ap (λ n. get_or new n 0) same, ap (λ xs. get_or xs i 0) is ∙ get_or-set_same freed i (get_or freed i 0 - more) 0 low, laid.above i (omega arith) within))
       (λ (apart : (j < i) ⊎ (i < j)). other j (λ e. absurd (omega arith)) ∙ laid.below j (omega arith))
       (cases_order j i);
   above = λ j h inside. other j (λ e. absurd (omega arith)) ∙ laid.above j (omega arith) inside;
@@ -86,16 +73,11 @@ whole_layout items shapes freed split within laid = record {
 -- what it has at the end
 pub last_fits : (start : ℕ) (items : List Item) (shapes freed : List ℕ) → AreItems start items → AreCautious items shapes freed 0 0 → get_or freed (length items) 0 < 2 ^ 64
 last_fits start items shapes freed are laid =
-    let e = laid.above (length items) (omega arith) (omega arith) in
-    let fits = cautious_end start items (choice_of shapes) are (length items) refl in
-    omega arith
+    omega (arith, laid.above (length items) (omega arith) (omega arith), cautious_end start items (choice_of shapes) are (length items) refl)
 
 -- and so what is above fits, and with what the items before an index free
 pub more_fits : (start : ℕ) (items : List Item) (shapes freed : List ℕ) (i more : ℕ) → i < length items → AreCautious items shapes freed (i + 1) more → get_or freed (length items) 0 < 2 ^ 64 → get_or freed i 0 + more < 2 ^ 64
 more_fits start items shapes freed i more within laid fits =
     let last = laid.above (length items) (omega arith) (omega arith) in
-    let here = laid.below i (omega arith) in
-    let up = cautious_up start items (choice_of shapes) i (length items - i) in
     let z : i + (length items - i) ≡ length items = omega arith in
-    let a = ap (cautious_before items (choice_of shapes)) z in
-    omega arith
+    omega (arith, laid.below i (omega arith), cautious_up start items (choice_of shapes) i (length items - i), ap (cautious_before items (choice_of shapes)) z)

@@ -10,18 +10,15 @@ use Rattle.linker_runs.proofs.Deletions.{deletions_none, deletions_next, deletio
 removed_whole : (item : Item) (kept offset : ℕ) → end_of item ≤ offset → removed (deletion_at item kept) offset ≡ len_of item - kept
 removed_whole item kept offset h = ⊎_elim
     (λ (less : kept < len_of item).
-    let e : removed (deletion_at item kept) offset ≡ 0 + min (len_of item - kept) (offset - (offset_of item + kept)) = ap (λ ds. removed ds offset) (deletion_some item kept less) in
-    omega arith)
+    omega (arith, ap (λ ds. removed ds offset) (deletion_some item kept less)))
     (λ (all : len_of item ≤ kept).
-    let e : removed (deletion_at item kept) offset ≡ 0 = ap (λ ds. removed ds offset) (deletion_none item kept all) in
-    omega arith)
+    omega (arith, ap (λ ds. removed ds offset) (deletion_none item kept all)))
     (cases_lt kept (len_of item))
 
 removed_nothing : (item : Item) (kept offset : ℕ) → offset ≤ offset_of item + kept → removed (deletion_at item kept) offset ≡ 0
 removed_nothing item kept offset h = ⊎_elim
     (λ (less : kept < len_of item).
-    let e : removed (deletion_at item kept) offset ≡ 0 + min (len_of item - kept) (offset - (offset_of item + kept)) = ap (λ ds. removed ds offset) (deletion_some item kept less) in
-    omega arith)
+    omega (arith, ap (λ ds. removed ds offset) (deletion_some item kept less)))
     (λ (all : len_of item ≤ kept). ap (λ ds. removed ds offset) (deletion_none item kept all))
     (cases_lt kept (len_of item))
 
@@ -39,23 +36,16 @@ removed_below start items choice kept keeps offset (suc i) within below =
     let rest = removed_below start items choice kept keeps offset i (omega arith) (λ j h. below j (omega arith)) in
     let here = removed_whole (item_at items i) (get_or kept i 0) offset (below i (omega arith)) in
     let step = removed_next items kept i offset in
-    let next = freed_next start items choice i in
-    let e = keeps i (omega arith) in
     let z : suc i ≡ i + 1 = omega arith in
-    let a = ap (λ n. removed (deletions_before items kept n) offset) z in
-    let b = ap (freed_before start items choice) z in
-    omega arith
+    omega (arith, freed_next start items choice i, keeps i (omega arith), ap (λ n. removed (deletions_before items kept n) offset) z, ap (freed_before start items choice) z)
 
 -- and the others none
 removed_past : (items : List Item) (kept : List ℕ) (offset p d : ℕ) → p + d ≤ length items → ((j : ℕ) → p ≤ j → j < length items → offset ≤ offset_of (item_at items j) + get_or kept j 0) → removed (deletions_before items kept (p + d)) offset ≡ removed (deletions_before items kept p) offset
 removed_past items kept offset p zero within above = let z : p + 0 ≡ p = omega arith in ap (λ n. removed (deletions_before items kept n) offset) z
 removed_past items kept offset p (suc d) within above =
-    let rest = removed_past items kept offset p d (omega arith) above in
     let here = removed_nothing (item_at items (p + d)) (get_or kept (p + d) 0) offset (above (p + d) (omega arith) (omega arith)) in
-    let step = removed_next items kept (p + d) offset in
     let z : p + suc d ≡ p + d + 1 = omega arith in
-    let a = ap (λ n. removed (deletions_before items kept n) offset) z in
-    omega arith
+    omega (arith, removed_past items kept offset p d (omega arith) above, removed_next items kept (p + d) offset, ap (λ n. removed (deletions_before items kept n) offset) z)
 
 translated : (start : ℕ) (items : List Item) (choice : ℕ → ℕ) (kept : List ℕ) → AreInOrder start items → KeepsLayout start items choice kept → (offset p : ℕ) → p ≤ length items
     → ((j : ℕ) → j < p → end_of (item_at items j) ≤ offset) → ((j : ℕ) → p ≤ j → j < length items → offset ≤ offset_of (item_at items j) + get_or kept j 0)
@@ -65,9 +55,7 @@ translated start items choice kept order keeps offset p within below above =
     let all = rank-removed (deletions_before items kept (length items)) offset (λ i j d lt there. inl (valid.ascending i j d lt there)) in
     let z : p + (length items - p) ≡ length items = omega arith in
     let a = ap (λ n. removed (deletions_before items kept n) offset) z in
-    let past = removed_past items kept offset p (length items - p) (omega arith) above in
-    let gone = removed_below start items choice kept keeps offset p within below in
-    omega arith
+    omega (arith, removed_past items kept offset p (length items - p) (omega arith) above, removed_below start items choice kept keeps offset p within below)
 
 -- an item keeps no less than in each choice
 keeps_least : (u start : ℕ) (item : Item) (k freed : ℕ) → ItemSuits u start item → least_len item ≤ kept_by start item k freed
@@ -77,11 +65,8 @@ keeps_least u start (Aligned alignment) k freed fit = omega arith
 -- offsets of items ascend
 offsets_ascend : (start : ℕ) (items : List Item) → AreInOrder start items → (i j : ℕ) → i < j → j < length items → end_of (item_at items i) ≤ offset_of (item_at items j)
 offsets_ascend start items order i j up within =
-    let h = ends_ascend start items order i (j - 1) (omega arith) (omega arith) in
     let z : j - 1 + 1 ≡ j = omega arith in
-    let a = ap (λ n. offset_of (item_at items n)) z in
-    let apart = order.apart (j - 1) (omega arith) in
-    omega arith
+    omega (arith, ends_ascend start items order i (j - 1) (omega arith) (omega arith), ap (λ n. offset_of (item_at items n)) z, order.apart (j - 1) (omega arith))
 
 -- the same of any choice
 pub translations_of : (start : ℕ) (items : List Item) (choice : ℕ → ℕ) (kept : List ℕ) → AreItems start items → KeepsLayout start items choice kept → (i : ℕ) → i < length items
@@ -100,9 +85,7 @@ translations_of start items choice kept are keeps i within =
       translated start items choice kept order keeps target (place_of items target) place.within place.below
           (λ j h there. ⊎_elim
           (λ (into : target ≤ offset_of (item_at items j) + least_len (item_at items j)).
-          let least = keeps_least (run_granularity items) start (item_at items j) (choice j) (freed_before start items choice j) (item_suits start items are j there) in
-          let e = keeps j there in
-          omega arith)
+          omega (arith, keeps_least (run_granularity items) start (item_at items j) (choice j) (freed_before start items choice j) (item_suits start items are j there), keeps j there))
           (λ (ended : end_of (item_at items j) ≤ target). let o = place.others j h there in absurd (omega arith))
           (are.clear i j within there)),
     )

@@ -4,14 +4,11 @@ use Rattle.linker_runs.proofs.Imports.{◌≡◌, ℕ, zero, suc, ◌+◌, ◌-�
 -- of two powers of two the less divides the other
 pub power_divides : (a b : ℕ) → IsPowerOfTwo a → IsPowerOfTwo b → a ≤ b → b % a ≡ 0
 power_divides a b pa pb up =
-    let ea = pa.1 in
-    let eb = pb.1 in
     ⊎_elim
     (λ (below : pb.0 < pa.0). let h = pow_below pb.0 pa.0 below in absurd (omega arith))
     (λ (above : pa.0 ≤ pb.0).
     let z : pb.0 - pa.0 + pa.0 ≡ pb.0 = omega arith in
-    let whole : b ≡ 2 ^ (pb.0 - pa.0) * 2 ^ pa.0 = eb ∙ ap (λ k. 2 ^ k) (sym z) ∙ pow-add 2 (pb.0 - pa.0) pa.0 in
-    ap (λ n. n % a) whole ∙ ap (λ n. 2 ^ (pb.0 - pa.0) * 2 ^ pa.0 % n) ea ∙ mul-mod_left (2 ^ (pb.0 - pa.0)) (2 ^ pa.0))
+    ap (λ n. n % a) (pb.1 ∙ ap (λ k. 2 ^ k) (sym z) ∙ pow-add 2 (pb.0 - pa.0) pa.0) ∙ ap (λ n. 2 ^ (pb.0 - pa.0) * 2 ^ pa.0 % n) pa.1 ∙ mul-mod_left (2 ^ (pb.0 - pa.0)) (2 ^ pa.0))
     (cases_lt pb.0 pa.0)
 
 max_power : (a b : ℕ) → IsPowerOfTwo a → IsPowerOfTwo b → IsPowerOfTwo (max a b)
@@ -33,11 +30,10 @@ fold_unit : (before : ℕ) (items : List Item) → IsPowerOfTwo before → ((i :
 fold_unit before [] power powers = record { power = power; least = omega arith; each = λ i within. absurd (omega arith) }
 fold_unit before (item ∷ items) power powers =
     let rest = fold_unit (max before (item_granularity item)) items (max_power before (item_granularity item) power (powers 0 (omega arith))) (λ i within. powers (suc i) (omega arith)) in
-    let least = rest.least in
     record {
       power = rest.power;
-      least = omega arith;
-      each = each (item_granularity item) (unit_from (max before (item_granularity item)) items) (omega arith) rest.each;
+      least = omega (arith, rest.least);
+      each = each (item_granularity item) (unit_from (max before (item_granularity item)) items) (omega (arith, rest.least)) rest.each;
     }
   where
     each : (first granularity : ℕ) → item_granularity item ≤ granularity → ((i : ℕ) → i < length items → item_granularity (item_at items i) ≤ granularity) → (i : ℕ) → i < length (item ∷ items) → item_granularity (item_at (item ∷ items) i) ≤ granularity
@@ -90,7 +86,6 @@ item_suits start items are i within =
       ascending = ascends site.shapes formed;
       ahead = formed.ahead;
       units = λ k short.
-          let h = shape_below site.shapes sound.0 k short in
-          power_divides (short_shape site.shapes k).granularity u (formed.powers k short).power power (omega arith);
+          power_divides (short_shape site.shapes k).granularity u (formed.powers k short).power power (omega (arith, shape_below site.shapes sound.0 k short));
     }
     suits u (Aligned alignment) power most sound formed fit = fit

@@ -13,25 +13,19 @@ clear_all start items offset order clear j within =
     (λ (below : j < p). inr (place.below j below))
     (λ (others : p ≤ j). ⊎_elim
     (λ (after : p < j).
-    let past = place.others (j - 1) (omega arith) (omega arith) in
     let z : j - 1 + 1 ≡ j = omega arith in
-    let a = ap (λ n. offset_of (item_at items n)) z in
-    let h = order.apart (j - 1) (omega arith) in
-    inl (omega arith))
+    inl (omega (arith, place.others (j - 1) (omega arith) (omega arith), ap (λ n. offset_of (item_at items n)) z, order.apart (j - 1) (omega arith))))
     (λ (same : j ≤ p).
     let e : p ≡ j = omega arith in
-    let a = ap (λ n. offset_of (item_at items n) + least_len (item_at items n)) e in
-    let h = clear (omega arith) in
-    inl (omega arith))
+    inl (omega (arith, ap (λ n. offset_of (item_at items n) + least_len (item_at items n)) e, clear (omega arith))))
     (cases_lt p j))
     (cases_lt j p)
 
 pub clear_of : (start : ℕ) (items : List Item) (offset : ℕ) → AreInOrder start items → ((j : ℕ) → j < length items → IsClear (item_at items j) offset) → IsClearRun items offset
 clear_of start items offset order clear = λ within.
-    let place = place_is start items order offset in
     let p = place_of items offset in
     ⊎_elim (λ (h : offset ≤ offset_of (item_at items p) + least_len (item_at items p)). h)
-    (λ (h : end_of (item_at items p) ≤ offset). let o = place.others p (omega arith) within in absurd (omega arith))
+    (λ (h : end_of (item_at items p) ≤ offset). let o = (place_is start items order offset).others p (omega arith) within in absurd (omega arith))
     (clear p within)
 
 -- what an item meets by itself makes it sound and formed
@@ -75,9 +69,7 @@ pub in_order : (start : ℕ) (items : List Item) → AreSound start items → Ar
 in_order start items sound = record {
   apart = λ i within.
       let z : i + 1 - 1 ≡ i = omega arith in
-      let a = ap (λ n. end_of (item_at items n)) z in
-      let h = sound (i + 1) (omega arith) Overlaps (omega arith) in
-      omega arith;
+      omega (arith, ap (λ n. end_of (item_at items n)) z, sound (i + 1) (omega arith) Overlaps (omega arith));
   ends = λ i within. sound i within TooHigh;
   sound = λ i within. item_sound (item_at items i) (own_item start items i (sound i within));
 }
@@ -209,10 +201,9 @@ own_first start items found first =
 
 run_first : (start : ℕ) (items : List Item) (found : ItemFault) → AreSound start items → IsFirstAt (RunMeets (run_granularity items) start items) (length items) found → IsFirstFault start items found
 run_first start items found sound first =
-    let inside = first.within in
     record {
       within = first.within;
-      before = λ i below fault. (sound i (omega arith) fault, λ _. first.before i below fault);
+      before = λ i below fault. (sound i (omega (arith, first.within)) fault, λ _. first.before i below fault);
       first = record {
         here = λ met. first.first.here (met.1 sound);
         earlier = λ other below. (sound found.index first.within other, λ _. first.first.earlier other below);

@@ -50,9 +50,8 @@ module _ (bytes : List ℕ) (base : ℕ) (d : List (ℕ × ℕ)) (start : ℕ) w
 
       near : is_reached (short_shape site.shapes k) (rank d site.offset) (rank d site.target) ≡ true
       near =
-          let to : rank d site.target ≡ target_of (Site site) - there = ap (rank d) (sym target) ∙ goes in
           ap (λ n. is_reached (short_shape site.shapes k) n (rank d site.target)) at
-          ∙ ap (is_reached (short_shape site.shapes k) (site.offset - here)) to
+          ∙ ap (is_reached (short_shape site.shapes k) (site.offset - here)) (ap (rank d) (sym target) ∙ goes)
           ∙ sym (cond-true (nat_lt k site.shapes.count) (is_reached (short_shape site.shapes k) (site.offset - here) (target_of (Site site) - there)) true test)
           ∙ reached
 

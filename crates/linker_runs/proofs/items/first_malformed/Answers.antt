@@ -4,8 +4,7 @@ use Rattle.linker_runs.proofs.items.first_malformed.Goals as goal
 
 pub loop-index-preserved : goal.loop-index-preserved
 loop-index-preserved g c =
-    let rs = map g.R.AsRelocation.relocation c.args.relocations.now in
-    below_more (λ k. IsFormed c.args.machine c.args.section.now (relocation_at rs k)) c.loop-index.index c.loop-index.invariant
+    below_more (λ k. IsFormed c.args.machine c.args.section.now (relocation_at (map g.R.AsRelocation.relocation c.args.relocations.now) k)) c.loop-index.index c.loop-index.invariant
     (subst (IsFormed c.args.machine c.args.section.now) c.relocation_at.ensures (c.is_formed.ensures.0 c.if-not-is_formed.false))
 
 pub returns-then-not-is_formed : goal.returns-then-not-is_formed

@@ -21,14 +21,12 @@ loop-index-preserved g c =
     record {
       put = elim c.match-item_at.branch [
         | in-Some-item_at w ↦
-            let made : makes i w.in-Some-item_at.item = subst (λ made. MatchOption made ((item : Item) → ¬ makes i item) (makes i)) w.in-Some-item_at.is c.item_at.ensures in
-            let is : makes i (f w.from_item.result) = subst (makes i) (sym w.from_item.ensures.item) made in
+            let is : makes i (f w.from_item.result) = subst (makes i) (sym w.from_item.ensures.item) (subst (λ made. MatchOption made ((item : Item) → ¬ makes i item) (makes i)) w.in-Some-item_at.is c.item_at.ensures) in
             let more = put_more f form makes i n c.loop-index.out before c.loop-index.makers known w.from_item.result put (omega (arith, put.few, put.room)) (omega (arith, put.few, put.makers_room)) is w.from_item.ensures.form in
             rw (w.count-is, w.out-is, w.makers-is) more
         | in_default-item_at w ↦
             let not : (item : Item) → ¬ makes i item = subst (λ made. MatchOption made ((item : Item) → ¬ makes i item) (makes i)) w.in_default-item_at.is c.item_at.ensures in
-            let less = put_less f form makes i n c.loop-index.out before c.loop-index.makers known put not in
-            rw (w.count-is, w.out-is, w.makers-is) less
+            rw (w.count-is, w.out-is, w.makers-is) (put_less f form makes i n c.loop-index.out before c.loop-index.makers known put not)
       ];
       next = ahead_on c.args.machine rs i c.ahead-next.result c.ahead-next.ensures;
     }

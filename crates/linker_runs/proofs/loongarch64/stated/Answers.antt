@@ -8,20 +8,14 @@ too_small b addend nops power e few stated =
     let is = subst (λ x. AreStated x addend nops power) e stated in
     let same : addend % 256 ≡ addend / 1 % 256 = ap (λ n. n % 256) (omega arith) in
     let low : addend / 1 % 256 ≤ 1 = omega arith in
-    let most : 2 ^ (addend / 1 % 256) ≤ 2 ^ 1 = pow_mono low in
-    let a = is.0 in
-    let b = is.1 in
-    omega arith
+    omega (arith, pow_mono low, is.0, is.1)
 
 too_many : (b : Bool) (addend nops power : ℕ) → b ≡ true → 32 < addend % 256 → nops < 2 ^ 32 → ¬ AreStated b addend nops power
 too_many b addend nops power e many small stated =
     let is = subst (λ x. AreStated x addend nops power) e stated in
     let same : addend % 256 ≡ addend / 1 % 256 = ap (λ n. n % 256) (omega arith) in
     let high : 33 ≤ addend / 1 % 256 = omega arith in
-    let least : 2 ^ 33 ≤ 2 ^ (addend / 1 % 256) = pow_mono high in
-    let a = is.0 in
-    let b = is.1 in
-    omega arith
+    omega (arith, pow_mono high, is.0, is.1)
 
 -- what the shift makes
 shifted : (exponent : ℕ) → 2 ≤ exponent → exponent ≤ 32 → (1 * 2 ^ exponent % 2 ^ 64 ≡ 2 ^ exponent) × (4 ≤ 2 ^ exponent)

@@ -10,8 +10,7 @@ overflow_sub-offset c =
 pub has_shapes-requires : goal.has_shapes-requires
 has_shapes-requires c =
     let at = placed c.args.section.now c.args.base c.args.item.now c.in-Site.site c.in-Site.is ((c.is_inside.ensures [] 0).0 c.if-not-is_inside.false) in
-    let len = c.if-site-ne8.false in
-    omega (arith, at.0, at.1, len)
+    omega (arith, at.0, at.1, c.if-site-ne8.false)
 
 pub returns-in-RiscV : goal.returns-in-RiscV
 returns-in-RiscV c =

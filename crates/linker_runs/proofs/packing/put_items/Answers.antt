@@ -31,10 +31,8 @@ piece_of-requires-clause-to g c = ((c.is_inside.ensures [] 0).0 c.if-not-is_insi
 
 pub returns-in-Err : goal.returns-in-Err
 returns-in-Err g c = λ valid begun room ready stays filled.
-    let ds = deletions_of c.args.deltas.now in
-    let s = section_of c.args.section.now c.args.base ds c.args.start in
-    let here = ap offset_of c.at-item.ensures in
-    let position = c.position_from-at.ensures.position valid (c.loop-index.invariant.position valid begun ready) (omega (arith, c.loop-index.invariant.rises ready (omega arith), here, c.offset.ensures)) in
+    let s = section_of c.args.section.now c.args.base (deletions_of c.args.deltas.now) c.args.start in
+    let position = c.position_from-at.ensures.position valid (c.loop-index.invariant.position valid begun ready) (omega (arith, c.loop-index.invariant.rises ready (omega arith), (ap offset_of c.at-item.ensures), c.offset.ensures)) in
     let rejected = subst (λ it. (is_fixed it ≡ false) × IsUnwritable c.args.machine s it c.in-Err._error) c.at-item.ensures (c.in-Err.ensures.rejected valid position (c.position_from-past.ensures.position valid position (omega (arith, c.position_from-at.ensures.offset, c.offset.ensures, c.saturating_add.ensures, c.offset-in-loop-index.ensures)))) in
     absurd (writable_excludes c.args.machine s (item_at c.args.items.now c.loop-index.index) c.in-Err._error ((ready c.loop-index.index (omega arith)).writable rejected.0) rejected.1)
 
@@ -50,23 +48,19 @@ loop-index-preserved g c =
     record {
       rises = λ ready more.
           let same : n + 1 - 1 ≡ n = omega arith in
-          let next = (ready (n + 1) more).apart (omega arith) in
-          omega (arith, place, next, ap (λ k. end_of (item_at items k)) same);
+          omega (arith, place, ((ready (n + 1) more).apart (omega arith)), ap (λ k. end_of (item_at items k)) same);
       position = λ valid begun ready. c.position_from-at.ensures.position valid (c.loop-index.invariant.position valid begun ready) (omega (arith, c.loop-index.invariant.rises ready (omega arith), here, c.offset.ensures));
       put = λ valid begun room ready filled.
           let position = c.position_from-at.ensures.position valid (c.loop-index.invariant.position valid begun ready) (omega (arith, c.loop-index.invariant.rises ready (omega arith), here, c.offset.ensures)) in
           let piece = subst (λ it. IsPieceOf machine s it c.in-Ok.piece) c.at-item.ensures (c.in-Ok.ensures.piece valid position (c.position_from-past.ensures.position valid position (omega (arith, c.position_from-at.ensures.offset, c.offset.ensures, c.saturating_add.ensures, c.offset-in-loop-index.ensures)))) in
           let same : length c.put_piece.new.packed ≡ length c.loop-index.packed = c.put_piece.auto.packed in
           let room' = sym same ∙ room in
-          let inside = (ready n (omega arith)).inside in
-          let up = rank-mono ds c.args.base (offset_of (item_at items n)) inside.0 in
+          let up = rank-mono ds c.args.base (offset_of (item_at items n)) ((ready n (omega arith)).inside).0 in
           let a = position.output ∙ ap (rank ds) place in
-          let b = begun.output ∙ ap (rank ds) c.requires.begin in
-          let whole = piece_whole machine s (item_at items n) c.in-Ok.piece piece in
           written_step machine s items n c.saturating_sub-place.result c.loop-index.packed c.put_piece.new.packed (piece_bytes machine c.in-Ok.piece)
           (omega arith) ready room' same (c.loop-index.invariant.put valid begun room' ready filled)
-          (omega (arith, c.saturating_sub-place.ensures, a, b)) (piece_len machine s (item_at items n) c.in-Ok.piece piece)
-          (λ fits. c.put_piece.ensures fits whole)
+          (omega (arith, c.saturating_sub-place.ensures, a, (begun.output ∙ ap (rank ds) c.requires.begin))) (piece_len machine s (item_at items n) c.in-Ok.piece piece)
+          (λ fits. c.put_piece.ensures fits (piece_whole machine s (item_at items n) c.in-Ok.piece piece))
           (piece_becomes machine s (item_at items n) c.in-Ok.piece piece);
     }
 

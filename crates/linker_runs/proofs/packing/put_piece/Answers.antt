@@ -8,9 +8,7 @@ returns-in-Nops c = λ room whole.
     let xs = c.args.packed.now in
     let n = c.in-Nops.len in
     let even : n % nop_len machine ≡ 0 = subst (IsWhole machine) c.in-Nops.is whole in
-    let len = nops_length machine n even in
     let bytes : piece_bytes machine c.args.piece ≡ nops machine n = ap (piece_bytes machine) c.in-Nops.is in
-    let long = ap length bytes in
-    c.put_nops.ensures (omega arith) even
+    c.put_nops.ensures (omega (arith, nops_length machine n even, ap length bytes)) even
     ∙ ap (λ ys. take c.args.at xs ++ ys ++ drop (c.args.at + n) xs) (sym bytes)
-    ∙ ap (λ k. take c.args.at xs ++ piece_bytes machine c.args.piece ++ drop (c.args.at + k) xs) (omega arith)
+    ∙ ap (λ k. take c.args.at xs ++ piece_bytes machine c.args.piece ++ drop (c.args.at + k) xs) (omega (arith, nops_length machine n even, ap length bytes))

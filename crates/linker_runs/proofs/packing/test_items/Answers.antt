@@ -63,8 +63,7 @@ returns-then-not-stay_whole-clause-err g c = λ valid begun.
     let inside : IsInside s (item_at items n) = subst (IsInside s) c.at-item.ensures ((c.is_inside.ensures ds c.args.start).0 c.if-not-is_inside.false) in
     let place : c.position_from-at.result.input_offset ≡ offset_of (item_at items n) = c.position_from-at.ensures.offset ∙ c.offset.ensures ∙ here in
     let up : c.loop-index.following.input_offset ≤ c.position_from-at.result.input_offset = omega (arith, gap_below s items n apart inside, stands, place) in
-    let at = c.position_from-at.ensures.position valid (c.loop-index.invariant.position valid begun) (omega (arith, up, c.position_from-at.ensures.offset)) in
-    let whole = c.stay_whole.ensures c.args.deltas.now valid (c.loop-index.invariant.position valid begun) at in
+    let whole = c.stay_whole.ensures c.args.deltas.now valid (c.loop-index.invariant.position valid begun) (c.position_from-at.ensures.position valid (c.loop-index.invariant.position valid begun) (omega (arith, up, c.position_from-at.ensures.offset))) in
     record {
       before = c.loop-index.invariant.ready valid begun;
       here = inl ((omega arith), (apart, inside, λ keeps. both_ways c.stay_whole.result c.if-not-stay_whole.true (whole.1 (subst (λ x. StayWhole ds x c.position_from-at.result.input_offset) (sym stands) (subst (StayWhole ds (gap_start s items n)) (sym place) keeps)))));
@@ -132,12 +131,11 @@ loop-index-preserved g c =
       ready = λ valid begun.
           let at = c.position_from-at.ensures.position valid (c.loop-index.invariant.position valid begun) (omega (arith, up, c.position_from-at.ensures.offset)) in
           let whole = c.stay_whole.ensures c.args.deltas.now valid (c.loop-index.invariant.position valid begun) at in
-          let gap : KeepsGap s items n = subst (λ x. StayWhole ds x (offset_of (item_at items n))) stands (subst (StayWhole ds c.loop-index.following.input_offset) place (whole.0 c.if-not-stay_whole.false)) in
           below_more (CanWrite c.args.machine s items) n (c.loop-index.invariant.ready valid begun)
           (record {
             apart = apart;
             inside = inside;
-            gap = gap;
+            gap = (subst (λ x. StayWhole ds x (offset_of (item_at items n))) stands (subst (StayWhole ds c.loop-index.following.input_offset) place (whole.0 c.if-not-stay_whole.false)));
             writable = subst (λ it. is_fixed it ≡ false → IsWritable c.args.machine s it) c.at-item.ensures (c.in_default.ensures.writable valid at (c.position_from-past.ensures.position valid at (omega (arith, end, place, c.position_from-past.ensures.offset))));
           });
     }
@@ -156,11 +154,10 @@ returns-then-stay_whole-clause-ok g c = λ valid begun.
     let s = section_of c.args.section.now c.args.base ds c.args.start in
     let items = c.args.items.now in
     let all : c.loop-index.index ≡ length items = omega (arith, c.len-count.ensures) in
-    let stands = c.loop-index.invariant.stands ds c.args.start ∙ ap (gap_start s items) all in
     let end = c.position_from-end.ensures.position valid (c.loop-index.invariant.position valid begun) (omega (arith, last_below c.args.base (c.args.base + length c.args.section.now) c.args.section.now items c.loop-index.index (omega arith) c.loop-index.invariant.inside, c.loop-index.invariant.stands [] 0)) in
     let whole = c.stay_whole-2.ensures c.args.deltas.now valid (c.loop-index.invariant.position valid begun) end in (
       subst (AreReady c.args.machine s items) all (c.loop-index.invariant.ready valid begun),
-      subst (λ x. StayWhole ds x (c.args.base + length c.args.section.now)) stands (subst (StayWhole ds c.loop-index.following.input_offset) c.position_from-end.ensures.offset (whole.0 c.if-stay_whole.true)),
+      subst (λ x. StayWhole ds x (c.args.base + length c.args.section.now)) (c.loop-index.invariant.stands ds c.args.start ∙ ap (gap_start s items) all) (subst (StayWhole ds c.loop-index.following.input_offset) c.position_from-end.ensures.offset (whole.0 c.if-stay_whole.true)),
     )
 
 pub returns-else-stay_whole-clause-err : goal.returns-else-stay_whole-clause-err

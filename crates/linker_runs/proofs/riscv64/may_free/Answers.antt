@@ -5,31 +5,24 @@ use Rattle.linker_runs.proofs.riscv64.may_free.Goals as goal
 -- there is one next alignment
 same_next : (relocations : List Relocation) (i j k : ℕ) → IsNextAlignment relocations i j → IsNextAlignment relocations i k → j ≡ k
 same_next relocations i j k a b =
-    let ja = a.following in
-    let kb = b.following in
-    let jw = a.within in
-    let kw = b.within in
     ⊎_elim (λ (same : j ≡ k). same)
     (λ (apart : (j < k) ⊎ (k < j)). ⊎_elim
-    (λ (below : j < k). absurd (b.first j ja below (a.aligns (omega arith))))
-    (λ (above : k < j). absurd (a.first k kb above (b.aligns (omega arith))))
+    (λ (below : j < k). absurd (b.first j a.following below (a.aligns (omega (arith, a.within, b.within)))))
+    (λ (above : k < j). absurd (a.first k b.following above (b.aligns (omega (arith, a.within, b.within)))))
     apart)
     (cases_order j k)
 
 -- and one number that makes its nops enough
 same_enough : (nops v w : ℕ) → AreEnoughAt nops v → AreEnoughAt nops w → v ≡ w
 same_enough nops v w a b =
-    let power = next_unique (nops + 1) a.power b.power a.aligned b.aligned in
-    next_unique (b.power - nops) v w (subst (λ p. IsNextPowerOfTwo (p - nops) v) power a.least) b.least
+    next_unique (b.power - nops) v w (subst (λ p. IsNextPowerOfTwo (p - nops) v) (next_unique (nops + 1) a.power b.power a.aligned b.aligned) a.least) b.least
 
 -- where the next alignment has its nops
 frees_all : (relocations : List Relocation) (i next freed addend v : ℕ) → IsNextAlignment relocations i next → (relocation_at relocations next).addend ≡ pos addend → AreEnoughAt addend v → freed % v ≡ 0 → MayFree freed relocations i
 frees_all relocations i next freed addend v is stated enough none j nops w other within has least =
-    let j_is : j ≡ next = same_next relocations i j next other is in
-    let said : pos nops ≡ pos addend = sym has ∙ ap (λ n. (relocation_at relocations n).addend) j_is ∙ stated in
+    let said : pos nops ≡ pos addend = sym has ∙ ap (λ n. (relocation_at relocations n).addend) (same_next relocations i j next other is) ∙ stated in
     let nops_is : nops ≡ addend = cc in
-    let same = same_enough addend w v (subst (λ n. AreEnoughAt n w) nops_is least) enough in
-    ap (λ x. freed % x) same ∙ none
+    ap (λ x. freed % x) (same_enough addend w v (subst (λ n. AreEnoughAt n w) nops_is least) enough) ∙ none
 
 pub returns-then-next-relocations : goal.returns-then-next-relocations
 returns-then-next-relocations g c = (

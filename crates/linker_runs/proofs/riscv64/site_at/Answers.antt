@@ -6,10 +6,9 @@ use Rattle.linker_runs.proofs.riscv64.site_at.Goals as goal
 no_item : (is_32 : Bool) (section : List ℕ) (base : ℕ) (relocations : List Relocation) (i : ℕ) → IsOfCall (relocation_at relocations i) → ¬ MayFree 4 relocations i → (item : Item) → ¬ RiscVMakes is_32 section base relocations i item
 no_item is_32 section base relocations i called not_free (Site call) made = not_free made.frees
 no_item is_32 section base relocations i called not_free (Aligned alignment) made =
-    let align = made.name in
     ⊎_elim
-    (λ (call : HasRiscVName r.R_RISCV_CALL (relocation_at relocations i)). absurd (omega arith))
-    (λ (plt : HasRiscVName r.R_RISCV_CALL_PLT (relocation_at relocations i)). absurd (omega arith))
+    (λ (call : HasRiscVName r.R_RISCV_CALL (relocation_at relocations i)). absurd (omega (arith, made.name)))
+    (λ (plt : HasRiscVName r.R_RISCV_CALL_PLT (relocation_at relocations i)). absurd (omega (arith, made.name)))
     called
 
 pub returns-then-not-may_free-clause-none : goal.returns-then-not-may_free-clause-none

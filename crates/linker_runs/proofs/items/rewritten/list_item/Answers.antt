@@ -13,7 +13,6 @@ returns-clause-listed g c = λ m s rs len is before.
     let after = c.offset-4.result + c.len.result in
     let i = c.args.index in
     let so_far = all.ensures.listed m s rs i len (omega arith) before in
-    let count = length-map c.args.deleted.now g.L.AsDeletion.deletion in
     let there : f x ≡ item = c.from_item.ensures.item in
     let made : Makes m s base rs i (f x) = subst (Makes m s base rs i) (sym there) is in
     let following : all.result.end ≤ offset_of (f x) = omega (arith, c.if-offset-all.false, c.offset-3.ensures, ap offset_of there) in
@@ -25,7 +24,7 @@ returns-clause-listed g c = λ m s rs len is before.
     put_made f g.I.AsItem.is_written (rewritten_of m s base rs ds) i all.result.gone all.result.count all.result.end after all.new.out all.new.makers x so_far
     (omega (arith, so_far.few, all.ensures.range.1, c.requires.index, c.requires.room, all.auto.out))
     (omega (arith, so_far.few, all.ensures.range.1, c.requires.index, c.requires.makers, all.auto.makers))
-    made c.from_item.ensures.form following (end ∙ sym (ap end_of there)) (λ more. next (omega (arith, more, count)))
+    made c.from_item.ensures.form following (end ∙ sym (ap end_of there)) (λ more. next (omega (arith, more, (length-map c.args.deleted.now g.L.AsDeletion.deletion))))
 
 pub returns-clause-others_stay : goal.returns-clause-others_stay
 returns-clause-others_stay g c =

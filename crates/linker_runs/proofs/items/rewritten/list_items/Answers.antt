@@ -30,16 +30,14 @@ loop-index-preserved g c =
             rw (w.listed-is, w.out-is, w.makers-is) on
         | in_default w ↦
             let not : (item : Item) → ¬ makes i item = subst (λ made. MatchOption made ((item : Item) → ¬ makes i item) (makes i)) w.in_default.is c.item_at.ensures in
-            let past = walked_past f W s i now.gone now.count now.end c.loop-index.out c.args.out.now c.loop-index.makers c.args.makers.now walked not in
-            rw (w.listed-is, w.out-is, w.makers-is) past
+            rw (w.listed-is, w.out-is, w.makers-is) (walked_past f W s i now.gone now.count now.end c.loop-index.out c.args.out.now c.loop-index.makers c.args.makers.now walked not)
       ];
       next = ahead_on c.args.machine rs i c.ahead-next.result c.ahead-next.ensures;
     }
 
 pub returns-in-None-clause-overlaps : goal.returns-in-None-clause-overlaps
 returns-in-None-clause-overlaps g c =
-    let rs : List Relocation = map g.R.AsRelocation.relocation c.args.relocations.now in
-    let makes : ℕ → Item → Type 0 = Makes c.args.machine c.args.section.now c.args.base rs in
+    let makes : ℕ → Item → Type 0 = Makes c.args.machine c.args.section.now c.args.base (map g.R.AsRelocation.relocation c.args.relocations.now) in
     let i = c.loop-index.index in
     let end = c.loop-index.listed.end in
     let is : makes i c.in-Some.item = subst (λ made. MatchOption made ((item : Item) → ¬ makes i item) (makes i)) c.in-Some.is c.item_at.ensures in (
@@ -64,11 +62,10 @@ returns-clause-listed g c =
     let makes : ℕ → Item → Type 0 = Makes c.args.machine c.args.section.now c.args.base rs in
     let all = c.list_deletions in
     let all_relocations = length-map c.args.relocations.now g.R.AsRelocation.relocation in
-    let all_deletions = length-map c.args.deleted.now g.L.AsDeletion.deletion in
     let i : c.loop-index.index ≡ length rs = omega (arith, all_relocations) in
     let gone : all.result.gone ≡ length ds = ⊎_elim
     (λ (less : all.result.gone < length c.args.deleted.now). absurd (omega (arith, all.ensures.stops less, (c.requires.placed all.result.gone less).1, c.requires.base)))
-    (λ (none : length c.args.deleted.now ≤ all.result.gone). omega (arith, none, all.ensures.range.1, all_deletions))
+    (λ (none : length c.args.deleted.now ≤ all.result.gone). omega (arith, none, all.ensures.range.1, (length-map c.args.deleted.now g.L.AsDeletion.deletion)))
     (cases_lt all.result.gone (length c.args.deleted.now)) in
     let listed = all.ensures.listed c.args.machine c.args.section.now rs c.loop-index.index all_relocations (omega (arith, i, all_relocations)) c.loop-index.invariant.walked.listed in
     let items = map g.I.AsItem.item (take all.result.count all.new.out) in

@@ -50,14 +50,13 @@ returns c =
     let pair = c.pair_at-pair.result in
     let high = c.apply_formula.new.dest in
     let low = c.apply_formula-2.new.dest in
-    let start = first_word a.section.now pair a.offset c.pair_at-pair.ensures in
     let other = second_word a.section.now pair high a.offset c.pair_at-pair.ensures c.apply_formula.auto.dest c.requires in
     let written = words a.section.now pair high a.offset c.pair_at-pair.ensures c.apply_formula.auto.dest c.requires low in
     let after = put_mid 4 4 (high ++ drop 4 pair) low in
     record {
       pages = c.are_pages_near.ensures.0 c.if-not-are_pages_near.false;
       high = subst (λ x. IsSomeAnd x (λ r. IsApplied r (operands_of a.place a.target) (take 4 (drop a.offset a.section.now)) (take 4 after))) (sym c.row_of-row.ensures)
-          (rw (written.0, sym c.operands_of.ensures, sym start) (c.apply_formula.ensures.applied c.if-not-apply_formula.false));
+          (rw (written.0, sym c.operands_of.ensures, sym (first_word a.section.now pair a.offset c.pair_at-pair.ensures)) (c.apply_formula.ensures.applied c.if-not-apply_formula.false));
       low = subst (λ x. IsSomeAnd x (λ r. IsApplied r (operands_of (sum_64 a.place 4) a.target) (take 4 (drop (a.offset + 4) a.section.now)) (drop 4 after))) (sym c.row_of-row-2.ensures)
           (rw (written.1, sym c.operands_of-2.ensures, sym other) (c.apply_formula-2.ensures.applied c.if-not-apply_formula-2.false));
     }

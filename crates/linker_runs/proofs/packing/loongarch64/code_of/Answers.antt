@@ -24,8 +24,7 @@ returns-in-None-clause-rejected c =
 pub returns-in-Some-long_of-clause-becomes : goal.returns-in-Some-long_of-clause-becomes
 returns-in-Some-long_of-clause-becomes c =
     let laws = c.loongarch64.ensures in
-    let code = c.in-Some-long_of.code in
-    becomes_long c.args.section.now c.args.offset c.args.place c.args.target (code_bytes code) laws.branches laws.calls laws.relative (omega arith) (omega arith)
+    becomes_long c.args.section.now c.args.offset c.args.place c.args.target (code_bytes c.in-Some-long_of.code) laws.branches laws.calls laws.relative (omega arith) (omega arith)
     c.in-Some.kind c.in-Some.ensures c.in-Some-long_of.ensures.len c.in-Some-long_of.ensures.long
 
 pub returns-in-Some-long_of-clause-accepts : goal.returns-in-Some-long_of-clause-accepts

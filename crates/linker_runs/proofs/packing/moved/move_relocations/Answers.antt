@@ -20,8 +20,7 @@ loop-index-preserved g c =
           let before : w.in-Some.before ≡ relocation_in old i = same_Some w.in-Some.before (relocation_in old i) (sym w.in-Some.is ∙ c.relocation_at.ensures ∙ here) in
           rw w.whole-is (record {
             moved = λ valid begun start ready.
-                let s = section_of c.args.section.now c.args.base (deletions_of c.args.deltas.now) start in
-                let Moves : Rela → Rela → Type 0 = IsMoved c.args.machine s c.args.items.now in
+                let Moves : Rela → Rela → Type 0 = IsMoved c.args.machine (section_of c.args.section.now c.args.base (deletions_of c.args.deltas.now) start) c.args.items.now in
                 let first = take (c.relocations_len-len.result * 24) c.args.relocations.now in
                 below_more (λ n. Moves (relocation_in first n) (relocation_in new n)) i
                 (λ n below. subst (Moves (relocation_in first n)) (sym (set.others n (omega (arith, below, low)) (omega (arith, below)))) (inv.moved valid begun start ready n below))

@@ -8,10 +8,8 @@ returns g c = λ valid begun start ready.
     let s = section_of c.args.section.now c.args.base ds start in
     let place = c.position_of-here.ensures.offset in
     let here = c.position_of-here.ensures.position valid in
-    let to : c.position_of-here.result.output_offset ≡ rank ds (c.args.base + c.args.relocation.now.offset) = here.output ∙ ap (rank ds) place in
-    let from : c.args.begin.now.output_offset ≡ rank ds c.args.base = begun.output ∙ ap (rank ds) c.requires.begin in
     record {
-      offset = λ inside. omega (arith, c.saturating_sub.ensures, to, from);
+      offset = λ inside. omega (arith, c.saturating_sub.ensures, (here.output ∙ ap (rank ds) place), (begun.output ∙ ap (rank ds) c.requires.begin));
       r_type = λ low. elim c.if-relocation-len-2.branch [
         | then-relocation-len-2 w ↦
             subst (λ r_type. BecomesType c.args.machine s c.args.items.now (c.args.base + c.args.relocation.now.offset) c.args.relocation.now.r_type r_type) (sym w.r_type-is)

@@ -21,9 +21,7 @@ returns-in-Some g c = λ valid here bytes base start small ready.
     let inside = (ready found.0 found.1).inside.1 in
     let end : c.position_from-end.result.input_offset ≡ end_of item = omega (arith, c.position_from-end.ensures.offset, c.saturating_add.ensures, c.offset.ensures, c.len.ensures, inside, ap end_of is, small) in
     let past = c.position_from-end.ensures.position valid here (omega (arith, c.position_from-end.ensures.offset, end, begins.1)) in
-    let to : c.position_from-end.result.output_offset ≡ rank ds (end_of item) = past.output ∙ ap (rank ds) end in
-    let from : c.args.here.now.output_offset ≡ rank ds (offset_of item) = here.output ∙ ap (rank ds) (sym begins.0) in
-    let len : c.saturating_sub-kept.result ≡ kept_len ds item = omega (arith, c.saturating_sub-kept.ensures, to, from) in
+    let len : c.saturating_sub-kept.result ≡ kept_len ds item = omega (arith, c.saturating_sub-kept.ensures, (past.output ∙ ap (rank ds) end), (here.output ∙ ap (rank ds) (sym begins.0))) in
     of_item found.0 kept found.1 (subst (λ it. BeginsAt it p) (sym is) begins)
     (c.r_type_at_item.ensures ∙ ap (λ n. r_type_at_item c.args.machine item n c.args.r_type) len ∙ ap (λ it. r_type_at_item c.args.machine it (kept_len ds it) c.args.r_type) (sym is))
 

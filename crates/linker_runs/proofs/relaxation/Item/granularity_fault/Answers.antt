@@ -12,6 +12,4 @@ are_even-requires-clause-within c =
 pub fault-requires-clause-power : goal.fault-requires-clause-power
 fault-requires-clause-power c =
     let power = subst (λ item. ItemMeets item BadAlignment) c.in-Aligned.is (c.requires.few BadAlignment) in
-    let some = pow_pos power.0 in
-    let e = power.1 in
-    omega arith
+    omega (arith, pow_pos power.0, power.1)

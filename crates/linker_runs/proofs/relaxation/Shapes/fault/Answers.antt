@@ -23,12 +23,11 @@ returns-then-not-have_units c =
 pub returns-then-not-have_reaches : goal.returns-then-not-have_reaches
 returns-then-not-have_reaches c =
     let len = c.args.len in
-    let within = c.are_within.ensures.0 c.if-not-are_within.false in
     let ascending = (c.are_ascending.ensures len).0 c.if-not-are_ascending.false in
     let units = (c.have_units.ensures len).0 c.if-not-have_units.false in
     record {
       here = λ met. (let yes = (c.have_reaches.ensures len).1 met in cc);
-      earlier = shapes_upto c.args.self.now len 6 (λ _. omega arith) (λ _. within) (λ _. ascending) (λ _. units) (λ h. absurd (omega arith));
+      earlier = shapes_upto c.args.self.now len 6 (λ _. omega arith) (λ _. (c.are_within.ensures.0 c.if-not-are_within.false)) (λ _. ascending) (λ _. units) (λ h. absurd (omega arith));
     }
 
 pub returns-else-not-have_reaches : goal.returns-else-not-have_reaches

@@ -7,11 +7,9 @@ same a b = (λ yes. grind (arith, nat_tests), λ is. grind (arith, nat_tests))
 
 pub returns-then-eq : goal.returns-then-eq
 returns-then-eq c =
-    let call = shapes_decide c.args.self.now.shapes CALL36 c.eq.result c.eq.ensures in
     let words = same (c.args.self.now.target % 4) (c.args.self.now.offset % 4) in
-    (λ yes is. words.0 yes, λ met. words.1 (met (call.0 c.if-eq.true)))
+    (λ yes is. words.0 yes, λ met. words.1 (met ((shapes_decide c.args.self.now.shapes CALL36 c.eq.result c.eq.ensures).0 c.if-eq.true)))
 
 pub returns-else-eq : goal.returns-else-eq
 returns-else-eq c =
-    let call = shapes_decide c.args.self.now.shapes CALL36 c.eq.result c.eq.ensures in
-    (λ yes is. absurd (false≢true (sym c.if-eq.false ∙ call.1 is)), λ words. refl)
+    (λ yes is. absurd (false≢true (sym c.if-eq.false ∙ (shapes_decide c.args.self.now.shapes CALL36 c.eq.result c.eq.ensures).1 is)), λ words. refl)

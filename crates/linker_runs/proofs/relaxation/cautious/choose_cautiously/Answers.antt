@@ -4,8 +4,5 @@ use Rattle.linker_runs.proofs.relaxation.cautious.choose_cautiously.Goals as goa
 
 pub loop-shapes-smaller : goal.loop-shapes-smaller
 loop-shapes-smaller g c =
-    let back = c.sweep_back.ensures.longer c.loop-shapes-test.true in
-    let ahead = c.sweep_ahead.ensures.longer in
-    let bound = sum_of_shapes c.sweep_ahead.new.shapes c.sweep_ahead.ensures.short in
     let same : length c.sweep_ahead.new.shapes ≡ length c.loop-shapes.shapes = omega arith in
-    omega arith
+    omega (arith, c.sweep_back.ensures.longer c.loop-shapes-test.true, c.sweep_ahead.ensures.longer, sum_of_shapes c.sweep_ahead.new.shapes c.sweep_ahead.ensures.short)

@@ -10,12 +10,9 @@ overflow_add-before g c =
     let items = c.args.items.now in
     let choice = choice_of c.args.shapes.now in
     let i = c.loop-index.index in
-    let next = cautious_next items choice i in
     let fits = cautious_fits c.args.start items choice c.requires.items i (omega arith) in
     let ends = c.requires.items.in_order.ends i (omega arith) in
-    let before = c.loop-index.invariant.before in
-    let more = c.freed_cautiously-before.ensures ∙ ap (λ it. freed_cautiously it (choice i)) c.at-item.ensures in
-    omega arith
+    omega (arith, cautious_next items choice i, c.loop-index.invariant.before, c.freed_cautiously-before.ensures ∙ ap (λ it. freed_cautiously it (choice i)) c.at-item.ensures)
 
 pub loop-index-preserved : goal.loop-index-preserved
 loop-index-preserved g c =

@@ -43,6 +43,4 @@ returns-then-place-len-clause-reached g c = λ _. ⊎_elim
 pub returns-clause-longer : goal.returns-clause-longer
 returns-clause-longer g c = λ _.
     let xs = c.args.shapes.now in
-    let shape = choice_of xs c.args.index in
-    let more : sum (set xs c.args.index (shape + 1)) + shape ≡ sum xs + (shape + 1) = sum_by-set (λ (x : ℕ). x) xs c.args.index (shape + 1) 0 (omega arith) in
-    omega arith
+    omega (arith, sum_by-set (λ (x : ℕ). x) xs c.args.index ((choice_of xs c.args.index) + 1) 0 (omega arith))

@@ -17,8 +17,7 @@ loop-index-init g c = record {
 
 pub overflow_sub-freed : goal.overflow_sub-freed
 overflow_sub-freed g c =
-    let laid = c.loop-index.invariant.freed.above c.loop-index.index (omega arith) (omega arith) in
-    omega arith
+    omega (arith, c.loop-index.invariant.freed.above c.loop-index.index (omega arith) (omega arith))
 
 pub lengthen_at-more-requires-clause-freed : goal.lengthen_at-more-requires-clause-freed
 lengthen_at-more-requires-clause-freed g c =
@@ -29,28 +28,22 @@ overflow_add-more g c =
     let n = length c.args.items.now in
     let i = c.loop-index.index in
     let laid = c.lengthen_at-more.ensures.freed.above n (omega arith) (omega arith) in
-    let ne : n ≢ i = omega arith in
-    let same = get_or-set_other c.loop-index.freed i n (get_or c.loop-index.freed i 0 - c.loop-index.more) 0 ne in
-    let fits = c.loop-index.invariant.fits in
-    omega arith
+    omega (arith, get_or-set_other c.loop-index.freed i n (get_or c.loop-index.freed i 0 - c.loop-index.more) 0 (omega arith), c.loop-index.invariant.fits)
 
 pub loop-index-preserved : goal.loop-index-preserved
 loop-index-preserved g c =
     let n = length c.args.items.now in
     let i = c.loop-index.index in
-    let ne : n ≢ i = omega arith in
-    let same = get_or-set_other c.loop-index.freed i n (get_or c.loop-index.freed i 0 - c.loop-index.more) 0 ne in
     let old = c.args.shapes.now in
     let was = c.loop-index.shapes in
-    let new = c.lengthen_at-more.new.shapes in
     let items = c.args.items.now in
-    let here : choice_of old i ≤ choice_of new i = ⊎_elim
+    let here : choice_of old i ≤ choice_of c.lengthen_at-more.new.shapes i = ⊎_elim
     (λ (some : 0 < c.lengthen_at-more.result). omega (arith, c.lengthen_at-more.ensures.next some, c.loop-index.invariant.left i (omega arith)))
     (λ (none : c.lengthen_at-more.result ≤ 0). omega (arith, ap (λ xs. choice_of xs i) (c.lengthen_at-more.ensures.same (omega arith)), c.loop-index.invariant.left i (omega arith)))
     (cases_lt 0 c.lengthen_at-more.result) in
     record {
       freed = c.lengthen_at-more.ensures.freed;
-      fits = omega (arith, c.loop-index.invariant.fits, same);
+      fits = omega (arith, c.loop-index.invariant.fits, (get_or-set_other c.loop-index.freed i n (get_or c.loop-index.freed i 0 - c.loop-index.more) 0 (omega arith)));
       short = c.lengthen_at-more.ensures.short;
       forced = c.lengthen_at-more.ensures.forced c.loop-index.invariant.forced;
       longer = ⊎_elim

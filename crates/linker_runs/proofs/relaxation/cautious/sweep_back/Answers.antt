@@ -15,10 +15,7 @@ loop-following-init g c = record {
 
 pub overflow_add-more : goal.overflow_add-more
 overflow_add-more g c =
-    let n = length c.args.items.now in
-    let laid = c.lengthen_at-more.ensures.freed.above n (omega arith) (omega arith) in
-    let fits = c.loop-following.invariant.fits in
-    omega arith
+    omega (arith, c.lengthen_at-more.ensures.freed.above (length c.args.items.now) (omega arith) (omega arith), c.loop-following.invariant.fits)
 
 pub overflow_add-freed : goal.overflow_add-freed
 overflow_add-freed g c =
@@ -37,12 +34,10 @@ loop-following-preserved g c =
     let more = c.loop-following.more in
     let inv = c.loop-following.invariant in
     let z : i ≡ n - (c.loop-following.following + 1) = omega arith in
-    let ne : n ≢ i = omega arith in
-    let same_end = get_or-set_other c.loop-following.freed i n (get_or c.loop-following.freed i 0 + (more + fewer)) 0 ne in
     record {
       freed = subst (λ s. AreCautious items new (set c.loop-following.freed i (get_or c.loop-following.freed i 0 + (more + fewer))) s (more + fewer)) z
           (back_step items new c.loop-following.freed (set c.loop-following.freed i (get_or c.loop-following.freed i 0 + (more + fewer))) i (more + fewer) (omega arith) c.lengthen_at-more.ensures.freed refl);
-      fits = omega (arith, inv.fits, same_end);
+      fits = omega (arith, inv.fits, (get_or-set_other c.loop-following.freed i n (get_or c.loop-following.freed i 0 + (more + fewer)) 0 (omega arith)));
       short = c.lengthen_at-more.ensures.short;
       forced = c.lengthen_at-more.ensures.forced inv.forced;
       same = λ none. c.lengthen_at-more.ensures.same (omega arith) ∙ inv.same (omega arith);

@@ -7,8 +7,7 @@ loop-index-preserved g c = below_more (λ k. (fault : Fault) → RunMeets c.run_
 pub returns-in-Some : goal.returns-in-Some
 returns-in-Some g c =
     let items = c.args.items.now in
-    let start = c.args.start in
-    subst (λ u. IsFirstAt (RunMeets u start items) (length items) (record { index = c.loop-index.index; fault = c.in-Some.fault })) c.run_granularity-granularity.ensures.granularity
+    subst (λ u. IsFirstAt (RunMeets u c.args.start items) (length items) (record { index = c.loop-index.index; fault = c.in-Some.fault })) c.run_granularity-granularity.ensures.granularity
     (record {
       within = omega arith;
       before = c.loop-index.invariant;
@@ -18,6 +17,5 @@ returns-in-Some g c =
 pub returns : goal.returns
 returns g c =
     let items = c.args.items.now in
-    let start = c.args.start in
-    subst (λ u. (i : ℕ) → i < length items → (fault : Fault) → RunMeets u start items i fault) c.run_granularity-granularity.ensures.granularity
+    subst (λ u. (i : ℕ) → i < length items → (fault : Fault) → RunMeets u c.args.start items i fault) c.run_granularity-granularity.ensures.granularity
     (λ i within. c.loop-index.invariant i (omega arith))

@@ -14,9 +14,8 @@ returns-in-Some g c = first_unit c.args.granularity c.args.start c.args.items.no
 pub returns-then-not-is_clear : goal.returns-then-not-is_clear
 returns-then-not-is_clear g c =
     let items = c.args.items.now in
-    let target = target_of (item_at items c.args.index) in
     record {
-      here = λ met. (let yes = c.is_clear.ensures.1 (subst (IsClearRun items) (sym (c.target.ensures ∙ ap target_of c.at-item.ensures)) (clear_of c.args.start items target c.requires.in_order met)) in cc);
+      here = λ met. (let yes = c.is_clear.ensures.1 (subst (IsClearRun items) (sym (c.target.ensures ∙ ap target_of c.at-item.ensures)) (clear_of c.args.start items (target_of (item_at items c.args.index)) c.requires.in_order met)) in cc);
       earlier = run_earlier c.args.granularity c.args.start items c.args.index 14 (subst (λ it. (fault : Fault) → UnitMeets c.args.granularity c.args.start it fault) c.at-item.ensures c.in_default.ensures) (omega arith) (λ h. absurd (omega arith));
     }
 

@@ -13,16 +13,13 @@ kept_by-requires-clause-freed g c = omega (arith, c.loop-index.invariant.before,
 
 step : (start : ℕ) (items : List Item) (shapes : List ℕ) (i before kept len : ℕ) → before ≡ freed_before start items (choice_of shapes) i → kept ≡ kept_by start (item_at items i) (choice_of shapes i) before → len ≡ len_of (item_at items i) → before + (len - kept) ≡ freed_before start items (choice_of shapes) (i + 1)
 step start items shapes i before kept len e k l =
-    let there : kept ≡ kept_by start (item_at items i) (choice_of shapes i) (freed_before start items (choice_of shapes) i) = k ∙ ap (kept_by start (item_at items i) (choice_of shapes i)) e in
-    let next = freed_next start items (choice_of shapes) i in
-    omega arith
+    omega (arith, k ∙ ap (kept_by start (item_at items i) (choice_of shapes i)) e, freed_next start items (choice_of shapes) i)
 
 pub overflow_add-before : goal.overflow_add-before
 overflow_add-before g c =
     let next = step c.args.start c.args.items.now c.args.shapes.now c.loop-index.index c.loop-index.before c.kept_by.result c.len.result c.loop-index.invariant.before (c.kept_by.ensures.kept ∙ ap (λ it. kept_by c.args.start it (choice_of c.args.shapes.now c.loop-index.index) c.loop-index.before) c.at-item.ensures) (c.len.ensures ∙ ap len_of c.at-item.ensures) in
     let bound = freed_ends c.args.start c.args.items.now (choice_of c.args.shapes.now) c.requires.in_order c.loop-index.index (omega arith) in
-    let fits = c.requires.in_order.ends c.loop-index.index (omega arith) in
-    omega arith
+    omega (arith, c.requires.in_order.ends c.loop-index.index (omega arith))
 
 pub loop-index-preserved : goal.loop-index-preserved
 loop-index-preserved g c = record {

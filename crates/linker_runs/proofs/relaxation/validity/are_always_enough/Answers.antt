@@ -11,9 +11,7 @@ at_most n power fits = ⊎_elim
 
 pub next_power_of_two-requires : goal.next_power_of_two-requires
 next_power_of_two-requires g c =
-    let most = at_most c.args.alignment.now.alignment c.requires.power (omega arith) in
-    let e = c.saturating_sub-unfilled.ensures in
-    omega arith
+    omega (arith, at_most c.args.alignment.now.alignment c.requires.power (omega arith), c.saturating_sub-unfilled.ensures)
 
 pub returns-else-unfilled-granularity : goal.returns-else-unfilled-granularity
 returns-else-unfilled-granularity g c =

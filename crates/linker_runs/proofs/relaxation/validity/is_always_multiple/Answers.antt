@@ -24,14 +24,12 @@ loop-following-init g c = (
 pub is_anchor-requires-clause-following : goal.is_anchor-requires-clause-following
 is_anchor-requires-clause-following g c =
     let below = ends_by c.args.start c.args.items.now c.requires.in_order c.args.index (c.args.index - 1 - c.loop-following.following) c.requires.within (omega arith) in
-    let e = c.offset-offset.ensures ∙ ap offset_of c.at-here.ensures in
-    omega (arith, ap end_of c.at-item.ensures)
+    omega (arith, c.offset-offset.ensures ∙ ap offset_of c.at-here.ensures, ap end_of c.at-item.ensures)
 
 pub frees_multiples-requires-clause-following : goal.frees_multiples-requires-clause-following
 frees_multiples-requires-clause-following g c =
     let below = ends_by c.args.start c.args.items.now c.requires.in_order c.args.index (c.args.index - 1 - c.loop-following.following) c.requires.within (omega arith) in
-    let e = c.offset-offset.ensures ∙ ap offset_of c.at-here.ensures in
-    omega (arith, ap end_of c.at-item.ensures)
+    omega (arith, c.offset-offset.ensures ∙ ap offset_of c.at-here.ensures, ap end_of c.at-item.ensures)
 
 pub returns-then-is_anchor : goal.returns-then-is_anchor
 returns-then-is_anchor g c =
