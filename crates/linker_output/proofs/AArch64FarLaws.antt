@@ -69,8 +69,7 @@ reaches_go fields place target inside below code is s at loads =
     let o = operands_of stub place target in
     let half = is.2.0 in
     let template = stub.pair in
-    let f = applies aarch64_name aarch64_row r.R_AARCH64_ABS64 stub.first o template half tt refl
-    is.2.1.0 is.2.1.1 is.2.1.2 in
+    let f = applies aarch64_name aarch64_row r.R_AARCH64_ABS64 stub.first o template half tt refl is.2.1 in
     let bytes : code ≡ stub.head ++ half =
     is.3 ∙ ap (λ b. stub.head ++ (b ++ [])) is.2.2 ∙ ap (λ b. stub.head ++ b) (append-nil half) in
     let n = number_of_bytes 8 half in
@@ -114,8 +113,7 @@ reaches_relative_go fields place target inside below code is s at loads =
     let o = operands_of stub place target in
     let half = is.2.0 in
     let template = stub.pair in
-    let f = applies aarch64_name aarch64_row r.R_AARCH64_PREL64 stub.first o template half tt refl
-    is.2.1.0 is.2.1.1 is.2.1.2 in
+    let f = applies aarch64_name aarch64_row r.R_AARCH64_PREL64 stub.first o template half tt refl is.2.1 in
     let bytes : code ≡ stub.head ++ half =
     is.3 ∙ ap (λ b. stub.head ++ (b ++ [])) is.2.2 ∙ ap (λ b. stub.head ++ b) (append-nil half) in
     let n = number_of_bytes 8 half in

@@ -50,10 +50,6 @@ module _ (o : Operands) (s : State) (x y z target : ℕ) (first : IsAdrOf 1 16 x
   unfolding one two three four
   x17_is = (loads o 16 17 x y target s first second (omega arith) (omega arith) at loads_from).value_is
 
-  pub pc_is : four.pc ≡ four.registers 17
-  unfolding four
-  pc_is = refl
-
   pub x16_is : four.registers 16 ≡ target
   unfolding one two three four
   x16_is =
@@ -63,14 +59,6 @@ module _ (o : Operands) (s : State) (x y z target : ℕ) (first : IsAdrOf 1 16 x
   pub others_are : (n : ℕ) → (n == 16 || n == 17) ≡ false → four.registers n ≡ s.registers n
   unfolding one two three four
   others_are n e = kept (eqb n 16) (eqb n 17) (adrp_address x s) (loaded y one) (added z two) (s.registers n) e
-
-  pub memory_is : four.memory ≡ s.memory
-  unfolding one two three four
-  memory_is = refl
-
-  pub pointer_is : four.thread_pointer ≡ s.thread_pointer
-  unfolding one two three four
-  pointer_is = refl
 
 -- ---- the pieces, and `br x17`
 
@@ -103,6 +91,7 @@ goes : RelativeAddresses → (places : LazyEntry) (origin addend : ℕ) (others 
     → Branches others places → (code : List ℕ) → IsCode AArch64 (aarch64_loads origin addend others) places code
     → (s : State) → s.pc ≡ sum_64 places.address origin
     → (t : State) × (run (words 4 code) s ≡ Some t) × Ends (reached places addend) s.memory s.registers s.thread_pointer t
+unfolding one two three four
 goes relative places origin addend others below last code is s at =
     let o = operands_at (field_at origin addend) places in
     let p2 = is.3 in
@@ -110,9 +99,9 @@ goes relative places origin addend others below last code is s at =
     let adrp_x16 = padded (code_of_words (0x90000010 ∷ [])) in
     let ldr_x17 = padded (code_of_words (0xf9400211 ∷ [])) in
     let add_x16 = padded (code_of_words (0x91000210 ∷ [])) in
-    let a = applies aarch64_name aarch64_row r.R_AARCH64_ADR_PREL_PG_HI21 (field_of 0 (aarch64_name r.R_AARCH64_ADR_PREL_PG_HI21)) o adrp_x16 is.0 tt refl is.2.1.0 is.2.1.1 is.2.1.2 in
-    let b = applies aarch64_name aarch64_row r.R_AARCH64_LDST64_ABS_LO12_NC (field_of 0 (aarch64_name r.R_AARCH64_LDST64_ABS_LO12_NC)) o ldr_x17 p2.0 tt refl p2.2.1.0 p2.2.1.1 p2.2.1.2 in
-    let c = applies aarch64_name aarch64_row r.R_AARCH64_ADD_ABS_LO12_NC (field_of 0 (aarch64_name r.R_AARCH64_ADD_ABS_LO12_NC)) o add_x16 p3.0 tt refl p3.2.1.0 p3.2.1.1 p3.2.1.2 in
+    let a = applies aarch64_name aarch64_row r.R_AARCH64_ADR_PREL_PG_HI21 (field_of 0 (aarch64_name r.R_AARCH64_ADR_PREL_PG_HI21)) o adrp_x16 is.0 tt refl is.2.1 in
+    let b = applies aarch64_name aarch64_row r.R_AARCH64_LDST64_ABS_LO12_NC (field_of 0 (aarch64_name r.R_AARCH64_LDST64_ABS_LO12_NC)) o ldr_x17 p2.0 tt refl p2.2.1 in
+    let c = applies aarch64_name aarch64_row r.R_AARCH64_ADD_ABS_LO12_NC (field_of 0 (aarch64_name r.R_AARCH64_ADD_ABS_LO12_NC)) o add_x16 p3.0 tt refl p3.2.1 in
     let x = word_of is.0 in
     let y = word_of p2.0 in
     let z = word_of p3.0 in
@@ -130,12 +119,12 @@ goes relative places origin addend others below last code is s at =
       four o s x y z to first second third at l m,
       ap (λ ws. run ws s) all ∙ runs o s x y z to first second third at l m,
       record {
-        pc = pc_is o s x y z to first second third at l m ∙ x17_is o s x y z to first second third at l m;
+        pc = x17_is o s x y z to first second third at l m;
         x16 = x16_is o s x y z to first second third at l m;
         x17 = x17_is o s x y z to first second third at l m;
         others = others_are o s x y z to first second third at l m;
-        in_memory = memory_is o s x y z to first second third at l m;
-        thread = pointer_is o s x y z to first second third at l m;
+        in_memory = refl;
+        thread = refl;
       },
     )
 
@@ -237,7 +226,6 @@ loads_stored number address memory small inside =
     let b5 : m (sum_64 address 5) ≡ field number 40 48 = stored_at number address memory 5 (sum_64 address 5) (omega arith) refl in
     let b6 : m (sum_64 address 6) ≡ field number 48 56 = stored_at number address memory 6 (sum_64 address 6) (omega arith) refl in
     let b7 : m (sum_64 address 7) ≡ field number 56 64 = stored_at number address memory 7 (sum_64 address 7) (omega arith) refl in
-    let n = whole number small in
     ap (λ v. from_le_bytes w64 (v ∷ m (sum_64 address 1) ∷ m (sum_64 address 2) ∷ m (sum_64 address 3) ∷ m (sum_64 address 4) ∷ m (sum_64 address 5) ∷ m (sum_64 address 6) ∷ m (sum_64 address 7) ∷ [])) b0
     ∙ ap (λ v. from_le_bytes w64 (field number 0 8 ∷ v ∷ m (sum_64 address 2) ∷ m (sum_64 address 3) ∷ m (sum_64 address 4) ∷ m (sum_64 address 5) ∷ m (sum_64 address 6) ∷ m (sum_64 address 7) ∷ [])) b1
     ∙ ap (λ v. from_le_bytes w64 (field number 0 8 ∷ field number 8 16 ∷ v ∷ m (sum_64 address 3) ∷ m (sum_64 address 4) ∷ m (sum_64 address 5) ∷ m (sum_64 address 6) ∷ m (sum_64 address 7) ∷ [])) b2
@@ -246,7 +234,7 @@ loads_stored number address memory small inside =
     ∙ ap (λ v. from_le_bytes w64 (field number 0 8 ∷ field number 8 16 ∷ field number 16 24 ∷ field number 24 32 ∷ field number 32 40 ∷ v ∷ m (sum_64 address 6) ∷ m (sum_64 address 7) ∷ [])) b5
     ∙ ap (λ v. from_le_bytes w64 (field number 0 8 ∷ field number 8 16 ∷ field number 16 24 ∷ field number 24 32 ∷ field number 32 40 ∷ field number 40 48 ∷ v ∷ m (sum_64 address 7) ∷ [])) b6
     ∙ ap (λ v. from_le_bytes w64 (field number 0 8 ∷ field number 8 16 ∷ field number 16 24 ∷ field number 24 32 ∷ field number 32 40 ∷ field number 40 48 ∷ field number 48 56 ∷ v ∷ [])) b7
-    ∙ n
+    ∙ (whole number small)
 
 -- a word whose bytes are the same
 same_loaded : (m n : ℕ → ℕ) (word : ℕ) → word < 2 ^ 64 → ((i : ℕ) → i < 8 → m (sum_64 word i) ≡ n (sum_64 word i))

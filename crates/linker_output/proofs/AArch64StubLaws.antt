@@ -40,30 +40,24 @@ pub loads_go : RelativeAddresses → stubs.Loads
 loads_go relative place target inside below code is s at =
     let stub = aarch64_output.load_stub in
     let o = operands_of stub place target in
-    let small = are_addresses stub place target below in
     let pair = is.0 in
     let half = is.2.0 in
     let template = stub.pair in
-    let high = applies aarch64_name aarch64_row r.R_AARCH64_ADR_PREL_PG_HI21 stub.first o template half tt refl
-    is.2.1.0 is.2.1.1 is.2.1.2 in
-    let low = applies aarch64_name aarch64_row r.R_AARCH64_LDST64_ABS_LO12_NC (field_of 4 (aarch64_name r.R_AARCH64_LDST64_ABS_LO12_NC)) o half pair tt refl
-    is.2.2.0 is.2.2.1 is.2.2.2 in
+    let high = applies aarch64_name aarch64_row r.R_AARCH64_ADR_PREL_PG_HI21 stub.first o template half tt refl is.2.1 in
+    let low = applies aarch64_name aarch64_row r.R_AARCH64_LDST64_ABS_LO12_NC (field_of 4 (aarch64_name r.R_AARCH64_LDST64_ABS_LO12_NC)) o half pair tt refl is.2.2 in
     let x = word_of half in
     let y = word_of (drop 4 pair) in
     let old : word_of (drop 4 half) ≡ 0xf9400211 = ap word_of high.applied.written.rest in
     let front : word_of code ≡ x =
     first_is code pair stub.tail is.1 is.3 ∙ sym (front_word pair) ∙ ap word_of low.kept ∙ front_word half in
-    let first : IsAdrOf 1 16 x = adrp_after _ _ template half high.applied.written refl in
     let second : IsInstructionOf ldr 17 16 y =
     of_registers (ap rd_of old) (ap rn_of old)
     (ldr_after _ _ (drop 4 half) (drop 4 pair) low.applied.written (subst IsLdr64 (sym old) refl)) in
-    let here : s.pc ≡ o.place = at ∙ sym (sum_zero place inside) in
-    let l = loads o 16 17 x y (symbol_address o) s first second (omega arith) (omega arith) here
-    (relative.0.4 o small o.place template half high.applied tt o.place (drop 4 half) (drop 4 pair) low.applied tt) in
+    let l = loads o 16 17 x y (symbol_address o) s (adrp_after _ _ template half high.applied.written refl) second (omega arith) (omega arith) (at ∙ sym (sum_zero place inside))
+    (relative.0.4 o (are_addresses stub place target below) o.place template half high.applied tt o.place (drop 4 half) (drop 4 pair) low.applied tt) in
     let t = set 16 (adrp_address x s) s in
-    let u = set 17 (loaded y t) t in
     subst (λ end. IsSomeAnd end (GoesTo (load_64 s.memory target) s))
-    (sym (stub_runs code x y s t u l.first refl l.second (eight s.pc) front
+    (sym (stub_runs code x y s t (set 17 (loaded y t) t) l.first refl l.second (eight s.pc) front
     (second_is code pair stub.tail is.1 is.3) 17 0xd61f0220 (ap word_of (third_is code pair stub.tail is.1 is.3)) refl))
     (record {
       pc = l.value_is ∙ ap (load_64 s.memory) (no_addend target below);
@@ -76,30 +70,24 @@ pub jumps_go : RelativeAddresses → stubs.Jumps
 jumps_go relative place target inside below code is s at =
     let stub = some_or aarch64_output.load_stub aarch64_output.jump_stub in
     let o = operands_of stub place target in
-    let small = are_addresses stub place target below in
     let pair = is.0 in
     let half = is.2.0 in
     let template = stub.pair in
-    let high = applies aarch64_name aarch64_row r.R_AARCH64_ADR_PREL_PG_HI21 stub.first o template half tt refl
-    is.2.1.0 is.2.1.1 is.2.1.2 in
-    let low = applies aarch64_name aarch64_row r.R_AARCH64_ADD_ABS_LO12_NC (field_of 4 (aarch64_name r.R_AARCH64_ADD_ABS_LO12_NC)) o half pair tt refl
-    is.2.2.0 is.2.2.1 is.2.2.2 in
+    let high = applies aarch64_name aarch64_row r.R_AARCH64_ADR_PREL_PG_HI21 stub.first o template half tt refl is.2.1 in
+    let low = applies aarch64_name aarch64_row r.R_AARCH64_ADD_ABS_LO12_NC (field_of 4 (aarch64_name r.R_AARCH64_ADD_ABS_LO12_NC)) o half pair tt refl is.2.2 in
     let x = word_of half in
     let y = word_of (drop 4 pair) in
     let old : word_of (drop 4 half) ≡ 0x91000210 = ap word_of high.applied.written.rest in
     let front : word_of code ≡ x =
     first_is code pair stub.tail is.1 is.3 ∙ sym (front_word pair) ∙ ap word_of low.kept ∙ front_word half in
-    let first : IsAdrOf 1 16 x = adrp_after _ _ template half high.applied.written refl in
     let second : IsInstructionOf add 16 16 y =
     of_registers (ap rd_of old) (ap rn_of old)
     (add_after _ _ (drop 4 half) (drop 4 pair) low.applied.written (ap (λ w. field w 22 32) old)) in
-    let here : s.pc ≡ o.place = at ∙ sym (sum_zero place inside) in
-    let l = adds_pair o 16 x y (symbol_address o) s first second (omega arith) here
-    (relative.0.0 o small o.place template half high.applied tt o.place (drop 4 half) (drop 4 pair) low.applied tt) in
+    let l = adds_pair o 16 x y (symbol_address o) s (adrp_after _ _ template half high.applied.written refl) second (omega arith) (at ∙ sym (sum_zero place inside))
+    (relative.0.0 o (are_addresses stub place target below) o.place template half high.applied tt o.place (drop 4 half) (drop 4 pair) low.applied tt) in
     let t = set 16 (adrp_address x s) s in
-    let u = set 16 (added y t) t in
     subst (λ end. IsSomeAnd end (GoesTo target s))
-    (sym (stub_runs code x y s t u l.first refl l.second (eight s.pc) front
+    (sym (stub_runs code x y s t (set 16 (added y t) t) l.first refl l.second (eight s.pc) front
     (second_is code pair stub.tail is.1 is.3) 16 0xd61f0200 (ap word_of (third_is code pair stub.tail is.1 is.3)) refl))
     (record {
       pc = l.value_is ∙ no_addend target below;

@@ -39,31 +39,22 @@ new_stub stubs new s is = rw is (get_or_push stubs s _ (length stubs) refl)
 way_kept : (code : Code) (stubs new : List StubAt) (s : StubAt) (branch : Branch) (way : Way) → new ≡ stubs ++ (s ∷ []) → IsWay code stubs branch way → IsWay code new branch way
 way_kept code stubs new s branch Direct is h = tt
 way_kept code stubs new s branch (Far j) is h =
-    let e = old_stub stubs new s j is (h.0) in
-    let l = ap length is ∙ length_push stubs s in
-    let within = h.0 in
-    (omega arith, ap (λ t. t.target) e ∙ h.1)
+    (omega (arith, ap length is ∙ length_push stubs s, h.0), ap (λ t. t.target) (old_stub stubs new s j is (h.0)) ∙ h.1)
 way_kept code stubs new s branch (Near j) is h =
     let e = old_stub stubs new s j is (h.0) in
-    let l = ap length is ∙ length_push stubs s in
-    let within = h.0 in
-    (omega arith, ap (λ t. t.target) e ∙ h.1, subst (IsNear code branch) (sym e) (h.2))
+    (omega (arith, ap length is ∙ length_push stubs s, h.0), ap (λ t. t.target) e ∙ h.1, subst (IsNear code branch) (sym e) (h.2))
 
 way_new : (code : Code) (state : State) (new : List StubAt) (index boundary : ℕ) (part : Part) (s : StubAt)
     → s ≡ record { boundary = boundary; part = part; index = part_of part (group_at state.groups.items boundary); target = (branch_at code.branches.now index).target }
     → new ≡ state.stubs.items ++ (s ∷ []) → IsNew code state (branch_at code.branches.now index) boundary part → IsWay code new (branch_at code.branches.now index) (new_way part (length state.stubs.items))
 way_new code state new index boundary Front s s_is is place =
     let e = new_stub state.stubs.items new s is ∙ s_is in
-    let l = ap length is ∙ length_push state.stubs.items s in
-    (omega arith, ap (λ t. t.target) e, subst (IsNear code (branch_at code.branches.now index)) (sym e) place.0)
+    (omega (arith, ap length is ∙ length_push state.stubs.items s), ap (λ t. t.target) e, subst (IsNear code (branch_at code.branches.now index)) (sym e) place.0)
 way_new code state new index boundary Middle s s_is is place =
-    let e = new_stub state.stubs.items new s is ∙ s_is in
-    let l = ap length is ∙ length_push state.stubs.items s in
-    (omega arith, ap (λ t. t.target) e)
+    (omega (arith, ap length is ∙ length_push state.stubs.items s), ap (λ t. t.target) (new_stub state.stubs.items new s is ∙ s_is))
 way_new code state new index boundary Back s s_is is place =
     let e = new_stub state.stubs.items new s is ∙ s_is in
-    let l = ap length is ∙ length_push state.stubs.items s in
-    (omega arith, ap (λ t. t.target) e, subst (IsNear code (branch_at code.branches.now index)) (sym e) place.0)
+    (omega (arith, ap length is ∙ length_push state.stubs.items s), ap (λ t. t.target) e, subst (IsNear code (branch_at code.branches.now index)) (sym e) place.0)
 
 -- the lists of stubs with one more
 module _ (lists : ℕ) (stubs new : List StubAt) (s : StubAt) (heads nexts heads_new nexts_new : List ℕ) (l : ℕ)
@@ -284,25 +275,15 @@ module _ (code : Code) (state new : State) (index boundary : ℕ) (part : Part) 
         (cases_lt j (length state.stubs.items)));
     total = (let g = is.groups in
         let a = sum_by-set stubs_in state.groups.items boundary (with_one part (group_at state.groups.items boundary)) (record { front = 0; middle = 0; back = 0 }) (omega arith) in
-        let b = stubs_more part (group_at state.groups.items boundary) in
-        let c = ap (sum_by stubs_in) groups_are in
-        let d = stubs_len in
-        let e = is.total in
-        omega arith);
+        omega (arith, stubs_more part (group_at state.groups.items boundary), ap (sum_by stubs_in) groups_are, stubs_len, is.total));
     few = (let w = is.ways in
         let a = sum_by-set level state.ways.items index (new_way part (length state.stubs.items)) Direct (omega arith) in
-        let b = level_new part (length state.stubs.items) in
-        let c = ap (sum_by level) ways_are in
-        let d = stubs_len in
-        let e = is.few in
-        omega arith);
+        omega (arith, level_new part (length state.stubs.items), ap (sum_by level) ways_are, stubs_len, is.few));
     way = λ i h. ⊎_elim
         (λ (same : i ≡ index).
-        let e = way_here in
-        rw (same, e) (way_new code state new.stubs.items index boundary part s s_is stubs_are place))
+        rw (same, way_here) (way_new code state new.stubs.items index boundary part s s_is stubs_are place))
         (λ (apart : (i < index) ⊎ (index < i)).
-        let e = way_other i (omega arith) in
-        rw e (way_kept code state.stubs.items new.stubs.items s (branch_at code.branches.now i) (way_at state.ways.items i) stubs_are (is.way i h)))
+        rw (way_other i (omega arith)) (way_kept code state.stubs.items new.stubs.items s (branch_at code.branches.now i) (way_at state.ways.items i) stubs_are (is.way i h)))
         (cases_order i index);
     lists = lists_added (length code.branches.now) state.stubs.items new.stubs.items s state.heads.items state.nexts.items new.heads.items new.nexts.items l is.lists (l_is ∙ ap (λ t. list_of (length code.branches.now) t.boundary t.target) (sym s_is)) l_within stubs_are heads_are nexts_are;
     shared = λ i j below h. ⊎_elim

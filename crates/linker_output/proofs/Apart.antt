@@ -76,9 +76,7 @@ module _ (code : Code) (groups : List Group) (before : List ℕ) (is_code : IsCo
   -- those of a boundary are before those of a later one
   pub ends_before : (k l : ℕ) → k < l → l < length code.boundaries.now → end_of code.boundaries.now before k ≤ start_of code.boundaries.now before l
   ends_before k l below within =
-      let a = is_code.ascending k l (omega arith) within in
-      let b = before_ascends code.shape groups before laid (k + 1) l (omega arith) (omega arith) in
-      omega arith
+      omega (arith, is_code.ascending k l (omega arith) within, before_ascends code.shape groups before laid (k + 1) l (omega arith) (omega arith))
 
   pub stub_inside : (s : StubAt) → HasPart code groups s → (start_of code.boundaries.now before s.boundary ≤ place_of code groups before s) × (place_of code groups before s + code.shape.len ≤ end_of code.boundaries.now before s.boundary)
   stub_inside s has = inside_in s.part _ _ code.shape.len (group_at groups s.boundary) s.index has.index (fits_at s.boundary has.boundary)

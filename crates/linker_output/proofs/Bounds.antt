@@ -9,10 +9,7 @@ level_most (Near s) = omega arith
 pub levels_most : (ws : List Way) → sum_by level ws ≤ 2 * length ws
 levels_most [] = omega arith
 levels_most (w ∷ ws) =
-    let rest = levels_most ws in
-    let one = level_most w in
-    let e = sum_by-cons level w ws in
-    omega arith
+    omega (arith, levels_most ws, level_most w, sum_by-cons level w ws)
 
 pub part_most : (part : Part) (group : Group) → part_of part group ≤ stubs_in group
 part_most Front group = omega arith
@@ -25,10 +22,7 @@ few_stubs code state is = let h = levels_most state.ways.items in let f = is.few
 -- a part at a boundary has no more stubs than there are in all
 pub few_in_part : (code : Code) (state : State) (k : ℕ) (part : Part) → IsState code state → k < length state.groups.items → part_of part (group_at state.groups.items k) ≤ length state.stubs.items
 few_in_part code state k part is within =
-    let a = part_most part (group_at state.groups.items k) in
-    let b = get_or-le-sum_by stubs_in state.groups.items k (record { front = 0; middle = 0; back = 0 }) within in
-    let t = is.total in
-    omega arith
+    omega (arith, part_most part (group_at state.groups.items k), get_or-le-sum_by stubs_in state.groups.items k (record { front = 0; middle = 0; back = 0 }) within, is.total)
 
 pub part_fits : (code : Code) (state : State) (k : ℕ) (part : Part) → IsCode code → IsState code state → k < length code.boundaries.now → code.shape.len * (part_of part (group_at state.groups.items k) + 1) < 2 ^ 62
 part_fits code state k part is_code is within =
@@ -43,23 +37,17 @@ part_fits code state k part is_code is within =
 pub index_fits : (code : Code) (state : State) (j : ℕ) → IsCode code → IsState code state → j < length state.stubs.items → code.shape.len * ((stub_at state.stubs.items j).index + 1) < 2 ^ 62
 index_fits code state j is_code is within =
     let p = is.parts j within in
-    let a = part_fits code state (stub_at state.stubs.items j).boundary (stub_at state.stubs.items j).part is_code is p.boundary in
-    let i = p.index in
-    let b = mul-le-mul_left code.shape.len i in
-    omega arith
+    omega (arith, part_fits code state (stub_at state.stubs.items j).boundary (stub_at state.stubs.items j).part is_code is p.boundary, mul-le-mul_left code.shape.len p.index)
 
 -- the bytes of all stubs fit
 pub room_most : (code : Code) (state : State) → IsState code state → code.shape.unit * length state.groups.items + code.shape.len * sum_by stubs_in state.groups.items ≤ most_bytes code
 room_most code state is =
     let b = few_stubs code state is in
     let t = is.total in
-    let g = is.groups in
     let c : sum_by stubs_in state.groups.items ≤ 2 * length code.branches.now + 1 = omega arith in
     let d = mul-le-mul_left code.shape.len c in
-    rw g (omega arith)
+    rw is.groups (omega arith)
 
 pub room_for : (code : Code) (state : State) → IsCode code → IsState code state → code.shape.unit * length state.groups.items + code.shape.len * sum_by stubs_in state.groups.items < 2 ^ 62
 room_for code state is_code is =
-    let h = room_most code state is in
-    let r = is_code.room in
-    omega arith
+    omega (arith, room_most code state is, is_code.room)

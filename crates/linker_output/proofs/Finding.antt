@@ -32,10 +32,9 @@ pub out_there : (code : Code) (state : State) (branch : Branch) (boundary : ℕ)
     → IsAt state.stubs.items boundary part branch.target s → ¬ IsNear code branch (stub_at state.stubs.items s) → IsOutThere code state branch boundary part
 out_there code state branch boundary part s is_code is inside here far =
     let stub : StubAt = stub_at state.stubs.items s in
-    let has = is.parts s here.within in
     let index : stub.index < part_of part (group_at state.groups.items boundary) =
     subst (λ p. stub.index < part_of p (group_at state.groups.items boundary)) here.there.in_part
-    (subst (λ b. stub.index < part_of stub.part (group_at state.groups.items b)) here.there.at_boundary has.index) in
+    (subst (λ b. stub.index < part_of stub.part (group_at state.groups.items b)) here.there.at_boundary (is.parts s here.within).index) in
     record {
       old = λ t there near. ⊎_elim
           (λ (same : t ≡ s). far (subst (λ k. IsNear code branch (stub_at state.stubs.items k)) same near))

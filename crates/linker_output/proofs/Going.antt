@@ -20,21 +20,17 @@ module _ (code : Code) (state : State) (layout : Layout) (is : IsState code stat
       → IsStubOf code layout.before.items (branch_at code.branches.now i) way stub → Goes code layout (branch_at code.branches.now i) stub
   goes_by i Direct stub within here is_way served of = subst (Goes code layout (branch_at code.branches.now i)) (sym of) served
   goes_by i (Near s) stub within here is_way served of =
-      let l = one_place in
-      let there = is_way.0 in
       subst (Goes code layout (branch_at code.branches.now i)) (sym of)
-      (is_way.0, is_way.1, near_reached code state layout.before.items layout.places.items i s is laid are within here (omega arith))
+      (is_way.0, is_way.1, near_reached code state layout.before.items layout.places.items i s is laid are within here (omega (arith, one_place, is_way.0)))
   goes_by i (Far s) stub within here is_way served of = ⊎_elim
       (λ (none : (stub ≡ None) × ReachesAt code layout.before.items (branch_at code.branches.now i) (target_place code layout.before.items (branch_at code.branches.now i).target)).
       subst (Goes code layout (branch_at code.branches.now i)) (sym none.0) none.1)
       (λ (some : (stub ≡ Some s) × ¬ ReachesAt code layout.before.items (branch_at code.branches.now i) (target_place code layout.before.items (branch_at code.branches.now i).target)).
-      let l = one_place in
-      let there = is_way.0 in
       subst (Goes code layout (branch_at code.branches.now i)) (sym some.0) (
         is_way.0,
         is_way.1,
         ⊎_elim
-            (λ (f : s < length layout.places.items → ReachesAt code layout.before.items (branch_at code.branches.now i) (at layout.places.items s)). f (omega arith))
+            (λ (f : s < length layout.places.items → ReachesAt code layout.before.items (branch_at code.branches.now i) (at layout.places.items s)). f (omega (arith, one_place, is_way.0)))
             (λ (t : ReachesAt code layout.before.items (branch_at code.branches.now i) (target_place code layout.before.items (branch_at code.branches.now i).target)). absurd (some.1 t))
             served,
       ))
@@ -46,17 +42,15 @@ module _ (code : Code) (state : State) (layout : Layout) (is : IsState code stat
   pub goes_all : (stubs : List (Option ℕ)) → AreServed code layout.before.items layout.places.items state.ways.items (length code.branches.now) → AreStubsOf code layout.before.items state.ways.items stubs
       → (i : ℕ) → i < length code.branches.now → Goes code layout (branch_at code.branches.now i) (slice_index_or stubs i None)
   goes_all stubs served of i within =
-      let l = of.len in
-      goes_by i (way_at state.ways.items i) (slice_index_or stubs i None) within refl (way_of i within) (served i within) (of.each i (omega arith))
+      goes_by i (way_at state.ways.items i) (slice_index_or stubs i None) within refl (way_of i within) (served i within) (of.each i (omega (arith, of.len)))
 
   -- those that are served go somewhere
   go_by : (branch : Branch) (s : ℕ) → s < length layout.stubs.items → (stub_at layout.stubs.items s).target ≡ branch.target
       → (s < length layout.places.items → ReachesAt code layout.before.items branch (at layout.places.items s)) ⊎ ReachesAt code layout.before.items branch (target_place code layout.before.items branch.target)
       → (stub : Option ℕ) × Goes code layout branch stub
   go_by branch s there target served =
-      let l = one_place in
       ⊎_elim
-      (λ (f : s < length layout.places.items → ReachesAt code layout.before.items branch (at layout.places.items s)). (Some s, (there, target, f (omega arith))))
+      (λ (f : s < length layout.places.items → ReachesAt code layout.before.items branch (at layout.places.items s)). (Some s, (there, target, f (omega (arith, one_place)))))
       (λ (t : ReachesAt code layout.before.items branch (target_place code layout.before.items branch.target)). (None, t))
       served
 
@@ -77,8 +71,7 @@ spare_none code before branch way stub e of = subst (λ w. IsStubOf code before 
 pub spared_all : (code : Code) (state : State) (before : List ℕ) (stubs : List (Option ℕ)) → IsState code state → AreStubsOf code before state.ways.items stubs
     → (i : ℕ) → i < length code.branches.now → HasSpare code (branch_at code.branches.now i) → slice_index_or stubs i None ≡ None
 spared_all code state before stubs is of i within spare =
-    let l = of.len in
-    spare_none code before (branch_at code.branches.now i) (way_at state.ways.items i) (slice_index_or stubs i None) (is.spared i within spare) (of.each i (omega arith))
+    spare_none code before (branch_at code.branches.now i) (way_at state.ways.items i) (slice_index_or stubs i None) (is.spared i within spare) (of.each i (omega (arith, of.len)))
 
 near_some : (code : Code) (before : List ℕ) (branch : Branch) (way : Way) (stub : Option ℕ) (s : ℕ) → way ≡ Near s → IsStubOf code before branch way stub → stub ≡ Some s
 near_some code before branch way stub s e of = subst (λ w. IsStubOf code before branch w stub) e of
@@ -111,15 +104,13 @@ shared_all code state placement before is shares same of j below = subst
     (λ (far : (state.may_share ≡ true) × ((i : ℕ) × IsFarFrom code (stub_at state.stubs.items j) i)). inl far.1)
     (λ (goes : (i : ℕ) × (i < length code.branches.now) × (way_at state.ways.items i ≡ Near j) × (state.may_share ≡ true → IsFirst state.stubs.items j → HasNoFar code (branch_at code.branches.now i))).
     let i = goes.0 in
-    let l = of.len in
     let inside = goes.1 in
     let stub = stub_at state.stubs.items j in
-    let way : IsWay code state.stubs.items (branch_at code.branches.now i) (Near j) = subst (IsWay code state.stubs.items (branch_at code.branches.now i)) goes.2 (is.way i inside) in
     inr (
       i,
       inside,
-      near_some code before (branch_at code.branches.now i) (way_at state.ways.items i) (slice_index_or placement.stubs.items i None) j goes.2 (of.each i (omega arith)),
-      next_to stub.part code (branch_at code.branches.now i) stub way.2,
+      near_some code before (branch_at code.branches.now i) (way_at state.ways.items i) (slice_index_or placement.stubs.items i None) j goes.2 (of.each i (omega (arith, of.len))),
+      next_to stub.part code (branch_at code.branches.now i) stub (subst (IsWay code state.stubs.items (branch_at code.branches.now i)) goes.2 (is.way i inside)).2,
       goes.3 shares,
     ))
     (is.owners j (subst (λ stubs. j < length stubs.items) same below)))

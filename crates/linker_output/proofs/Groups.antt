@@ -31,17 +31,13 @@ unfolding bytes_before
 bytes_most shape groups zero h within = omega arith
 bytes_most shape groups (suc k) h within =
     let rest = bytes_most shape groups k h (omega arith) in
-    let more : sum_by stubs_in (take (k + 1) groups) ≡ sum_by stubs_in (take k groups) + stubs_in (group_at groups k) = sum_by_more stubs_in groups k (record { front = 0; middle = 0; back = 0 }) (omega arith) in
     let size = padded_most shape.unit (shape.len * stubs_in (group_at groups k)) h in
-    let e = ap (λ x. shape.len * x) more in
+    let e = ap (λ x. shape.len * x) (sum_by_more stubs_in groups k (record { front = 0; middle = 0; back = 0 }) (omega arith)) in
     rw (sym (add-one k)) (omega arith)
 
 pub bytes_bound : (shape : StubShape) (groups : List Group) (k : ℕ) → 0 < shape.unit → k ≤ length groups → bytes_before shape groups k ≤ shape.unit * length groups + shape.len * sum_by stubs_in groups
 bytes_bound shape groups k h within =
-    let most = bytes_most shape groups k h within in
-    let a = mul-le-mul_left shape.unit within in
-    let b = mul-le-mul_left shape.len (sum_by-take-le stubs_in groups k) in
-    omega arith
+    omega (arith, bytes_most shape groups k h within, mul-le-mul_left shape.unit within, mul-le-mul_left shape.len (sum_by-take-le stubs_in groups k))
 
 pub bytes_laid_out : (shape : StubShape) (groups : List Group) (before : List ℕ) → length before ≡ length groups + 1 → ((k : ℕ) → k < length groups + 1 → get_or before k 0 ≡ bytes_before shape groups k) → IsLaidOut shape groups before
 bytes_laid_out shape groups before len written = record {

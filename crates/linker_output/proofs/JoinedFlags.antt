@@ -9,29 +9,17 @@ use Rattle.linker_output.specs.declared.flags.FlagRules.{FlagRules}
 pub or_assoc : (a b c : ℕ) → bit_or (bit_or a b) c ≡ bit_or a (bit_or b c)
 or_assoc a b c =
     same_from_bits _ _ (λ i.
-    let e = bit_at_or (bit_or a b) c i in
-    let e2 = bit_at_or a b i in
-    let e3 = bit_at_or a (bit_or b c) i in
-    let e4 = bit_at_or b c i in
-    omega arith)
+    omega (arith, bit_at_or (bit_or a b) c i, bit_at_or a b i, bit_at_or a (bit_or b c) i, bit_at_or b c i))
 
 and_of_or : (a b m : ℕ) → bit_and (bit_or a b) m ≡ bit_or (bit_and a m) (bit_and b m)
 and_of_or a b m =
     same_from_bits _ _ (λ i.
-    let e = bit_at_and (bit_or a b) m i in
-    let e2 = bit_at_or a b i in
-    let e3 = bit_at_or (bit_and a m) (bit_and b m) i in
-    let e4 = bit_at_and a m i in
-    let e5 = bit_at_and b m i in
-    omega arith)
+    omega (arith, bit_at_and (bit_or a b) m i, bit_at_or a b i, bit_at_or (bit_and a m) (bit_and b m) i, bit_at_and a m i, bit_at_and b m i))
 
 left_zero : (a b : ℕ) → bit_or a b ≡ 0 → a ≡ 0
 left_zero a b none =
     same_from_bits _ _ (λ i.
-    let e = bit_at_or a b i in
-    let e2 : bit_at (bit_or a b) i ≡ 0 = ap (λ n. bit_at n i) none ∙ bit_at-zero i in
-    let e3 = bit_at-zero i in
-    omega arith)
+    omega (arith, ap (λ n. bit_at n i) none ∙ bit_at-zero i, bit_at_or a b i, bit_at-zero i))
 
 right_zero : (a b : ℕ) → bit_or a b ≡ 0 → b ≡ 0
 right_zero a b none = left_zero b a (or_comm b a ∙ none)

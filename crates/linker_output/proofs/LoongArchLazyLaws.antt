@@ -92,18 +92,6 @@ module _ (entry : LazyEntry) (s : State) (x y target : ℕ) (small : target < 2 
   target_is =
       ap (loaded 8 s.memory) (sum_at y (upper_address x s) 15 one low.rj_is refl ∙ leads) ∙ holds
 
-  pc_is : three.pc ≡ wrapped (pos (read 15 two) +ℤ (pos 0 *ℤ pos 4))
-  unfolding three
-  pc_is = refl
-
-  t1_is : read 13 three ≡ sum_64 (sum_64 (sum_64 s.pc 4) 4) 4
-  unfolding one two three
-  t1_is = refl
-
-  t3_is : read 15 three ≡ read 15 two
-  unfolding three
-  t3_is = refl
-
   others : (n : ℕ) → (n == 13 || n == 15) ≡ false → read n three ≡ read n s
   unfolding one two three
   others n e =
@@ -114,9 +102,9 @@ module _ (entry : LazyEntry) (s : State) (x y target : ℕ) (small : target < 2 
   unfolding one two three
   goes =
       record {
-        pc = pc_is ∙ ap (λ v. wrapped (pos v +ℤ (pos 0 *ℤ pos 4))) target_is ∙ stays target small;
-        t1 = t1_is ∙ three_words s.pc ∙ ap (λ p. sum_64 p 12) at;
-        t3 = t3_is ∙ target_is;
+        pc = ap (λ v. wrapped (pos v +ℤ (pos 0 *ℤ pos 4))) target_is ∙ stays target small;
+        t1 = three_words s.pc ∙ ap (λ p. sum_64 p 12) at;
+        t3 = target_is;
         registers = others;
         floats = refl;
         memory = refl;
@@ -140,19 +128,17 @@ enters thread entry inside below code is target small s at holds =
     let pcadd = padded (code_of_words (0x1c00000f ∷ [])) in
     let ld = padded (code_of_words (0x28c001ef ∷ [])) in
     let f = field_of_32 0 (loongarch_name r.R_LARCH_TLS_LE_HI20_R) in
-    let g = field_of 0 (loongarch_name r.R_LARCH_TLS_LE_LO12_R) in
-    let a = applies loongarch_name loongarch_row r.R_LARCH_TLS_LE_HI20_R f o pcadd is.0 tt refl is.2.1.0 is.2.1.1 is.2.1.2 in
-    let b = applies loongarch_name loongarch_row r.R_LARCH_TLS_LE_LO12_R g o ld second.0 tt refl second.2.1.0 second.2.1.1 second.2.1.2 in
+    let a = applies loongarch_name loongarch_row r.R_LARCH_TLS_LE_HI20_R f o pcadd is.0 tt refl is.2.1 in
+    let b = applies loongarch_name loongarch_row r.R_LARCH_TLS_LE_LO12_R (field_of 0 (loongarch_name r.R_LARCH_TLS_LE_LO12_R)) o ld second.0 tt refl second.2.1 in
     let x = word_of is.0 in
     let y = word_of second.0 in
     let addresses = are_addresses_at (record { field = f; target = Word; origin = 0; addend = pos 0 }) entry below in
     let high : IsHigh 0x0e 15 x = high_after 12 0x0e 15 _ pcadd is.0 a.applied.written refl refl in
     let low : IsLow 0x0a3 15 15 y = low_after 0x0a3 15 15 _ ld second.0 b.applied.written refl refl refl in
     let to = leads entry inside below s.pc at x y (thread.2 o addresses o.place pcadd is.0 a.applied a.within o.place ld second.0 b.applied tt) in
-    let last : words 1 second.1 ≡ 0x4c0001ed ∷ [] = ap (words 1) (third.4 ∙ ap (λ p. take 8 p ++ third.1) third.2.1) in
     let all : words 3 code ≡ x ∷ y ∷ 0x4c0001ed ∷ [] =
     one_word is.0 is.1 code is.2.0 2 x (y ∷ 0x4c0001ed ∷ []) is.4 refl
-    (one_word second.0 second.1 is.1 second.2.0 1 y (0x4c0001ed ∷ []) second.4 refl last) in (
+    (one_word second.0 second.1 is.1 second.2.0 1 y (0x4c0001ed ∷ []) second.4 refl (ap (words 1) (third.4 ∙ ap (λ p. take 8 p ++ third.1) third.2.1))) in (
       three entry s x y target small at high low to holds,
       ap (λ ws. run ws s) all ∙ runs entry s x y target small at high low to holds,
       goes entry s x y target small at high low to holds,
@@ -210,22 +196,6 @@ module _ (s : State) (x y z : ℕ) where
     unfolding a1 a2 a3 a4 a5 a6 a7 a8
     t0_is = ap (λ n. loaded 8 s.memory (wrapped (pos n +ℤ pos 8))) (sum_at z (upper_address x s) 14 a4 fifth.rj_is refl)
 
-  t1_ends : read 13 a8 ≡ wrapped (pos (difference_64 (read 13 s) (read 15 s)) +ℤ negsuc 43) / 2 ^ 1
-  unfolding a1 a2 a3 a4 a5 a6 a7 a8
-  t1_ends = refl
-
-  end_is : a8.pc ≡ wrapped (pos (read 15 a7) +ℤ (pos 0 *ℤ pos 4))
-  unfolding a8
-  end_is = refl
-
-  memory_is : a8.memory ≡ s.memory
-  unfolding a1 a2 a3 a4 a5 a6 a7 a8
-  memory_is = refl
-
-  floats_are : a8.floats ≡ s.floats
-  unfolding a1 a2 a3 a4 a5 a6 a7 a8
-  floats_are = refl
-
   kept : (n : ℕ) → ((n == 12 || n == 13) || (n == 14 || n == 15)) ≡ false → read n a8 ≡ read n s
   unfolding a1 a2 a3 a4 a5 a6 a7 a8
   kept n e =
@@ -241,6 +211,7 @@ module _ (s : State) (x y z : ℕ) where
       ∙ other 14 (upper_address x s) n s high.0
 
 pub resolves : relocation_laws.ThreadAddresses → laws.Resolves
+unfolding a1 a2 a3 a4 a5 a6 a7 a8
 resolves thread entry first inside below bounded within small_index placed code is header is_header resolver object
     resolver_small s at to_header holds next =
     let e = enters thread entry inside below code is entry.header within s at to_header in
@@ -259,9 +230,9 @@ resolves thread entry first inside below bounded within small_index placed code 
     let addi = padded (code_of_words (0x02c001cc ∷ [])) in
     let f = field_of_32 0 (loongarch_name r.R_LARCH_TLS_LE_HI20_R) in
     let g = field_of 0 (loongarch_name r.R_LARCH_TLS_LE_LO12_R) in
-    let a = applies loongarch_name loongarch_row r.R_LARCH_TLS_LE_HI20_R f o pcadd is_header.0 tt refl is_header.2.1.0 is_header.2.1.1 is_header.2.1.2 in
-    let b = applies loongarch_name loongarch_row r.R_LARCH_TLS_LE_LO12_R g o ld p3.0 tt refl p3.2.1.0 p3.2.1.1 p3.2.1.2 in
-    let c = applies loongarch_name loongarch_row r.R_LARCH_TLS_LE_LO12_R g o addi p5.0 tt refl p5.2.1.0 p5.2.1.1 p5.2.1.2 in
+    let a = applies loongarch_name loongarch_row r.R_LARCH_TLS_LE_HI20_R f o pcadd is_header.0 tt refl is_header.2.1 in
+    let b = applies loongarch_name loongarch_row r.R_LARCH_TLS_LE_LO12_R g o ld p3.0 tt refl p3.2.1 in
+    let c = applies loongarch_name loongarch_row r.R_LARCH_TLS_LE_LO12_R g o addi p5.0 tt refl p5.2.1 in
     let x = word_of is_header.0 in
     let y = word_of p3.0 in
     let z = word_of p5.0 in
@@ -271,37 +242,30 @@ resolves thread entry first inside below bounded within small_index placed code 
     let sum : IsLow 0x00b 12 14 z = low_after 0x00b 12 14 _ addi p5.0 c.applied.written refl refl refl in
     let to = leads places within bounded t.pc gone.pc x y (thread.2 o addresses o.place pcadd is_header.0 a.applied a.within o.place ld p3.0 b.applied tt) in
     let sums_to = leads places within bounded t.pc gone.pc x z (thread.2 o addresses o.place pcadd is_header.0 a.applied a.within o.place addi p5.0 c.applied tt) in
-    let w7 : words 1 p6.1 ≡ 0x4c0001e0 ∷ [] = ap (words 1) (p7.4 ∙ ap (λ p. take 4 p ++ p7.1) p7.2.1) in
-    let w6 : words 3 p5.1 ≡ 0x004505ad ∷ 0x28c0218c ∷ 0x4c0001e0 ∷ [] =
-    ap (words 3) (p6.4 ∙ ap (λ p. take 8 p ++ p6.1) p6.2.1) ∙ ap (λ l. 0x004505ad ∷ 0x28c0218c ∷ l) w7 in
-    let w5 : words 4 p4.1 ≡ z ∷ 0x004505ad ∷ 0x28c0218c ∷ 0x4c0001e0 ∷ [] =
-    one_word p5.0 p5.1 p4.1 p5.2.0 3 z (0x004505ad ∷ 0x28c0218c ∷ 0x4c0001e0 ∷ []) p5.4 refl w6 in
-    let w4 : words 5 p3.1 ≡ 0x02ff51ad ∷ z ∷ 0x004505ad ∷ 0x28c0218c ∷ 0x4c0001e0 ∷ [] =
-    ap (words 5) (p4.4 ∙ ap (λ p. take 4 p ++ p4.1) p4.2.1) ∙ ap (λ l. 0x02ff51ad ∷ l) w5 in
-    let w3 : words 6 p2.1 ≡ y ∷ 0x02ff51ad ∷ z ∷ 0x004505ad ∷ 0x28c0218c ∷ 0x4c0001e0 ∷ [] =
-    one_word p3.0 p3.1 p2.1 p3.2.0 5 y (0x02ff51ad ∷ z ∷ 0x004505ad ∷ 0x28c0218c ∷ 0x4c0001e0 ∷ []) p3.4 refl w4 in
-    let w2 : words 7 is_header.1 ≡ 0x0011bdad ∷ y ∷ 0x02ff51ad ∷ z ∷ 0x004505ad ∷ 0x28c0218c ∷ 0x4c0001e0 ∷ [] =
-    ap (words 7) (p2.4 ∙ ap (λ p. take 4 p ++ p2.1) p2.2.1) ∙ ap (λ l. 0x0011bdad ∷ l) w3 in
     let w1 : words 8 header ≡ x ∷ 0x0011bdad ∷ y ∷ 0x02ff51ad ∷ z ∷ 0x004505ad ∷ 0x28c0218c ∷ 0x4c0001e0 ∷ [] =
-    one_word is_header.0 is_header.1 header is_header.2.0 7 x (0x0011bdad ∷ y ∷ 0x02ff51ad ∷ z ∷ 0x004505ad ∷ 0x28c0218c ∷ 0x4c0001e0 ∷ []) is_header.4 refl w2 in
-    let ran : run (words 8 header) t ≡ Some (a8 t x y z) = ap (λ ws. run ws t) w1 ∙ runs_header t x y z high low sum in
+    one_word is_header.0 is_header.1 header is_header.2.0 7 x (0x0011bdad ∷ y ∷ 0x02ff51ad ∷ z ∷ 0x004505ad ∷ 0x28c0218c ∷ 0x4c0001e0 ∷ []) is_header.4 refl
+    (ap (words 7) (p2.4 ∙ ap (λ p. take 4 p ++ p2.1) p2.2.1) ∙ ap (λ l. 0x0011bdad ∷ l)
+    (one_word p3.0 p3.1 p2.1 p3.2.0 5 y (0x02ff51ad ∷ z ∷ 0x004505ad ∷ 0x28c0218c ∷ 0x4c0001e0 ∷ []) p3.4 refl
+    (ap (words 5) (p4.4 ∙ ap (λ p. take 4 p ++ p4.1) p4.2.1) ∙ ap (λ l. 0x02ff51ad ∷ l)
+    (one_word p5.0 p5.1 p4.1 p5.2.0 3 z (0x004505ad ∷ 0x28c0218c ∷ 0x4c0001e0 ∷ []) p5.4 refl
+    (ap (words 3) (p6.4 ∙ ap (λ p. take 8 p ++ p6.1) p6.2.1) ∙ ap (λ l. 0x004505ad ∷ 0x28c0218c ∷ l) (ap (words 1) (p7.4 ∙ ap (λ p. take 4 p ++ p7.1) p7.2.1))))))) in
     let loads : read 15 (a7 t x y z) ≡ resolver =
     t3_ends t x y z high low sum ∙ ap (loaded 8 t.memory) to ∙ ap (λ m. loaded 8 m first) gone.memory ∙ holds in
     let asked : Asks entry.index resolver object s (a8 t x y z) =
     record {
-      pc = end_is t x y z ∙ ap (λ v. wrapped (pos v +ℤ (pos 0 *ℤ pos 4))) loads ∙ stays resolver resolver_small;
+      pc = ap (λ v. wrapped (pos v +ℤ (pos 0 *ℤ pos 4))) loads ∙ stays resolver resolver_small;
       t0 =
           t0_is t x y z high low sum ∙ ap (λ n. loaded 8 t.memory (wrapped (pos n +ℤ pos 8))) sums_to
           ∙ ap (loaded 8 t.memory) (eight_on first bounded)
           ∙ ap (λ m. loaded 8 m (sum_64 first 8)) gone.memory ∙ next;
       t1 =
-          t1_ends t x y z ∙ ap (λ n. wrapped (pos (difference_64 n (read 15 t)) +ℤ negsuc 43) / 2 ^ 1) gone.t1
+          ap (λ n. wrapped (pos (difference_64 n (read 15 t)) +ℤ negsuc 43) / 2 ^ 1) gone.t1
           ∙ ap (λ n. wrapped (pos (difference_64 (sum_64 entry.address 12) n) +ℤ negsuc 43) / 2 ^ 1) gone.t3
           ∙ offset_is entry.header entry.index entry.address within small_index placed;
       registers = λ n e. kept t x y z n e ∙ gone.registers n (second_and_last (n == 12) (n == 13) (n == 14) (n == 15) e);
-      floats = floats_are t x y z ∙ gone.floats;
-      memory = memory_is t x y z ∙ gone.memory;
+      floats = gone.floats;
+      memory = gone.memory;
     } in
     subst (λ end. IsSomeAnd end (λ t. (t.pc ≡ entry.header)
     × IsSomeAnd (run (words 8 header) t) (Asks entry.index resolver object s))) (sym e.1)
-    (gone.pc, subst (λ end. IsSomeAnd end (Asks entry.index resolver object s)) (sym ran) asked)
+    (gone.pc, subst (λ end. IsSomeAnd end (Asks entry.index resolver object s)) (sym (ap (λ ws. run ws t) w1 ∙ runs_header t x y z high low sum)) asked)

@@ -40,36 +40,30 @@ pub loads_go : relocation_laws.RelativeAddresses → stubs.Loads
 loads_go relative place word target inside below small code is s at holds =
     let stub = loongarch_output.load_stub in
     let o = operands_of stub place word in
-    let addresses = are_addresses stub place word below in
     let pair = is.0 in
     let half = is.2.0 in
     let template = stub.pair in
-    let high = applies loongarch_name loongarch_row r.R_LARCH_GOT_PC_HI20 stub.first o template half tt refl
-    is.2.1.0 is.2.1.1 is.2.1.2 in
-    let low = applies loongarch_name loongarch_row r.R_LARCH_GOT_PC_LO12 (field_of 4 (loongarch_name r.R_LARCH_GOT_PC_LO12)) o half pair tt refl
-    is.2.2.0 is.2.2.1 is.2.2.2 in
+    let high = applies loongarch_name loongarch_row r.R_LARCH_GOT_PC_HI20 stub.first o template half tt refl is.2.1 in
+    let low = applies loongarch_name loongarch_row r.R_LARCH_GOT_PC_LO12 (field_of 4 (loongarch_name r.R_LARCH_GOT_PC_LO12)) o half pair tt refl is.2.2 in
     let x = word_of half in
     let y = word_of (drop 4 pair) in
     let z : ℕ = 0x4c0001e0 in
     let old : word_of (drop 4 half) ≡ 0x28c001ef = ap word_of high.applied.written.rest in
     let front : word_of code ≡ x =
     first_is code pair stub.tail is.1 is.3 ∙ sym (front_word pair) ∙ ap word_of low.kept ∙ front_word half in
-    let first : IsHigh 0x0d 15 x = high_after 12 0x0d 15 _ template half high.applied.written refl refl in
     let second : IsLow 0x0a3 15 15 y =
     low_after 0x0a3 15 15 _ (drop 4 half) (drop 4 pair) low.applied.written (ap (λ w. w / 2 ^ 22) old) (ap rd_of old) (ap rj_of old) in
-    let here : s.pc ≡ o.place = at ∙ sym (sum_zero place inside) in
-    let l = loads o 15 x y (entry_and_addend o) s first second (omega arith) here
-    (relative.1 o addresses o.place template half high.applied high.within o.place (drop 4 half) (drop 4 pair) low.applied tt) in
+    let l = loads o 15 x y (entry_and_addend o) s (high_after 12 0x0d 15 _ template half high.applied.written refl refl) second (omega arith) (at ∙ sym (sum_zero place inside))
+    (relative.1 o (are_addresses stub place word below) o.place template half high.applied high.within o.place (drop 4 half) (drop 4 pair) low.applied tt) in
     let t = set 15 (page_address x s) s in
     let u = set 15 (loaded_of y t) t in
-    let value : loaded_of y t ≡ target = l.value_is ∙ ap (loaded 8 s.memory) (no_addend word below) ∙ holds in
     subst (λ end. IsSomeAnd end (GoesTo target s))
     (sym (ap (λ w. run (w ∷ word_of (drop 4 code) ∷ word_of (drop 8 code) ∷ []) s) front
     ∙ ap (λ w. run (x ∷ w ∷ word_of (drop 8 code) ∷ []) s) (second_is code pair stub.tail is.1 is.3)
     ∙ ap (λ w. run (x ∷ y ∷ w ∷ []) s) (ap word_of (third_is code pair stub.tail is.1 is.3))
     ∙ run_three x y z s t u (go_to (register_target z u) u) l.first refl l.second refl refl))
     (record {
-      pc = ap (λ v. wrapped (pos v +ℤ (pos 0 *ℤ pos 4))) value ∙ stays target small;
+      pc = ap (λ v. wrapped (pos v +ℤ (pos 0 *ℤ pos 4))) (l.value_is ∙ ap (loaded 8 s.memory) (no_addend word below) ∙ holds) ∙ stays target small;
       registers = λ n e. kept_twice (eqb n 0) (eqb n 15) _ _ (s.registers n) e;
       floats = refl;
       memory = refl;
@@ -97,29 +91,24 @@ pub jumps_go : relocation_laws.Calls → stubs.Jumps
 jumps_go calls place target inside below code bytes is s at =
     let stub = some_or loongarch_output.load_stub loongarch_output.jump_stub in
     let o = operands_of stub place target in
-    let addresses = are_addresses stub place target below in
-    let pair = is.0 in
     let half = is.2.0 in
     let template = stub.pair in
-    let both = applies loongarch_name loongarch_row r.R_LARCH_CALL36 stub.first o template half tt refl
-    is.2.1.0 is.2.1.1 is.2.1.2 in
-    let same : code ≡ half = is.3 ∙ append-nil pair ∙ is.2.2 in
-    let long : length half ≡ 8 = ap length (sym is.2.2) ∙ is.1 in
+    let both = applies loongarch_name loongarch_row r.R_LARCH_CALL36 stub.first o template half tt refl is.2.1 in
+    let same : code ≡ half = is.3 ∙ append-nil is.0 ∙ is.2.2 in
     let made : Relocated (loongarch_row r.R_LARCH_CALL36) o template half =
-    record { applied = both.applied; len = long; old_bytes = template_bytes; bytes = subst AreBytes same bytes } in
+    record { applied = both.applied; len = (ap length (sym is.2.2) ∙ is.1); old_bytes = template_bytes; bytes = subst AreBytes same bytes } in
     let call : IsCall 0 template 0 =
     record { within = omega arith; first = refl; base_not_zero = omega arith; second = refl; base = refl; links = refl } in
     let c = call_is 0 o template half call made in
     let p = word_of half in
     let q = word_of (drop 4 half) in
-    let here : s.pc ≡ o.place = at ∙ sym (sum_zero place inside) in
     let u = set 15 (far_address p s) s in
     let first : step p s ≡ Some u =
     ap (λ i. execute i p s) (decodes_far p c.far) ∙ ap (λ m. Some (go_on (write m (far_address p s) s))) c.far_rd in
     let second : step q u ≡ Some (go_to (register_target q u) u) =
     ap (λ i. execute i q u) (decodes_jirl q c.jumps) ∙ ap (λ m. Some (go_to (register_target q u) (write m (next_pc u) u))) c.links in
     let reached = target_is o 15 p q s half (new_first 0 o template half call made) (new_second 0 o template half call made)
-    refl refl c.base (omega arith) here (calls o addresses o.place template half both.applied tt) in
+    refl refl c.base (omega arith) (at ∙ sym (sum_zero place inside)) (calls o (are_addresses stub place target below) o.place template half both.applied tt) in
     subst (λ end. IsSomeAnd end (GoesTo target s))
     (sym (ap (λ b. run (word_of b ∷ word_of (drop 4 b) ∷ []) s) same
     ∙ run_pair p q s u (go_to (register_target q u) u) first refl second))

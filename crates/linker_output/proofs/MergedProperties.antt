@@ -26,8 +26,7 @@ ascends_last (q ∷ ps) least p h le above =
       | inl below ↦ below
       | inr le ↦ (let none = above q.kind le in let own = of_own q ps in absurd (cc))
     ] in
-    let rest : are_ascending (q.kind + 1) ps ≡ true = grind (arith, nat_tests) in
-    let k = ascends_last ps (q.kind + 1) p rest (omega arith) (λ kind le. (let none = above kind le in grind (arith, nat_tests))) in
+    let k = ascends_last ps (q.kind + 1) p (grind (arith, nat_tests)) (omega arith) (λ kind le. (let none = above kind le in grind (arith, nat_tests))) in
     grind (arith, nat_tests)
 
 -- ---- properties in a slice
@@ -165,8 +164,7 @@ heads p q xs ys one two h k same =
       | inr le ↦ le
       | inl lt ↦
           let e : of_kind p.kind (q ∷ ys) ≡ Some p = sym (same p.kind) ∙ of_own p xs in
-          let ascends : are_ascending (q.kind) (q ∷ ys) ≡ true = grind (arith, nat_tests) in
-          let n : of_kind p.kind (q ∷ ys) ≡ None = low_none (q ∷ ys) q.kind p.kind ascends lt in
+          let n : of_kind p.kind (q ∷ ys) ≡ None = low_none (q ∷ ys) q.kind p.kind (grind (arith, nat_tests)) lt in
           absurd (cc)
     ]
 
@@ -175,10 +173,7 @@ tails : (p : Property) (xs ys : List Property) (one two : ℕ)
     → ((kind : ℕ) → of_kind kind (p ∷ xs) ≡ of_kind kind (p ∷ ys))
     → (kind : ℕ) → of_kind kind xs ≡ of_kind kind ys
 tails p xs ys one two h k same kind =
-    let a = low_none xs (p.kind + 1) kind in
-    let b = low_none ys (p.kind + 1) kind in
-    let e = same kind in
-    grind (arith, nat_tests)
+    grind (arith, low_none xs (p.kind + 1) kind, low_none ys (p.kind + 1) kind, same kind, nat_tests)
 
 pub same_lists : (xs ys : List Property) (one two : ℕ)
     → are_ascending one xs ≡ true → are_ascending two ys ≡ true
@@ -195,8 +190,7 @@ same_lists (p ∷ xs) (q ∷ ys) one two h k same =
     let after_p : are_ascending (p.kind + 1) xs ≡ true = grind (arith, nat_tests) in
     let after_q : are_ascending (q.kind + 1) ys ≡ true = grind (arith, nat_tests) in
     let same_p : (kind : ℕ) → of_kind kind (p ∷ xs) ≡ of_kind kind (p ∷ ys) = subst (λ r. (kind : ℕ) → of_kind kind (p ∷ xs) ≡ of_kind kind (r ∷ ys)) (sym one_head) same in
-    let k_p : are_ascending two (p ∷ ys) ≡ true = subst (λ r. are_ascending two (r ∷ ys) ≡ true) (sym one_head) k in
-    let rest : xs ≡ ys = same_lists xs ys (p.kind + 1) (q.kind + 1) after_p after_q (tails p xs ys one two h k_p same_p) in
+    let rest : xs ≡ ys = same_lists xs ys (p.kind + 1) (q.kind + 1) after_p after_q (tails p xs ys one two h (subst (λ r. are_ascending two (r ∷ ys) ≡ true) (sym one_head) k) same_p) in
     cc
 
 pub one_merged : (architecture : Architecture) (first second : List Property) (x y : List Property)

@@ -21,14 +21,12 @@ near_in : (part : Part) (code : Code) (group : Group) (before : List ℕ) (branc
     → IsNearIn part code branch stub
     → ReachesAt code before branch (place_in part (start_of code.boundaries.now before stub.boundary) (end_of code.boundaries.now before stub.boundary) code.shape.len group stub.index)
 near_in Front code group before branch stub fits near =
-    let e = ap (at before) (near.0) in
     let r = near.1 in
-    record { forward = omega (arith, r.forward); backward = omega (arith, r.backward) }
+    record { forward = omega (arith, ap (at before) (near.0), r.forward); backward = omega (arith, ap (at before) (near.0), r.backward) }
 near_in Middle code group before branch stub fits near = absurd near
 near_in Back code group before branch stub fits near =
-    let e = ap (at before) (near.0) in
     let r = near.1 in
-    record { forward = omega (arith, r.forward); backward = omega (arith, r.backward) }
+    record { forward = omega (arith, ap (at before) (near.0), r.forward); backward = omega (arith, ap (at before) (near.0), r.backward) }
 
 pub near_reaches : (code : Code) (groups : List Group) (before : List ℕ) (branch : Branch) (stub : StubAt) → IsLaidOut code.shape groups before → length groups ≡ length code.boundaries.now → HasPart code groups stub
     → IsNear code branch stub → ReachesAt code before branch (place_of code groups before stub)
@@ -64,18 +62,13 @@ pub nearer : (part : Part) (code : Code) (branch : Branch) (stub other : StubAt)
     → IsNearIn part code branch other → IsNearIn part code branch stub
 nearer Front code branch stub other some same less above below near =
     let p = mul-le-mul_left code.shape.len less in
-    let r = near.1 in
     let b = ap (at code.boundaries.now) same in
-    let a = above near.0 in
-    (same ∙ near.0, record { forward = omega (arith, r.forward); backward = omega arith })
+    (same ∙ near.0, record { forward = omega (arith, above near.0, near.1.forward); backward = omega (arith, above near.0) })
 nearer Middle code branch stub other some same less above below near = absurd near
 nearer Back code branch stub other some same less above below near =
     let more : stub.index + 1 ≤ other.index + 1 = omega arith in
     let p = mul-le-mul_left code.shape.len more in
     let one : 1 ≤ stub.index + 1 = omega arith in
     let q = mul-le-mul_left code.shape.len one in
-    let r = near.1 in
     let b = ap (at code.boundaries.now) same in
-    let l = near.0 in
-    let a = below (omega arith) in
-    (ap (λ n. n + 1) same ∙ near.0, record { forward = omega arith; backward = omega (arith, r.backward) })
+    (ap (λ n. n + 1) same ∙ near.0, record { forward = omega (arith, near.0, below (omega arith)); backward = omega (arith, near.0, below (omega arith), near.1.backward) })

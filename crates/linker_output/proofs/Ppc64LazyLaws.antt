@@ -78,27 +78,10 @@ module _ (f : Formats) (c : Counted) where
   pub c13 : Counted
   c13 = at_count c12
 
-  -- the addition, and both loads, of which the displacements are numbers
-  fifth : step f 0x380cffcc c5 ≡ Some c6
-  unfolding c4 c5 c6 place_sum
-  fifth = refl
-
-  eighth : step f 0xe98b002c c7 ≡ Some c8
-  unfolding c4 c5 c6 c7 c8 place_sum
-  eighth = refl
-
-  tenth : step f 0xe98b0000 c9 ≡ Some c10
-  unfolding c4 c5 c6 c7 c8 c9 c10 place_sum
-  tenth = refl
-
-  eleventh : step f 0xe96b0008 c10 ≡ Some c11
-  unfolding c4 c5 c6 c7 c8 c9 c10 c11 place_sum
-  eleventh = refl
-
   pub runs : run f
       (0x7c0802a6 ∷ 0x429f0005 ∷ 0x7d6802a6 ∷ 0x7c0803a6 ∷ 0x7d8b6050 ∷ 0x380cffcc ∷ 0x7800f082 ∷ 0xe98b002c ∷ 0x7d6c5a14 ∷ 0xe98b0000 ∷ 0xe96b0008 ∷ 0x7d8903a6 ∷ 0x4e800420 ∷ []) c
       ≡ Some c13
-  unfolding c4 c5 c6 c7 c8 c9 c10 c11 c12 c13
+  unfolding c4 c5 c6 c7 c8 c9 c10 c11 c12 c13 place_sum
   runs =
       let a = with_state (moved_from_link 0 c.state) c in
       let b = with_state (linked a.state) a in
@@ -108,12 +91,12 @@ module _ (f : Formats) (c : Counted) where
       (run_more (λ c. c.state.pc) (step f) 0x7d6802a6 0x7c0803a6 (0x7d8b6050 ∷ 0x380cffcc ∷ 0x7800f082 ∷ 0xe98b002c ∷ 0x7d6c5a14 ∷ 0xe98b0000 ∷ 0xe96b0008 ∷ 0x7d8903a6 ∷ 0x4e800420 ∷ []) b d (Some c13) refl refl
       (run_more (λ c. c.state.pc) (step f) 0x7c0803a6 0x7d8b6050 (0x380cffcc ∷ 0x7800f082 ∷ 0xe98b002c ∷ 0x7d6c5a14 ∷ 0xe98b0000 ∷ 0xe96b0008 ∷ 0x7d8903a6 ∷ 0x4e800420 ∷ []) d c4 (Some c13) refl refl
       (run_more (λ c. c.state.pc) (step f) 0x7d8b6050 0x380cffcc (0x7800f082 ∷ 0xe98b002c ∷ 0x7d6c5a14 ∷ 0xe98b0000 ∷ 0xe96b0008 ∷ 0x7d8903a6 ∷ 0x4e800420 ∷ []) c4 c5 (Some c13) refl refl
-      (run_more (λ c. c.state.pc) (step f) 0x380cffcc 0x7800f082 (0xe98b002c ∷ 0x7d6c5a14 ∷ 0xe98b0000 ∷ 0xe96b0008 ∷ 0x7d8903a6 ∷ 0x4e800420 ∷ []) c5 c6 (Some c13) fifth refl
+      (run_more (λ c. c.state.pc) (step f) 0x380cffcc 0x7800f082 (0xe98b002c ∷ 0x7d6c5a14 ∷ 0xe98b0000 ∷ 0xe96b0008 ∷ 0x7d8903a6 ∷ 0x4e800420 ∷ []) c5 c6 (Some c13) refl refl
       (run_more (λ c. c.state.pc) (step f) 0x7800f082 0xe98b002c (0x7d6c5a14 ∷ 0xe98b0000 ∷ 0xe96b0008 ∷ 0x7d8903a6 ∷ 0x4e800420 ∷ []) c6 c7 (Some c13) refl refl
-      (run_more (λ c. c.state.pc) (step f) 0xe98b002c 0x7d6c5a14 (0xe98b0000 ∷ 0xe96b0008 ∷ 0x7d8903a6 ∷ 0x4e800420 ∷ []) c7 c8 (Some c13) eighth refl
+      (run_more (λ c. c.state.pc) (step f) 0xe98b002c 0x7d6c5a14 (0xe98b0000 ∷ 0xe96b0008 ∷ 0x7d8903a6 ∷ 0x4e800420 ∷ []) c7 c8 (Some c13) refl refl
       (run_more (λ c. c.state.pc) (step f) 0x7d6c5a14 0xe98b0000 (0xe96b0008 ∷ 0x7d8903a6 ∷ 0x4e800420 ∷ []) c8 c9 (Some c13) refl refl
-      (run_more (λ c. c.state.pc) (step f) 0xe98b0000 0xe96b0008 (0x7d8903a6 ∷ 0x4e800420 ∷ []) c9 c10 (Some c13) tenth refl
-      (run_more (λ c. c.state.pc) (step f) 0xe96b0008 0x7d8903a6 (0x4e800420 ∷ []) c10 c11 (Some c13) eleventh refl
+      (run_more (λ c. c.state.pc) (step f) 0xe98b0000 0xe96b0008 (0x7d8903a6 ∷ 0x4e800420 ∷ []) c9 c10 (Some c13) refl refl
+      (run_more (λ c. c.state.pc) (step f) 0xe96b0008 0x7d8903a6 (0x4e800420 ∷ []) c10 c11 (Some c13) refl refl
       (run_more (λ c. c.state.pc) (step f) 0x7d8903a6 0x4e800420 [] c11 c12 (Some c13) refl refl refl)))))))))))
 
   -- the address after `bcl`
@@ -123,34 +106,6 @@ module _ (f : Formats) (c : Counted) where
   -- where the words are
   abbrev words_at : ℕ
   words_at = sum_64 (loaded 8 c.state.memory (moved here (pos 44))) here
-
-  r0_is : c13.state.registers 0 ≡ rotated 62 (moved (difference_64 (c.state.registers 12) here) (negsuc 51)) % 2 ^ 62
-  unfolding c4 c5 c6 c7 c8 c9 c10 c11 c12 c13
-  r0_is = refl
-
-  r11_is : c13.state.registers 11 ≡ loaded 8 c.state.memory (moved words_at (pos 8))
-  unfolding c4 c5 c6 c7 c8 c9 c10 c11 c12 c13
-  r11_is = refl
-
-  r12_is : c13.state.registers 12 ≡ loaded 8 c.state.memory (moved words_at (pos 0))
-  unfolding c4 c5 c6 c7 c8 c9 c10 c11 c12 c13
-  r12_is = refl
-
-  pc_is : c13.state.pc ≡ c13.state.registers 12 - c13.state.registers 12 % 4
-  unfolding c12 c13
-  pc_is = refl
-
-  link_is : c13.state.link ≡ c.state.link
-  unfolding c4 c5 c6 c7 c8 c9 c10 c11 c12 c13
-  link_is = refl
-
-  memory_is : c13.state.memory ≡ c.state.memory
-  unfolding c4 c5 c6 c7 c8 c9 c10 c11 c12 c13
-  memory_is = refl
-
-  floats_are : c13.state.floats ≡ c.state.floats
-  unfolding c4 c5 c6 c7 c8 c9 c10 c11 c12 c13
-  floats_are = refl
 
   others : (n : ℕ) → ((n == 0 || n == 11) || n == 12) ≡ false → c13.state.registers n ≡ c.state.registers n
   unfolding c4 c5 c6 c7 c8 c9 c10 c11 c12 c13
@@ -192,6 +147,7 @@ eight_bytes b others len =
 -- ---- the law
 
 pub resolves : Branches → Fields → laws.Resolves
+unfolding c4 c5 c6 c7 c8 c9 c10 c11 c12 c13
 resolves single fields entry first inside bounded within aligned small placed code is header is_header resolver object
     even f c at here_12 distance holds next =
     let places = header_places entry.header first in
@@ -208,10 +164,9 @@ resolves single fields entry first inside bounded within aligned small placed co
     let p6 = p5.3 in
     let p7 = p6.3 in
     let p8 = p7.3 in
-    let one = applies ppc64_name ppc64_row r.R_PPC64_REL24 (field_of 0 (ppc64_name r.R_PPC64_REL24)) o b is.0 tt refl is.2.1.0 is.2.1.1 is.2.1.2 in
-    let two = applies ppc64_name ppc64_row r.R_PPC64_REL64 (field_of 0 (ppc64_name r.R_PPC64_REL64)) o2 zeros p8.0 tt refl p8.2.1.0 p8.2.1.1 p8.2.1.2 in
+    let one = applies ppc64_name ppc64_row r.R_PPC64_REL24 (field_of 0 (ppc64_name r.R_PPC64_REL24)) o b is.0 tt refl is.2.1 in
+    let two = applies ppc64_name ppc64_row r.R_PPC64_REL64 (field_of 0 (ppc64_name r.R_PPC64_REL64)) o2 zeros p8.0 tt refl p8.2.1 in
     let x = word_of is.0 in
-    let branching : IsBranch x = branch_after _ _ b is.0 one.applied.written (record { opcode_is = refl; low = refl }) in
     let to : moved c.state.pc ((ppc64_form Branch24).machine x) ≡ entry.header =
     times_one c.state.pc ((ppc64_form Branch24).machine x)
     ∙ ap (λ p. wrapped (pos p +ℤ ((ppc64_form Branch24).machine x *ℤ pos 1))) (at ∙ sym (sum_zero entry.address inside))
@@ -219,7 +174,7 @@ resolves single fields entry first inside bounded within aligned small placed co
     ∙ no_addend entry.header within in
     let d : Counted = with_state (go_to (moved c.state.pc ((ppc64_form Branch24).machine x)) c.state) c in
     let entered : run f (words 1 code) c ≡ Some d =
-    ap (λ ws. run f ws c) (one_word is.0 is.1 code is.2.0 0 x [] is.4 refl refl) ∙ branches f x c branching in
+    ap (λ ws. run f ws c) (one_word is.0 is.1 code is.2.0 0 x [] is.4 refl refl) ∙ branches f x c (branch_after _ _ b is.0 one.applied.written (record { opcode_is = refl; low = refl })) in
     let n = number_of_bytes 8 p8.0 in
     let quad_at : number_of_bytes 8 (drop 52 header) ≡ n =
     ap (number_of_bytes 8)
@@ -235,20 +190,13 @@ resolves single fields entry first inside bounded within aligned small placed co
     ∙ eight_bytes p8.0 p8.1 p8.2.0 in
     let far : (sum_64 entry.header 8 + n) % 2 ^ 64 ≡ sum_64 first (cast_unsigned w64 (pos 0)) % 2 ^ 64 =
     fields.3 o2 (are_addresses_at quad places bounded) zeros p8.0 two.applied in
-    let w7 : words 1 p6.1 ≡ 0x4e800420 ∷ [] = ap (words 1) (p7.4 ∙ ap (λ p. take 4 p ++ p7.1) p7.2.1) in
-    let w6 : words 3 p5.1 ≡ 0xe96b0008 ∷ 0x7d8903a6 ∷ 0x4e800420 ∷ [] =
-    ap (words 3) (p6.4 ∙ ap (λ p. take 8 p ++ p6.1) p6.2.1) ∙ ap (λ l. 0xe96b0008 ∷ 0x7d8903a6 ∷ l) w7 in
-    let w5 : words 5 p4.1 ≡ 0x7d6c5a14 ∷ 0xe98b0000 ∷ 0xe96b0008 ∷ 0x7d8903a6 ∷ 0x4e800420 ∷ [] =
-    ap (words 5) (p5.4 ∙ ap (λ p. take 8 p ++ p5.1) p5.2.1) ∙ ap (λ l. 0x7d6c5a14 ∷ 0xe98b0000 ∷ l) w6 in
-    let w4 : words 7 p3.1 ≡ 0x7800f082 ∷ 0xe98b002c ∷ 0x7d6c5a14 ∷ 0xe98b0000 ∷ 0xe96b0008 ∷ 0x7d8903a6 ∷ 0x4e800420 ∷ [] =
-    ap (words 7) (p4.4 ∙ ap (λ p. take 8 p ++ p4.1) p4.2.1) ∙ ap (λ l. 0x7800f082 ∷ 0xe98b002c ∷ l) w5 in
-    let w3 : words 9 p2.1 ≡ 0x7d8b6050 ∷ 0x380cffcc ∷ 0x7800f082 ∷ 0xe98b002c ∷ 0x7d6c5a14 ∷ 0xe98b0000 ∷ 0xe96b0008 ∷ 0x7d8903a6 ∷ 0x4e800420 ∷ [] =
-    ap (words 9) (p3.4 ∙ ap (λ p. take 8 p ++ p3.1) p3.2.1) ∙ ap (λ l. 0x7d8b6050 ∷ 0x380cffcc ∷ l) w4 in
-    let w2 : words 11 is_header.1 ≡ 0x7d6802a6 ∷ 0x7c0803a6 ∷ 0x7d8b6050 ∷ 0x380cffcc ∷ 0x7800f082 ∷ 0xe98b002c ∷ 0x7d6c5a14 ∷ 0xe98b0000 ∷ 0xe96b0008 ∷ 0x7d8903a6 ∷ 0x4e800420 ∷ [] =
-    ap (words 11) (p2.4 ∙ ap (λ p. take 8 p ++ p2.1) p2.2.1) ∙ ap (λ l. 0x7d6802a6 ∷ 0x7c0803a6 ∷ l) w3 in
     let w1 : words 13 header ≡ 0x7c0802a6 ∷ 0x429f0005 ∷ 0x7d6802a6 ∷ 0x7c0803a6 ∷ 0x7d8b6050 ∷ 0x380cffcc ∷ 0x7800f082 ∷ 0xe98b002c ∷ 0x7d6c5a14 ∷ 0xe98b0000 ∷ 0xe96b0008 ∷ 0x7d8903a6 ∷ 0x4e800420 ∷ [] =
-    ap (words 13) (is_header.4 ∙ ap (λ p. take 8 p ++ is_header.1) is_header.2.1) ∙ ap (λ l. 0x7c0802a6 ∷ 0x429f0005 ∷ l) w2 in
-    let ran : run f (words 13 header) d ≡ Some (c13 f d) = ap (λ ws. run f ws d) w1 ∙ runs f d in
+    ap (words 13) (is_header.4 ∙ ap (λ p. take 8 p ++ is_header.1) is_header.2.1) ∙ ap (λ l. 0x7c0802a6 ∷ 0x429f0005 ∷ l)
+    (ap (words 11) (p2.4 ∙ ap (λ p. take 8 p ++ p2.1) p2.2.1) ∙ ap (λ l. 0x7d6802a6 ∷ 0x7c0803a6 ∷ l)
+    (ap (words 9) (p3.4 ∙ ap (λ p. take 8 p ++ p3.1) p3.2.1) ∙ ap (λ l. 0x7d8b6050 ∷ 0x380cffcc ∷ l)
+    (ap (words 7) (p4.4 ∙ ap (λ p. take 8 p ++ p4.1) p4.2.1) ∙ ap (λ l. 0x7800f082 ∷ 0xe98b002c ∷ l)
+    (ap (words 5) (p5.4 ∙ ap (λ p. take 8 p ++ p5.1) p5.2.1) ∙ ap (λ l. 0x7d6c5a14 ∷ 0xe98b0000 ∷ l)
+    (ap (words 3) (p6.4 ∙ ap (λ p. take 8 p ++ p6.1) p6.2.1) ∙ ap (λ l. 0xe96b0008 ∷ 0x7d8903a6 ∷ l) (ap (words 1) (p7.4 ∙ ap (λ p. take 4 p ++ p7.1) p7.2.1))))))) in
     let loads : loaded 8 c.state.memory (moved (sum_64 (sum_64 d.state.pc 4) 4) (pos 44)) ≡ n =
     ap (λ p. loaded 8 c.state.memory (moved (sum_64 (sum_64 p 4) 4) (pos 44))) to
     ∙ ap (loaded 8 c.state.memory) (at_44 (sum_64 (sum_64 entry.header 4) 4) (omega arith) ∙ on_52 entry.header)
@@ -257,24 +205,24 @@ resolves single fields entry first inside bounded within aligned small placed co
     ap (λ v. sum_64 v (sum_64 (sum_64 d.state.pc 4) 4)) loads ∙ ap (λ p. sum_64 n (sum_64 (sum_64 p 4) 4)) to
     ∙ words_are entry.header n first bounded far in
     let found : (c13 f d).state.registers 12 ≡ resolver =
-    r12_is f d ∙ ap (λ a. loaded 8 c.state.memory (moved a (pos 0))) there
+    ap (λ a. loaded 8 c.state.memory (moved a (pos 0))) there
     ∙ ap (loaded 8 c.state.memory) (no_move first bounded) ∙ holds in
     let asked : Asks entry.index resolver object c (c13 f d) =
     record {
-      pc = pc_is f d ∙ ap (λ n. n - n % 4) found ∙ omega (arith, even);
+      pc = ap (λ n. n - n % 4) found ∙ omega (arith, even);
       r0 =
-          r0_is f d ∙ ap (λ v. rotated 62 (moved (difference_64 v (sum_64 (sum_64 d.state.pc 4) 4)) (negsuc 51)) % 2 ^ 62) here_12
+          ap (λ v. rotated 62 (moved (difference_64 v (sum_64 (sum_64 d.state.pc 4) 4)) (negsuc 51)) % 2 ^ 62) here_12
           ∙ ap (λ p. rotated 62 (moved (difference_64 entry.address (sum_64 (sum_64 p 4) 4)) (negsuc 51)) % 2 ^ 62) to
           ∙ index_is entry.header entry.index entry.address within small placed;
       r11 =
-          r11_is f d ∙ ap (λ a. loaded 8 c.state.memory (moved a (pos 8))) there
+          ap (λ a. loaded 8 c.state.memory (moved a (pos 8))) there
           ∙ ap (loaded 8 c.state.memory) (eight_on first bounded) ∙ next;
       r12 = found;
       registers = others f d;
-      floats = floats_are f d;
-      link = link_is f d;
-      memory = memory_is f d;
+      floats = refl;
+      link = refl;
+      memory = refl;
     } in
     subst (λ end. IsSomeAnd end (λ d. (d.state.pc ≡ entry.header)
     × IsSomeAnd (run f (words 13 header) d) (Asks entry.index resolver object c))) (sym entered)
-    (to, subst (λ end. IsSomeAnd end (Asks entry.index resolver object c)) (sym ran) asked)
+    (to, subst (λ end. IsSomeAnd end (Asks entry.index resolver object c)) (sym (ap (λ ws. run f ws d) w1 ∙ runs f d)) asked)

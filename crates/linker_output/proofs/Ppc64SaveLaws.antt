@@ -122,16 +122,13 @@ module _ (a p q w s : ℕ) (place : p < 2 ^ 64) (follows : 0 < s → q ≡ (p + 
         | inr high ↦
             elim (cases_lt d (w + s)) [
               | inl within ↦
-                  let on = moved_on (omega (arith, high, within)) in
-                  let limit = bound in
-                  let is : e ≡ d - w = omega (arith, on, high, limit, small) in
+                  let is : e ≡ d - w = omega (arith, (moved_on (omega (arith, high, within))), high, bound, small) in
                   cond-true (nat_lt e s) (others e) _ (lt-ltb e s (omega (arith, is, within, high)))
                   ∙ ap others is ∙ sym (of_others d high within)
                   ∙ sym (cond-true (nat_lt d (w + s)) (both d) (memory a) (lt-ltb d (w + s) within))
               | inr beyond ↦
-                  let limit = bound in
                   let out : s ≤ e = elim (cases_lt 0 s) [
-                    | inl some ↦ (let on = moved_on some in omega (arith, on, beyond, limit, small))
+                    | inl some ↦ (let on = moved_on some in omega (arith, on, beyond, bound, small))
                     | inr none ↦ omega (arith, none)
                   ] in
                   cond-false (nat_lt e s) (others e) _ (le-ltb e s out)
@@ -154,9 +151,7 @@ module _ (n : ℕ) (most : 14 ≤ n) (less : n < 32) (values : ℕ → ℕ) (bas
   follows : 0 < 8 * (32 - suc n) → slot base (suc n) ≡ (slot base n + 8) % 2 ^ 64
   follows some =
       let under : n < 31 = omega (arith, some) in
-      let p = slot_is base n less in
-      let q = slot_is base (suc n) (omega (arith, under)) in
-      omega (arith, p, q, under)
+      omega (arith, (slot_is base n less), (slot_is base (suc n) (omega (arith, under))), under)
 
   of_first : (d : ℕ) → d < 8 → byte_of n values d ≡ field (values n) (8 * d) (8 * d + 8)
   of_first d low =
@@ -383,9 +378,8 @@ one_restored n less at registers m =
         ∙ ap at (sym is)
         ∙ sym (cond-true (is_from n m) (at m) (registers m) in_place)
     by_test false e =
-        let differs : m ≢ n = λ same. false≢true (sym e ∙ eq-eqb m n same) in
         ap (λ v. if is_from (suc n) m then at m else v) (cond-false (eqb m n) (at n) (registers m) e)
-        ∙ ap (λ b. if b && nat_lt m 32 then at m else registers m) (same_from n m differs)
+        ∙ ap (λ b. if b && nat_lt m 32 then at m else registers m) (same_from n m (λ same. false≢true (sym e ∙ eq-eqb m n same)))
 
 -- the registers below 14
 low_kept : (b m : ℕ) → m < 14 → (i : ℕ) (c : Counted) → (loads b i c).state.registers m ≡ c.state.registers m

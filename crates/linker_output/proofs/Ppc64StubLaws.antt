@@ -146,44 +146,36 @@ pub loads_go : TocAddresses → stubs.Loads
 loads_go toc place word target inside below small even code is f c entry holds =
     let stub = ppc64_output.load_stub in
     let o = operands_of stub place word in
-    let addresses = are_addresses stub place word below in
     let pair = is.0 in
     let half = is.2.0 in
     let template = stub.pair in
-    let high = applies ppc64_name ppc64_row r.R_PPC64_TOC16_HA stub.first o template half tt refl
-    is.2.1.0 is.2.1.1 is.2.1.2 in
-    let low = applies ppc64_name ppc64_row r.R_PPC64_TOC16_LO_DS (field_of 4 (ppc64_name r.R_PPC64_TOC16_LO_DS)) o half pair tt refl
-    is.2.2.0 is.2.2.1 is.2.2.2 in
+    let high = applies ppc64_name ppc64_row r.R_PPC64_TOC16_HA stub.first o template half tt refl is.2.1 in
+    let low = applies ppc64_name ppc64_row r.R_PPC64_TOC16_LO_DS (field_of 4 (ppc64_name r.R_PPC64_TOC16_LO_DS)) o half pair tt refl is.2.2 in
     let x = word_of half in
     let y = word_of (drop 4 pair) in
     let old : word_of (drop 4 half) ≡ 0xe98c0000 = ap word_of high.applied.written.rest in
-    let front : word_of pair ≡ x = sym (front_word pair) ∙ ap word_of low.kept ∙ front_word half in
     let first : HasParts 15 12 12 x = d_after _ _ template half high.applied.written in
     let after = ds_after _ _ (drop 4 half) (drop 4 pair) low.applied.written in
     let second : HasParts 58 12 12 y =
     same_parts (ap opcode_of old) (ap rt_of old) (ap ra_of old) after.0 in
-    let zero : field y 0 2 ≡ 0 = after.1 ∙ ap (λ n. field n 0 2) old in
     let a = (ppc64_form D).machine x *ℤ pos (2 ^ 16) in
     let b = (ppc64_form Ds).machine y in
-    let t = sum_64 (sum_64 c.state.pc 4) 4 in
-    let v = moved t a in
+    let v = moved (sum_64 (sum_64 c.state.pc 4) 4) a in
     let w = loaded 8 c.state.memory (moved v b) in
-    let begin : t ≡ o.got_base = ap (λ p. sum_64 (sum_64 p 4) 4) entry ∙ three_words place in
     let leads : moved v b ≡ word =
-    ap (λ p. moved (moved p a) b) begin
+    ap (λ p. moved (moved p a) b) (ap (λ p. sum_64 (sum_64 p 4) 4) entry ∙ three_words place)
     ∙ sum_leads o.got_base (symbol_address o) a b
     (subst (λ z. IsAddress ((pos o.got_base +ℤ a) +ℤ z) (symbol_address o)) (reads_ds y second.opcode_is)
-    (toc.1 o addresses o.place template half high.applied tt o.place (drop 4 half) (drop 4 pair) low.applied tt))
+    (toc.1 o (are_addresses stub place word below) o.place template half high.applied tt o.place (drop 4 half) (drop 4 pair) low.applied tt))
     ∙ no_addend word below in
-    let value : w ≡ target = ap (loaded 8 c.state.memory) leads ∙ holds in
     subst (λ end. IsSomeAnd end (GoesTo target c))
-    (sym (ap (λ ws. run f ws c) (entered_is code pair x y is.1 is.3 front refl)
+    (sym (ap (λ ws. run f ws c) (entered_is code pair x y is.1 is.3 (sym (front_word pair) ∙ ap word_of low.kept ∙ front_word half) refl)
     ∙ runs f c x y v w
     (of_machine f x 15 (after_4 c) (after_5 v c).state first.opcode_is refl refl refl
     (step_addis f x 12 12 (after_4 c).state first))
     (of_machine f y 58 (after_5 v c) (after_6 v w c).state second.opcode_is refl refl refl
-    (step_ld f y 12 12 (after_5 v c).state second zero))))
-    (left c v w target value even)
+    (step_ld f y 12 12 (after_5 v c).state second (after.1 ∙ ap (λ n. field n 0 2) old)))))
+    (left c v w target (ap (loaded 8 c.state.memory) leads ∙ holds) even)
 
 -- the code of a stub
 abbrev some_or : StubCode → Option StubCode → StubCode
@@ -194,35 +186,29 @@ pub jumps_go : TocAddresses → stubs.Jumps
 jumps_go toc place target inside below even code is f c entry =
     let stub = some_or ppc64_output.load_stub ppc64_output.jump_stub in
     let o = operands_of stub place target in
-    let addresses = are_addresses stub place target below in
     let pair = is.0 in
     let half = is.2.0 in
     let template = stub.pair in
-    let high = applies ppc64_name ppc64_row r.R_PPC64_TOC16_HA stub.first o template half tt refl
-    is.2.1.0 is.2.1.1 is.2.1.2 in
-    let low = applies ppc64_name ppc64_row r.R_PPC64_TOC16_LO (field_of 4 (ppc64_name r.R_PPC64_TOC16_LO)) o half pair tt refl
-    is.2.2.0 is.2.2.1 is.2.2.2 in
+    let high = applies ppc64_name ppc64_row r.R_PPC64_TOC16_HA stub.first o template half tt refl is.2.1 in
+    let low = applies ppc64_name ppc64_row r.R_PPC64_TOC16_LO (field_of 4 (ppc64_name r.R_PPC64_TOC16_LO)) o half pair tt refl is.2.2 in
     let x = word_of half in
     let y = word_of (drop 4 pair) in
     let old : word_of (drop 4 half) ≡ 0x398c0000 = ap word_of high.applied.written.rest in
-    let front : word_of pair ≡ x = sym (front_word pair) ∙ ap word_of low.kept ∙ front_word half in
     let first : HasParts 15 12 12 x = d_after _ _ template half high.applied.written in
     let second : HasParts 14 12 12 y =
     same_parts (ap opcode_of old) (ap rt_of old) (ap ra_of old)
     (d_after _ _ (drop 4 half) (drop 4 pair) low.applied.written) in
     let a = (ppc64_form D).machine x *ℤ pos (2 ^ 16) in
     let b = (ppc64_form D).machine y in
-    let t = sum_64 (sum_64 c.state.pc 4) 4 in
-    let v = moved t a in
+    let v = moved (sum_64 (sum_64 c.state.pc 4) 4) a in
     let w = moved v b in
-    let begin : t ≡ o.got_base = ap (λ p. sum_64 (sum_64 p 4) 4) entry ∙ three_words place in
     let value : w ≡ target =
-    ap (λ p. moved (moved p a) b) begin
+    ap (λ p. moved (moved p a) b) (ap (λ p. sum_64 (sum_64 p 4) 4) entry ∙ three_words place)
     ∙ sum_leads o.got_base (symbol_address o) a b
-    (toc.0 o addresses o.place template half high.applied tt o.place (drop 4 half) (drop 4 pair) low.applied tt)
+    (toc.0 o (are_addresses stub place target below) o.place template half high.applied tt o.place (drop 4 half) (drop 4 pair) low.applied tt)
     ∙ no_addend target below in
     subst (λ end. IsSomeAnd end (GoesTo target c))
-    (sym (ap (λ ws. run f ws c) (entered_is code pair x y is.1 is.3 front refl)
+    (sym (ap (λ ws. run f ws c) (entered_is code pair x y is.1 is.3 (sym (front_word pair) ∙ ap word_of low.kept ∙ front_word half) refl)
     ∙ runs f c x y v w
     (of_machine f x 15 (after_4 c) (after_5 v c).state first.opcode_is refl refl refl
     (step_addis f x 12 12 (after_4 c).state first))

@@ -63,45 +63,37 @@ goes : TocAddresses → (toc word target : ℕ) → toc < 2 ^ 64 → word < 2 ^ 
     → IsSomeAnd (run f (four_words code) c) (GoesTo target c)
 goes law toc word target inside below even code pair len writes is f c base holds =
     let o = operands_of by_toc toc word in
-    let addresses = are_addresses by_toc toc word below in
     let half = writes.0 in
     let template = by_toc.pair in
-    let high = applies ppc64_name ppc64_row r.R_PPC64_TOC16_HA by_toc.first o template half tt refl
-    writes.1.0 writes.1.1 writes.1.2 in
-    let low = applies ppc64_name ppc64_row r.R_PPC64_TOC16_LO_DS (field_of 4 (ppc64_name r.R_PPC64_TOC16_LO_DS)) o half pair tt refl
-    writes.2.0 writes.2.1 writes.2.2 in
+    let high = applies ppc64_name ppc64_row r.R_PPC64_TOC16_HA by_toc.first o template half tt refl writes.1 in
+    let low = applies ppc64_name ppc64_row r.R_PPC64_TOC16_LO_DS (field_of 4 (ppc64_name r.R_PPC64_TOC16_LO_DS)) o half pair tt refl writes.2 in
     let x = word_of half in
     let y = word_of (drop 4 pair) in
     let old : word_of (drop 4 half) ≡ 0xe98c0000 = ap word_of high.applied.written.rest in
-    let front : word_of pair ≡ x = sym (front_word pair) ∙ ap word_of low.kept ∙ front_word half in
     let first : HasParts 15 12 2 x = d_after _ _ template half high.applied.written in
     let after = ds_after _ _ (drop 4 half) (drop 4 pair) low.applied.written in
     let second : HasParts 58 12 12 y =
     same_parts (ap opcode_of old) (ap rt_of old) (ap ra_of old) after.0 in
-    let zero : field y 0 2 ≡ 0 = after.1 ∙ ap (λ n. field n 0 2) old in
     let a = (ppc64_form D).machine x *ℤ pos (2 ^ 16) in
     let b = (ppc64_form Ds).machine y in
     let v = moved (c.state.registers 2) a in
     let w = loaded 8 c.state.memory (moved v b) in
-    let begin : c.state.registers 2 ≡ o.got_base = base ∙ sym (sum_zero toc inside) in
     let leads : moved v b ≡ word =
-    ap (λ p. moved (moved p a) b) begin
+    ap (λ p. moved (moved p a) b) (base ∙ sym (sum_zero toc inside))
     ∙ sum_leads o.got_base (symbol_address o) a b
     (subst (λ z. IsAddress ((pos o.got_base +ℤ a) +ℤ z) (symbol_address o)) (reads_ds y second.opcode_is)
-    (law.1 o addresses o.place template half high.applied tt o.place (drop 4 half) (drop 4 pair) low.applied tt))
+    (law.1 o (are_addresses by_toc toc word below) o.place template half high.applied tt o.place (drop 4 half) (drop 4 pair) low.applied tt))
     ∙ no_addend word below in
-    let value : w ≡ target = ap (loaded 8 c.state.memory) leads ∙ holds in
-    let last : List ℕ = 0x7d8903a6 ∷ 0x4e800420 ∷ [] in
     subst (λ end. IsSomeAnd end (GoesTo target c))
-    (sym (ap (λ ws. run f ws c) (four_are code pair x y len is front refl)
-    ∙ run_more f x y last c (after_1 v c) _
+    (sym (ap (λ ws. run f ws c) (four_are code pair x y len is (sym (front_word pair) ∙ ap word_of low.kept ∙ front_word half) refl)
+    ∙ run_more f x y (0x7d8903a6 ∷ 0x4e800420 ∷ []) c (after_1 v c) _
     (of_machine f x 15 c (after_1 v c).state first.opcode_is refl refl refl
     (step_addis f x 12 2 c.state first)) refl
     (run_more f y 0x7d8903a6 (0x4e800420 ∷ []) (after_1 v c) (after_2 v w c) _
     (of_machine f y 58 (after_1 v c) (after_2 v w c).state second.opcode_is refl refl refl
-    (step_ld f y 12 12 (after_1 v c).state second zero)) refl
+    (step_ld f y 12 12 (after_1 v c).state second (after.1 ∙ ap (λ n. field n 0 2) old))) refl
     (run_more f 0x7d8903a6 0x4e800420 [] (after_2 v w c) (after_3 v w c) _ refl refl refl))))
-    (left c v w target value even)
+    (left c v w target (ap (loaded 8 c.state.memory) leads ∙ holds) even)
 
 pub toc_loads_go : TocAddresses → stubs.TocLoads
 toc_loads_go law toc word target inside below small even code is f c =
@@ -160,8 +152,7 @@ leads_to : Prefixes → (prefix suffix place target : ℕ) → place < 2 ^ 64 �
 leads_to law prefix suffix place target inside below pair writes s at_pc =
     let stub = by_prefixed prefix suffix in
     let o = operands_of stub place target in
-    let high = applies ppc64_name ppc64_row r.R_PPC64_PCREL34 stub.first o stub.pair writes.0 tt refl
-    writes.1.0 writes.1.1 writes.1.2 in
+    let high = applies ppc64_name ppc64_row r.R_PPC64_PCREL34 stub.first o stub.pair writes.0 tt refl writes.1 in
     let m = (ppc64_form Prefixed).machine (prefixed_of writes.0) in
     ap (λ b. moved s.pc ((ppc64_form Prefixed).machine (prefixed_of b))) writes.2
     ∙ ap (λ t. moved t m) (at_pc ∙ sym (sum_zero place inside)) ∙ times_one o.place m
@@ -171,30 +162,23 @@ leads_to law prefix suffix place target inside below pair writes s at_pc =
 pub prefixed_loads_go : Prefixes → stubs.PrefixedLoads
 prefixed_loads_go law place word target inside below even code is f c entry holds =
     let stub = by_prefixed 0x04100000 0xe5800000 in
-    let o = operands_of stub place word in
     let pair = is.0 in
-    let high = applies ppc64_name ppc64_row r.R_PPC64_PCREL34 stub.first o stub.pair is.2.0 tt refl
-    is.2.1.0 is.2.1.1 is.2.1.2 in
+    let high = applies ppc64_name ppc64_row r.R_PPC64_PCREL34 stub.first (operands_of stub place word) stub.pair is.2.0 tt refl is.2.1 in
     let template : HasPrefixedParts 0x104 57 12 0 (prefixed_of stub.pair) =
     record { prefix_is = refl; opcode_is = refl; rt_is = refl; ra_is = refl } in
-    let parts = prefixed_after _ _ stub.pair is.2.0 0x104 57 12 0 high.applied.written template in
     let both : HasPrefixedParts 0x104 57 12 0 (prefixed_of pair) =
-    subst (λ b. HasPrefixedParts 0x104 57 12 0 (prefixed_of b)) (sym is.2.2) parts in
-    let leads = leads_to law 0x04100000 0xe5800000 place word inside below pair is.2 c.state entry in
+    subst (λ b. HasPrefixedParts 0x104 57 12 0 (prefixed_of b)) (sym is.2.2) (prefixed_after _ _ stub.pair is.2.0 0x104 57 12 0 high.applied.written template) in
     prefixed_runs f c code pair _ target is.1 is.3 (step_pld f (prefixed_of pair) 12 c.state both)
-    (ap (loaded 8 c.state.memory) leads ∙ holds) even
+    (ap (loaded 8 c.state.memory) (leads_to law 0x04100000 0xe5800000 place word inside below pair is.2 c.state entry) ∙ holds) even
 
 pub prefixed_jumps_go : Prefixes → stubs.PrefixedJumps
 prefixed_jumps_go law place target inside below even code is f c entry =
     let stub = by_prefixed 0x06100000 0x39800000 in
-    let o = operands_of stub place target in
     let pair = is.0 in
-    let high = applies ppc64_name ppc64_row r.R_PPC64_PCREL34 stub.first o stub.pair is.2.0 tt refl
-    is.2.1.0 is.2.1.1 is.2.1.2 in
+    let high = applies ppc64_name ppc64_row r.R_PPC64_PCREL34 stub.first (operands_of stub place target) stub.pair is.2.0 tt refl is.2.1 in
     let template : HasPrefixedParts 0x184 14 12 0 (prefixed_of stub.pair) =
     record { prefix_is = refl; opcode_is = refl; rt_is = refl; ra_is = refl } in
-    let parts = prefixed_after _ _ stub.pair is.2.0 0x184 14 12 0 high.applied.written template in
     let both : HasPrefixedParts 0x184 14 12 0 (prefixed_of pair) =
-    subst (λ b. HasPrefixedParts 0x184 14 12 0 (prefixed_of b)) (sym is.2.2) parts in
+    subst (λ b. HasPrefixedParts 0x184 14 12 0 (prefixed_of b)) (sym is.2.2) (prefixed_after _ _ stub.pair is.2.0 0x184 14 12 0 high.applied.written template) in
     prefixed_runs f c code pair _ target is.1 is.3 (step_paddi f (prefixed_of pair) 12 c.state both)
     (leads_to law 0x06100000 0x39800000 place target inside below pair is.2 c.state entry) even

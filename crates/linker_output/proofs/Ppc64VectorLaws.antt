@@ -25,17 +25,15 @@ place base i = quadword (sum_64 (moved 0 (negsuc (191 - 16 * i))) base)
 
 abbrev stores : ℕ → Vectored → Vectored
 stores i v =
-    let s = (placed i v).counted.state in
     record v {
       counted =
-          with_state (go_on (store 16 (v.vectors (20 + i)) (place (v.counted.state.registers 0) i) s)) v.counted;
+          with_state (go_on (store 16 (v.vectors (20 + i)) (place (v.counted.state.registers 0) i) ((placed i v).counted.state))) v.counted;
     }
 
 abbrev loads : ℕ → Vectored → Vectored
 loads i v =
-    let s = (placed i v).counted.state in
     record {
-      counted = with_state (go_on s) v.counted;
+      counted = with_state (go_on ((placed i v).counted.state)) v.counted;
       vectors =
           with_number (20 + i) (loaded 16 v.counted.state.memory (place (v.counted.state.registers 0) i)) v.vectors;
     }
@@ -111,10 +109,8 @@ slot_is base n most less = moved_is (quadword base) (16 * (32 - n)) (omega (arit
 
 place_is : (base n : ℕ) → 20 ≤ n → n < 32 → quadword (sum_64 (moved 0 (negsuc (16 * (32 - n) - 1))) base) ≡ vector_slot base n
 place_is base n most less =
-    let p = moved_is 0 (16 * (32 - n)) (omega (arith, less)) (omega (arith, most)) in
-    let q = slot_is base n most less in
-    ap (λ m. quadword (sum_64 m base)) p ∙ (let e : quadword (sum_64 ((0 + (2 ^ 64 - 16 * (32 - n))) % 2 ^ 64) base)
-    ≡ (quadword base + (2 ^ 64 - 16 * (32 - n))) % 2 ^ 64 = omega (arith, most, less) in e) ∙ sym q
+    ap (λ m. quadword (sum_64 m base)) (moved_is 0 (16 * (32 - n)) (omega (arith, less)) (omega (arith, most))) ∙ (let e : quadword (sum_64 ((0 + (2 ^ 64 - 16 * (32 - n))) % 2 ^ 64) base)
+    ≡ (quadword base + (2 ^ 64 - 16 * (32 - n))) % 2 ^ 64 = omega (arith, most, less) in e) ∙ sym (slot_is base n most less)
 
 place_of : (base k : ℕ) → k < 12 → place base (11 - k) ≡ vector_slot base (31 - k)
 place_of base k less =
@@ -134,9 +130,7 @@ module _ (n : ℕ) (most : 20 ≤ n) (less : n < 32) (vectors : ℕ → ℕ) (ba
   follows : 0 < 16 * (32 - suc n) → vector_slot base (suc n) ≡ (vector_slot base n + 16) % 2 ^ 64
   follows some =
       let under : n < 31 = omega (arith, some) in
-      let p = slot_is base n most less in
-      let q = slot_is base (suc n) (omega (arith, most)) (omega (arith, under)) in
-      omega (arith, p, q, under, most)
+      omega (arith, (slot_is base n most less), (slot_is base (suc n) (omega (arith, most)) (omega (arith, under))), under, most)
 
   of_first : (d : ℕ) → d < 16 → byte_of n vectors d ≡ field (vectors n) (8 * d) (8 * d + 8)
   of_first d low =

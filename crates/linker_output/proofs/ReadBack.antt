@@ -109,9 +109,8 @@ value_at : (rule : PropertyRule) (p : Property) (pre rest : List ℕ) (head at :
     → 0 < length (value_words rule p)
     → word_at (bytes_of (pre ++ head ∷ (value_words rule p ++ rest))) at ≡ p.value
 value_at rule p pre rest head at slim e some =
-    let lens = length-append pre (head ∷ []) in
     subst (λ ws. word_at (bytes_of ws) at ≡ p.value) (append_assoc pre (head ∷ []) (value_words rule p ++ rest))
-    (value_first rule p (pre ++ head ∷ []) rest at slim (omega arith) some)
+    (value_first rule p (pre ++ head ∷ []) rest at slim (omega (arith, length-append pre (head ∷ []))) some)
 
 version_at : (rule : PropertyRule) (p : Property) (pre rest : List ℕ) (head at : ℕ) → IsSlim p → at ≡ 8 * length pre + 16
     → 1 < length (value_words rule p)
@@ -122,9 +121,8 @@ version_at AnyOfAll p pre rest head at slim e some = absurd (omega arith)
 version_at Largest p pre rest head at slim e some = absurd (omega arith)
 version_at Present p pre rest head at slim e some = absurd (omega arith)
 version_at Same p pre rest head at slim e some =
-    let lens = length-append pre (head ∷ p.value ∷ []) in
     subst (λ ws. word_at (bytes_of ws) at ≡ p.version) (append_assoc pre (head ∷ p.value ∷ []) (p.version ∷ rest))
-    (word_after (pre ++ head ∷ p.value ∷ []) rest p.version at slim.version (omega arith))
+    (word_after (pre ++ head ∷ p.value ∷ []) rest p.version at slim.version (omega (arith, length-append pre (head ∷ p.value ∷ []))))
 
 low : (k n : ℕ) → k < 2 ^ 32 → (k + 2 ^ 32 * n) % 2 ^ 32 ≡ k
 low k n small = omega arith
@@ -167,19 +165,16 @@ visited a rule p pre rest v slim known fit least at end =
     let s = bytes_of (pre ++ (property_words rule p ++ rest)) in
     let w : word_at s v.next ≡ head = word_after pre (value_words rule p ++ rest) head v.next (head_small p.kind (size_of rule) slim.kind (size_small rule)) at in
     let k : word_at s v.next % 2 ^ 32 ≡ p.kind = ap (λ n. n % 2 ^ 32) w ∙ low p.kind (size_of rule) slim.kind in
-    let z : word_at s v.next / 2 ^ 32 ≡ size_of rule = ap (λ n. n / 2 ^ 32) w ∙ high p.kind (size_of rule) slim.kind in
     let pad = padded_is rule p in
     let l1 = length-append pre (property_words rule p ++ rest) in
     let l2 = length-append (property_words rule p) rest in
-    let l3 = length-append pre (property_words rule p) in
     let room : v.next + 8 + padded (size_of rule) ≤ v.end = room_for v.next v.end (padded (size_of rule)) (length pre) (length (value_words rule p)) (length rest) (length (pre ++ (property_words rule p ++ rest))) (length (property_words rule p ++ rest)) pad l1 l2 at end in
-    let one = visit_is a s v p.kind (size_of rule) rule k z room least known refl in
-    let next : v.next + 8 + padded (size_of rule) ≡ 8 * length (pre ++ property_words rule p) = next_is v.next (padded (size_of rule)) (length pre) (length (value_words rule p)) (length (pre ++ property_words rule p)) pad l3 at in
+    let next : v.next + 8 + padded (size_of rule) ≡ 8 * length (pre ++ property_words rule p) = next_is v.next (padded (size_of rule)) (length pre) (length (value_words rule p)) (length (pre ++ property_words rule p)) pad (length-append pre (property_words rule p)) at in
     let q : property_at rule s (v.next + 8) p.kind ≡ p =
     property_is rule s (v.next + 8) p fit
     (λ some. value_at rule p pre rest head (v.next + 8) slim (plus_eight v.next (length pre) at) some)
     (λ some. version_at rule p pre rest head (v.next + 8 + 8) slim (plus_sixteen v.next (length pre) at) some) in
-    one ∙ ap (λ n. Ok (record { next = n; end = v.end; least = p.kind + 1; property = Some (property_at rule s (v.next + 8) p.kind) })) next
+    (visit_is a s v p.kind (size_of rule) rule k (ap (λ n. n / 2 ^ 32) w ∙ high p.kind (size_of rule) slim.kind) room least known refl) ∙ ap (λ n. Ok (record { next = n; end = v.end; least = p.kind + 1; property = Some (property_at rule s (v.next + 8) p.kind) })) next
     ∙ ap (λ it. Ok (record { next = 8 * length (pre ++ property_words rule p); end = v.end; least = p.kind + 1; property = Some it })) q
 
 -- ---- all properties
@@ -216,19 +211,15 @@ read_step a rule p ps pre rest v slim known fit least at end others =
     let ws = property_words rule p in
     let s = bytes_of (pre ++ (ws ++ rest)) in
     let w : Reading = record { next = 8 * length (pre ++ ws); end = v.end; least = p.kind + 1; property = Some p } in
-    let vis = visited a rule p pre rest v slim known fit least at end in
     let len = length_bytes (pre ++ (ws ++ rest)) in
     let l1 = length-append pre (ws ++ rest) in
     let l2 = length-append ws rest in
     let lt : v.next < length s = lt_is v.next (length s) (length pre) (length (value_words rule p)) (length rest) (length (pre ++ (ws ++ rest))) (length (ws ++ rest)) len l1 l2 at in
     let within : v.end ≤ length s = within_is 0 (length (pre ++ (ws ++ rest))) (length s) len v.end end in
-    let le : v.next ≤ v.end = le_is v.next v.end (length s) (length (pre ++ (ws ++ rest))) len end lt in
-    let on = on_step a s v w le within lt vis in
     let same = append_assoc pre ws rest in
-    let end_is : v.end ≡ 8 * length ((pre ++ ws) ++ rest) = end ∙ ap (λ xs. 8 * length xs) (sym same) in
     let ih : read (length s) a s w ≡ Ok ps =
-    subst (λ xs. read (length (bytes_of xs)) a (bytes_of xs) w ≡ Ok ps) same (others w refl refl end_is) in
-    on ∙ ap (before (Some p)) ih
+    subst (λ xs. read (length (bytes_of xs)) a (bytes_of xs) w ≡ Ok ps) same (others w refl refl (end ∙ ap (λ xs. 8 * length xs) (sym same))) in
+    (on_step a s v w (le_is v.next v.end (length s) (length (pre ++ (ws ++ rest))) len end lt) within lt (visited a rule p pre rest v slim known fit least at end)) ∙ ap (before (Some p)) ih
 
 pub read_on : (a : Architecture) (ps : List Property) (pre ws : List ℕ) (least index : ℕ) (v : Reading)
     → AreSlim ps → words_from a least index ps ≡ Ok ws → v.least ≡ least
@@ -238,28 +229,20 @@ read_on a [] pre ws least index v slim e lv at end =
     let none : ws ≡ [] = cc in
     let len = length_bytes (pre ++ ws) in
     let l1 = length-append pre ws in
-    let l2 = ap length none in
-    at_end (length (bytes_of (pre ++ ws))) a (bytes_of (pre ++ ws)) v (end_is v.next (length (bytes_of (pre ++ ws))) (length pre) (length ws) (length (pre ++ ws)) len l1 l2 at)
+    at_end (length (bytes_of (pre ++ ws))) a (bytes_of (pre ++ ws)) v (end_is v.next (length (bytes_of (pre ++ ws))) (length pre) (length ws) (length (pre ++ ws)) len l1 (ap length none) at)
 read_on a (p ∷ ps) pre ws least index v slim e lv at end =
     let f = inv_from a least index p ps ws e in
     let g = inv_by (rule_of a p.kind) p (words_from a (p.kind + 1) (index + 1) ps) ws f.1 in
-    let low_enough : v.least ≤ p.kind = le_of v.least least p.kind lv f.0 in
-    let end_is : v.end ≡ 8 * length (pre ++ (property_words g.0 p ++ g.1)) = end ∙ ap (λ xs. 8 * length (pre ++ xs)) g.5 in
     subst (λ xs. read (length (bytes_of (pre ++ xs))) a (bytes_of (pre ++ xs)) v ≡ Ok (p ∷ ps)) (sym g.5)
-    (read_step a g.0 p ps pre g.1 v slim.0 g.2 g.3 low_enough at end_is
+    (read_step a g.0 p ps pre g.1 v slim.0 g.2 g.3 (le_of v.least least p.kind lv f.0) at (end ∙ ap (λ xs. 8 * length (pre ++ xs)) g.5)
     (λ w l n m. read_on a ps (pre ++ property_words g.0 p) g.1 (p.kind + 1) (index + 1) w slim.1 g.4 l n m))
 
 pub few_words : (a : Architecture) (ps : List Property) (ws : List ℕ) (least index : ℕ)
     → words_from a least index ps ≡ Ok ws → length ws ≤ 3 * length ps
 few_words a [] ws least index e = let none : ws ≡ [] = cc in let l = ap length none in omega arith
 few_words a (p ∷ ps) ws least index e =
-    let f = inv_from a least index p ps ws e in
-    let g = inv_by (rule_of a p.kind) p (words_from a (p.kind + 1) (index + 1) ps) ws f.1 in
-    let rest = few_words a ps g.1 (p.kind + 1) (index + 1) g.4 in
-    let l1 = ap length g.5 in
-    let l2 = length-append (property_words g.0 p) g.1 in
-    let l3 = word_count g.0 p in
-    omega arith
+    let g = inv_by (rule_of a p.kind) p (words_from a (p.kind + 1) (index + 1) ps) ws (inv_from a least index p ps ws e).1 in
+    omega (arith, few_words a ps g.1 (p.kind + 1) (index + 1) g.4, ap length g.5, length-append (property_words g.0 p) g.1, word_count g.0 p)
 
 -- ---- the header
 
@@ -282,26 +265,21 @@ read_header a ps ws slim e small =
     let n : ℕ = 0x00554e4700000005 in
     let s = bytes_of (h ∷ n ∷ ws) in
     let len : length s ≡ 16 + 8 * length ws = length_bytes (h ∷ n ∷ ws) ∙ sixteen (length ws) in
-    let one = word_after [] (n ∷ ws) h 0 (omega arith) refl in
-    let two = word_after (h ∷ []) ws n 8 (omega arith) refl in
     let w : Reading = record { next = 16; end = 16 + 8 * length ws; least = 0; property = None } in
-    let vis : visit a s start ≡ Ok w = note_visited s (8 * length ws) len one two in
-    let on = on_step a s start w (omega arith) (omega arith) (some_is (length s) (length ws) len) vis in
-    on ∙ read_on a ps (h ∷ n ∷ []) ws 0 0 w slim e refl refl (sym (sixteen (length ws)))
+    let vis : visit a s start ≡ Ok w = note_visited s (8 * length ws) len (word_after [] (n ∷ ws) h 0 (omega arith) refl) (word_after (h ∷ []) ws n 8 (omega arith) refl) in
+    (on_step a s start w (omega arith) (omega arith) (some_is (length s) (length ws) len) vis) ∙ read_on a ps (h ∷ n ∷ []) ws 0 0 w slim e refl refl (sym (sixteen (length ws)))
 
 pub read_back : (a : Architecture) (ps : List Property) (old new : List ℕ) (len : ℕ) → AreSlim ps → length ps < 2 ^ 27
     → WritesNote a ps old new len → properties_of a (take len new) ≡ Ok ps
 unfolding bytes_of read
 read_back a [] old new len slim few w =
     let none : w.words ≡ [] = (let e = w.sound in cc) in
-    let zero_len : len ≡ 0 = w.len_is ∙ ap (λ ws. 8 * length (note_words ws)) none in
-    rw zero_len refl
+    rw (w.len_is ∙ ap (λ ws. 8 * length (note_words ws)) none) refl
 read_back a (p ∷ ps) old new len slim few w =
     let h = with_header a (p ∷ ps) w.words (λ e. absurd (cc)) w.sound in
     let bytes : length (bytes_of (note_words w.words)) ≡ len = length_bytes (note_words w.words) ∙ sym w.len_is in
     let front : take len new ≡ bytes_of (note_words w.words) = ap (take len) w.written ∙ take_at (bytes_of (note_words w.words)) (drop len old) len bytes in
-    let count = few_words a (p ∷ ps) w.words 0 0 w.sound in
-    ap (properties_of a) (front ∙ ap bytes_of h) ∙ read_header a (p ∷ ps) w.words slim w.sound (omega arith)
+    ap (properties_of a) (front ∙ ap bytes_of h) ∙ read_header a (p ∷ ps) w.words slim w.sound (omega (arith, few_words a (p ∷ ps) w.words 0 0 w.sound))
 
 pub nothing_back : (a : Architecture) (ps : List Property) → length ps ≡ 0 → properties_of a [] ≡ Ok ps
 unfolding read

@@ -35,9 +35,7 @@ property_inside : (a : Architecture) (s : List ℕ) (v w : Reading) → v.next �
 property_inside a s v w le within e =
     let kind = word_at s v.next % 2 ^ 32 in
     let size = word_at s v.next / 2 ^ 32 in
-    let room : v.next + 8 + padded size ≤ v.end = grind (arith, nat_tests) in
-    let by : visit_by (rule_of a kind) s kind size v ≡ Ok w = grind (arith, nat_tests) in
-    by_inside (rule_of a kind) s kind size v w room within by
+    by_inside (rule_of a kind) s kind size v w (grind (arith, nat_tests)) within (grind (arith, nat_tests))
 
 pub inside : (a : Architecture) (s : List ℕ) (v w : Reading) → v.next ≤ v.end → v.end ≤ length s
     → visit a s v ≡ Ok w → Inside s v w
@@ -74,13 +72,11 @@ pub on_step : (a : Architecture) (s : List ℕ) (v w : Reading) → v.next ≤ v
 unfolding read
 on_step a s v w le within lt e =
     let i = inside a s v w le within e in
-    let on = i.on in
     let m = length s - 1 in
     let len : length s ≡ suc m = omega arith in
     let t : nat_lt v.next (length s) ≡ true = grind (arith, nat_tests) in
     let one : read (suc m) a s v ≡ before w.property (read m a s w) = rw (t, e) refl in
-    let rest : read m a s w ≡ read (length s) a s w = enough m (length s) a s w i.begun i.ended (omega arith) (omega arith) in
-    ap (λ n. read n a s v) len ∙ one ∙ ap (before w.property) rest
+    ap (λ n. read n a s v) len ∙ one ∙ ap (before w.property) (enough m (length s) a s w i.begun i.ended (omega (arith, i.on)) (omega (arith, i.on)))
 
 pub on_error : (a : Architecture) (s : List ℕ) (v : Reading) (error : PropertyError) → v.next < length s
     → visit a s v ≡ Err error → read (length s) a s v ≡ Err error

@@ -18,11 +18,7 @@ record Saves (f : ℕ → ℕ) : Type 0 where
 next_higher : (a : ℕ) (f : ℕ → ℕ) (e d : ℕ) → Saves f → e ≤ d → cost_next d a f ≤ cost_next e a f
 unfolding cost_next
 next_higher a f e d s h =
-    let h1 = s.higher e d in
-    let h2 = s.higher (e + 504) (d + 504) in
-    let h3 = s.higher (a + 8) (d + 504) in
-    let l1 = s.lower (e + 504) d in
-    let l2 = s.lower (a + 8) d in grind (arith, nat_tests, h1, h2, h3, l1, l2)
+    let l2 = s.lower (a + 8) d in grind (arith, nat_tests, (s.higher e d), (s.higher (e + 504) (d + 504)), (s.higher (a + 8) (d + 504)), (s.lower (e + 504) d), l2)
 
 next_lower : (a : ℕ) (f : ℕ → ℕ) (e d : ℕ) → Saves f → e ≤ d + 504 → cost_next d a f ≤ 1 + cost_next e a f
 unfolding cost_next
@@ -30,11 +26,7 @@ next_lower a f e d s h =
     let l0 = s.lower e d in
     let l1 = s.lower (e + 504) d in
     let l2 = s.lower (a + 8) d in
-    let h1 = s.higher e (d + 504) in
-    let l3 = s.lower (e + 504) (d + 504) in
-    let l4 = s.lower (a + 8) (d + 504) in
-    let h2 = s.higher e (a + 8) in
-    let l5 = s.lower (e + 504) (a + 8) in grind (arith, nat_tests, l0, l1, l2, h1, l3, l4, h2, l5)
+    let l5 = s.lower (e + 504) (a + 8) in grind (arith, nat_tests, l0, l1, l2, (s.higher e (d + 504)), (s.lower (e + 504) (d + 504)), (s.lower (a + 8) (d + 504)), (s.higher e (a + 8)), l5)
 
 saves : (xs : List ℕ) → Saves (cost xs)
 unfolding cost
@@ -75,26 +67,23 @@ free : (base : ℕ) (xs ys : List ℕ) → AreWithin base xs → cost (xs ++ ys)
 unfolding AreWithin cost cost_next
 free base [] ys h = refl
 free base (x ∷ xs) ys h =
-    let e = free base xs ys h.1 in
     let m = h.0.most in
-    let below : nat_lt x (base + 504) ≡ true = grind (arith, nat_tests) in rw below e
+    let below : nat_lt x (base + 504) ≡ true = grind (arith, nat_tests) in rw below (free base xs ys h.1)
 
 -- a bitmap costs one
 one_more : (base : ℕ) (xs ys : List ℕ) → AreWithin base xs → cost (xs ++ ys) base ≤ 1 + cost ys (base + 504)
 unfolding AreWithin cost cost_next
 one_more base [] ys h = (saves ys).lower (base + 504) base (omega arith)
 one_more base (x ∷ xs) ys h =
-    let e : cost (xs ++ ys) (base + 504) ≡ cost ys (base + 504) = free base xs ys h.1 in
     let above : nat_lt x base ≡ false = let m = h.0.least in grind (arith, nat_tests) in
-    let near : nat_le (x + 8) (base + 504) ≡ true = let m = h.0.most in grind (arith, nat_tests) in rw (above, near, e) (omega arith)
+    let near : nat_le (x + 8) (base + 504) ≡ true = let m = h.0.most in grind (arith, nat_tests) in rw (above, near, (free base xs ys h.1)) (omega arith)
 
 -- an address costs one
 one_address : (base a : ℕ) (ys : List ℕ) → cost (a ∷ ys) base ≤ 1 + cost ys (a + 8)
 unfolding cost cost_next
 one_address base a ys =
     let s = saves ys in
-    let l = s.lower (a + 8) base in
-    let h = s.higher (a + 8) (base + 504) in grind (arith, nat_tests, l, h)
+    let h = s.higher (a + 8) (base + 504) in grind (arith, nat_tests, (s.lower (a + 8) base), h)
 
 cost_none : (base : ℕ) → cost [] base ≤ 0
 unfolding cost

@@ -13,12 +13,9 @@ put_written [] xs n within small = let z : n + 0 ≡ n = omega arith in rw z (sy
 put_written (w ∷ ws) xs n within small =
     let next : capped (n + 1) ≡ n + 1 = omega arith in
     let len : length (set xs n w) ≡ length xs = length-set xs n w in
-    let fits : n + 1 + length ws ≤ length (set xs n w) = omega arith in
-    let e : put_all (n + 1) ws (set xs n w) ≡ take (n + 1) (set xs n w) ++ (ws ++ drop (n + 1 + length ws) (set xs n w)) = put_written ws (set xs n w) (n + 1) fits (omega arith) in
-    let t : take (n + 1) (set xs n w) ≡ take n xs ++ w ∷ [] = take_more_set xs n w (omega arith) in
-    let d : drop (n + 1 + length ws) (set xs n w) ≡ drop (n + 1 + length ws) xs = drop-set-lt (n + 1 + length ws) xs n w (omega arith) in
+    let e : put_all (n + 1) ws (set xs n w) ≡ take (n + 1) (set xs n w) ++ (ws ++ drop (n + 1 + length ws) (set xs n w)) = put_written ws (set xs n w) (n + 1) (omega arith) (omega arith) in
     let i : n + 1 + length ws ≡ n + suc (length ws) = omega arith in
-    rw (next, e, t, d, i) (append_assoc (take n xs) (w ∷ []) (ws ++ drop (n + suc (length ws)) xs))
+    rw (next, e, (take_more_set xs n w (omega arith)), (drop-set-lt (n + 1 + length ws) xs n w (omega arith)), i) (append_assoc (take n xs) (w ∷ []) (ws ++ drop (n + suc (length ws)) xs))
 
 -- from the beginning
 pub put_first : (ws xs : List ℕ) → length ws ≤ length xs → length xs < 2 ^ 64 → put_all 0 ws xs ≡ ws ++ drop (length ws) xs
@@ -112,11 +109,10 @@ marks_with n base bitmap index before next after one fits small h =
     let e : marked (n + 1) base bitmap ≡ marked n base bitmap ++ a = marked_with n base bitmap one in
     let k = h.next_is in
     let s : are_addresses a ≡ true = grind (arith, nat_tests) in
-    let w = put_append (marked n base bitmap) a before index small in
     let l = length-append (marked n base bitmap) a in record {
       sound = rw (e, list_all-append (λ x. nat_lt x (2 ^ 64)) (marked n base bitmap) a, h.sound) s;
       next_is = rw e (omega arith);
-      written = rw (e, w, ← h.written, ← h.next_is);
+      written = rw (e, (put_append (marked n base bitmap) a before index small), ← h.written, ← h.next_is);
     }
 
 -- ---- one word more
@@ -129,19 +125,17 @@ pub record Reads (base : ℕ) (ws : List ℕ) (index : ℕ) (numbers : List ℕ)
 
 pub reads_address : (base w : ℕ) (ws : List ℕ) (index : ℕ) (numbers : List ℕ) (fault : Option RelrError) (len : ℕ) (whole : List ℕ) → w % 2 ≡ 0 → w % 8 ≡ 0 → Reads base (w ∷ ws) index numbers fault len whole → Reads (w + 8) ws (capped (index + 1)) (set numbers index w) fault len whole
 reads_address base w ws index numbers fault len whole even multiple h =
-    let f = h.fault_is in
     let e : relocated base (w ∷ ws) ≡ w ∷ relocated (w + 8) ws = rw even in record {
-      fault_is = rw (even, multiple) at f;
+      fault_is = rw (even, multiple) at h.fault_is;
       leaves = leaves_more index w (relocated (w + 8) ws) numbers len whole (subst (λ ys. Leaves index ys numbers len whole) e h.leaves);
       fits = omega arith;
     }
 
 pub reads_bitmap : (base w : ℕ) (ws : List ℕ) (index : ℕ) (numbers : List ℕ) (fault : Option RelrError) (len : ℕ) (whole : List ℕ) → w % 2 ≢ 0 → are_addresses (marked 63 base w) ≡ true → Reads base (w ∷ ws) index numbers fault len whole → Reads (base + 504) ws (capped (index + length (marked 63 base w))) (put_all index (marked 63 base w) numbers) fault len whole
 reads_bitmap base w ws index numbers fault len whole odd sound h =
-    let f = h.fault_is in
     let o : nat_eq (w % 2) 0 ≡ false = grind (arith, nat_tests) in
     let e : relocated base (w ∷ ws) ≡ marked 63 base w ++ relocated (base + 504) ws = rw o in record {
-      fault_is = rw (o, sound) at f;
+      fault_is = rw (o, sound) at h.fault_is;
       leaves = leaves_others index (marked 63 base w) (relocated (base + 504) ws) numbers len whole h.fits (subst (λ ys. Leaves index ys numbers len whole) e h.leaves);
       fits = omega arith;
     }

@@ -13,8 +13,7 @@ pub marked_none : (n base : ℕ) → marked n base 1 ≡ []
 unfolding marked
 marked_none zero base = refl
 marked_none (suc n) base =
-    let e : bit_at 1 (n + 1) ≡ 0 = bit_at_above 1 1 (n + 1) (omega arith) (omega arith) in
-    rw (marked_none n base, e)
+    rw (marked_none n base, (bit_at_above 1 1 (n + 1) (omega arith) (omega arith)))
 
 -- a bit at k, above which a bitmap has none
 with_bit : ℕ → ℕ → ℕ
@@ -24,8 +23,7 @@ marked_below : (n base bitmap k : ℕ) → k < 64 → n < k → marked n base (w
 unfolding marked with_bit
 marked_below zero base bitmap k small h = refl
 marked_below (suc n) base bitmap k small h =
-    let e : bit_at (with_bit bitmap k) (n + 1) ≡ bit_at bitmap (n + 1) = bit_at_set_other w64 bitmap k small (n + 1) (omega arith) in
-    rw (marked_below n base bitmap k small (omega arith), e)
+    rw (marked_below n base bitmap k small (omega arith), (bit_at_set_other w64 bitmap k small (n + 1) (omega arith)))
 
 -- no bit at k or above
 record IsBelow (bitmap k : ℕ) : Type 0 where
@@ -35,8 +33,7 @@ marked_at : (base bitmap k : ℕ) → suc k < 64 → IsBelow bitmap (suc k) → 
 unfolding marked with_bit
 marked_at base bitmap k small h =
     let e : bit_at (with_bit bitmap (suc k)) (k + 1) ≡ 1 = rw (← plus_one k) (bit_at_set_same w64 bitmap (suc k) small) in
-    let f : bit_at bitmap (k + 1) ≡ 0 = h.none (k + 1) (omega arith) in
-    rw (marked_below k base bitmap (suc k) small (omega arith), e, f, append-nil)
+    rw (marked_below k base bitmap (suc k) small (omega arith), e, (h.none (k + 1) (omega arith)), append-nil)
 
 order : (k n : ℕ) → (suc n ≤ k) ⊎ (k ≤ n)
 order k n = grind arith
@@ -125,19 +122,16 @@ far_cost base a xs below far = grind (arith, nat_tests)
 near_good : (base bitmap d a : ℕ) (xs : List ℕ) → State base bitmap d → is_past base bitmap a ≡ false → a % 8 ≡ 0 → base + 8 * d < a → (a - base) / 8 < 64 → Good base (with_bit bitmap ((a - base) / 8)) xs → Good base bitmap (a ∷ xs)
 unfolding with_bit
 near_good base bitmap d a xs s within q above near g =
-    let al = s.aligned in
     let k = (a - base) / 8 in
     let some : 1 ≤ k = omega arith in
     let more : d < k = omega arith in
     let w : words_from base bitmap (a ∷ xs) ≡ words_from base (with_bit bitmap k) xs = near_words base bitmap a xs within near in
     let below : IsBelow bitmap k = record { none = λ i le. s.last.none i (omega arith) } in
-    let m : marked 63 (base + 8) (with_bit bitmap k) ≡ marked 63 (base + 8) bitmap ++ (base + 8 + 8 * (k - 1)) ∷ [] = marked_more 63 (base + 8) bitmap k some near (omega arith) below in
     let at : base + 8 + 8 * (k - 1) ≡ a = omega arith in
-    let p : pending (with_bit bitmap k) ≡ 1 = pending_some (with_bit bitmap k) (with_some bitmap k some near) in
     let t : end base (with_bit bitmap k) ≡ base + 512 = end_some base (with_bit bitmap k) (with_some bitmap k some near) in record {
-      exact = rw w (g.exact ∙ (ap (λ ys. ys ++ xs) (rw at at m) ∙ append_assoc (marked 63 (base + 8) bitmap) (a ∷ []) xs));
+      exact = rw w (g.exact ∙ (ap (λ ys. ys ++ xs) (rw at at (marked_more 63 (base + 8) bitmap k some near (omega arith) below)) ∙ append_assoc (marked 63 (base + 8) bitmap) (a ∷ []) xs));
       sound = rw w g.sound;
-      counted = rw w (rw (p, t) at g.counted ∙ near_cost base bitmap a xs al q (omega arith) near);
+      counted = rw w (rw ((pending_some (with_bit bitmap k) (with_some bitmap k some near)), t) at g.counted ∙ near_cost base bitmap a xs s.aligned q (omega arith) near);
     }
 
 far_good : (base bitmap a : ℕ) (xs : List ℕ) → bitmap ≡ 1 → a % 8 ≡ 0 → base < a → 64 ≤ (a - base) / 8 → Good a 1 xs → Good base bitmap (a ∷ xs)
@@ -174,15 +168,12 @@ past_good : (base bitmap a : ℕ) (xs : List ℕ) → bitmap % 2 ≡ 1 → IsFul
 unfolding pending end
 past_good base bitmap a xs odd h g =
     let w : words_from base bitmap (a ∷ xs) ≡ bitmap ∷ words_from (base + 504) 1 (a ∷ xs) = past_words base bitmap a xs h.some h.far in
-    let from : base + 8 + 504 ≡ base + 504 + 8 = omega arith in
     let to : base + 504 + 8 ≡ base + 512 = omega arith in
-    let p : pending bitmap ≡ 1 = pending_some bitmap h.some in
-    let t : end base bitmap ≡ base + 512 = end_some base bitmap h.some in
     let x : relocated (base + 504 + 8) (words_from (base + 504) 1 (a ∷ xs)) ≡ a ∷ xs = g.exact ∙ ap (λ ys. ys ++ (a ∷ xs)) (marked_none 63 (base + 504 + 8)) in
     let n : length (words_from (base + 504) 1 (a ∷ xs)) ≡ cost (a ∷ xs) (base + 512) = g.counted ∙ (zero_of (cost (a ∷ xs) (base + 504 + 8)) ∙ ap (cost (a ∷ xs)) to) in record {
-      exact = rw w (full_exact (base + 8) (base + 504 + 8) bitmap (words_from (base + 504) 1 (a ∷ xs)) (a ∷ xs) odd from x);
+      exact = rw w (full_exact (base + 8) (base + 504 + 8) bitmap (words_from (base + 504) 1 (a ∷ xs)) (a ∷ xs) odd (omega arith) x);
       sound = rw (w, odd) g.sound;
-      counted = rw (w, p, t) (ap suc n ∙ suc_of (cost (a ∷ xs) (base + 512)));
+      counted = rw (w, (pending_some bitmap h.some), (end_some base bitmap h.some)) (ap suc n ∙ suc_of (cost (a ∷ xs) (base + 512)));
     }
 
 record Parts (least a : ℕ) (xs : List ℕ) : Type 0 where
@@ -211,8 +202,7 @@ good (a ∷ xs) base bitmap d least s above h =
     elim (cases_Bool (is_past base bitmap a)) [
       | inl past ↦
           let f = is_full base bitmap a past in
-          let far = f.far in
-          past_good base bitmap a xs s.odd f (placed (base + 504) 1 0 a xs (begun (base + 504) (omega arith)) refl p.aligned (omega arith) rest)
+          past_good base bitmap a xs s.odd f (placed (base + 504) 1 0 a xs (begun (base + 504) (omega (arith, f.far))) refl p.aligned (omega (arith, f.far)) rest)
       | inr within ↦ placed base bitmap d a xs s within p.aligned (omega arith) rest
     ]
 
@@ -236,8 +226,7 @@ one_counted a xs g = g.counted ∙ zero_of (cost xs (a + 8))
 others_cost : (others : List ℕ) (a : ℕ) (xs : List ℕ) → relr_fault others ≡ None → relocated 0 others ≡ a ∷ xs → suc (cost xs (a + 8)) ≤ length others
 others_cost [] a xs f e = absurd (cc)
 others_cost (w ∷ ws) a xs f e =
-    let even : nat_eq (w % 2) 0 ≡ true = started w ws f in
-    let g : w ∷ relocated (w + 8) ws ≡ a ∷ xs = rw even at e in
+    let g : w ∷ relocated (w + 8) ws ≡ a ∷ xs = rw (started w ws f) at e in
     let w_is : w ≡ a = cc in
     let ws_are : relocated (a + 8) ws ≡ xs = cc in
     let c : cost xs (a + 8) ≤ length ws = subst (λ ys. cost ys (a + 8) ≤ length ws) ws_are (cost_words (a + 8) ws) in omega arith
@@ -245,16 +234,13 @@ others_cost (w ∷ ws) a xs f e =
 packs_more : (a : ℕ) (xs : List ℕ) → are_addresses (a ∷ xs) ≡ true → address_fault 0 (a ∷ xs) ≡ None → Packs (a ∷ xs) (a ∷ words_from a 1 xs)
 packs_more a xs fit h =
     let p = parts 0 a xs h in
-    let al = p.aligned in
     let g = good xs a 1 0 (a + 1) (begun a p.aligned) (omega arith) p.rest in
     let even : nat_eq (a % 2) 0 ≡ true = grind (arith, nat_tests) in
-    let multiple : nat_eq (a % 8) 0 ≡ true = grind (arith, nat_tests) in
     let exact : relocated 0 (a ∷ words_from a 1 xs) ≡ a ∷ xs = rw (even, g.exact, marked_none 63 (a + 8)) in
-    let n : length (words_from a 1 xs) ≡ cost xs (a + 8) = one_counted a xs g in
-    let sound : list_all is_sound (a ∷ words_from a 1 xs) ≡ true = first_sound a (words_from a 1 xs) multiple g.sound in record {
+    let sound : list_all is_sound (a ∷ words_from a 1 xs) ≡ true = first_sound a (words_from a 1 xs) (grind (arith, nat_tests)) g.sound in record {
       sound = first_fault a (words_from a 1 xs) even (no_fault (a ∷ words_from a 1 xs) 0 (subst (λ ys. are_addresses ys ≡ true) (sym exact) fit) sound);
       exact = exact;
-      fewest = λ others f e. (let c = others_cost others a xs f e in omega arith);
+      fewest = λ others f e. (let c = others_cost others a xs f e in omega (arith, one_counted a xs g, p.aligned));
     }
 
 pub packs : (xs : List ℕ) → are_addresses xs ≡ true → address_fault 0 xs ≡ None → Packs xs (words_of xs)
@@ -281,9 +267,7 @@ rejected xs least room all (TooShort n) h g = absurd (none_short xs least n h)
 few_step : (x : ℕ) (xs : List ℕ) (e : ℕ) → ((d : ℕ) → cost xs d ≤ length xs) → cost_next e x (cost xs) ≤ suc (length xs)
 unfolding cost_next
 few_step x xs e h =
-    let a = h e in
-    let b = h (e + 504) in
-    let c = h (x + 8) in grind (arith, nat_tests, a, b, c)
+    let c = h (x + 8) in grind (arith, nat_tests, (h e), (h (e + 504)), c)
 
 -- no more words than addresses
 few : (xs : List ℕ) (e : ℕ) → cost xs e ≤ length xs
@@ -295,5 +279,4 @@ pub few_words : (xs : List ℕ) → are_addresses xs ≡ true → address_fault 
 few_words [] fit h = omega arith
 few_words (a ∷ xs) fit h =
     let p = parts 0 a xs h in
-    let n : length (words_from a 1 xs) ≡ cost xs (a + 8) = one_counted a xs (good xs a 1 0 (a + 1) (begun a p.aligned) (omega arith) p.rest) in
-    let f = few xs (a + 8) in omega arith
+    let f = few xs (a + 8) in omega (arith, one_counted a xs (good xs a 1 0 (a + 1) (begun a p.aligned) (omega arith) p.rest))

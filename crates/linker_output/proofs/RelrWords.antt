@@ -51,8 +51,7 @@ clean base bitmap a within far = grind (arith, nat_tests)
 
 pub far_placed : (index base bitmap a : ℕ) (xs numbers : List ℕ) (len : ℕ) (whole : List ℕ) → Ready index base bitmap a xs numbers len whole → 64 ≤ (a - base) / 8 → Placed (capped (index + 1)) a bitmap a xs (set numbers index a) len whole
 far_placed index base bitmap a xs numbers len whole h far =
-    let e : bitmap ≡ 1 = clean base bitmap a h.within far in
-    let f : words_from base bitmap (a ∷ xs) ≡ a ∷ words_from a bitmap xs = rw e (far_words base a xs far) in record {
+    let f : words_from base bitmap (a ∷ xs) ≡ a ∷ words_from a bitmap xs = rw (clean base bitmap a h.within far) (far_words base a xs far) in record {
       leaves = leaves_more index a _ numbers len whole (subst (λ ws. Leaves index ws numbers len whole) f h.leaves);
       below = omega arith;
       fits = omega arith;

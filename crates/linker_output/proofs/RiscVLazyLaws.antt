@@ -19,19 +19,6 @@ use Rattle.linker_output.specs.RiscVLazyPlt as laws
 steps_as : (w : ℕ) (i : Instruction) (h : Hart) → of_word w ≡ Some i → step w h ≡ Some (executed 4 i h)
 steps_as w i h is = ap (λ v. or_else (stepped v h) (further w h)) is
 
--- `jalr t1, 0(t3)`, and the instructions of the header
-jalr_is : of_word 0x000e0367 ≡ Some (sums jumps 6 28 0 (pos 0))
-unfolding place_sum
-jalr_is = refl
-
-addi_is : of_word 0xfd430313 ≡ Some (sums adds 6 6 0 (negsuc 43))
-unfolding place_sum
-addi_is = refl
-
-ld_is : of_word 0x0082b283 ≡ Some (sums (loads 3) 5 5 0 (pos 8))
-unfolding place_sum
-ld_is = refl
-
 -- ---- an entry
 
 module _ (entry : LazyEntry) (h : Hart) (u i : ℤ) (target : ℕ) (small : target < 2 ^ 64) (even : target % 2 ≡ 0)
@@ -61,10 +48,6 @@ module _ (entry : LazyEntry) (h : Hart) (u i : ℤ) (target : ℕ) (small : targ
   unfolding one two three
   after_is = three_words h.pc ∙ ap (λ p. sum_64 p 12) at
 
-  still : register three 28 ≡ register two 28
-  unfolding three
-  still = refl
-
   others : (n : ℕ) → (n == 6 || n == 28) ≡ false → register three n ≡ register h n
   unfolding one two three
   others n e =
@@ -79,7 +62,7 @@ module _ (entry : LazyEntry) (h : Hart) (u i : ℤ) (target : ℕ) (small : targ
       record {
         pc = pc_is;
         t1 = after_is;
-        t3 = still ∙ target_is;
+        t3 = target_is;
         integers = others;
         floats = refl;
         memory = refl;
@@ -87,11 +70,11 @@ module _ (entry : LazyEntry) (h : Hart) (u i : ℤ) (target : ℕ) (small : targ
 
   pub runs : (x y : ℕ) → of_word x ≡ Some (auipc 28 u) → of_word y ≡ Some (sums (loads 3) 28 28 0 i)
       → run (x ∷ y ∷ 0x000e0367 ∷ []) h ≡ Some three
-  unfolding one two three
+  unfolding one two three place_sum
   runs x y first second =
       run_more (λ h. h.pc) step x y (0x000e0367 ∷ []) h one (Some three) (steps_as x (auipc 28 u) h first) refl
       (run_more (λ h. h.pc) step y 0x000e0367 [] one two (Some three) (steps_as y (sums (loads 3) 28 28 0 i) one second) refl
-      (steps_as 0x000e0367 (sums jumps 6 28 0 (pos 0)) two jalr_is))
+      (steps_as 0x000e0367 (sums jumps 6 28 0 (pos 0)) two refl))
 
 -- a word that the relocations lead to
 
@@ -134,10 +117,8 @@ enters relative entry inside below code is target small even h at holds =
     let third = second.3 in
     let auipc_t3 = padded (code_of_words (0x00000e17 ∷ [])) in
     let ld_t3 = padded (code_of_words (0x000e3e03 ∷ [])) in
-    let high = applies riscv_name row_of r.R_RISCV_PCREL_HI20 (field_of 0 (riscv_name r.R_RISCV_PCREL_HI20)) o auipc_t3 is.0 tt refl
-    is.2.1.0 is.2.1.1 is.2.1.2 in
-    let low = applies riscv_name row_of r.R_RISCV_PCREL_LO12_I (field_of 0 (riscv_name r.R_RISCV_PCREL_LO12_I)) o ld_t3 second.0 tt refl
-    second.2.1.0 second.2.1.1 second.2.1.2 in
+    let high = applies riscv_name row_of r.R_RISCV_PCREL_HI20 (field_of 0 (riscv_name r.R_RISCV_PCREL_HI20)) o auipc_t3 is.0 tt refl is.2.1 in
+    let low = applies riscv_name row_of r.R_RISCV_PCREL_LO12_I (field_of 0 (riscv_name r.R_RISCV_PCREL_LO12_I)) o ld_t3 second.0 tt refl second.2.1 in
     let a = high.applied in
     let b = low.applied in
     let x = word_of is.0 in
@@ -192,40 +173,16 @@ module _ (t : Hart) (u i j : ℤ) where
   pub runs_header : (x y z : ℕ) → of_word x ≡ Some (auipc 7 u) → of_word y ≡ Some (sums (loads 3) 28 7 0 i)
       → of_word z ≡ Some (sums adds 5 7 0 j)
       → run (x ∷ 0x41c30333 ∷ y ∷ 0xfd430313 ∷ z ∷ 0x00135313 ∷ 0x0082b283 ∷ 0x000e0067 ∷ []) t ≡ Some a8
-  unfolding a1 a2 a3 a4 a5 a6 a7 a8
+  unfolding a1 a2 a3 a4 a5 a6 a7 a8 place_sum
   runs_header x y z first third fifth =
       run_more (λ h. h.pc) step x 0x41c30333 (y ∷ 0xfd430313 ∷ z ∷ 0x00135313 ∷ 0x0082b283 ∷ 0x000e0067 ∷ []) t a1 (Some a8) (steps_as x (auipc 7 u) t first) refl
       (run_more (λ h. h.pc) step 0x41c30333 y (0xfd430313 ∷ z ∷ 0x00135313 ∷ 0x0082b283 ∷ 0x000e0067 ∷ []) a1 a2 (Some a8) refl refl
       (run_more (λ h. h.pc) step y 0xfd430313 (z ∷ 0x00135313 ∷ 0x0082b283 ∷ 0x000e0067 ∷ []) a2 a3 (Some a8) (steps_as y (sums (loads 3) 28 7 0 i) a2 third) refl
-      (run_more (λ h. h.pc) step 0xfd430313 z (0x00135313 ∷ 0x0082b283 ∷ 0x000e0067 ∷ []) a3 a4 (Some a8) (steps_as 0xfd430313 (sums adds 6 6 0 (negsuc 43)) a3 addi_is) refl
+      (run_more (λ h. h.pc) step 0xfd430313 z (0x00135313 ∷ 0x0082b283 ∷ 0x000e0067 ∷ []) a3 a4 (Some a8) (steps_as 0xfd430313 (sums adds 6 6 0 (negsuc 43)) a3 refl) refl
       (run_more (λ h. h.pc) step z 0x00135313 (0x0082b283 ∷ 0x000e0067 ∷ []) a4 a5 (Some a8) (steps_as z (sums adds 5 7 0 j) a4 fifth) refl
       (run_more (λ h. h.pc) step 0x00135313 0x0082b283 (0x000e0067 ∷ []) a5 a6 (Some a8) refl refl
-      (run_more (λ h. h.pc) step 0x0082b283 0x000e0067 [] a6 a7 (Some a8) (steps_as 0x0082b283 (sums (loads 3) 5 5 0 (pos 8)) a6 ld_is) refl
+      (run_more (λ h. h.pc) step 0x0082b283 0x000e0067 [] a6 a7 (Some a8) (steps_as 0x0082b283 (sums (loads 3) 5 5 0 (pos 8)) a6 refl) refl
       (steps_as 0x000e0067 (sums jumps 0 28 0 (pos 0)) a7 jr_is)))))))
-
-  t0_is : register a8 5 ≡ load_number 3 (loaded 8 t.memory (moved (moved (moved t.pc u) j) (pos 8)))
-  unfolding a1 a2 a3 a4 a5 a6 a7 a8
-  t0_is = refl
-
-  t1_is : register a8 6 ≡ moved (difference_64 (register t 6) (register t 28)) (negsuc 43) / 2 ^ 1
-  unfolding a1 a2 a3 a4 a5 a6 a7 a8
-  t1_is = refl
-
-  t3_is : register a7 28 ≡ load_number 3 (loaded 8 t.memory (moved (moved t.pc u) i))
-  unfolding a1 a2 a3 a4 a5 a6 a7
-  t3_is = refl
-
-  end_is : a8.pc ≡ moved (register a7 28) (pos 0) - moved (register a7 28) (pos 0) % 2
-  unfolding a8
-  end_is = refl
-
-  memory_is : a8.memory ≡ t.memory
-  unfolding a1 a2 a3 a4 a5 a6 a7 a8
-  memory_is = refl
-
-  floats_are : a8.floats ≡ t.floats
-  unfolding a1 a2 a3 a4 a5 a6 a7 a8
-  floats_are = refl
 
   kept : (n : ℕ) → ((n == 5 || n == 6) || (n == 7 || n == 28)) ≡ false → register a8 n ≡ register t n
   unfolding a1 a2 a3 a4 a5 a6 a7 a8
@@ -243,6 +200,7 @@ module _ (t : Hart) (u i j : ℤ) where
       ∙ other 7 (moved t.pc u) t n high.0
 
 pub resolves : RelativeAddresses → laws.Resolves
+unfolding a1 a2 a3 a4 a5 a6 a7 a8
 resolves relative entry first inside below bounded within aligned small_index placed code is header is_header resolver object
     resolver_small resolver_even object_small h at to_header holds next =
     let e = enters relative entry inside below code is entry.header within (omega (arith, aligned)) h at to_header in
@@ -259,12 +217,9 @@ resolves relative entry first inside below bounded within aligned small_index pl
     let auipc_t2 = padded (code_of_words (0x00000397 ∷ [])) in
     let ld_t3 = padded (code_of_words (0x0003be03 ∷ [])) in
     let addi_t0 = padded (code_of_words (0x00038293 ∷ [])) in
-    let high = applies riscv_name row_of r.R_RISCV_PCREL_HI20 (field_of 0 (riscv_name r.R_RISCV_PCREL_HI20)) o auipc_t2 is_header.0 tt refl
-    is_header.2.1.0 is_header.2.1.1 is_header.2.1.2 in
-    let low = applies riscv_name row_of r.R_RISCV_PCREL_LO12_I (field_of 0 (riscv_name r.R_RISCV_PCREL_LO12_I)) o ld_t3 p3.0 tt refl
-    p3.2.1.0 p3.2.1.1 p3.2.1.2 in
-    let sum = applies riscv_name row_of r.R_RISCV_PCREL_LO12_I (field_of 0 (riscv_name r.R_RISCV_PCREL_LO12_I)) o addi_t0 p5.0 tt refl
-    p5.2.1.0 p5.2.1.1 p5.2.1.2 in
+    let high = applies riscv_name row_of r.R_RISCV_PCREL_HI20 (field_of 0 (riscv_name r.R_RISCV_PCREL_HI20)) o auipc_t2 is_header.0 tt refl is_header.2.1 in
+    let low = applies riscv_name row_of r.R_RISCV_PCREL_LO12_I (field_of 0 (riscv_name r.R_RISCV_PCREL_LO12_I)) o ld_t3 p3.0 tt refl p3.2.1 in
+    let sum = applies riscv_name row_of r.R_RISCV_PCREL_LO12_I (field_of 0 (riscv_name r.R_RISCV_PCREL_LO12_I)) o addi_t0 p5.0 tt refl p5.2.1 in
     let a = high.applied in
     let b = low.applied in
     let c = sum.applied in
@@ -274,21 +229,13 @@ resolves relative entry first inside below bounded within aligned small_index pl
     let u = (riscv_form UType).machine x in
     let i = (riscv_form IType).machine y in
     let j = (riscv_form IType).machine z in
-    let leads = leads_to relative places within bounded t.pc gone.pc auipc_t2 is_header.0 ld_t3 p3.0 a b in
-    let sums_to = leads_to relative places within bounded t.pc gone.pc auipc_t2 is_header.0 addi_t0 p5.0 a c in
-    let w7 : words 1 p6.1 ≡ 0x000e0067 ∷ [] = ap (words 1) (p7.4 ∙ ap (λ p. take 4 p ++ p7.1) p7.2.1) in
-    let w6 : words 3 p5.1 ≡ 0x00135313 ∷ 0x0082b283 ∷ 0x000e0067 ∷ [] =
-    ap (words 3) (p6.4 ∙ ap (λ p. take 8 p ++ p6.1) p6.2.1) ∙ ap (λ l. 0x00135313 ∷ 0x0082b283 ∷ l) w7 in
-    let w5 : words 4 p4.1 ≡ z ∷ 0x00135313 ∷ 0x0082b283 ∷ 0x000e0067 ∷ [] =
-    one_word p5.0 p5.1 p4.1 p5.2.0 3 z (0x00135313 ∷ 0x0082b283 ∷ 0x000e0067 ∷ []) p5.4 refl w6 in
-    let w4 : words 5 p3.1 ≡ 0xfd430313 ∷ z ∷ 0x00135313 ∷ 0x0082b283 ∷ 0x000e0067 ∷ [] =
-    ap (words 5) (p4.4 ∙ ap (λ p. take 4 p ++ p4.1) p4.2.1) ∙ ap (λ l. 0xfd430313 ∷ l) w5 in
-    let w3 : words 6 p2.1 ≡ y ∷ 0xfd430313 ∷ z ∷ 0x00135313 ∷ 0x0082b283 ∷ 0x000e0067 ∷ [] =
-    one_word p3.0 p3.1 p2.1 p3.2.0 5 y (0xfd430313 ∷ z ∷ 0x00135313 ∷ 0x0082b283 ∷ 0x000e0067 ∷ []) p3.4 refl w4 in
-    let w2 : words 7 is_header.1 ≡ 0x41c30333 ∷ y ∷ 0xfd430313 ∷ z ∷ 0x00135313 ∷ 0x0082b283 ∷ 0x000e0067 ∷ [] =
-    ap (words 7) (p2.4 ∙ ap (λ p. take 4 p ++ p2.1) p2.2.1) ∙ ap (λ l. 0x41c30333 ∷ l) w3 in
     let w1 : words 8 header ≡ x ∷ 0x41c30333 ∷ y ∷ 0xfd430313 ∷ z ∷ 0x00135313 ∷ 0x0082b283 ∷ 0x000e0067 ∷ [] =
-    one_word is_header.0 is_header.1 header is_header.2.0 7 x (0x41c30333 ∷ y ∷ 0xfd430313 ∷ z ∷ 0x00135313 ∷ 0x0082b283 ∷ 0x000e0067 ∷ []) is_header.4 refl w2 in
+    one_word is_header.0 is_header.1 header is_header.2.0 7 x (0x41c30333 ∷ y ∷ 0xfd430313 ∷ z ∷ 0x00135313 ∷ 0x0082b283 ∷ 0x000e0067 ∷ []) is_header.4 refl
+    (ap (words 7) (p2.4 ∙ ap (λ p. take 4 p ++ p2.1) p2.2.1) ∙ ap (λ l. 0x41c30333 ∷ l)
+    (one_word p3.0 p3.1 p2.1 p3.2.0 5 y (0xfd430313 ∷ z ∷ 0x00135313 ∷ 0x0082b283 ∷ 0x000e0067 ∷ []) p3.4 refl
+    (ap (words 5) (p4.4 ∙ ap (λ p. take 4 p ++ p4.1) p4.2.1) ∙ ap (λ l. 0xfd430313 ∷ l)
+    (one_word p5.0 p5.1 p4.1 p5.2.0 3 z (0x00135313 ∷ 0x0082b283 ∷ 0x000e0067 ∷ []) p5.4 refl
+    (ap (words 3) (p6.4 ∙ ap (λ p. take 8 p ++ p6.1) p6.2.1) ∙ ap (λ l. 0x00135313 ∷ 0x0082b283 ∷ l) (ap (words 1) (p7.4 ∙ ap (λ p. take 4 p ++ p7.1) p7.2.1))))))) in
     let ran : run (words 8 header) t ≡ Some (a8 t u i j) =
     ap (λ ws. run ws t) w1
     ∙ runs_header t u i j x y z (upper_word Relative o auipc_t2 is_header.0 a 7 refl refl)
@@ -296,25 +243,25 @@ resolves relative entry first inside below bounded within aligned small_index pl
     (sum_word RelativeRiscVLow12 o addi_t0 p5.0 c 5 7 refl refl refl refl) in
     let memory : loaded 8 t.memory first ≡ resolver = ap (λ m. loaded 8 m first) gone.memory ∙ holds in
     let to : register (a7 t u i j) 28 ≡ resolver =
-    t3_is t u i j ∙ ap (λ n. load_number 3 (loaded 8 t.memory n)) leads ∙ ap (load_number 3) memory
+    ap (λ n. load_number 3 (loaded 8 t.memory n)) (leads_to relative places within bounded t.pc gone.pc auipc_t2 is_header.0 ld_t3 p3.0 a b) ∙ ap (load_number 3) memory
     ∙ whole_number resolver resolver_small in
     let asked : Asks entry.index resolver object h (a8 t u i j) =
     record {
       pc =
-          end_is t u i j ∙ ap (λ n. moved n (pos 0) - moved n (pos 0) % 2) to
+          ap (λ n. moved n (pos 0) - moved n (pos 0) % 2) to
           ∙ ap (λ n. n - n % 2) (no_move resolver resolver_small) ∙ omega (arith, resolver_even);
       t0 =
-          t0_is t u i j ∙ ap (λ n. load_number 3 (loaded 8 t.memory (moved n (pos 8)))) sums_to
+          ap (λ n. load_number 3 (loaded 8 t.memory (moved n (pos 8)))) (leads_to relative places within bounded t.pc gone.pc auipc_t2 is_header.0 addi_t0 p5.0 a c)
           ∙ ap (λ n. load_number 3 (loaded 8 t.memory n)) (eight_on first bounded)
           ∙ ap (λ m. load_number 3 (loaded 8 m (sum_64 first 8))) gone.memory
           ∙ ap (load_number 3) next ∙ whole_number object object_small;
       t1 =
-          t1_is t u i j ∙ ap (λ n. moved (difference_64 n (register t 28)) (negsuc 43) / 2 ^ 1) gone.t1
+          ap (λ n. moved (difference_64 n (register t 28)) (negsuc 43) / 2 ^ 1) gone.t1
           ∙ ap (λ n. moved (difference_64 (sum_64 entry.address 12) n) (negsuc 43) / 2 ^ 1) gone.t3
           ∙ offset_is entry.header entry.index entry.address within small_index placed;
       integers = λ n e. kept t u i j n e ∙ gone.integers n (second_and_last (n == 5) (n == 6) (n == 7) (n == 28) e);
-      floats = floats_are t u i j ∙ gone.floats;
-      memory = memory_is t u i j ∙ gone.memory;
+      floats = gone.floats;
+      memory = gone.memory;
     } in
     subst (λ end. IsSomeAnd end (λ t. (t.pc ≡ entry.header)
     × IsSomeAnd (run (words 8 header) t) (Asks entry.index resolver object h))) (sym e.1)

@@ -5,11 +5,11 @@ use Rattle.linker_riscv64.specs.RiscVFields.{opcode_of, funct3_of, rd_of}
 use Rattle.linker_laws.specs.RiscVMachine.{loads}
 use Rattle.linker_laws.specs.RiscVRelocationLaws.{RelativeAddresses}
 use Rattle.linker_laws.specs.RiscVRewriteLaws.{word_of}
-use Rattle.linker_laws.proofs.RiscVMachine.{written}
 use Rattle.linker_elf.specs.declared.riscv64.relocations.RiscVRelocation.TheVariants as r
 use Rattle.linker_output.specs.RiscVOutput.{riscv_output}
 use Rattle.linker_output.specs.RiscVStubs.{GoesTo}
 use Rattle.linker_output.specs.RiscVStubs as stubs
+use Rattle.linker_output.proofs.LazyRuns.{no_move}
 use Rattle.linker_output.proofs.StubWords.{front_word, first_is, second_is, third_is, applies, no_addend, are_addresses}
 
 at_third : (pc : ℕ) → pc < 2 ^ 64 → difference_64 (sum_64 (sum_64 pc 4) 4) pc ≡ 8
@@ -32,30 +32,17 @@ module _ (h : Hart) (u : ℤ) (i : ℤ) (word target : ℕ) (small : target < 2 
   pub three : Hart
   three = executed 4 (sums jumps 0 28 0 (pos 0)) two
 
-  base_is : register one 28 ≡ moved h.pc u
-  unfolding one
-  base_is = written 28 (moved h.pc u) h (λ e. absurd (omega (arith, e)))
-
-  loaded_is : load_number 3 (loaded 8 one.memory word) ≡ target
-  unfolding one
-  loaded_is = ap (load_number 3) holds ∙ whole_number target small
-
   target_is : register two 28 ≡ target
-  unfolding two
+  unfolding one two
   target_is =
-      let address : moved (register one 28) i ≡ word = ap (λ n. moved n i) base_is ∙ leads in
-      written 28 (load_number 3 (loaded 8 one.memory (moved (register one 28) i))) one (λ e. absurd (omega (arith, e)))
-      ∙ ap (λ n. load_number 3 (loaded 8 one.memory n)) address
-      ∙ loaded_is
-
-  same : moved target (pos 0) ≡ target
-  same = omega (arith, ints, small)
+      ap (λ n. load_number 3 (loaded 8 h.memory n)) leads ∙ ap (load_number 3) holds
+      ∙ whole_number target small
 
   pc_is : three.pc ≡ target
   unfolding three
   pc_is =
       ap (λ n. moved n (pos 0) - moved n (pos 0) % 2) target_is
-      ∙ ap (λ n. n - n % 2) same ∙ omega (arith, even)
+      ∙ ap (λ n. n - n % 2) (no_move target small) ∙ omega (arith, even)
 
   others : (r : ℕ) → (r == 28) ≡ false → register three r ≡ register h r
   unfolding one two three
@@ -87,14 +74,11 @@ pub loads_go : RelativeAddresses → stubs.Loads
 loads_go relative place word target inside below small even code is h at holds =
     let stub = riscv_output.load_stub in
     let o = operands_of stub place word in
-    let addresses = are_addresses stub place word below in
     let pair = is.0 in
     let half = is.2.0 in
     let template = stub.pair in
-    let high = applies riscv_name (λ name. (riscv_relocation name).row) r.R_RISCV_PCREL_HI20 stub.first o template half tt refl
-    is.2.1.0 is.2.1.1 is.2.1.2 in
-    let low = applies riscv_name (λ name. (riscv_relocation name).row) r.R_RISCV_PCREL_LO12_I (field_of 4 (riscv_name r.R_RISCV_PCREL_LO12_I)) o half pair tt refl
-    is.2.2.0 is.2.2.1 is.2.2.2 in
+    let high = applies riscv_name (λ name. (riscv_relocation name).row) r.R_RISCV_PCREL_HI20 stub.first o template half tt refl is.2.1 in
+    let low = applies riscv_name (λ name. (riscv_relocation name).row) r.R_RISCV_PCREL_LO12_I (field_of 4 (riscv_name r.R_RISCV_PCREL_LO12_I)) o half pair tt refl is.2.2 in
     let a = high.applied in
     let b = low.applied in
     let old : word_of (drop 4 half) ≡ 0x000e3e03 = ap word_of a.written.rest in
@@ -105,10 +89,9 @@ loads_go relative place word target inside below small even code is h at holds =
     let len : length code ≡ 12 = ap length is.3 ∙ length-append pair stub.tail ∙ omega (arith, is.1) in
     let u = (riscv_form UType).machine (word_of half) in
     let i = (riscv_form IType).machine (word_of (drop 4 pair)) in
-    let here : h.pc < 2 ^ 64 = subst (λ p. p < 2 ^ 64) (sym at) inside in
     let leads : moved (moved h.pc u) i ≡ word =
     moved_twice h.pc u i ∙ ap (λ p. wrapped (pos p +ℤ (u +ℤ i))) (at ∙ sym (sum_zero place inside))
-    ∙ address_is _ _ (relative.0 o addresses o.place template half a tt o.place (drop 4 half) (drop 4 pair) b tt)
+    ∙ address_is _ _ (relative.0 o (are_addresses stub place word below) o.place template half a tt o.place (drop 4 half) (drop 4 pair) b tt)
     ∙ no_addend word below in
     let first : fetched code ≡ Some (4, auipc 28 u) =
     fetched_word code (auipc 28 u)
@@ -124,6 +107,6 @@ loads_go relative place word target inside below small even code is h at holds =
     (omega (arith, len, length-drop 8 code)) (ap (λ b. of_word (word_of b)) rest ∙ jr_is) in (
       three h u i word target small even leads holds,
       subst (λ p. Runs 3 code p h (three h u i word target small even leads holds)) at
-          (runs h u i word target small even leads holds code here first second third),
+          (runs h u i word target small even leads holds code (subst (λ p. p < 2 ^ 64) (sym at) inside) first second third),
       goes h u i word target small even leads holds,
     )

@@ -91,12 +91,11 @@ next : (front piece rest old new : List ℕ) (k : ℕ) → k ≡ length front �
     → new ≡ (take k old ++ piece) ++ drop (k + length piece) old
     → new ≡ (front ++ piece) ++ drop (length piece) rest
 next front piece rest old new k at is made =
-    let kept : take k old ≡ front = ap (take k) is ∙ take_at front rest k (sym at) in
     let following : drop (k + length piece) old ≡ drop (length piece) rest =
     sym (drop-drop (length piece) k old)
     ∙ ap (λ b. drop (length piece) (drop k b)) is
     ∙ ap (drop (length piece)) (drop_at front rest k (sym at)) in
-    made ∙ ap (λ b. (b ++ piece) ++ drop (k + length piece) old) kept
+    made ∙ ap (λ b. (b ++ piece) ++ drop (k + length piece) old) (ap (take k) is ∙ take_at front rest k (sym at))
     ∙ ap (λ b. (front ++ piece) ++ b) following
 
 pub pieces : (out head pair tail first second third : List ℕ) → length pair ≡ 8
@@ -105,13 +104,11 @@ pub pieces : (out head pair tail first second third : List ℕ) → length pair 
     → third ≡ (take (length head + 8) second ++ tail) ++ drop (length head + 8 + length tail) second
     → third ≡ (head ++ (pair ++ tail)) ++ drop (length head + 8 + length tail) out
 pieces out head pair tail first second third len a b d =
-    let one : first ≡ head ++ drop (length head) out = next [] head out out first 0 refl refl a in
-    let two = next head pair (drop (length head) out) first second (length head) refl one b in
     let both : length head + 8 ≡ length (head ++ pair) =
     sym (length-append head pair ∙ ap (λ n. length head + n) len) in
     let three =
     next (head ++ pair) tail (drop (length pair) (drop (length head) out)) second third
-    (length head + 8) both two d in
+    (length head + 8) both (next head pair (drop (length head) out) first second (length head) refl (next [] head out out first 0 refl refl a) b) d in
     three
     ∙ ap (λ c. c ++ drop (length tail) (drop (length pair) (drop (length head) out)))
     (append_assoc head pair tail)

@@ -1,5 +1,5 @@
 -- The words of a stub's code, and the relocations of its fields.
-use Rattle.linker_output.proofs.Imports.{◌≡◌, ℕ, ◌^◌, ◌<◌, refl, ◌∙◌, ap, subst, arith, List, [], ◌∷◌, ◌++◌, length, take, drop, Option, Some, pos, IsSomeAnd, w64, from_le_bytes, cast_unsigned, drop_at, sum_64, RowInfo, Operands, AreAddresses, w32, AppliesAt, StubCode, operands_of, StubField, IsNamedValue}
+use Rattle.linker_output.proofs.Imports.{◌≡◌, ℕ, ◌^◌, ◌<◌, ◌≤◌, refl, ◌∙◌, ap, subst, arith, List, [], ◌∷◌, ◌++◌, length, take, drop, Option, Some, pos, IsSomeAnd, w64, from_le_bytes, cast_unsigned, drop_at, sum_64, RowInfo, Operands, AreAddresses, w32, AppliesAt, StubCode, operands_of, StubField, IsNamedValue}
 use Rattle.linker_elf.specs.ElfNames.{ElfName, IsNamed, r_type_of}
 
 abbrev pub word : List ℕ → ℕ
@@ -14,14 +14,7 @@ front_word (a ∷ b ∷ []) = refl
 front_word (a ∷ b ∷ c ∷ []) = refl
 front_word (a ∷ b ∷ c ∷ d ∷ xs) = refl
 
-first_word : (xs ys : List ℕ) → length xs ≡ 8 → word (xs ++ ys) ≡ word xs
-first_word [] ys len = absurd (omega arith)
-first_word (a ∷ []) ys len = absurd (omega arith)
-first_word (a ∷ b ∷ []) ys len = absurd (omega arith)
-first_word (a ∷ b ∷ c ∷ []) ys len = absurd (omega arith)
-first_word (a ∷ b ∷ c ∷ d ∷ xs) ys len = refl
-
-later_word : (xs ys : List ℕ) → length xs ≡ 4 → word (xs ++ ys) ≡ word xs
+later_word : (xs ys : List ℕ) → 4 ≤ length xs → word (xs ++ ys) ≡ word xs
 later_word [] ys len = absurd (omega arith)
 later_word (a ∷ []) ys len = absurd (omega arith)
 later_word (a ∷ b ∷ []) ys len = absurd (omega arith)
@@ -38,7 +31,7 @@ second_word (a ∷ b ∷ c ∷ d ∷ xs) ys len = later_word xs ys (omega arith)
 -- of code that is a pair and what stands after it
 module _ (code pair tail : List ℕ) (len : length pair ≡ 8) (is : code ≡ pair ++ tail) where
   pub first_is : word code ≡ word pair
-  first_is = ap word is ∙ first_word pair tail len
+  first_is = ap word is ∙ later_word pair tail (omega arith)
 
   pub second_is : word (drop 4 code) ≡ word (drop 4 pair)
   second_is = ap (λ c. word (drop 4 c)) is ∙ second_word pair tail len
@@ -51,12 +44,11 @@ module _ (code pair tail : List ℕ) (len : length pair ≡ 8) (is : code ≡ pa
 pub applies : {N : Type 0} (elf : N → ElfName) (row_of : N → Option RowInfo) (name : N)
     (field : StubField) (o : Operands) (before after : List ℕ) → IsNamed (elf name)
     → r_type_of (elf name) ≡ field.relocation
-    → (row : RowInfo) → IsNamedValue elf row_of field.relocation (Some row)
-    → AppliesAt field o before after row
+    → (row : RowInfo) × IsNamedValue elf row_of field.relocation (Some row) × AppliesAt field o before after row
     → IsSomeAnd (row_of name) (λ row. AppliesAt field o before after row)
-applies elf row_of name field o before after named same row is applied =
+applies elf row_of name field o before after named same is =
     subst (λ v. IsSomeAnd v (λ row. AppliesAt field o before after row))
-    (is.value_is ∙ ap row_of (is.is_name.named name named same)) applied
+    (is.1.value_is ∙ ap row_of (is.1.is_name.named name named same)) is.2
 
 -- ---- operands
 

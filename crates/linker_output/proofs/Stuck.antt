@@ -52,10 +52,8 @@ module _ (code : Code) (groups : List Group) (before : List ℕ) (branch : Branc
         → start_of code.boundaries.now before (passed code.boundaries.now branch.offset) + code.shape.len * (group_at groups (passed code.boundaries.now branch.offset)).front ≤ start_of code.boundaries.now before k
     edge_within k h within =
         let a = ends_before code groups before is_code laid len (passed code.boundaries.now branch.offset) k h within in
-        let b = fits_at code groups before is_code laid len (passed code.boundaries.now branch.offset) (omega arith) in
         let f : (group_at groups (passed code.boundaries.now branch.offset)).front ≤ stubs_in (group_at groups (passed code.boundaries.now branch.offset)) = omega arith in
-        let m = mul-le-mul_left code.shape.len f in
-        omega arith
+        omega (arith, fits_at code groups before is_code laid len (passed code.boundaries.now branch.offset) (omega arith), mul-le-mul_left code.shape.len f)
 
     pub ahead : (k : ℕ) → passed code.boundaries.now branch.offset ≤ k → k < length code.boundaries.now
         → ¬ ReachesAt code before branch (start_of code.boundaries.now before k + code.shape.len * (group_at groups k).front)
@@ -88,20 +86,13 @@ module _ (code : Code) (groups : List Group) (before : List ℕ) (branch : Branc
         (λ (less : k + 1 < passed code.boundaries.now branch.offset).
         let w = passed_within in
         let b : ℕ = passed code.boundaries.now branch.offset - 1 in
-        let e : b + 1 ≡ passed code.boundaries.now branch.offset = omega arith in
-        let edge = edge_after b e in
+        let edge = edge_after b (omega arith) in
         let r = reached.backward in
         let a = ends_before code groups before is_code laid len k b (omega arith) (omega arith) in
-        let f = fits_at code groups before is_code laid len b (omega arith) in
         let n : (group_at groups b).back ≤ stubs_in (group_at groups b) = omega arith in
-        let m = mul-le-mul_left code.shape.len n in
-        let one = mul-le-mul_left code.shape.len (least (group_at groups k).back) in
-        absurd (omega arith))
+        absurd (omega (arith, fits_at code groups before is_code laid len b (omega arith), mul-le-mul_left code.shape.len n, mul-le-mul_left code.shape.len (least (group_at groups k).back))))
         (λ (same : passed code.boundaries.now branch.offset ≤ k + 1).
-        let e : k + 1 ≡ passed code.boundaries.now branch.offset = omega arith in
-        let edge = edge_after k e in
-        let r = reached.backward in
-        absurd (omega arith))
+        absurd (omega (arith, edge_after k (omega arith), reached.backward)))
         (cases_lt (k + 1) (passed code.boundaries.now branch.offset))
       where
         least : (n : ℕ) → 1 ≤ n + 1
@@ -111,9 +102,8 @@ module _ (code : Code) (groups : List Group) (before : List ℕ) (branch : Branc
     at_next : (part : Part) (s : StubAt) → s.boundary < length code.boundaries.now → s.index < part_of part (group_at groups s.boundary) → ¬ IsNearIn part code branch s → s.boundary ≡ passed code.boundaries.now branch.offset
         → ¬ ReachesAt code before branch (place_in part (start_of code.boundaries.now before s.boundary) (end_of code.boundaries.now before s.boundary) code.shape.len (group_at groups s.boundary) s.index)
     at_next Front s within index far e reached =
-        let same = ap (at before) e in
         let r = reached in
-        far (e, record { forward = omega (arith, r.forward); backward = omega (arith, r.backward) })
+        far (e, record { forward = omega (arith, ap (at before) e, r.forward); backward = omega (arith, ap (at before) e, r.backward) })
     at_next Middle s within index far e reached =
         let product = mul-le-mul_left code.shape.len (least (group_at groups s.boundary).front s.index) in
         let edge : start_of code.boundaries.now before (passed code.boundaries.now branch.offset) + code.shape.len * (group_at groups (passed code.boundaries.now branch.offset)).front ≤ start_of code.boundaries.now before s.boundary + code.shape.len * ((group_at groups s.boundary).front + s.index) = subst (λ b. start_of code.boundaries.now before b + code.shape.len * (group_at groups b).front ≤ start_of code.boundaries.now before s.boundary + code.shape.len * ((group_at groups s.boundary).front + s.index)) e (omega arith) in
@@ -131,22 +121,17 @@ module _ (code : Code) (groups : List Group) (before : List ℕ) (branch : Branc
     at_last : (part : Part) (s : StubAt) → s.boundary < length code.boundaries.now → s.index < part_of part (group_at groups s.boundary) → ¬ IsNearIn part code branch s → s.boundary + 1 ≡ passed code.boundaries.now branch.offset
         → ¬ ReachesAt code before branch (place_in part (start_of code.boundaries.now before s.boundary) (end_of code.boundaries.now before s.boundary) code.shape.len (group_at groups s.boundary) s.index)
     at_last Front s within index far e reached =
-        let fits = fits_at code groups before is_code laid len s.boundary within in
         let most : s.index + ((group_at groups s.boundary).back + 1) ≤ stubs_in (group_at groups s.boundary) = omega arith in
-        let product = mul-le-mul_left code.shape.len most in
-        out_to unreached.1 s.boundary _ e (omega arith) reached
+        out_to unreached.1 s.boundary _ e (omega (arith, fits_at code groups before is_code laid len s.boundary within, mul-le-mul_left code.shape.len most)) reached
     at_last Middle s within index far e reached =
-        let fits = fits_at code groups before is_code laid len s.boundary within in
         let most : (group_at groups s.boundary).front + s.index + ((group_at groups s.boundary).back + 1) ≤ stubs_in (group_at groups s.boundary) = omega arith in
-        let product = mul-le-mul_left code.shape.len most in
-        out_to unreached.1 s.boundary _ e (omega arith) reached
+        out_to unreached.1 s.boundary _ e (omega (arith, fits_at code groups before is_code laid len s.boundary within, mul-le-mul_left code.shape.len most)) reached
     at_last Back s within index far e reached =
         let fits = fits_at code groups before is_code laid len s.boundary within in
         let most : s.index + 1 ≤ stubs_in (group_at groups s.boundary) = omega arith in
         let product = mul-le-mul_left code.shape.len most in
-        let same = ap (at before) e in
         let r = reached in
-        far (e, record { forward = omega (arith, r.forward); backward = omega (arith, r.backward) })
+        far (e, record { forward = omega (arith, ap (at before) e, r.forward); backward = omega (arith, ap (at before) e, r.backward) })
 
     pub stub_out : (s : StubAt) → HasPart code groups s → ¬ IsNear code branch s → ¬ ReachesAt code before branch (place_of code groups before s)
     stub_out s has far reached =

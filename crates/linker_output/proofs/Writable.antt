@@ -23,8 +23,7 @@ pub accepted_of_front : (row : RowInfo) (v : ℤ) (bytes : List ℕ) (n : ℕ)
     → n ≡ min (length bytes) 8 → IsAccepted row v (take n bytes) → IsAccepted row v bytes
 accepted_of_front row v bytes n is accepted =
     let len : length (take n bytes) ≡ n = length-take-le n bytes (omega arith) in
-    let long = accepted.long in
-    accepted_same row v (take n bytes) bytes (front_window row n bytes (omega arith)) (omega arith) accepted
+    accepted_same row v (take n bytes) bytes (front_window row n bytes (omega (arith, accepted.long))) (omega (arith, accepted.long)) accepted
 
 pub cause_of_front : (row : RowInfo) (v : ℤ) (bytes : List ℕ) (n : ℕ)
     (error : RelocateError) → n ≡ min (length bytes) 8 → IsCause row v (take n bytes) error
@@ -41,10 +40,9 @@ cause_of_front row v bytes n Misaligned is cause =
     (cause.0, omega arith, λ all. cause.2 (multiple_same row v bytes (take n bytes) (back_window row n bytes fits) all))
 cause_of_front row v bytes n OutOfReach is cause =
     let len : length (take n bytes) ≡ n = length-take-le n bytes (omega arith) in
-    let long = cause.1 in
-    let fits : window_len row ≤ n = omega arith in (
+    let fits : window_len row ≤ n = omega (arith, cause.1) in (
       cause.0,
-      omega arith,
+      omega (arith, cause.1),
       multiple_same row v (take n bytes) bytes (front_window row n bytes fits) (cause.2),
       λ all. cause.3 (reached_same row v bytes (take n bytes) (back_window row n bytes fits) all),
     )

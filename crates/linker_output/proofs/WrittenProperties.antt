@@ -143,14 +143,10 @@ pub header_put : (h n : ℕ) (ws before middle one after : List ℕ) → 16 + 8 
     → after ≡ bytes_of (h ∷ n ∷ ws) ++ drop (16 + 8 * length ws) before
 header_put h n ws before middle one after room same same_one p q r =
     let rest = drop (16 + 8 * length ws) before in
-    let m = p.put room in
     let both : Puts 0 (h ∷ n ∷ []) middle after = puts_append 0 8 (h ∷ []) (n ∷ []) middle one after (omega arith) (omega arith) q r in
-    let a = both.put (omega arith) in
-    let len = length-take-le 16 before (omega arith) in
-    let d : drop 16 middle ≡ bytes_of ws ++ rest = ap (drop 16) m ∙ drop_at (take 16 before) (bytes_of ws ++ rest) 16 len in
-    let bs = bytes_append (h ∷ n ∷ []) ws in
-    a ∙ ap (λ xs. bytes_of (h ∷ n ∷ []) ++ xs) d ∙ sym (append_assoc (bytes_of (h ∷ n ∷ [])) (bytes_of ws) rest)
-    ∙ ap (λ xs. xs ++ rest) (sym bs)
+    let d : drop 16 middle ≡ bytes_of ws ++ rest = ap (drop 16) (p.put room) ∙ drop_at (take 16 before) (bytes_of ws ++ rest) 16 (length-take-le 16 before (omega arith)) in
+    (both.put (omega arith)) ∙ ap (λ xs. bytes_of (h ∷ n ∷ []) ++ xs) d ∙ sym (append_assoc (bytes_of (h ∷ n ∷ [])) (bytes_of ws) rest)
+    ∙ ap (λ xs. xs ++ rest) (sym (bytes_append (h ∷ n ∷ []) ws))
 
 pub empty_note : (a : Architecture) (ps : List Property) (before : List ℕ) → length ps ≡ 0 → WritesNote a ps before before 0
 unfolding bytes_of

@@ -98,8 +98,7 @@ pub enters : (entry : LazyEntry) → entry.address < 2 ^ 64 → entry.word < 2 ^
 enters entry inside below code is s at =
     let o = operands Word 2 (negsuc 3) entry in
     let jmp = padded (0xff ∷ 0x25 ∷ 0 ∷ 0 ∷ 0 ∷ 0 ∷ []) in
-    let field = applies x86_64_name x86_64_row r.R_X86_64_PC32 (field_of 2 (x86_64_name r.R_X86_64_PC32)) o jmp is.0 tt refl
-    is.2.1.0 is.2.1.1 is.2.1.2 in
+    let field = applies x86_64_name x86_64_row r.R_X86_64_PC32 (field_of 2 (x86_64_name r.R_X86_64_PC32)) o jmp is.0 tt refl is.2.1 in
     let addresses = are_addresses_at (record { field = field_of 2 (x86_64_name r.R_X86_64_PC32); target = Word; origin = 2; addend = negsuc 3 }) entry below in
     let d = extended (number_of_bytes 4 (drop 2 is.0)) in
     let leads : sum_64 (sum_64 s.ip 6) d ≡ entry.word =
@@ -253,8 +252,8 @@ to_header entry k others most inside within small code rest from is s ip at firs
     let jmp = padded (0xe9 ∷ 0 ∷ 0 ∷ 0 ∷ 0 ∷ []) in
     let f : LazyField = record { field = field_of 1 (x86_64_name r.R_X86_64_32S); target = Index; origin = 0; addend = pos 0 } in
     let g : LazyField = record { field = field_of 1 (x86_64_name r.R_X86_64_PC32); target = Header; origin = k + 6; addend = negsuc 3 } in
-    let a = applies x86_64_name x86_64_row r.R_X86_64_32S (field_of 1 (x86_64_name r.R_X86_64_32S)) (operands_at f entry) push is.0 tt refl is.2.1.0 is.2.1.1 is.2.1.2 in
-    let b = applies x86_64_name x86_64_row r.R_X86_64_PC32 (field_of 1 (x86_64_name r.R_X86_64_PC32)) (operands_at g entry) jmp p2.0 tt refl p2.2.1.0 p2.2.1.1 p2.2.1.2 in
+    let a = applies x86_64_name x86_64_row r.R_X86_64_32S (field_of 1 (x86_64_name r.R_X86_64_32S)) (operands_at f entry) push is.0 tt refl is.2.1 in
+    let b = applies x86_64_name x86_64_row r.R_X86_64_PC32 (field_of 1 (x86_64_name r.R_X86_64_PC32)) (operands_at g entry) jmp p2.0 tt refl p2.2.1 in
     let n = extended (number_of_bytes 4 (drop 1 is.0)) in
     let d = extended (number_of_bytes 4 (drop 1 p2.0)) in
     let number : sum_64 0 n ≡ sum_64 entry.index (cast_unsigned w64 (pos 0)) =
@@ -328,8 +327,8 @@ resolves_by pieces LeadsOn push_on entry first inside below bounded within small
     let jmp = padded (0xff ∷ 0x25 ∷ 0 ∷ 0 ∷ 0 ∷ 0 ∷ []) in
     let f : LazyField = record { field = field_of 2 (x86_64_name r.R_X86_64_PC32); target = Word; origin = 2; addend = pos 4 } in
     let g : LazyField = record { field = field_of 2 (x86_64_name r.R_X86_64_PC32); target = Word; origin = 8; addend = pos 12 } in
-    let a = applies x86_64_name x86_64_row r.R_X86_64_PC32 (field_of 2 (x86_64_name r.R_X86_64_PC32)) (operands_at f places) push is_header.0 tt refl is_header.2.1.0 is_header.2.1.1 is_header.2.1.2 in
-    let b = applies x86_64_name x86_64_row r.R_X86_64_PC32 (field_of 2 (x86_64_name r.R_X86_64_PC32)) (operands_at g places) jmp p2.0 tt refl p2.2.1.0 p2.2.1.1 p2.2.1.2 in
+    let a = applies x86_64_name x86_64_row r.R_X86_64_PC32 (field_of 2 (x86_64_name r.R_X86_64_PC32)) (operands_at f places) push is_header.0 tt refl is_header.2.1 in
+    let b = applies x86_64_name x86_64_row r.R_X86_64_PC32 (field_of 2 (x86_64_name r.R_X86_64_PC32)) (operands_at g places) jmp p2.0 tt refl p2.2.1 in
     let d = extended (number_of_bytes 4 (drop 2 is_header.0)) in
     let d2 = extended (number_of_bytes 4 (drop 2 p2.0)) in
     let second_word : sum_64 (sum_64 start 2) d ≡ sum_64 first (cast_unsigned w64 (pos 4)) =

@@ -14,12 +14,9 @@ pub loads_go : stubs.Loads
 loads_go place word inside below code is s at =
     let stub = x86_64_output.load_stub in
     let o = operands_of stub place word in
-    let pair = is.0 in
     let half = is.2.0 in
     let template = stub.pair in
-    let field = applies x86_64_name x86_64_row r.R_X86_64_PC32 stub.first o template half tt refl
-    is.2.1.0 is.2.1.1 is.2.1.2 in
-    let same : code ≡ half = is.3 ∙ append-nil pair ∙ is.2.2 in
+    let field = applies x86_64_name x86_64_row r.R_X86_64_PC32 stub.first o template half tt refl is.2.1 in
     let rest = drop 2 half in
     let bytes : half ≡ 0xff ∷ 0x25 ∷ rest =
     sym (take-append-drop 2 half) ∙ ap (λ b. b ++ rest) field.kept in
@@ -28,7 +25,7 @@ loads_go place word inside below code is s at =
     word_from_next s.ip d word (subst (λ p. p < 2 ^ 64) (sym at) inside) below
     (ap (λ p. sum_64 (sum_64 p 2) d) at
     ∙ place_field o (are_addresses stub place word below) (drop 2 template) rest field.applied) in
-    ap (λ b. step b s) (same ∙ bytes)
+    ap (λ b. step b s) ((is.3 ∙ append-nil is.0 ∙ is.2.2) ∙ bytes)
     ∙ ap (λ a. Some (record s { ip = load 8 s a })) leads
 
 -- ---- after `endbr64`
@@ -39,8 +36,7 @@ landing_loads_go place word inside below code is s at =
     let o = operands_of stub place word in
     let half = is.2.0 in
     let template = stub.pair in
-    let field = applies x86_64_name x86_64_row r.R_X86_64_PC32 stub.first o template half tt refl
-    is.2.1.0 is.2.1.1 is.2.1.2 in
+    let field = applies x86_64_name x86_64_row r.R_X86_64_PC32 stub.first o template half tt refl is.2.1 in
     let rest = drop 6 half ++ stub.tail in
     let d = extended (number_of_bytes 4 (drop 2 half)) in
     let s1 : State = record s { ip = sum_64 s.ip 4 } in
@@ -53,11 +49,9 @@ landing_loads_go place word inside below code is s at =
     let split : drop 4 code ≡ take 6 half ++ rest =
     ap (drop 4) is.3 ∙ ap (λ p. p ++ stub.tail) (is.2.2 ∙ sym (take-append-drop 6 half))
     ∙ append_assoc (take 6 half) (drop 6 half) stub.tail in
-    let len : length half ≡ 8 = ap length (sym is.2.2) ∙ is.1 in
     let none : difference_64 s.ip place ≡ 0 = ap (λ p. difference_64 p place) at ∙ omega (arith, inside) in
     let four : difference_64 s1.ip place ≡ 4 = ap (λ p. difference_64 p place) at_4 ∙ omega (arith, inside) in
-    let first : lazy.step code s ≡ Some s1 = ap (λ c. lazy.step c s) is.3 in
     let second : lazy.step (drop 4 code) s1 ≡ Some (record s { ip = load 8 s word }) =
-    ap (λ c. lazy.step c s1) split ∙ by_word half rest s1 len field.kept ∙ ap (λ a. Some (record s { ip = load 8 s a })) leads in
-    run_step 1 code place 0 s (Some s1) none first
+    ap (λ c. lazy.step c s1) split ∙ by_word half rest s1 (ap length (sym is.2.2) ∙ is.1) field.kept ∙ ap (λ a. Some (record s { ip = load 8 s a })) leads in
+    run_step 1 code place 0 s (Some s1) none (ap (λ c. lazy.step c s) is.3)
     ∙ run_step 0 code place 4 s1 (Some (record s { ip = load 8 s word })) four second

@@ -39,18 +39,16 @@ returns-in-Some-clause-err c =
     let state = c.settle.new.self in
     let places = c.settle.new.places in
     let s = c.in_ok-stuck.ensures in
-    let len = c.in_ok-before.ensures in
     let was = with_items c.in_ok-before.before c.settle.new.before in
     let e : was.items ≡ c.settle.new.before = with_items_is c.in_ok-before.before c.settle.new.before (omega arith) in
     let out = rw c.in-Some.is at s.settled in
     let stuck_in : IsStuckIn code c.settle.new.before places.items state c.in-Some.index = out.0 in
-    let within = stuck_in.within in
     let is = is_layout code state places was c.settle.new.before c.requires s.state s.laid_out s.places e in (
       c.requires,
       stuck_in.within,
       is,
       stuck code state (layout code state places was c.settle.new.before c.requires s.state s.laid_out s.places e) c.in-Some.index c.requires s.state is refl refl (subst (λ b. IsStuckIn code b places.items state c.in-Some.index) (sym e) stuck_in),
-      go code state places was c.settle.new.before c.requires s.state s.laid_out s.places e c.in-Some.index (omega arith) out.1,
+      go code state places was c.settle.new.before c.requires s.state s.laid_out s.places e c.in-Some.index (omega (arith, c.in_ok-before.ensures, stuck_in.within)) out.1,
     )
 
 pub returns-in-Some-first_short-clause-err : goal.returns-in-Some-first_short-clause-err
@@ -59,7 +57,6 @@ returns-in-Some-first_short-clause-err c =
     let state = c.settle.new.self in
     let places = c.settle.new.places in
     let s = c.in_ok-stuck.ensures in
-    let len = c.in_ok-before.ensures in
     let was = with_items c.in_ok-before.before c.settle.new.before in
     let e : was.items ≡ c.settle.new.before = with_items_is c.in_ok-before.before c.settle.new.before (omega arith) in
     let served : AreServed code c.settle.new.before places.items state.ways.items (length code.branches.now) = rw c.in-None.is at s.settled in
@@ -69,7 +66,7 @@ returns-in-Some-first_short-clause-err c =
       is_layout code state places was c.settle.new.before c.requires s.state s.laid_out s.places e,
       short.1,
       short.2,
-      go code state places was c.settle.new.before c.requires s.state s.laid_out s.places e (length code.branches.now) (omega arith) served,
+      go code state places was c.settle.new.before c.requires s.state s.laid_out s.places e (length code.branches.now) (omega (arith, c.in_ok-before.ensures)) served,
     )
 
 pub returns-clause-few : goal.returns-clause-few

@@ -15,16 +15,14 @@ loop-index-preserved c =
     let d : Property = record { kind = 0; value = 0; version = 0 } in
     let p = get_or ps l.index d in
     let rule = c.in_ok-rule.rule in
-    let put = c.put_property-at.ensures in
     let left : Words a ps i.0 l.least l.index (p ∷ drop (l.index + 1) ps) =
     subst (Words a ps i.0 l.least l.index) (drop_more ps l.index d c.loop-index-test.true) i.1 in
-    let step = one_more a ps i.0 l.least l.index p rule (drop (l.index + 1) ps) c.in_ok-rule.ensures.ok left in
     let lens = length-append i.0 (property_words rule p) in
     let few = word_count rule p in
     let same : length l.note ≡ length c.args.note.now = omega arith in (
       i.0 ++ property_words rule p,
-      rw c.from-least.ensures step,
+      rw c.from-least.ensures (one_more a ps i.0 l.least l.index p rule (drop (l.index + 1) ps) c.in_ok-rule.ensures.ok left),
       omega arith,
-      puts_append 16 l.at i.0 (property_words rule p) c.args.note.now l.note c.put_property-at.new.note i.2 same i.3 put.written,
+      puts_append 16 l.at i.0 (property_words rule p) c.args.note.now l.note c.put_property-at.new.note i.2 same i.3 c.put_property-at.ensures.written,
       omega arith,
     )

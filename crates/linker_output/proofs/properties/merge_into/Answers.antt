@@ -30,10 +30,9 @@ loop-kind-preserved c =
     elim c.match-property_rule.branch [
       | in-Some+in_ok-merged+in-Some-merged w ↦
           let p = w.in-Some-merged.property in
-          let r : rule_of a l.kind ≡ Some w.in-Some.rule = sym c.property_rule.ensures ∙ w.in-Some.is in
           let m : merged w.in-Some.rule l.kind (of_kind l.kind f) (of_kind l.kind s) ≡ Ok (Some p) =
           cc (w.merge_values.ensures, w.of_kind.ensures, w.of_kind-in-Some.ensures, w.in_ok-merged.was, w.in-Some-merged.is) in
-          let e : merged_kind a f s l.kind ≡ Ok (Some p) = rw r m in
+          let e : merged_kind a f s l.kind ≡ Ok (Some p) = rw (sym c.property_rule.ensures ∙ w.in-Some.is) m in
           let put : j.properties ≡ set (put_all i.0 c.args.properties.now) (length i.0) p = cc in (
             i.0 ++ p ∷ [],
             with a f s i.0 l.kind p e (merged_is w.in-Some.rule l.kind f s p m) i.1,
@@ -42,13 +41,11 @@ loop-kind-preserved c =
             omega arith,
           )
       | in-Some+in_ok-merged+in_default-merged w ↦
-          let r : rule_of a l.kind ≡ Some w.in-Some.rule = sym c.property_rule.ensures ∙ w.in-Some.is in
           let m : merged w.in-Some.rule l.kind (of_kind l.kind f) (of_kind l.kind s) ≡ Ok None =
           cc (w.merge_values.ensures, w.of_kind.ensures, w.of_kind-in-Some.ensures, w.in_ok-merged.was, w.in_default-merged.is) in
-          (i.0, without a f s i.0 l.kind (rw r m) i.1, cc, cc, omega arith)
+          (i.0, without a f s i.0 l.kind (rw (sym c.property_rule.ensures ∙ w.in-Some.is) m) i.1, cc, cc, omega arith)
       | in_default w ↦
-          let r : rule_of a l.kind ≡ None = sym c.property_rule.ensures ∙ w.in_default.is in
-          (i.0, without a f s i.0 l.kind (rw r refl) i.1, cc, cc, omega arith)
+          (i.0, without a f s i.0 l.kind (rw (sym c.property_rule.ensures ∙ w.in_default.is) refl) i.1, cc, cc, omega arith)
     ] in (
       ready.0,
       skip a f s ready.0 (l.kind + 1) n.result (omega arith)

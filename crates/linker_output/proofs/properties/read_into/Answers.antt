@@ -43,20 +43,17 @@ loop-place-preserved c =
     let i = c.loop-place.invariant in
     let r = i.1 in
     let e : visit a s v ≡ Ok w = sym c.visit.ensures ∙ c.in_ok-place.was in
-    let on = inside a s v w r.begun r.ended e in
-    (i.0, with_none a s i.0 v w c.loop-place-test.true e c.in_default.is r, i.2, i.3, omega arith)
+    (i.0, with_none a s i.0 v w c.loop-place-test.true e c.in_default.is r, i.2, i.3, omega (arith, inside a s v w r.begun r.ended e))
 
 pub loop-place-smaller-in-Some : goal.loop-place-smaller-in-Some
 loop-place-smaller-in-Some c =
     let r = c.loop-place.invariant.1 in
-    let on = inside c.args.architecture c.args.section.now c.loop-place.place c.in_ok-place.place r.begun r.ended (sym c.visit.ensures ∙ c.in_ok-place.was) in
-    omega arith
+    omega (arith, inside c.args.architecture c.args.section.now c.loop-place.place c.in_ok-place.place r.begun r.ended (sym c.visit.ensures ∙ c.in_ok-place.was))
 
 pub loop-place-smaller : goal.loop-place-smaller
 loop-place-smaller c =
     let r = c.loop-place.invariant.1 in
-    let on = inside c.args.architecture c.args.section.now c.loop-place.place c.in_ok-place.place r.begun r.ended (sym c.visit.ensures ∙ c.in_ok-place.was) in
-    omega arith
+    omega (arith, inside c.args.architecture c.args.section.now c.loop-place.place c.in_ok-place.place r.begun r.ended (sym c.visit.ensures ∙ c.in_ok-place.was))
 
 pub returns-clause-ok : goal.returns-clause-ok
 returns-clause-ok c =

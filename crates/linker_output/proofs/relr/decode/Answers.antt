@@ -18,9 +18,8 @@ loop-word-preserved c =
     subst (λ ys. Reads l.base ys l.count l.addresses fault len whole) (drop_more words i 0 c.loop-word-test.true) l.invariant.reads in
     elim c.if-word-eq0.branch [
       | then-word-eq0+else-word-ne0 v ↦
-          let e = v.from-base.ensures in
           record {
-            reads = rw (v.base-is, v.count-is, v.addresses-is, v.put-count.ensures.next, v.put-count.ensures.written, e)
+            reads = rw (v.base-is, v.count-is, v.addresses-is, v.put-count.ensures.next, v.put-count.ensures.written, v.from-base.ensures)
                 (reads_address l.base w ws l.count l.addresses fault len whole v.if-word-eq0.true v.if-word-ne0.false begun);
             bounded = omega (arith, Fits-lt-pow (c.type_inv.words i));
           }

@@ -9,19 +9,16 @@ loop-bit-init c = marks_none c.args.base c.args.bitmap c.args.index c.args.addre
 pub returns-then-address-clause-err : goal.returns-then-address-clause-err
 returns-then-address-clause-err c =
     let n = c.loop-bit.bit in
-    let one : bit_at c.args.bitmap (n + 1) ≡ 1 = sym (shr_and_one c.args.bitmap (n + 1)) ∙ c.if-bitmap-bit-eq1.true in
-    (refl, marked_wraps n c.args.base c.args.bitmap one (omega arith) (omega arith))
+    (refl, marked_wraps n c.args.base c.args.bitmap (sym (shr_and_one c.args.bitmap (n + 1)) ∙ c.if-bitmap-bit-eq1.true) (omega arith) (omega arith))
 
 pub loop-bit-preserved : goal.loop-bit-preserved
 loop-bit-preserved c =
     let l = c.loop-bit in
     let n = l.bit in
-    let bit = sym (shr_and_one c.args.bitmap (n + 1)) in
     elim c.if-bitmap-bit-eq1.branch [
       | then-bitmap-bit-eq1+else-address w ↦
-          let e = w.from.ensures in
-          let one : bit_at c.args.bitmap (n + 1) ≡ 1 = bit ∙ w.if-bitmap-bit-eq1.true in
-          rw (w.next-is, w.addresses-is, w.put-next.ensures.next, w.put-next.ensures.written, e)
+          let one : bit_at c.args.bitmap (n + 1) ≡ 1 = (sym (shr_and_one c.args.bitmap (n + 1))) ∙ w.if-bitmap-bit-eq1.true in
+          rw (w.next-is, w.addresses-is, w.put-next.ensures.next, w.put-next.ensures.written, w.from.ensures)
           (marks_with n c.args.base c.args.bitmap c.args.index c.args.addresses.now l.next l.addresses one (omega arith) (omega arith) l.invariant)
       | else-bitmap-bit-eq1 w ↦
           let clear : bit_at c.args.bitmap (n + 1) ≢ 1 = λ e. w.if-bitmap-bit-eq1.false (shr_and_one c.args.bitmap (n + 1) ∙ e) in

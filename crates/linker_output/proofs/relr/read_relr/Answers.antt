@@ -11,13 +11,11 @@ pub returns-clause-ok : goal.returns-clause-ok
 returns-clause-ok c =
     let xs = relocated 0 c.args.words.now in
     let e = c.in_ok-needed.ensures.ok in
-    let room : length xs ≤ length c.args.addresses.now = omega arith in
-    let written = put_first xs c.args.addresses.now room (omega arith) in
     IfOk-weaker c.decode-2.result _ (Unpacks c.args.words.now c.args.addresses.now c.decode-2.new.addresses)
     (λ n h. record {
       sound = h.0;
       counted = (let m = h.1 in omega arith);
       fits = (let m = h.1 in omega arith);
-      written = h.2 ∙ written;
+      written = h.2 ∙ (put_first xs c.args.addresses.now (omega arith) (omega arith));
     })
     c.decode-2.ensures.ok

@@ -14,8 +14,7 @@ returns-then-words-needed-clause-err c =
     let xs = c.args.addresses.now in
     let fit : are_addresses xs ≡ true = all_fit xs (λ i. Fits-lt-pow (c.type_inv.addresses i)) in
     let e = c.in_ok-needed.ensures.ok in
-    let few = few_words xs fit e.0 in
-    (words_of xs, packs xs fit e.0, omega arith, omega arith)
+    (words_of xs, packs xs fit e.0, omega (arith, few_words xs fit e.0), omega (arith, few_words xs fit e.0))
 
 pub returns-clause-ok : goal.returns-clause-ok
 returns-clause-ok c =
@@ -23,9 +22,7 @@ returns-clause-ok c =
     let fit : are_addresses xs ≡ true = all_fit xs (λ i. Fits-lt-pow (c.type_inv.addresses i)) in
     let e = c.in_ok-needed.ensures.ok in
     let few = few_words xs fit e.0 in
-    let room : length (words_of xs) ≤ length c.args.words.now = omega arith in
     IfOk-weaker c.encode-2.result _ (WritesPacked xs c.args.words.now c.encode-2.new.words)
     (λ n h.
-    let written = put_first (words_of xs) c.args.words.now room (omega arith) in
-    (words_of xs, packs xs fit e.0, (let m = h.1 in omega arith), (let m = h.1 in omega arith), h.2 ∙ written))
+    (words_of xs, packs xs fit e.0, (let m = h.1 in omega arith), (let m = h.1 in omega arith), h.2 ∙ (put_first (words_of xs) c.args.words.now (omega arith) (omega arith))))
     c.encode-2.ensures.ok

@@ -15,8 +15,7 @@ returns c =
     let same : v ≡ c.args.value = search rules in
     let row = c.args.row.now in
     let section = c.args.section.now in
-    let inside : c.args.offset ≤ length section = omega arith in
     subst (λ x. IsObstacle row x c.args.offset section c.obstacle_in.result) same
-    (obstacle_is row v c.args.offset section c.obstacle_in.result inside
+    (obstacle_is row v c.args.offset section c.obstacle_in.result (omega arith)
     (rw (take_rest section c.args.offset) at c.obstacle_in.ensures.none)
     (rw (take_rest section c.args.offset) at c.obstacle_in.ensures.some))

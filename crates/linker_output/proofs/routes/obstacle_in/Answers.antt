@@ -7,11 +7,9 @@ returns-in-Ok-clause-none c =
     let v = cast_signed w64 (cast_unsigned w64 c.args.value) in
     let same : v ≡ c.args.value = search rules in
     let n = c.min-len.result in
-    let front : c.copy_from_slice.new.self ≡ take n c.args.there.now = c.copy_from_slice.ensures.after in
-    let accepted : IsAccepted c.args.row.now v c.copy_from_slice.new.self = c.in-Ok.ensures.ok.accepted in
     accepted_of_front c.args.row.now c.args.value c.args.there.now n c.min-len.ensures
     (subst (λ x. IsAccepted c.args.row.now x (take n c.args.there.now)) same
-    (subst (λ bytes. IsAccepted c.args.row.now v bytes) front accepted))
+    (subst (λ bytes. IsAccepted c.args.row.now v bytes) c.copy_from_slice.ensures.after c.in-Ok.ensures.ok.accepted))
 
 pub returns-in-Err-clause-some : goal.returns-in-Err-clause-some
 returns-in-Err-clause-some c =
@@ -19,8 +17,6 @@ returns-in-Err-clause-some c =
     let same : v ≡ c.args.value = search rules in
     let n = c.min-len.result in
     let error = c.in-Err.error in
-    let front : c.copy_from_slice.new.self ≡ take n c.args.there.now = c.copy_from_slice.ensures.after in
-    let cause : IsCause c.args.row.now v c.copy_from_slice.new.self error = c.in-Err.ensures.err.0 in
     cause_of_front c.args.row.now c.args.value c.args.there.now n error c.min-len.ensures
     (subst (λ x. IsCause c.args.row.now x (take n c.args.there.now) error) same
-    (subst (λ bytes. IsCause c.args.row.now v bytes error) front cause))
+    (subst (λ bytes. IsCause c.args.row.now v bytes error) c.copy_from_slice.ensures.after c.in-Err.ensures.err.0))

@@ -3,8 +3,7 @@ use Rattle.linker_output.proofs.description.Target.route_with.Goals as goal
 
 pub returns : goal.returns
 returns c =
-    let v = cast_signed w64 (cast_unsigned w64 c.args.value) in
-    let same : v ≡ c.args.value = search rules in (
+    let same : (cast_signed w64 (cast_unsigned w64 c.args.value)) ≡ c.args.value = search rules in (
       c.has_room-is_room.result,
       c.has_room-is_room.ensures,
       c.obstacle-cause.result,

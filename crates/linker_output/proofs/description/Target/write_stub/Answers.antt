@@ -16,7 +16,6 @@ returns-clause-ok c =
     let b : c.overwrite-2.new.section
     ≡ (take (length head) c.overwrite.new.section ++ pair)
     ++ drop (length head + length pair) c.overwrite.new.section = c.overwrite-2.ensures in
-    let d = c.overwrite-3.ensures in
     let made : WritesPair self.instructions (view_stub stub)
     (operands_of (view_stub stub) c.args.place c.args.target) pair =
     subst (λ o. WritesPair self.instructions (view_stub stub) o pair)
@@ -26,5 +25,5 @@ returns-clause-ok c =
       head ++ (pair ++ tail),
       (pair, len, made, refl),
       pieces out head pair tail c.overwrite.new.section c.overwrite-2.new.section
-          c.overwrite-3.new.section len a b d,
+          c.overwrite-3.new.section len a b c.overwrite-3.ensures,
     )

@@ -14,69 +14,53 @@ overflow_add-result-in-Middle c =
     let a = c.args in
     let index : a.stub.now.index < (group_at a.groups.now a.stub.now.boundary).middle = rw c.in-Middle.is at c.requires.part.index in
     let taken = taken_in a.self.now.shape a.groups.now a.before.now a.stub.now.boundary ((group_at a.groups.now a.stub.now.boundary).front + a.stub.now.index) c.requires.code.len c.requires.laid_out (omega arith) (omega arith) in
-    let fits = c.requires.fits (a.stub.now.boundary + 1) in
-    let begin = c.requires.code.boundaries a.stub.now.boundary in
-    omega arith
+    omega (arith, c.requires.fits (a.stub.now.boundary + 1), c.requires.code.boundaries a.stub.now.boundary)
 
 pub overflow_add-result-in-Back : goal.overflow_add-result-in-Back
 overflow_add-result-in-Back c =
     let a = c.args in
     let index : a.stub.now.index < (group_at a.groups.now a.stub.now.boundary).back = rw c.in-Back.is at c.requires.part.index in
     let taken = taken_in a.self.now.shape a.groups.now a.before.now a.stub.now.boundary (a.stub.now.index + 1) c.requires.code.len c.requires.laid_out (omega arith) (omega arith) in
-    let fits = c.requires.fits (a.stub.now.boundary + 1) in
-    let begin = c.requires.code.boundaries a.stub.now.boundary in
-    omega arith
+    omega (arith, c.requires.fits (a.stub.now.boundary + 1), c.requires.code.boundaries a.stub.now.boundary)
 
 pub overflow_sub-result : goal.overflow_sub-result
 overflow_sub-result c =
     let a = c.args in
     let index : a.stub.now.index < (group_at a.groups.now a.stub.now.boundary).back = rw c.in-Back.is at c.requires.part.index in
     let taken = taken_in a.self.now.shape a.groups.now a.before.now a.stub.now.boundary (a.stub.now.index + 1) c.requires.code.len c.requires.laid_out (omega arith) (omega arith) in
-    let fits = c.requires.fits (a.stub.now.boundary + 1) in
-    let begin = c.requires.code.boundaries a.stub.now.boundary in
-    omega arith
+    omega (arith, c.requires.fits (a.stub.now.boundary + 1), c.requires.code.boundaries a.stub.now.boundary)
 
 pub overflow_mul-result : goal.overflow_mul-result
 overflow_mul-result c =
     let a = c.args in
     let index : a.stub.now.index < (group_at a.groups.now a.stub.now.boundary).front = rw c.in-Front.is at c.requires.part.index in
     let taken = taken_in a.self.now.shape a.groups.now a.before.now a.stub.now.boundary (a.stub.now.index) c.requires.code.len c.requires.laid_out (omega arith) (omega arith) in
-    let fits = c.requires.fits (a.stub.now.boundary + 1) in
-    let begin = c.requires.code.boundaries a.stub.now.boundary in
-    omega arith
+    omega (arith, c.requires.fits (a.stub.now.boundary + 1), c.requires.code.boundaries a.stub.now.boundary)
 
 pub overflow_add-result : goal.overflow_add-result
 overflow_add-result c =
     let a = c.args in
     let index : a.stub.now.index < (group_at a.groups.now a.stub.now.boundary).front = rw c.in-Front.is at c.requires.part.index in
     let taken = taken_in a.self.now.shape a.groups.now a.before.now a.stub.now.boundary (a.stub.now.index) c.requires.code.len c.requires.laid_out (omega arith) (omega arith) in
-    let fits = c.requires.fits (a.stub.now.boundary + 1) in
-    let begin = c.requires.code.boundaries a.stub.now.boundary in
-    omega arith
+    omega (arith, c.requires.fits (a.stub.now.boundary + 1), c.requires.code.boundaries a.stub.now.boundary)
 
 pub overflow_mul-result-in-Middle : goal.overflow_mul-result-in-Middle
 overflow_mul-result-in-Middle c =
     let a = c.args in
     let index : a.stub.now.index < (group_at a.groups.now a.stub.now.boundary).middle = rw c.in-Middle.is at c.requires.part.index in
     let taken = taken_in a.self.now.shape a.groups.now a.before.now a.stub.now.boundary ((group_at a.groups.now a.stub.now.boundary).front + a.stub.now.index) c.requires.code.len c.requires.laid_out (omega arith) (omega arith) in
-    let fits = c.requires.fits (a.stub.now.boundary + 1) in
-    let begin = c.requires.code.boundaries a.stub.now.boundary in
-    omega arith
+    omega (arith, c.requires.fits (a.stub.now.boundary + 1), c.requires.code.boundaries a.stub.now.boundary)
 
 pub overflow_add-result-in-Middle-2 : goal.overflow_add-result-in-Middle-2
 overflow_add-result-in-Middle-2 c =
     let a = c.args in
     let index : a.stub.now.index < (group_at a.groups.now a.stub.now.boundary).middle = rw c.in-Middle.is at c.requires.part.index in
     let taken = taken_in a.self.now.shape a.groups.now a.before.now a.stub.now.boundary ((group_at a.groups.now a.stub.now.boundary).front + a.stub.now.index) c.requires.code.len c.requires.laid_out (omega arith) (omega arith) in
-    let fits = c.requires.fits (a.stub.now.boundary + 1) in
-    let begin = c.requires.code.boundaries a.stub.now.boundary in
-    omega arith
+    omega (arith, c.requires.fits (a.stub.now.boundary + 1), c.requires.code.boundaries a.stub.now.boundary)
 
 pub overflow_mul-result-in-Back : goal.overflow_mul-result-in-Back
 overflow_mul-result-in-Back c =
     let a = c.args in
     let index : a.stub.now.index < (group_at a.groups.now a.stub.now.boundary).back = rw c.in-Back.is at c.requires.part.index in
     let taken = taken_in a.self.now.shape a.groups.now a.before.now a.stub.now.boundary (a.stub.now.index + 1) c.requires.code.len c.requires.laid_out (omega arith) (omega arith) in
-    let fits = c.requires.fits (a.stub.now.boundary + 1) in
-    let begin = c.requires.code.boundaries a.stub.now.boundary in
-    omega arith
+    omega (arith, c.requires.fits (a.stub.now.boundary + 1), c.requires.code.boundaries a.stub.now.boundary)

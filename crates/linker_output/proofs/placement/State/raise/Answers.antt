@@ -40,13 +40,11 @@ returns-clause-higher c =
 
 pub returns-clause-same : goal.returns-clause-same
 returns-clause-same c =
-    let same = c.in_ok-go_to.ensures.same c.if-branch-2.false ∙ c.in_ok-go_far.ensures.same c.if-branch.false in
-    IfOk-weaker c.go_to-2.result _ _ (λ w f e. f e ∙ same) c.go_to-2.ensures.same
+    IfOk-weaker c.go_to-2.result _ _ (λ w f e. f e ∙ (c.in_ok-go_to.ensures.same c.if-branch-2.false ∙ c.in_ok-go_far.ensures.same c.if-branch.false)) c.go_to-2.ensures.same
 
 pub returns-clause-may_share : goal.returns-clause-may_share
 returns-clause-may_share c =
-    let same = c.in_ok-go_to.ensures.may_share ∙ c.in_ok-go_far.ensures.may_share in
-    IfOk-weaker c.go_to-2.result _ _ (λ w f. f ∙ same) c.go_to-2.ensures.may_share
+    IfOk-weaker c.go_to-2.result _ _ (λ w f. f ∙ (c.in_ok-go_to.ensures.may_share ∙ c.in_ok-go_far.ensures.may_share)) c.go_to-2.ensures.may_share
 
 pub returns-clause-out : goal.returns-clause-out
 returns-clause-out c =

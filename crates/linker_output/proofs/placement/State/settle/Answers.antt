@@ -18,9 +18,7 @@ sweep-requires-clause-most c =
 pub loop-passes-smaller : goal.loop-passes-smaller
 loop-passes-smaller c =
     let more : sum_by level c.loop-passes.self.ways.items < sum_by level c.sweep.new.self.ways.items = rw c.in-Changed.is at c.in_ok-sweep.ensures.swept in
-    let bound = levels_most c.sweep.new.self.ways.items in
-    let w = c.in_ok-sweep.ensures.state.ways in
-    omega arith
+    omega (arith, levels_most c.sweep.new.self.ways.items, c.in_ok-sweep.ensures.state.ways)
 
 pub find_places-requires-clause-parts : goal.find_places-requires-clause-parts
 find_places-requires-clause-parts c = c.loop-passes.invariant.state.parts

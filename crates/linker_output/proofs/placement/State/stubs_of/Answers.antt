@@ -13,8 +13,7 @@ loop-index-preserved c =
     let stub = c.match-index.push in
     let items = c.in_ok-push.ensures.items in
     let branch = branch_at code.branches.now i in
-    let is : c.index.result.now ≡ way_at ways i = get_or_read ways i c.index.result.now (omega arith) c.index.ensures Direct in
-    let last : IsStubOf code before branch (way_at ways i) stub = subst (λ way. IsStubOf code before branch way stub) is
+    let last : IsStubOf code before branch (way_at ways i) stub = subst (λ way. IsStubOf code before branch way stub) (get_or_read ways i c.index.result.now (omega arith) c.index.ensures Direct)
     (elim c.match-index.branch [
       | in-Direct w ↦ rw (w.in-Direct.is, w.push-is) refl
       | in-Near w ↦ rw (w.in-Near.is, w.push-is) refl

@@ -58,8 +58,7 @@ loop-index-preserved c =
             higher = λ h. omega (arith, inv.no_less);
           }
       | in-Lost+else-not-changed w ↦
-          let visited : Visited code before places self new i Lost = subst (Visited code before places self new i) w.in-Lost.is c.in_ok-visit.ensures.visited in
-          let total = ap (λ s. sum_by level s.ways.items) (visited.0) in
+          let total = ap (λ s. sum_by level s.ways.items) ((subst (Visited code before places self new i) w.in-Lost.is c.in_ok-visit.ensures.visited).0) in
           let was : c.loop-index.changed ≡ true = w.if-not-changed.false in
           record {
             state = c.in_ok-visit.ensures.state;

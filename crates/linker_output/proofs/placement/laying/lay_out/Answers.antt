@@ -7,30 +7,22 @@ loop-index-init c = record { bytes = sym (bytes_none c.args.shape.now c.args.gro
 
 pub size_of-bytes-requires-clause-fits : goal.size_of-bytes-requires-clause-fits
 size_of-bytes-requires-clause-fits c =
-    let one = get_or-le-sum_by stubs_in c.args.groups.now c.loop-index.index (record { front = 0; middle = 0; back = 0 }) (omega arith) in
-    let h = mul-le-mul_left c.args.shape.now.len one in
+    let h = mul-le-mul_left c.args.shape.now.len (get_or-le-sum_by stubs_in c.args.groups.now c.loop-index.index (record { front = 0; middle = 0; back = 0 }) (omega arith)) in
     let n : 1 ≤ length c.args.groups.now = omega arith in
-    let u = mul-le-mul_left c.args.shape.now.unit n in
-    let fits = c.requires.fits in
-    omega arith
+    omega (arith, mul-le-mul_left c.args.shape.now.unit n, c.requires.fits)
 
 pub overflow_add-bytes : goal.overflow_add-bytes
 overflow_add-bytes c =
     let i = c.loop-index.index in
     let next = bytes_next c.args.shape.now c.args.groups.now i in
-    let bound = bytes_bound c.args.shape.now c.args.groups.now (i + 1) c.requires.unit (omega arith) in
-    let size = c.size_of-bytes.ensures in
-    let here = c.loop-index.invariant.bytes in
-    omega arith
+    omega (arith, bytes_bound c.args.shape.now c.args.groups.now (i + 1) c.requires.unit (omega arith), c.size_of-bytes.ensures, c.loop-index.invariant.bytes)
 
 pub loop-index-preserved : goal.loop-index-preserved
 loop-index-preserved c =
     let i = c.loop-index.index in
     record {
       bytes = (let next = bytes_next c.args.shape.now c.args.groups.now i in
-          let size = c.size_of-bytes.ensures in
-          let here = c.loop-index.invariant.bytes in
-          omega arith);
+          omega (arith, c.size_of-bytes.ensures, c.loop-index.invariant.bytes));
       written = below_more _ _
           (λ k h. let ne : k ≢ i = omega arith in rw get_or-set_other (c.loop-index.invariant.written k h))
           (let lt : i < length c.loop-index.before = omega arith in rw get_or-set_same c.loop-index.invariant.bytes);
