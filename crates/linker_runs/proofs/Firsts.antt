@@ -24,21 +24,7 @@ alignment_upto u start alignment n power end enough even other below = tt
 -- the greatest number of a fault is 15
 pub numbers : (fault : Fault) → number_of fault < 16
 numbers Overlaps = omega arith
-numbers TooHigh = omega arith
-numbers TooManyShapes = omega arith
-numbers ShapeTooLong = omega arith
-numbers ShapesNotAscending = omega arith
-numbers BadGranularity = omega arith
-numbers BadReach = omega arith
-numbers BadAlignment = omega arith
-numbers UnevenShape = omega arith
-numbers Misaligned = omega arith
-numbers AlignmentBelowGranularity = omega arith
-numbers UnevenEnd = omega arith
-numbers TooFewNops = omega arith
-numbers UnevenNops = omega arith
-numbers TargetInside = omega arith
-numbers MayBeMisaligned = omega arith
+numbers other = omega arith
 
 -- what holds of the two short shapes there may be
 pub of_both : (shapes : Shapes) (P : Shape → Type 0) → shapes.count ≤ 2 → (0 < shapes.count → P (short_shape shapes 0)) → (1 < shapes.count → P (short_shape shapes 1)) → (k : ℕ) → k < shapes.count → P (short_shape shapes k)

@@ -16,7 +16,6 @@ pub mod LongSites
 pub mod LoongArch
 pub mod LoongArchAddresses
 pub mod LoongArchCalls36
-pub mod LoongArchMadeSites
 pub mod LoongArchReaches
 pub mod LoongArchWritable
 pub mod Made
@@ -25,16 +24,12 @@ pub mod Moved
 pub mod Multiples
 pub mod Nearer
 pub mod Nops
-pub mod Origins
 pub mod Packed
 pub mod PackedItems
-pub mod Powers
 pub mod Reaches
 pub mod Reaching
 pub mod RiscV
-pub mod RiscVExcluded
 pub mod RiscVLongCalls
-pub mod RiscVMadeSites
 pub mod RiscVReaches
 pub mod RiscVWritable
 pub mod RewrittenSites

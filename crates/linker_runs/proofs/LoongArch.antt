@@ -131,10 +131,7 @@ loongarch_excludes section o kept place target NoShape a cause = elim (accepted_
   | inr eight ↦ cause.2 eight
 ]
 loongarch_excludes section o kept place target OutOfReach a cause = far_excludes section o kept place target a cause
-loongarch_excludes section o kept place target Overlaps a cause = cause
-loongarch_excludes section o kept place target OutOfSection a cause = cause
-loongarch_excludes section o kept place target DeletedOutside a cause = cause
-loongarch_excludes section o kept place target NotItsFirstBytes a cause = cause
+loongarch_excludes section o kept place target other a cause = cause
 
 module _ (section : List ℕ) (o kept place target : ℕ) where
   pub short_accepts : (kind : Kind) (written : List ℕ) → IsKindAt section o kind → kept ≡ 4 → IsRelocated (short_template section o kind) place target written → LoongArchAccepts section o kept place target

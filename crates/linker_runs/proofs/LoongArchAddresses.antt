@@ -76,10 +76,7 @@ module _ (section : List ℕ) (o start from to : ℕ) (here : IsPcalaAt section 
   long_not OutOfReach (far_from_call call _ far) = not_both section o call here
   long_not OutOfReach (far_from_pcaddi _ four far) = omega arith
   long_not OutOfReach (far_from_pair _ _ far) = pair_near far
-  long_not Overlaps cause = cause
-  long_not OutOfSection cause = cause
-  long_not DeletedOutside cause = cause
-  long_not NotItsFirstBytes cause = cause
+  long_not other cause = cause
 
 module _ (bytes : List ℕ) (base start here there : ℕ) where
   address_not : (item : Item) → IsNearAddress item → HasItsInstructions LoongArch64 bytes base item

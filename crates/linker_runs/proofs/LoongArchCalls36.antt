@@ -59,10 +59,7 @@ module _ (section : List ℕ) (o start from to : ℕ) (here : IsCall36At section
   long_not OutOfReach (far_from_call _ _ far) = call_near far
   long_not OutOfReach (far_from_pcaddi pair _ far) = not_both section o here pair
   long_not OutOfReach (far_from_pair pair _ far) = not_both section o here pair
-  long_not Overlaps cause = cause
-  long_not OutOfSection cause = cause
-  long_not DeletedOutside cause = cause
-  long_not NotItsFirstBytes cause = cause
+  long_not other cause = cause
 
 module _ (bytes : List ℕ) (base start u here there : ℕ) where
   call_not : (item : Item) → IsNearCall36 item → IsInWords item → HasItsInstructions LoongArch64 bytes base item → ItemSuits u start item → Multiple u here → Multiple u there → here ≤ offset_of item → there ≤ target_of item

@@ -25,10 +25,7 @@ module _ (section : List ℕ) (o start from to : ℕ) where
     call_not here near OutOfReach (far_from_call _ eight far) = omega arith
     call_not here near OutOfReach (far_from_pcaddi pair _ far) = not_both section o here pair
     call_not here near OutOfReach (far_from_pair pair _ far) = not_both section o here pair
-    call_not here near Overlaps cause = cause
-    call_not here near OutOfSection cause = cause
-    call_not here near DeletedOutside cause = cause
-    call_not here near NotItsFirstBytes cause = cause
+    call_not here near other cause = cause
 
     pair_not : IsPcalaAt section o → is_reached (short_shape PCALA 0) from to ≡ true → (error : ItemError) → LoongArchCause section o kept (sum_64 start from) (sum_64 start to) error → ⊥
     pair_not here near NotItsInstructions cause = cause (inr here)
@@ -37,10 +34,7 @@ module _ (section : List ℕ) (o start from to : ℕ) where
     pair_not here near OutOfReach (far_from_call call _ far) = not_both section o call here
     pair_not here near OutOfReach (far_from_pcaddi _ _ far) = pcaddi_near near far
     pair_not here near OutOfReach (far_from_pair _ eight far) = omega arith
-    pair_not here near Overlaps cause = cause
-    pair_not here near OutOfSection cause = cause
-    pair_not here near DeletedOutside cause = cause
-    pair_not here near NotItsFirstBytes cause = cause
+    pair_not here near other cause = cause
 
   pub loongarch_not : (kept : ℕ) (shapes : Shapes) (k : ℕ) → HasLoongArchShapes section o shapes → k < shapes.count → kept ≡ (short_shape shapes k).kept → is_reached (short_shape shapes k) from to ≡ true
       → (error : ItemError) → LoongArchCause section o kept (sum_64 start from) (sum_64 start to) error → ⊥

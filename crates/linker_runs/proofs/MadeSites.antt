@@ -1,10 +1,8 @@
 -- The sites that relocations make are of the section's bytes.
-use Rattle.linker_runs.proofs.Imports.{◌≡◌, ℕ, zero, suc, ◌<◌, ◌≤◌, ◌++◌, ◌∷◌, [], List, length, sym, ap, subst, ◌∙◌, ⊎_elim, arith, cases_lt, length-append, get_or-append, Item, item_at, no_item, relocation_at, AreMade, Relocation, HasItsInstructions, Makes, Machine, RiscV, LoongArch64, MadeSitesHaveInstructions}
+use Rattle.linker_runs.proofs.Imports.{◌≡◌, ℕ, zero, suc, ◌<◌, ◌≤◌, ◌++◌, ◌∷◌, [], List, length, sym, ap, subst, ◌∙◌, ⊎_elim, arith, cases_lt, length-append, get_or-append, Item, item_at, no_item, relocation_at, AreMade, Relocation, HasItsInstructions, Makes, Machine, RiscV, LoongArch64, MadeSitesHaveInstructions, Bool, ◌+◌, ◌-◌, inl, inr, Site, Aligned, CALL, TAIL_C, RiscVMakes, IsRiscVFormed, MayBeShort, HasRiscVShapes, CALL36, PCALA, LoongArchMakes, IsCall36, IsPcala, HasLoongArchShapes}
 use Rattle.std.proofs.Math.Seq.{get_or-append_seam}
 use Rattle.linker_runs.specs.Relocations.AreMade.{none, left_out, made}
 use Rattle.linker_runs.specs.SectionItems.{IsFormed}
-use Rattle.linker_runs.proofs.RiscVMadeSites.{riscv_site}
-use Rattle.linker_runs.proofs.LoongArchMadeSites.{loongarch_site}
 
 -- what holds of each item, and of one after them
 pub pushed : (P : Item → Type 0) (items : List Item) (item : Item) → ((j : ℕ) → j < length items → P (item_at items j)) → P item → (j : ℕ) → j < length (items ++ item ∷ []) → P (item_at (items ++ item ∷ []) j)
@@ -22,6 +20,33 @@ each_made Makes P zero (_ ∷ _) makers impossible each j below = elim impossibl
 each_made Makes P (suc i) items makers (left_out before not) each j below = each_made Makes P i items makers before (λ k item h. each k item (omega arith)) j below
 each_made Makes P (suc i) all all_makers (made {items = items} {makers = makers} {item = item} before is) each j below =
     pushed P items item (each_made Makes P i items makers before (λ k item h. each k item (omega arith))) (each i item (omega arith) is) j below
+
+riscv_site : (is_32 : Bool) (section : List ℕ) (base : ℕ) (relocations : List Relocation) (i : ℕ) (item : Item) → IsRiscVFormed section (relocation_at relocations i) → RiscVMakes is_32 section base relocations i item → HasItsInstructions (RiscV is_32) section base item
+riscv_site is_32 section base relocations i (Aligned alignment) formed makes = tt
+riscv_site is_32 section base relocations i (Site call) formed makes =
+    let o = (relocation_at relocations i).offset in
+    let place : call.offset ≡ base + o = makes.place in
+    let at : o ≡ call.offset - base = omega (arith, place) in
+    let shapes : HasRiscVShapes is_32 section o call.shapes = (
+      makes.is_call,
+      ⊎_elim
+          (λ (short : MayBeShort is_32 section relocations i × (call.shapes ≡ TAIL_C)). inr (short.1, short.0.links))
+          (λ (other : (MayBeShort is_32 section relocations i → ⊥) × (call.shapes ≡ CALL)). inl other.1)
+          makes.shapes,
+    ) in
+    (makes.len, omega (arith, place), omega (arith, place, (formed.call makes.name)), subst (λ n. HasRiscVShapes is_32 section n call.shapes) at shapes)
+
+loongarch_site : (section : List ℕ) (base : ℕ) (relocations : List Relocation) (i : ℕ) (item : Item) → LoongArchMakes section base relocations i item → HasItsInstructions LoongArch64 section base item
+loongarch_site section base relocations i (Aligned alignment) makes = tt
+loongarch_site section base relocations i (Site here) makes =
+    let o = (relocation_at relocations i).offset in
+    let place : here.offset ≡ base + o = makes.0.place in
+    let at : o ≡ here.offset - base = omega (arith, place) in
+    let site : (o + 8 ≤ length section) × HasLoongArchShapes section o here.shapes = ⊎_elim
+    (λ (call : IsCall36 section relocations i × (here.shapes ≡ CALL36)). (⊎_elim (λ one. one.within) (λ jump. jump.within) call.0.call, inl (call.0.call, call.1)))
+    (λ (pair : IsPcala section relocations i × (here.shapes ≡ PCALA)). (pair.0.pair.within, inr (pair.0.pair, pair.1)))
+    makes.1 in
+    (makes.0.len, omega (arith, place), omega (arith, place, site.0), subst (λ n. HasLoongArchShapes section n here.shapes) at site.1)
 
 pub site : (machine : Machine) (section : List ℕ) (base : ℕ) (relocations : List Relocation) (i : ℕ) (item : Item) → IsFormed machine section (relocation_at relocations i) → Makes machine section base relocations i item → HasItsInstructions machine section base item
 site (RiscV is_32) section base relocations i item formed makes = riscv_site is_32 section base relocations i item formed makes

@@ -1,42 +1,29 @@
 -- What is written of each item.
-use Rattle.linker_runs.proofs.Imports.{◌≡◌, ℕ, zero, suc, ◌+◌, ◌-◌, ◌<◌, ◌≤◌, true, false, List, ◌++◌, length, get_or, take, drop, refl, sym, subst, ◌∙◌, ap, arith, inl, inr, if◌then◌else◌, ◌↔◌, cases_lt, cases_Bool, append_assoc, length-append, length-take, length-drop, get_or_default, take_at, drop_at, is_kept, rank_kept, rank-mono, rank_steps, get_or-take, get_or-drop, get_or-append_right, same_lists, rank, put_below, Item, Site, Aligned, offset_of, len_of, end_of, item_at, Section, packed_offset, kept_len, is_fixed, written_len, IsApart, IsInside, KeepsGap, gap_start, IsNotIn, ItemAccepts, ItemCause, ItemBecomes, IsWritable, IsUnwritable, IsCause, LosesItems, IsPackedRun, piece_bytes, IsWhole, IsPieceOf, IsFilledTo, AreReady, IsWrittenTo, Machine, RiscV, LoongArch64, ItemError, Overlaps, OutOfSection, DeletedOutside, NotItsFirstBytes, NotItsInstructions, NoShape, OutOfReach}
+use Rattle.linker_runs.proofs.Imports.{◌≡◌, ℕ, zero, suc, ◌+◌, ◌-◌, ◌<◌, ◌≤◌, true, false, List, ◌++◌, length, get_or, take, drop, refl, sym, subst, ◌∙◌, ap, arith, inl, inr, if◌then◌else◌, ◌↔◌, cases_lt, cases_Bool, append_assoc, length-append, length-take, length-drop, get_or_default, take_at, drop_at, is_kept, rank_kept, rank-mono, rank_steps, get_or-take, get_or-drop, get_or-append_right, same_lists, rank, put_below, Item, Site, Aligned, offset_of, len_of, end_of, item_at, Section, packed_offset, kept_len, is_fixed, written_len, IsApart, IsInside, KeepsGap, gap_start, IsNotIn, ItemAccepts, ItemCause, ItemBecomes, IsWritable, IsUnwritable, IsCause, LosesItems, IsPackedRun, piece_bytes, IsWhole, IsPieceOf, IsFilledTo, AreReady, IsWrittenTo, Machine, RiscV, LoongArch64, ItemError, Overlaps, OutOfSection, DeletedOutside, NotItsFirstBytes, NotItsInstructions, NoShape, OutOfReach, Bool, IsSomeAnd, riscv_template, RiscVAccepts, RiscVCause}
 use Rattle.linker_runs.proofs.LoongArch.{loongarch_excludes}
 use Rattle.linker_runs.specs.declared.packing.Piece.{Piece}
-use Rattle.linker_runs.proofs.RiscVExcluded.{riscv_excludes}
+use Rattle.linker_runs.specs.Sites.{IsInReach}
+use Rattle.linker_runs.proofs.Sites.{both_some, in_reach}
 
 -- ---- what is accepted isn't rejected
 
+riscv_excludes : (is_32 : Bool) (section : List ℕ) (o kept place target : ℕ) (error : ItemError) → RiscVAccepts is_32 section o kept place target → RiscVCause is_32 section o kept place target error → ⊥
+riscv_excludes is_32 section o kept place target NotItsInstructions a cause = cause a.call
+riscv_excludes is_32 section o kept place target NoShape a cause = subst (λ t. IsSomeAnd t (λ t. IsInReach t place target)) cause.1 a.reached
+riscv_excludes is_32 section o kept place target OutOfReach a cause = both_some (riscv_template is_32 section o kept) _ _ a.reached cause.1 (λ t p q. in_reach t place target p q)
+riscv_excludes is_32 section o kept place target other a cause = cause
+
 item_excludes : (machine : Machine) (s : Section) (item : Item) (kept : ℕ) (error : ItemError) → ItemAccepts machine s item kept → ItemCause machine s item kept error → ⊥
 item_excludes (RiscV is_32) s (Site site) kept NotItsInstructions a cause = riscv_excludes is_32 _ _ kept _ _ NotItsInstructions a.1 (cause a.0)
-item_excludes (RiscV is_32) s (Site site) kept NoShape a cause = riscv_excludes is_32 _ _ kept _ _ NoShape a.1 cause.1
-item_excludes (RiscV is_32) s (Site site) kept OutOfReach a cause = riscv_excludes is_32 _ _ kept _ _ OutOfReach a.1 cause.1
-item_excludes (RiscV is_32) s (Site site) kept Overlaps a cause = cause.1
-item_excludes (RiscV is_32) s (Site site) kept OutOfSection a cause = cause.1
-item_excludes (RiscV is_32) s (Site site) kept DeletedOutside a cause = cause.1
-item_excludes (RiscV is_32) s (Site site) kept NotItsFirstBytes a cause = cause.1
+item_excludes (RiscV is_32) s (Site site) kept other a cause = riscv_excludes is_32 _ _ kept _ _ other a.1 cause.1
 item_excludes LoongArch64 s (Site site) kept NotItsInstructions a cause = loongarch_excludes _ _ kept _ _ NotItsInstructions a.1 (cause a.0)
-item_excludes LoongArch64 s (Site site) kept NoShape a cause = loongarch_excludes _ _ kept _ _ NoShape a.1 cause.1
-item_excludes LoongArch64 s (Site site) kept OutOfReach a cause = loongarch_excludes _ _ kept _ _ OutOfReach a.1 cause.1
-item_excludes LoongArch64 s (Site site) kept Overlaps a cause = cause.1
-item_excludes LoongArch64 s (Site site) kept OutOfSection a cause = cause.1
-item_excludes LoongArch64 s (Site site) kept DeletedOutside a cause = cause.1
-item_excludes LoongArch64 s (Site site) kept NotItsFirstBytes a cause = cause.1
+item_excludes LoongArch64 s (Site site) kept other a cause = loongarch_excludes _ _ kept _ _ other a.1 cause.1
 item_excludes machine s (Aligned alignment) kept NoShape a cause = cause a
-item_excludes machine s (Aligned alignment) kept NotItsInstructions a cause = cause
-item_excludes machine s (Aligned alignment) kept OutOfReach a cause = cause
-item_excludes machine s (Aligned alignment) kept Overlaps a cause = cause
-item_excludes machine s (Aligned alignment) kept OutOfSection a cause = cause
-item_excludes machine s (Aligned alignment) kept DeletedOutside a cause = cause
-item_excludes machine s (Aligned alignment) kept NotItsFirstBytes a cause = cause
+item_excludes machine s (Aligned alignment) kept other a cause = cause
 
 pub writable_excludes : (machine : Machine) (s : Section) (item : Item) (error : ItemError) → IsWritable machine s item → IsUnwritable machine s item error → ⊥
 writable_excludes machine s item NotItsFirstBytes w u = u w.keeps
-writable_excludes machine s item NotItsInstructions w u = item_excludes machine s item _ NotItsInstructions w.accepts u.1
-writable_excludes machine s item NoShape w u = item_excludes machine s item _ NoShape w.accepts u.1
-writable_excludes machine s item OutOfReach w u = item_excludes machine s item _ OutOfReach w.accepts u.1
-writable_excludes machine s item Overlaps w u = item_excludes machine s item _ Overlaps w.accepts u.1
-writable_excludes machine s item OutOfSection w u = item_excludes machine s item _ OutOfSection w.accepts u.1
-writable_excludes machine s item DeletedOutside w u = item_excludes machine s item _ DeletedOutside w.accepts u.1
+writable_excludes machine s item other w u = item_excludes machine s item _ other w.accepts u.1
 
 -- an item in its place that isn't written
 not_own : (machine : Machine) (s : Section) (item : Item) (kept : ℕ) → (ItemCause machine s item kept Overlaps → ⊥) × (ItemCause machine s item kept OutOfSection → ⊥) × (ItemCause machine s item kept DeletedOutside → ⊥)
@@ -45,13 +32,10 @@ not_own LoongArch64 s (Site site) kept = (λ c. c.1, λ c. c.1, λ c. c.1)
 not_own machine s (Aligned alignment) kept = (λ c. c, λ c. c, λ c. c)
 
 pub cause_of : (machine : Machine) (s : Section) (items : List Item) (i : ℕ) (error : ItemError) → IsApart items i → IsInside s (item_at items i) → KeepsGap s items i → is_fixed (item_at items i) ≡ false → IsUnwritable machine s (item_at items i) error → IsCause machine s items i error
-cause_of machine s items i NotItsFirstBytes apart inside gap free u = (apart, inside, gap, free, u)
-cause_of machine s items i NotItsInstructions apart inside gap free u = (apart, inside, gap, free, u)
-cause_of machine s items i NoShape apart inside gap free u = (apart, inside, gap, free, u)
-cause_of machine s items i OutOfReach apart inside gap free u = (apart, inside, gap, free, u)
 cause_of machine s items i Overlaps apart inside gap free u = absurd ((not_own machine s (item_at items i) _).0 u.1)
 cause_of machine s items i OutOfSection apart inside gap free u = absurd ((not_own machine s (item_at items i) _).1 u.1)
 cause_of machine s items i DeletedOutside apart inside gap free u = absurd ((not_own machine s (item_at items i) _).2 u.1)
+cause_of machine s items i other apart inside gap free u = (apart, inside, gap, free, u)
 
 -- the bytes before an item begin where the item before it ends
 pub gap_next : (s : Section) (items : List Item) (i : ℕ) → gap_start s items (i + 1) ≡ end_of (item_at items i)

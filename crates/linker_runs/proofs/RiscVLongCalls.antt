@@ -29,10 +29,7 @@ module _ (is_32 : Bool) (section : List ℕ) (o start from to : ℕ) (there : o 
   long_not shapes has NotItsInstructions cause = cause has.0
   long_not shapes has NoShape cause = let no = cause.1 in cc
   long_not shapes has OutOfReach cause = call_near cause.1
-  long_not shapes has Overlaps cause = cause
-  long_not shapes has OutOfSection cause = cause
-  long_not shapes has DeletedOutside cause = cause
-  long_not shapes has NotItsFirstBytes cause = cause
+  long_not shapes has other cause = cause
 
 module _ (is_32 : Bool) (bytes : List ℕ) (base start here there : ℕ) where
   is_long : (item : Item) → IsSite item → HasItsInstructions (RiscV is_32) bytes base item → IsLongSite item

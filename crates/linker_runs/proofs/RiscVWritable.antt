@@ -48,16 +48,10 @@ module _ (is_32 : Bool) (section : List ℕ) (o start from to : ℕ) where
       jal_only four near NotItsInstructions cause = cause has.0
       jal_only four near NoShape cause = let no = subst (λ n. riscv_template is_32 section o n ≡ None) four cause.1 in cc
       jal_only four near OutOfReach cause = jal_near near (subst (λ n. IsSomeAnd (riscv_template is_32 section o n) (λ t. IsOutOfReach t (sum_64 start from) (sum_64 start to))) four cause.1)
-      jal_only four near Overlaps cause = cause
-      jal_only four near OutOfSection cause = cause
-      jal_only four near DeletedOutside cause = cause
-      jal_only four near NotItsFirstBytes cause = cause
+      jal_only four near other cause = cause
 
       cj_only : links_short is_32 (link_register OfJalr section o) ≡ true → kept ≡ 2 → is_reached (short_shape TAIL_C 0) from to ≡ true → (error : ItemError) → RiscVCause is_32 section o kept (sum_64 start from) (sum_64 start to) error → ⊥
       cj_only link two near NotItsInstructions cause = cause has.0
       cj_only link two near NoShape cause = let no = subst (λ n. riscv_template is_32 section o n ≡ None) two cause.1 in let none = rw link at no in cc
       cj_only link two near OutOfReach cause = cj_near link near (subst (λ n. IsSomeAnd (riscv_template is_32 section o n) (λ t. IsOutOfReach t (sum_64 start from) (sum_64 start to))) two cause.1)
-      cj_only link two near Overlaps cause = cause
-      cj_only link two near OutOfSection cause = cause
-      cj_only link two near DeletedOutside cause = cause
-      cj_only link two near NotItsFirstBytes cause = cause
+      cj_only link two near other cause = cause

@@ -143,22 +143,9 @@ clear_met u start items i order clear = clear_all start items (target_of (item_a
 
 -- an item's own fault in a run of a granularity comes before those
 few : (u start : ℕ) (item : Item) (fault : Fault) → ¬ UnitMeets u start item fault → number_of fault < 14
-few u start item Overlaps not_met = omega arith
-few u start item TooHigh not_met = omega arith
-few u start item TooManyShapes not_met = omega arith
-few u start item ShapeTooLong not_met = omega arith
-few u start item ShapesNotAscending not_met = omega arith
-few u start item BadGranularity not_met = omega arith
-few u start item BadReach not_met = omega arith
-few u start item BadAlignment not_met = omega arith
-few u start item UnevenShape not_met = omega arith
-few u start item Misaligned not_met = omega arith
-few u start item AlignmentBelowGranularity not_met = omega arith
-few u start item UnevenEnd not_met = omega arith
-few u start item TooFewNops not_met = omega arith
-few u start item UnevenNops not_met = omega arith
 few u start item TargetInside not_met = absurd (not_met (no_target u start item))
 few u start item MayBeMisaligned not_met = absurd (not_met (no_nops u start item))
+few u start item other not_met = omega arith
 
 pub first_unit : (u start : ℕ) (items : List Item) (i : ℕ) (fault : Fault) → IsFirstOf (UnitMeets u start (item_at items i)) fault → IsFirstOf (RunMeets u start items i) fault
 first_unit u start items i fault first = record {

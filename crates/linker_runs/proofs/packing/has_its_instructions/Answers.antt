@@ -1,7 +1,30 @@
-use Rattle.linker_runs.proofs.Imports.{[], sym, ◌∙◌, arith, false≢true, RiscV, LoongArch64}
-use Rattle.linker_runs.proofs.Origins.{placed, has, has_not}
+use Rattle.linker_runs.proofs.Imports.{[], sym, ◌∙◌, arith, false≢true, RiscV, LoongArch64, ◌≡◌, ℕ, ◌+◌, ◌-◌, ◌≤◌, ◌↔◌, Bool, false, List, length, subst, IsTrue, Item, Site, HasShapes, HasItsInstructions, section_of, IsInside, Machine}
 use Rattle.linker_runs.proofs.packing.has_its_instructions.Goals as goal
 use Rattle.linker_runs.proofs.packing.has_its_instructions.Goals.{then-site-ne8-via-then-site-ne8, then-site-ne8-via-else-site-ne8+then-not-is_inside}
+use Rattle.linker_runs.specs.declared.relaxation.Site.{Site as sites}
+
+module _ (bytes : List ℕ) (base : ℕ) (item : Item) (site : sites) (is : item ≡ Site site) where
+  placed : IsInside (section_of bytes base [] 0) item → (base ≤ site.offset) × (site.offset + site.len ≤ base + length bytes)
+  placed inside = subst (IsInside (section_of bytes base [] 0)) is inside
+
+  has : (machine : Machine) (same : Bool) → site.len ≡ 8 → IsInside (section_of bytes base [] 0) item → (IsTrue same ↔ HasShapes machine bytes (site.offset - base) site.shapes) → IsTrue same ↔ HasItsInstructions machine bytes base item
+  has machine same len inside shapes =
+      let at = placed inside in (
+        λ h. subst (HasItsInstructions machine bytes base) (sym is) (len, at.0, omega (arith, at.1, len), shapes.0 h),
+        λ h. (let own = subst (HasItsInstructions machine bytes base) is h in shapes.1 own.3),
+      )
+
+  has_not : (machine : Machine) → (site.len ≡ 8 → IsInside (section_of bytes base [] 0) item → ⊥) → IsTrue false ↔ HasItsInstructions machine bytes base item
+  has_not machine out = (
+    λ h. absurd (no h),
+    λ h.
+        let own = subst (HasItsInstructions machine bytes base) is h in
+        let inside : IsInside (section_of bytes base [] 0) item = subst (IsInside (section_of bytes base [] 0)) (sym is) (own.1, omega (arith, own.0, own.2)) in
+        absurd (out own.0 inside),
+  )
+    where
+      no : IsTrue false → ⊥
+      no e = cc
 
 pub overflow_sub-offset : goal.overflow_sub-offset
 overflow_sub-offset c =
