@@ -1,5 +1,5 @@
 -- AArch64's stubs go to their targets.
-use Rattle.linker_output.proofs.Imports.{◌≡◌, ℕ, Bool, true, false, refl, sym, ◌∙◌, ap, subst, arith, List, [], ◌∷◌, ◌++◌, eqb, cond, Some, None, Option, drop, IsSomeAnd, ◌||◌, eq-eqb, cond-true, field, sum_64, load_64, adrp_address, added, add, ldr, go_to, RelativeAddresses, word_of, symbol_address, loads, IsAdrOf, IsInstructionOf, adrp_after, ldr_after, add_after, of_registers, aarch64_name, aarch64_row, AArch64, sum_zero, adds_pair, run_pair, aarch64_output, StubCode, WritesPair, operands_of, field_of, run_stub, run_landing, then_jumped, jumped, GoesTo, eight}
+use Rattle.linker_output.proofs.Imports.{◌≡◌, ℕ, Bool, true, false, refl, sym, ◌∙◌, ap, subst, arith, List, [], ◌∷◌, ◌++◌, eqb, cond, Some, None, Option, drop, IsSomeAnd, ◌||◌, eq-eqb, cond-true, field, sum_64, load_64, adrp_address, added, add, ldr, go_to, RelativeAddresses, word_of, symbol_address, loads, IsInstructionOf, adrp_after, ldr_after, add_after, of_registers, aarch64_name, aarch64_row, AArch64, sum_zero, adds_pair, run_pair, aarch64_output, StubCode, WritesPair, operands_of, field_of, run_stub, run_landing, then_jumped, jumped, GoesTo, eight}
 use Rattle.linker_laws.proofs.AArch64Steps.{set}
 use Rattle.linker_utils.specs.AArch64Rewrites.{rd_of, rn_of, IsLdr64}
 use Rattle.linker_elf.specs.declared.aarch64.relocations.AArch64Relocation.TheVariants as r

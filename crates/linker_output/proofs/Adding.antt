@@ -5,29 +5,21 @@ use Rattle.linker_output.proofs.Bounds.{level_most}
 
 part_grows : (p part : Part) (g : Group) → part_of p g ≤ part_of p (with_one part g)
 part_grows Front Front g = omega arith
-part_grows Front Middle g = omega arith
-part_grows Front Back g = omega arith
 part_grows Middle Front g = omega arith
-part_grows Middle Middle g = omega arith
-part_grows Middle Back g = omega arith
 part_grows Back Front g = omega arith
-part_grows Back Middle g = omega arith
-part_grows Back Back g = omega arith
+part_grows p other g = omega arith
 
 part_more : (part : Part) (g : Group) → part_of part (with_one part g) ≡ part_of part g + 1
 part_more Front g = refl
-part_more Middle g = refl
-part_more Back g = refl
+part_more other g = refl
 
 stubs_more : (part : Part) (g : Group) → stubs_in (with_one part g) ≡ stubs_in g + 1
 stubs_more Front g = omega arith
-stubs_more Middle g = omega arith
-stubs_more Back g = omega arith
+stubs_more other g = omega arith
 
 level_new : (part : Part) (s : ℕ) → level (new_way part s) ≡ level_of part
 level_new Front s = refl
-level_new Middle s = refl
-level_new Back s = refl
+level_new other s = refl
 
 -- a stub that there was is as it was
 old_stub : (stubs new : List StubAt) (s : StubAt) (j : ℕ) → new ≡ stubs ++ (s ∷ []) → j < length stubs → stub_at new j ≡ stub_at stubs j
@@ -153,8 +145,7 @@ apart_by stubs boundary target part i none within b p t = none i (record { withi
 
 level_of_most : (part : Part) → level_of part ≤ 2
 level_of_most Front = omega arith
-level_of_most Middle = omega arith
-level_of_most Back = omega arith
+level_of_most other = omega arith
 
 -- of a new stub that is its target's first one there were none
 left_first : (code : Code) (state new : State) (index : ℕ) (s : StubAt) → new.may_share ≡ state.may_share → s.target ≡ (branch_at code.branches.now index).target → new.stubs.items ≡ state.stubs.items ++ (s ∷ [])

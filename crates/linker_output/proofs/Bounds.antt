@@ -1,10 +1,9 @@
 -- How many stubs there can be.
-use Rattle.linker_output.proofs.Imports.{◌+◌, ◌*◌, ◌<◌, ◌≤◌, ◌^◌, ℕ, arith, List, [], ◌∷◌, length, sum_by, mul-le-mul_left, get_or-le-sum_by, sum_by-cons, Code, Group, Part, Front, Middle, Back, State, Way, Direct, Far, Near, group_at, stub_at, stubs_in, part_of, IsCode, most_bytes, IsState, level}
+use Rattle.linker_output.proofs.Imports.{◌+◌, ◌*◌, ◌<◌, ◌≤◌, ◌^◌, ℕ, arith, List, [], ◌∷◌, length, sum_by, mul-le-mul_left, get_or-le-sum_by, sum_by-cons, Code, Group, Part, Front, State, Way, Direct, group_at, stub_at, stubs_in, part_of, IsCode, most_bytes, IsState, level}
 
 pub level_most : (w : Way) → level w ≤ 2
 level_most Direct = omega arith
-level_most (Far s) = omega arith
-level_most (Near s) = omega arith
+level_most other = omega arith
 
 pub levels_most : (ws : List Way) → sum_by level ws ≤ 2 * length ws
 levels_most [] = omega arith
@@ -13,8 +12,7 @@ levels_most (w ∷ ws) =
 
 pub part_most : (part : Part) (group : Group) → part_of part group ≤ stubs_in group
 part_most Front group = omega arith
-part_most Middle group = omega arith
-part_most Back group = omega arith
+part_most other group = omega arith
 
 pub few_stubs : (code : Code) (state : State) → IsState code state → length state.stubs.items ≤ 2 * length code.branches.now
 few_stubs code state is = let h = levels_most state.ways.items in let f = is.few in let w = is.ways in omega arith

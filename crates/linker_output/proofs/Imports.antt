@@ -81,7 +81,7 @@ pub use Rattle.linker_output.specs.declared.properties.PropertyRule.{PropertyRul
 pub use Rattle.linker_output.specs.declared.properties.PropertyRule.TheVariants.{All, Any, AnyOfAll, Largest, Present, Same}
 pub use Rattle.linker_output.specs.declared.properties.Reading.{Reading}
 pub use Rattle.linker_output.specs.declared.relr.RelrError.{RelrError}
-pub use Rattle.linker_output.specs.declared.relr.RelrError.TheVariants.{NoAddress, NotAscending, TooShort, Unaligned, Wraps}
+pub use Rattle.linker_output.specs.declared.relr.RelrError.TheVariants.{TooShort}
 pub use Rattle.linker_output.specs.declared.stubs.StubField.{StubField}
 pub use Rattle.linker_utils.specs.LoongArchRewrites.{IsCall, rd_of, rj_of}
 pub use Rattle.linker_utils.specs.Ppc64Rewrites.{opcode_of, ra_of, rt_of}

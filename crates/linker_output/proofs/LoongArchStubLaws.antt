@@ -1,5 +1,5 @@
 -- LoongArch's stubs go to their targets.
-use Rattle.linker_output.proofs.Imports.{◌≡◌, ℕ, ◌/◌, ◌^◌, ◌<◌, Bool, true, false, refl, sym, ◌∙◌, ap, subst, arith, [], ◌∷◌, eqb, cond, Some, None, Option, drop, length, pos, ◌+ℤ◌, ◌*ℤ◌, IsSomeAnd, eq-eqb, cond-true, ints, append-nil, loongarch_name, loongarch_row, rd_of, rj_of, next_pc, register_target, wrapped, loaded, loaded_of, IsHigh, IsLow, high_after, low_after, sum_zero, IsCall, execute, page_address, far_address, AreBytes, Relocated, entry_and_addend, StubCode, operands_of, field_of}
+use Rattle.linker_output.proofs.Imports.{◌≡◌, ℕ, ◌/◌, ◌^◌, ◌<◌, Bool, true, false, refl, sym, ◌∙◌, ap, subst, arith, [], ◌∷◌, eqb, cond, Some, None, Option, drop, length, pos, ◌+ℤ◌, ◌*ℤ◌, IsSomeAnd, eq-eqb, cond-true, ints, append-nil, loongarch_name, loongarch_row, rd_of, rj_of, next_pc, register_target, wrapped, loaded, loaded_of, IsLow, high_after, low_after, sum_zero, IsCall, execute, page_address, far_address, AreBytes, Relocated, entry_and_addend, StubCode, operands_of, field_of}
 use Rattle.std.proofs.lemmas.List.Elements.{All-cons, All-nil}
 use Rattle.linker_elf.specs.declared.loongarch64.relocations.LoongArch64Relocation.TheVariants as r
 use Rattle.linker_laws.specs.LoongArchMachine.{State, step, run, write, continue, go_to, go_on}

@@ -1,5 +1,5 @@
 -- Properties that are merged type by type.
-use Rattle.linker_output.proofs.Imports.{◌≡◌, ◌≢◌, ℕ, ◌+◌, ◌<◌, ◌≤◌, ◌^◌, true, List, [], ◌∷◌, ◌++◌, length, set, drop, refl, sym, ◌∙◌, ap, subst, arith, Option, Some, None, Ok, inl, inr, nat_tests, cases_lt, Architecture, AArch64, RiscV, LoongArch64, Ppc64, X86_64, rule_of, merged, merged_by, merged_kind, of_kind, are_ascending, Merges, put_all, Property, PropertyRule, All, Any, AnyOfAll, Largest, Present, Same}
+use Rattle.linker_output.proofs.Imports.{◌≡◌, ◌≢◌, ℕ, ◌+◌, ◌<◌, ◌≤◌, ◌^◌, true, List, [], ◌∷◌, ◌++◌, length, set, drop, refl, sym, ◌∙◌, ap, subst, arith, Option, Some, None, Ok, inl, inr, nat_tests, cases_lt, Architecture, X86_64, rule_of, merged, merged_by, merged_kind, of_kind, are_ascending, Merges, put_all, Property, PropertyRule, All, Any, AnyOfAll, Largest, Present, Same}
 
 -- ---- lists
 
@@ -47,11 +47,7 @@ put_within (d ∷ ds) (q ∷ qs) le = ap (λ xs. d ∷ xs) (put_within ds qs (om
 none_made : (rule : Option PropertyRule) (kind : ℕ) → merged_by rule kind None None ≡ Ok None
 none_made None kind = refl
 none_made (Some All) kind = refl
-none_made (Some Any) kind = refl
-none_made (Some AnyOfAll) kind = refl
-none_made (Some Largest) kind = refl
-none_made (Some Present) kind = refl
-none_made (Some Same) kind = refl
+none_made (Some other) kind = refl
 
 -- the merged properties so far
 pub record SoFar (architecture : Architecture) (first second done : List Property) (bound : ℕ) : Type 0 where
@@ -133,10 +129,7 @@ merged_is rule kind first second p e =
 -- a type of more than 32 bits has no rule
 no_rule : (architecture : Architecture) (kind : ℕ) → 2 ^ 32 ≤ kind → rule_of architecture kind ≡ None
 no_rule X86_64 kind le = grind (arith, nat_tests)
-no_rule AArch64 kind le = grind (arith, nat_tests)
-no_rule RiscV kind le = grind (arith, nat_tests)
-no_rule LoongArch64 kind le = grind (arith, nat_tests)
-no_rule Ppc64 kind le = grind (arith, nat_tests)
+no_rule other kind le = grind (arith, nat_tests)
 
 pub whole : (architecture : Architecture) (first second done : List Property) (bound : ℕ) → 2 ^ 32 ≤ bound
     → SoFar architecture first second done bound → Merges architecture first second done

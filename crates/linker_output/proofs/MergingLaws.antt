@@ -11,25 +11,17 @@ max_assoc a b c = omega arith
 
 pub commutes : (rule : Option PropertyRule) (kind : ℕ) (a b : Option Property)
     → merged_by rule kind a b ≡ merged_by rule kind b a
-commutes None kind a b = refl
 commutes (Some All) kind a b = ap (λ n. Ok (unless_zero kind n)) (and_comm (value_of a) (value_of b))
 commutes (Some Any) kind a b = ap (λ n. Ok (unless_zero kind n)) (or_comm (value_of a) (value_of b))
-commutes (Some AnyOfAll) kind None None = refl
 commutes (Some AnyOfAll) kind None (Some b) = refl
-commutes (Some AnyOfAll) kind (Some a) None = refl
 commutes (Some AnyOfAll) kind (Some a) (Some b) = ap (λ n. Ok (Some (of_value kind n))) (or_comm a.value b.value)
-commutes (Some Largest) kind None None = refl
 commutes (Some Largest) kind None (Some b) = refl
-commutes (Some Largest) kind (Some a) None = refl
 commutes (Some Largest) kind (Some a) (Some b) = ap (λ n. Ok (Some (of_value kind n))) (max_comm a.value b.value)
-commutes (Some Present) kind None None = refl
 commutes (Some Present) kind None (Some b) = refl
-commutes (Some Present) kind (Some a) None = refl
 commutes (Some Present) kind (Some a) (Some b) = refl
-commutes (Some Same) kind None None = refl
 commutes (Some Same) kind None (Some b) = refl
-commutes (Some Same) kind (Some a) None = refl
 commutes (Some Same) kind (Some a) (Some b) = grind (arith, nat_tests)
+commutes rule kind a b = refl
 
 unless_value : (kind n : ℕ) → value_of (unless_zero kind n) ≡ n
 unless_value kind n = grind (arith, nat_tests)
@@ -52,7 +44,6 @@ three_same kind a b c = grind (arith, nat_tests)
 
 pub associates : (rule : Option PropertyRule) (kind : ℕ) (a b c : Option Property)
     → merged_to rule kind (merged_by rule kind a b) c ≡ merged_with rule kind a (merged_by rule kind b c)
-associates None kind a b c = refl
 associates (Some All) kind a b c =
     ap (λ n. Ok (unless_zero kind n))
     (ap (λ n. bit_and n (value_of c)) (unless_value kind (bit_and (value_of a) (value_of b)))
@@ -63,38 +54,24 @@ associates (Some Any) kind a b c =
     (ap (λ n. bit_or n (value_of c)) (unless_value kind (bit_or (value_of a) (value_of b)))
     ∙ or_assoc (value_of a) (value_of b) (value_of c)
     ∙ sym (ap (bit_or (value_of a)) (unless_value kind (bit_or (value_of b) (value_of c)))))
-associates (Some AnyOfAll) kind None None None = refl
 associates (Some AnyOfAll) kind None None (Some c) = refl
-associates (Some AnyOfAll) kind None (Some b) None = refl
 associates (Some AnyOfAll) kind None (Some b) (Some c) = refl
-associates (Some AnyOfAll) kind (Some a) None None = refl
 associates (Some AnyOfAll) kind (Some a) None (Some c) = refl
-associates (Some AnyOfAll) kind (Some a) (Some b) None = refl
 associates (Some AnyOfAll) kind (Some a) (Some b) (Some c) = ap (λ n. Ok (Some (of_value kind n))) (or_assoc a.value b.value c.value)
-associates (Some Largest) kind None None None = refl
 associates (Some Largest) kind None None (Some c) = refl
-associates (Some Largest) kind None (Some b) None = refl
 associates (Some Largest) kind None (Some b) (Some c) = refl
-associates (Some Largest) kind (Some a) None None = refl
 associates (Some Largest) kind (Some a) None (Some c) = refl
-associates (Some Largest) kind (Some a) (Some b) None = refl
 associates (Some Largest) kind (Some a) (Some b) (Some c) = ap (λ n. Ok (Some (of_value kind n))) (max_assoc a.value b.value c.value)
-associates (Some Present) kind None None None = refl
 associates (Some Present) kind None None (Some c) = refl
-associates (Some Present) kind None (Some b) None = refl
 associates (Some Present) kind None (Some b) (Some c) = refl
-associates (Some Present) kind (Some a) None None = refl
 associates (Some Present) kind (Some a) None (Some c) = refl
-associates (Some Present) kind (Some a) (Some b) None = refl
 associates (Some Present) kind (Some a) (Some b) (Some c) = refl
-associates (Some Same) kind None None None = refl
 associates (Some Same) kind None None (Some c) = refl
-associates (Some Same) kind None (Some b) None = refl
 associates (Some Same) kind None (Some b) (Some c) = none_first kind b c
-associates (Some Same) kind (Some a) None None = refl
 associates (Some Same) kind (Some a) None (Some c) = refl
 associates (Some Same) kind (Some a) (Some b) None = none_last kind a b
 associates (Some Same) kind (Some a) (Some b) (Some c) = three_same kind a b c
+associates rule kind a b c = refl
 
 pub commutative : (architecture : Architecture) (first second : List Property) (kind : ℕ)
     → merged_kind architecture first second kind ≡ merged_kind architecture second first kind

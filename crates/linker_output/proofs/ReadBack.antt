@@ -47,11 +47,7 @@ inv_from a least index p ps ws e =
 
 padded_is : (rule : PropertyRule) (p : Property) → padded (size_of rule) ≡ 8 * length (value_words rule p)
 padded_is All p = refl
-padded_is Any p = refl
-padded_is AnyOfAll p = refl
-padded_is Largest p = refl
-padded_is Present p = refl
-padded_is Same p = refl
+padded_is other p = refl
 
 -- a property of the size of its type, where there is room
 visit_is : (a : Architecture) (s : List ℕ) (v : Reading) (kind size : ℕ) (rule : PropertyRule)
@@ -98,12 +94,9 @@ property_is Same s at p fit one two =
 -- a value's words after others
 value_first : (rule : PropertyRule) (p : Property) (pre rest : List ℕ) (at : ℕ) → IsSlim p → at ≡ 8 * length pre
     → 0 < length (value_words rule p) → word_at (bytes_of (pre ++ (value_words rule p ++ rest))) at ≡ p.value
-value_first All p pre rest at slim e some = word_after pre rest p.value at slim.value e
-value_first Any p pre rest at slim e some = word_after pre rest p.value at slim.value e
-value_first AnyOfAll p pre rest at slim e some = word_after pre rest p.value at slim.value e
-value_first Largest p pre rest at slim e some = word_after pre rest p.value at slim.value e
 value_first Present p pre rest at slim e some = absurd (omega arith)
 value_first Same p pre rest at slim e some = word_after pre (p.version ∷ rest) p.value at slim.value e
+value_first other p pre rest at slim e some = word_after pre rest p.value at slim.value e
 
 value_at : (rule : PropertyRule) (p : Property) (pre rest : List ℕ) (head at : ℕ) → IsSlim p → at ≡ 8 * length pre + 8
     → 0 < length (value_words rule p)
@@ -115,14 +108,10 @@ value_at rule p pre rest head at slim e some =
 version_at : (rule : PropertyRule) (p : Property) (pre rest : List ℕ) (head at : ℕ) → IsSlim p → at ≡ 8 * length pre + 16
     → 1 < length (value_words rule p)
     → word_at (bytes_of (pre ++ head ∷ (value_words rule p ++ rest))) at ≡ p.version
-version_at All p pre rest head at slim e some = absurd (omega arith)
-version_at Any p pre rest head at slim e some = absurd (omega arith)
-version_at AnyOfAll p pre rest head at slim e some = absurd (omega arith)
-version_at Largest p pre rest head at slim e some = absurd (omega arith)
-version_at Present p pre rest head at slim e some = absurd (omega arith)
 version_at Same p pre rest head at slim e some =
     subst (λ ws. word_at (bytes_of ws) at ≡ p.version) (append_assoc pre (head ∷ p.value ∷ []) (p.version ∷ rest))
     (word_after (pre ++ head ∷ p.value ∷ []) rest p.version at slim.version (omega (arith, length-append pre (head ∷ p.value ∷ []))))
+version_at other p pre rest head at slim e some = absurd (omega arith)
 
 low : (k n : ℕ) → k < 2 ^ 32 → (k + 2 ^ 32 * n) % 2 ^ 32 ≡ k
 low k n small = omega arith
@@ -132,11 +121,7 @@ high k n small = omega arith
 
 size_small : (rule : PropertyRule) → size_of rule ≤ 16
 size_small All = omega arith
-size_small Any = omega arith
-size_small AnyOfAll = omega arith
-size_small Largest = omega arith
-size_small Present = omega arith
-size_small Same = omega arith
+size_small other = omega arith
 
 head_small : (k n : ℕ) → k < 2 ^ 32 → n ≤ 16 → k + 2 ^ 32 * n < 2 ^ 64
 head_small k n one two = omega arith

@@ -1,5 +1,5 @@
 -- Lists of numbers that are written one after the other, and words without a fault.
-use Rattle.linker_output.proofs.Imports.{◌≡◌, ◌≢◌, ℕ, ◌+◌, ◌-◌, ◌*◌, ◌%◌, ◌^◌, ◌<◌, ◌≤◌, Bool, true, false, List, [], ◌∷◌, ◌++◌, length, take, drop, set, refl, sym, ◌∙◌, ap, subst, arith, nat_lt, nat_eq, cond, zero, suc, Option, Some, None, append_assoc, ◌||◌, ◌&&◌, ◌==◌, if◌then◌else◌, get_or, nat_tests, append-nil, take-append-drop, length-append, bit_at, list_all, take_more_set, drop-set-lt, relocated, word_fault, relr_fault, are_addresses, RejectsWords, RelrError, Unaligned, NotAscending, NoAddress, Wraps, TooShort, capped, Leaves}
+use Rattle.linker_output.proofs.Imports.{◌≡◌, ◌≢◌, ℕ, ◌+◌, ◌-◌, ◌*◌, ◌%◌, ◌^◌, ◌<◌, ◌≤◌, Bool, true, false, List, [], ◌∷◌, ◌++◌, length, take, drop, set, refl, sym, ◌∙◌, ap, subst, arith, nat_lt, nat_eq, cond, zero, suc, Option, Some, None, append_assoc, ◌||◌, ◌&&◌, ◌==◌, if◌then◌else◌, get_or, nat_tests, append-nil, take-append-drop, length-append, bit_at, list_all, take_more_set, drop-set-lt, relocated, word_fault, relr_fault, are_addresses, RejectsWords, RelrError, TooShort, capped, Leaves}
 use Rattle.std.proofs.lemmas.List.{length-set}
 use Rattle.std.proofs.lemmas.List.Folds.{list_all-append}
 use Rattle.linker_output.specs.Relr.{marked}
@@ -158,8 +158,5 @@ first_short [] n h = absurd (cc)
 first_short (w ∷ ws) n h = first_step w ws n (none_short (w ∷ ws) 0 n) h
 
 pub refused : (ws : List ℕ) (room : ℕ) (error : RelrError) → relr_fault ws ≡ Some error → RejectsWords ws room error
-refused ws room Unaligned h = h
-refused ws room NotAscending h = h
-refused ws room NoAddress h = h
-refused ws room Wraps h = h
 refused ws room (TooShort n) h = absurd (first_short ws n h)
+refused ws room other h = h

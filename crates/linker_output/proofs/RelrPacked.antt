@@ -1,5 +1,5 @@
 -- The words that the code makes relocate the addresses.
-use Rattle.linker_output.proofs.Imports.{◌≡◌, ◌≢◌, ℕ, ◌+◌, ◌-◌, ◌*◌, ◌/◌, ◌%◌, ◌^◌, ◌<◌, ◌≤◌, Bool, true, false, List, [], ◌∷◌, ◌++◌, length, refl, sym, ◌∙◌, ap, subst, arith, nat_eq, cond, zero, suc, Option, Some, None, bit_or, append_assoc, ◌⊎◌, inl, inr, nat_tests, append-nil, bit_at, w64, list_all, bit_at_above, bit_at_set_same, bit_at_set_other, bit_at_lowest, cases_Bool, relocated, address_fault, are_addresses, relr_fault, word_fault, Packs, RejectsAddresses, words_from, words_of, is_past, RelrError, Unaligned, NotAscending, NoAddress, Wraps, TooShort}
+use Rattle.linker_output.proofs.Imports.{◌≡◌, ◌≢◌, ℕ, ◌+◌, ◌-◌, ◌*◌, ◌/◌, ◌%◌, ◌^◌, ◌<◌, ◌≤◌, Bool, true, false, List, [], ◌∷◌, ◌++◌, length, refl, sym, ◌∙◌, ap, subst, arith, nat_eq, cond, zero, suc, Option, Some, None, bit_or, append_assoc, ◌⊎◌, inl, inr, nat_tests, append-nil, bit_at, w64, list_all, bit_at_above, bit_at_set_same, bit_at_set_other, bit_at_lowest, cases_Bool, relocated, address_fault, are_addresses, relr_fault, word_fault, Packs, RejectsAddresses, words_from, words_of, is_past, RelrError, TooShort}
 use Rattle.linker_output.specs.Relr.{marked}
 use Rattle.linker_output.proofs.RelrLists.{is_sound, no_fault}
 use Rattle.linker_output.proofs.RelrFewest.{cost, cost_next, cost_words}
@@ -258,11 +258,8 @@ none_short (x ∷ xs) least n h = short_step least x xs n (none_short xs (x + 1)
 
 -- of addresses no fault is that of the slice
 pub rejected : (xs : List ℕ) (least room : ℕ) (all : List ℕ) (error : RelrError) → address_fault least xs ≡ Some error → address_fault 0 all ≡ Some error → RejectsAddresses all room error
-rejected xs least room all Unaligned h g = g
-rejected xs least room all NotAscending h g = g
-rejected xs least room all NoAddress h g = g
-rejected xs least room all Wraps h g = g
 rejected xs least room all (TooShort n) h g = absurd (none_short xs least n h)
+rejected xs least room all other h g = g
 
 few_step : (x : ℕ) (xs : List ℕ) (e : ℕ) → ((d : ℕ) → cost xs d ≤ length xs) → cost_next e x (cost xs) ≤ suc (length xs)
 unfolding cost_next

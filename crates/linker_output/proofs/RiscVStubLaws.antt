@@ -1,5 +1,5 @@
 -- RISC-V's stub goes to the address in its word.
-use Rattle.linker_output.proofs.Imports.{◌≡◌, ℕ, ◌-◌, ◌%◌, ◌^◌, ◌<◌, refl, sym, ◌∙◌, ap, subst, arith, ℤ, Some, false, List, length, drop, pos, ◌+ℤ◌, ◌==◌, ints, length-drop, length-append, field, riscv_form, sum_64, difference_64, Relative, RelativeRiscVLow12, UType, IType, wrapped, moved, loaded, Hart, register, auipc, sums, jumps, executed, of_word, load_number, upper_word, load_word, whole_number, moved_twice, address_is, other, unwritten, riscv_name, riscv_relocation, sum_zero, Runs, fetched, rs1_of, upper_long, low_long, at_start, at_second, fetched_word, steps, operands_of, field_of}
+use Rattle.linker_output.proofs.Imports.{◌≡◌, ℕ, ◌-◌, ◌%◌, ◌^◌, ◌<◌, refl, sym, ◌∙◌, ap, subst, arith, ℤ, Some, false, List, length, drop, pos, ◌+ℤ◌, ◌==◌, length-drop, length-append, field, riscv_form, sum_64, difference_64, Relative, RelativeRiscVLow12, UType, IType, wrapped, moved, loaded, Hart, register, auipc, sums, jumps, executed, of_word, load_number, upper_word, load_word, whole_number, moved_twice, address_is, other, unwritten, riscv_name, riscv_relocation, sum_zero, Runs, fetched, rs1_of, upper_long, low_long, at_start, at_second, fetched_word, steps, operands_of, field_of}
 use Rattle.linker_base.specs.Form.{place_sum}
 use Rattle.linker_riscv64.specs.RiscVFields.{opcode_of, funct3_of, rd_of}
 use Rattle.linker_laws.specs.RiscVMachine.{loads}

@@ -1,5 +1,5 @@
 -- The words of a stub's code, and the relocations of its fields.
-use Rattle.linker_output.proofs.Imports.{◌≡◌, ℕ, ◌^◌, ◌<◌, ◌≤◌, refl, ◌∙◌, ap, subst, arith, List, [], ◌∷◌, ◌++◌, length, take, drop, Option, Some, pos, IsSomeAnd, w64, from_le_bytes, cast_unsigned, drop_at, sum_64, RowInfo, Operands, AreAddresses, w32, AppliesAt, StubCode, operands_of, StubField, IsNamedValue}
+use Rattle.linker_output.proofs.Imports.{◌≡◌, ℕ, ◌^◌, ◌<◌, ◌≤◌, refl, ◌∙◌, ap, subst, arith, List, ◌∷◌, ◌++◌, length, take, drop, Option, Some, pos, IsSomeAnd, w64, from_le_bytes, cast_unsigned, drop_at, sum_64, RowInfo, Operands, AreAddresses, w32, AppliesAt, StubCode, operands_of, StubField, IsNamedValue}
 use Rattle.linker_elf.specs.ElfNames.{ElfName, IsNamed, r_type_of}
 
 abbrev pub word : List ℕ → ℕ
@@ -8,25 +8,16 @@ word bytes = from_le_bytes w32 bytes
 -- ---- words of code
 
 pub front_word : (xs : List ℕ) → word (take 4 xs) ≡ word xs
-front_word [] = refl
-front_word (a ∷ []) = refl
-front_word (a ∷ b ∷ []) = refl
-front_word (a ∷ b ∷ c ∷ []) = refl
 front_word (a ∷ b ∷ c ∷ d ∷ xs) = refl
+front_word short = refl
 
 later_word : (xs ys : List ℕ) → 4 ≤ length xs → word (xs ++ ys) ≡ word xs
-later_word [] ys len = absurd (omega arith)
-later_word (a ∷ []) ys len = absurd (omega arith)
-later_word (a ∷ b ∷ []) ys len = absurd (omega arith)
-later_word (a ∷ b ∷ c ∷ []) ys len = absurd (omega arith)
 later_word (a ∷ b ∷ c ∷ d ∷ xs) ys len = refl
+later_word short ys len = absurd (omega arith)
 
 second_word : (xs ys : List ℕ) → length xs ≡ 8 → word (drop 4 (xs ++ ys)) ≡ word (drop 4 xs)
-second_word [] ys len = absurd (omega arith)
-second_word (a ∷ []) ys len = absurd (omega arith)
-second_word (a ∷ b ∷ []) ys len = absurd (omega arith)
-second_word (a ∷ b ∷ c ∷ []) ys len = absurd (omega arith)
 second_word (a ∷ b ∷ c ∷ d ∷ xs) ys len = later_word xs ys (omega arith)
+second_word short ys len = absurd (omega arith)
 
 -- of code that is a pair and what stands after it
 module _ (code pair tail : List ℕ) (len : length pair ≡ 8) (is : code ≡ pair ++ tail) where

@@ -1,5 +1,5 @@
 -- Notes that are written word by word.
-use Rattle.linker_output.proofs.Imports.{◌≡◌, ◌≢◌, ℕ, ◌+◌, ◌*◌, ◌≤◌, ◌^◌, false, List, [], ◌∷◌, ◌++◌, length, take, drop, refl, sym, ◌∙◌, ap, subst, arith, Option, Some, None, Result, Ok, Err, append_assoc, nat_lt, w64, to_le_bytes, take-append-drop, take_at, drop_at, drop-drop, length-append, length-take-le, nat_tests, Architecture, drop-append-add, words_by, with_words, list_words, property_words, rule_of, note_words, size_of, WritesNote, Puts, IsWritable, AreSlim, Property, PropertyRule, PropertyError, All, Any, AnyOfAll, Largest, Present, Same}
+use Rattle.linker_output.proofs.Imports.{◌≡◌, ◌≢◌, ℕ, ◌+◌, ◌*◌, ◌≤◌, ◌^◌, false, List, [], ◌∷◌, ◌++◌, length, take, drop, refl, sym, ◌∙◌, ap, subst, arith, Option, Some, None, Result, Ok, Err, append_assoc, nat_lt, w64, to_le_bytes, take-append-drop, take_at, drop_at, drop-drop, length-append, length-take-le, nat_tests, Architecture, drop-append-add, words_by, with_words, list_words, property_words, rule_of, note_words, size_of, WritesNote, Puts, IsWritable, AreSlim, Property, PropertyRule, PropertyError, All, Present, Same}
 use Rattle.linker_output.specs.Properties.{bytes_of, words_from}
 
 -- ---- bytes
@@ -68,12 +68,9 @@ puts_none at before = record {
 
 pub other_words : (rule : PropertyRule) (p : Property) → rule ≢ Present → rule ≢ Same
     → property_words rule p ≡ (p.kind + 2 ^ 32 * size_of rule) ∷ p.value ∷ []
-other_words All p one two = refl
-other_words Any p one two = refl
-other_words AnyOfAll p one two = refl
-other_words Largest p one two = refl
 other_words Present p one two = absurd (one refl)
 other_words Same p one two = absurd (two refl)
+other_words other p one two = refl
 
 -- ---- the words of a list
 
@@ -112,11 +109,7 @@ one_more a all done least index p rule left w h = record {
 
 pub word_count : (rule : PropertyRule) (p : Property) → length (property_words rule p) ≤ 3
 word_count All p = omega arith
-word_count Any p = omega arith
-word_count AnyOfAll p = omega arith
-word_count Largest p = omega arith
-word_count Present p = omega arith
-word_count Same p = omega arith
+word_count other p = omega arith
 
 -- ---- the header
 

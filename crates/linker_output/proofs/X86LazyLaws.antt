@@ -15,44 +15,26 @@ use Rattle.linker_output.specs.declared.lazy_plt.LazyTarget.{LazyTarget}
 pub by_word : (b others : List ℕ) (s : State) → length b ≡ 8 → take 2 b ≡ 0xff ∷ 0x25 ∷ []
     → step (take 6 b ++ others) s
     ≡ Some (record s { ip = load 8 s (sum_64 (sum_64 s.ip 6) (extended (number_of_bytes 4 (drop 2 b)))) })
-by_word [] others s len is = absurd (omega arith)
-by_word (a ∷ []) others s len is = absurd (omega arith)
-by_word (a ∷ b ∷ []) others s len is = absurd (omega arith)
-by_word (a ∷ b ∷ c ∷ []) others s len is = absurd (omega arith)
-by_word (a ∷ b ∷ c ∷ d ∷ []) others s len is = absurd (omega arith)
-by_word (a ∷ b ∷ c ∷ d ∷ e ∷ []) others s len is = absurd (omega arith)
 by_word (a ∷ b ∷ c ∷ d ∷ e ∷ f ∷ rest) others s len is = ap (λ l. step (l ++ (c ∷ d ∷ e ∷ f ∷ others)) s) is
+by_word short others s len is = absurd (omega arith)
 
 pushes_word : (b others : List ℕ) (s : State) → length b ≡ 8 → take 2 b ≡ 0xff ∷ 0x35 ∷ []
     → step (take 6 b ++ others) s
     ≡ Some (pushed (load 8 s (sum_64 (sum_64 s.ip 6) (extended (number_of_bytes 4 (drop 2 b))))) (sum_64 s.ip 6) s)
-pushes_word [] others s len is = absurd (omega arith)
-pushes_word (a ∷ []) others s len is = absurd (omega arith)
-pushes_word (a ∷ b ∷ []) others s len is = absurd (omega arith)
-pushes_word (a ∷ b ∷ c ∷ []) others s len is = absurd (omega arith)
-pushes_word (a ∷ b ∷ c ∷ d ∷ []) others s len is = absurd (omega arith)
-pushes_word (a ∷ b ∷ c ∷ d ∷ e ∷ []) others s len is = absurd (omega arith)
 pushes_word (a ∷ b ∷ c ∷ d ∷ e ∷ f ∷ rest) others s len is = ap (λ l. step (l ++ (c ∷ d ∷ e ∷ f ∷ others)) s) is
+pushes_word short others s len is = absurd (omega arith)
 
 -- `push number`, `jmp`
 pushes : (b others : List ℕ) (s : State) → length b ≡ 8 → take 1 b ≡ 0x68 ∷ []
     → step (take 5 b ++ others) s ≡ Some (pushed (extended (number_of_bytes 4 (drop 1 b))) (sum_64 s.ip 5) s)
-pushes [] others s len is = absurd (omega arith)
-pushes (a ∷ []) others s len is = absurd (omega arith)
-pushes (a ∷ b ∷ []) others s len is = absurd (omega arith)
-pushes (a ∷ b ∷ c ∷ []) others s len is = absurd (omega arith)
-pushes (a ∷ b ∷ c ∷ d ∷ []) others s len is = absurd (omega arith)
 pushes (a ∷ b ∷ c ∷ d ∷ e ∷ rest) others s len is = ap (λ l. step (l ++ (b ∷ c ∷ d ∷ e ∷ others)) s) is
+pushes short others s len is = absurd (omega arith)
 
 jumps : (b others : List ℕ) (s : State) → length b ≡ 8 → take 1 b ≡ 0xe9 ∷ []
     → step (take 5 b ++ others) s
     ≡ Some (record s { ip = sum_64 (sum_64 s.ip 5) (extended (number_of_bytes 4 (drop 1 b))) })
-jumps [] others s len is = absurd (omega arith)
-jumps (a ∷ []) others s len is = absurd (omega arith)
-jumps (a ∷ b ∷ []) others s len is = absurd (omega arith)
-jumps (a ∷ b ∷ c ∷ []) others s len is = absurd (omega arith)
-jumps (a ∷ b ∷ c ∷ d ∷ []) others s len is = absurd (omega arith)
 jumps (a ∷ b ∷ c ∷ d ∷ e ∷ rest) others s len is = ap (λ l. step (l ++ (b ∷ c ∷ d ∷ e ∷ others)) s) is
+jumps short others s len is = absurd (omega arith)
 
 pub run_step : (n : ℕ) (code : List ℕ) (start k : ℕ) (s : State) (t : Option State) → difference_64 s.ip start ≡ k
     → step (drop k code) s ≡ t → run (suc n) code start s ≡ and_then (run n code start) t

@@ -1,5 +1,5 @@
 use Rattle.linker_output.proofs.Imports.{◌≡◌, ◌<◌, ◌+◌, ◌∙◌, ℕ, List, true, ap, sym, subst, arith, below_more, length, sum_by, false≢true, Code, State, branch_at, SameStubs, IsServedBy, Visited, level, way_at}
-use Rattle.linker_output.specs.declared.placement.Visit.TheVariants.{Served, Near, Lost}
+use Rattle.linker_output.specs.declared.placement.Visit.TheVariants.{Served, Near}
 use Rattle.linker_output.proofs.Near.{near_served, places_kept, laid_kept}
 use Rattle.linker_output.proofs.placement.State.sweep.Goals as goal
 use Rattle.linker_output.proofs.placement.State.sweep.Goals.{in-Served, in-Near, in-Raised, in-Lost+else-not-changed}
