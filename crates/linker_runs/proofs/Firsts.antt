@@ -1,5 +1,5 @@
 -- What the parts of a run meet, fault by fault.
-use Rattle.linker_runs.proofs.Imports.{ℕ, zero, suc, ◌+◌, ◌<◌, ◌≤◌, arith, Shape, Shapes, Alignment, Fault, TooHigh, TooManyShapes, ShapeTooLong, ShapesNotAscending, BadGranularity, BadReach, BadAlignment, UnevenShape, Misaligned, AlignmentBelowGranularity, UnevenEnd, TooFewNops, UnevenNops, TargetInside, MayBeMisaligned, short_shape, number_of, ShapesMeet, AlignmentMeets}
+use Rattle.linker_runs.proofs.Imports.{ℕ, zero, suc, ◌+◌, ◌<◌, ◌≤◌, arith, Shape, Shapes, Alignment, Fault, TooManyShapes, ShapeTooLong, ShapesNotAscending, BadGranularity, BadReach, AlignmentBelowGranularity, UnevenEnd, TooFewNops, UnevenNops, short_shape, number_of, ShapesMeet, AlignmentMeets}
 use Rattle.linker_runs.specs.declared.relaxation.faults.Fault.TheVariants.{Overlaps}
 
 -- what shapes meet of the faults below a number

@@ -1,5 +1,5 @@
 -- What calls and addresses of LoongArch become.
-use Rattle.linker_runs.proofs.Imports.{◌≡◌, ℕ, ◌+◌, ◌*◌, ◌^◌, ◌<◌, List, length, take, drop, refl, subst, ◌∙◌, ap, arith, inl, inr, ℤ, pos, ◌+ℤ◌, Bool, true, false, int_lt, Some, eqb, not, ◌↔◌, ⊎_elim, IsSomeAnd, ◌*ℤ◌, ◌⊎◌, IsTrue, w32, w64, from_le_bytes, to_le_bytes, agree_below, from_le_bytes-to_le_bytes_4, field, window_of, is_placed, BitRange, IsWithin, bit_bounds, InstructionWritten, bits_taken, Signed, Shift5, sum_64, IsAddress, AreAddresses, whole, places_cleared, is_jirl, loongarch_form, reach, Branch26, operands_of, IsRelocated, IsOutOfReach, IsCall36At, IsPcalaAt, IsSiteAt, destination, branch_template, pcaddi_template, call_template, high_template, low_template, IsBranch, IsPcaddi, IsFarCall, IsFarAddress, IsAddressInReach, IsAddressOutOfReach, LoongArchBecomes, LoongArchAccepts, LoongArchIsFar, LoongArchCause, jump, call, far_call, address, far_address, short_call, long_call, short_address, long_address, far_from_branch, far_from_call, far_from_pcaddi, far_from_pair, far_pages, far_high, far_low, HasLoongArchShapes, Shapes, CALL36, PCALA, IsKindAt, short_template, AreRelocated, IsLongOf, IsLongOutOfReach, ItemError, Overlaps, OutOfSection, DeletedOutside, NotItsFirstBytes, NotItsInstructions, NoShape, OutOfReach}
+use Rattle.linker_runs.proofs.Imports.{◌≡◌, ℕ, ◌+◌, ◌*◌, ◌^◌, ◌<◌, List, length, take, drop, refl, subst, ◌∙◌, ap, arith, inl, inr, ℤ, pos, ◌+ℤ◌, Bool, true, false, int_lt, Some, eqb, not, ◌↔◌, ⊎_elim, IsSomeAnd, ◌*ℤ◌, ◌⊎◌, IsTrue, w32, w64, from_le_bytes, to_le_bytes, agree_below, from_le_bytes-to_le_bytes_4, field, window_of, is_placed, BitRange, IsWithin, bit_bounds, InstructionWritten, bits_taken, Signed, Shift5, sum_64, IsAddress, AreAddresses, whole, places_cleared, is_jirl, loongarch_form, reach, Branch26, operands_of, IsRelocated, IsOutOfReach, IsCall36At, IsPcalaAt, IsSiteAt, destination, branch_template, pcaddi_template, call_template, high_template, low_template, IsBranch, IsPcaddi, IsFarCall, IsFarAddress, IsAddressInReach, IsAddressOutOfReach, LoongArchBecomes, LoongArchAccepts, LoongArchIsFar, LoongArchCause, jump, call, far_call, address, far_address, short_call, long_call, short_address, long_address, far_from_branch, far_from_call, far_from_pcaddi, far_from_pair, far_pages, far_high, far_low, HasLoongArchShapes, Shapes, CALL36, PCALA, IsKindAt, short_template, AreRelocated, IsLongOf, IsLongOutOfReach, ItemError, NotItsInstructions, NoShape, OutOfReach}
 use Rattle.linker_elf.specs.declared.elf.AnyForm.TheVariants.{LoongArch64}
 use Rattle.linker_elf.specs.declared.loongarch64.forms.LoongArch64Instruction.{LoongArch64Instruction}
 use Rattle.linker_laws.specs.LoongArchRelocationLaws.{Branches, Calls, RelativeAddresses, page_and_low}

@@ -1,5 +1,5 @@
 -- Calls of RISC-V that a relaxation made shorter can be written.
-use Rattle.linker_runs.proofs.Imports.{◌≡◌, Bool, ℕ, ◌+◌, ◌*◌, ◌^◌, ◌<◌, ◌≤◌, ◌∙◌, true, List, length, inl, inr, refl, ap, subst, ⊎_elim, arith, None, IsSomeAnd, w32, to_le_bytes, cases_lt, false≢true, ints, sum_64, R_RISCV_JAL, R_RISCV_RVC_JUMP, riscv_fits, link_register, cases_Bool, OfJalr, ◌==◌, Shapes, CALL, TAIL_C, short_shape, is_reached, IsOutOfReach, riscv_template, short_bytes, RiscVCause, links_short, HasRiscVShapes, ItemError, Overlaps, OutOfSection, DeletedOutside, NotItsFirstBytes, NotItsInstructions, NoShape, OutOfReach}
+use Rattle.linker_runs.proofs.Imports.{◌≡◌, Bool, ℕ, ◌+◌, ◌*◌, ◌^◌, ◌<◌, ◌≤◌, ◌∙◌, true, List, length, inl, inr, refl, ap, subst, ⊎_elim, arith, None, IsSomeAnd, w32, to_le_bytes, cases_lt, false≢true, ints, sum_64, R_RISCV_JAL, R_RISCV_RVC_JUMP, riscv_fits, link_register, cases_Bool, OfJalr, ◌==◌, Shapes, CALL, TAIL_C, short_shape, is_reached, IsOutOfReach, riscv_template, short_bytes, RiscVCause, links_short, HasRiscVShapes, ItemError, NotItsInstructions, NoShape, OutOfReach}
 use Rattle.linker_runs.proofs.RiscVReaches.{riscv_shapes}
 use Rattle.linker_runs.proofs.Distances.{not_rejected}
 

@@ -1,4 +1,4 @@
-use Rattle.linker_runs.proofs.Imports.{◌≡◌, ◌+◌, ◌<◌, ◌≤◌, ◌∙◌, ap, map, refl, inl, inr, subst, sym, length, set, arith, drop-set-lt, length-map, drop_more_same, end_of, IsDeleted, deleted_at, deleted_end, Rewritten, AreListedIn, rewritten_of}
+use Rattle.linker_runs.proofs.Imports.{◌≡◌, ◌+◌, ◌∙◌, ap, map, refl, inl, inr, subst, sym, set, arith, drop-set-lt, length-map, drop_more_same, end_of, IsDeleted, deleted_at, deleted_end, Rewritten, AreListedIn, rewritten_of}
 use Rattle.linker_runs.proofs.Listed.{put_deleted}
 use Rattle.linker_runs.proofs.items.rewritten.list_deletions.Goals as goal
 
