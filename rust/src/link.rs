@@ -288,7 +288,8 @@ pub enum WritingError {
     /// The tables of facts and of addresses contradict each other about the symbol with this index,
     /// as [`RewritingError::Contradiction`](crate::rewriting::RewritingError::Contradiction) says.
     Contradiction(usize),
-    /// Of the symbol of the relocation with this index other facts hold than those that are kept.
+    /// Of the symbol of the relocation with this index other facts hold than those that are kept,
+    /// or none are kept.
     Changed(usize),
     /// The relocation with this index is an `R_PPC64_REL24` of a function of another file, which
     /// may return with another TOC pointer, and whose symbol has no stub that keeps the caller's.
@@ -546,13 +547,8 @@ pub fn survey<B: AsRef<[u8]>, R: AsRef<[u8]>>(
 ///
 /// # Errors
 ///
-/// The section and its relocations are as before. `TooShort`: there are more relocations than
-/// `decisions`. `NotSurveyed`: a relocation of a group that doesn't stay has no rewrite; it never
-/// comes where the section was surveyed into the table with the same facts. `Overlaps`: the bytes
-/// of two rewrites overlap, or those of the second lie below those of the first, so the relocations
-/// of instructions that can be rewritten have to ascend by offset. Where no other error is, it is
-/// of the first relocation whose field has a byte that the rewrite of another one changes, and
-/// which that rewrite doesn't take along. All other relocations may be in any order.
+/// The section and its relocations are as before. Relocations of instructions that can be rewritten
+/// have to ascend by offset (`Overlaps`). All others may be in any order.
 ///
 /// ```
 /// use linker_utils::elf::Architecture;
@@ -670,9 +666,9 @@ pub fn decide_rewrites<B: AsRef<[u8]>, R: AsRef<[u8]>, D: AsKeptDecision>(
 ///
 /// The relocations have to be those that were decided on, with their offsets in this section: it is
 /// called before values are written, and before the section is packed. Where these and the section
-/// are unchanged, it returns no error (`laws::decisions_are_made`). Each byte that a rewrite
-/// overwrites is tested, by a number of 32 bits that is kept with the decision. It is another one
-/// where one of the bytes is, and of up to four bytes it is those bytes (`laws::bytes_tell`).
+/// are unchanged, it returns no error. Each byte that a rewrite overwrites is tested, by a number
+/// of 32 bits that is kept with the decision. It is another one where one of the bytes is, and of
+/// up to four bytes it is those bytes (`laws::decisions_are_made`).
 ///
 /// Any decisions are accepted that pass the tests below, whoever made them. With
 /// [`Decision::RewrittenWithSymbol`](crate::rewriting::Decision::RewrittenWithSymbol), which [`decide_rewrites`](crate::rewriting::decide_rewrites()) never decides, no number is kept. What
@@ -681,12 +677,8 @@ pub fn decide_rewrites<B: AsRef<[u8]>, R: AsRef<[u8]>, D: AsKeptDecision>(
 ///
 /// # Errors
 ///
-/// The section and its relocations are as before. `TooShort`: there are more relocations than
-/// `decisions`. Else the error of the first relocation that has one. `Changed`: the bytes that its
-/// rewrite overwrites have another number than is kept, or the instructions aren't those that the
-/// rewrite is meant for, as [`Relaxation::matches`](crate::architecture::Relaxation::matches) says, or what it deletes isn't in the section.
-/// `Overlaps`: it rewrites or deletes bytes that a decision before it does too, or bytes below
-/// those.
+/// The section and its relocations are as before. `TooShort`, or else the error of the first
+/// relocation that has one.
 #[inline]
 pub fn make_rewrites<B: AsMut<[u8]>, R: AsMut<[u8]>, D: AsKeptDecision>(
     section: &mut Section<B, R>,
@@ -700,15 +692,13 @@ pub fn make_rewrites<B: AsMut<[u8]>, R: AsMut<[u8]>, D: AsKeptDecision>(
 }
 
 /// Notes which groups of an object stay in a phase once addresses are known, by a section, as
-/// [`survey`](crate::rewriting::survey()) does before. [`rewrite_placed_section`](crate::rewriting::rewrite_placed_section()) rewrites all of a group or none by these notes,
-/// so survey each section of code of an object before one of them is rewritten in the phase, with
-/// one table for the object and the phase. A group stays too where a table has no entry for its
-/// symbol. Relocations of a label of RISC-V aren't surveyed: all of a label are in one section.
+/// [`survey`](crate::rewriting::survey()) does before, for [`rewrite_placed_section`](crate::rewriting::rewrite_placed_section()): there is one table for the object and the
+/// phase. A group stays too where `facts` or `values` has no entry for its symbol. Relocations of
+/// a label of RISC-V aren't surveyed: all of a label are in one section.
 ///
 /// # Errors
 ///
-/// `kept` is as before. `facts` and `values` contradict each other about the symbol of a
-/// relocation, as [`RewritingError::Contradiction`](crate::rewriting::RewritingError::Contradiction) says: the index of the first such symbol.
+/// `kept` is as before. The index of the first symbol that is a [`RewritingError::Contradiction`](crate::rewriting::RewritingError::Contradiction).
 ///
 /// ```
 /// use linker_utils::elf::Architecture;
@@ -778,10 +768,9 @@ pub fn survey_placed_section<B: AsRef<[u8]>, R: AsRef<[u8]>>(
 ///
 /// # Errors
 ///
-/// The section and its relocations are as before. `Contradiction`: `facts` and `values`
-/// contradict each other about the symbol of a relocation, with the index of the first such symbol;
-/// an undefined weak symbol that the dynamic linker may define is none. Those of [`rewrite_section`](crate::rewriting::rewrite_section()),
-/// and `TooShort` where `deleted` has less room than there are deletions.
+/// The section and its relocations are as before. Those of [`rewrite_section`](crate::rewriting::rewrite_section()), and before them
+/// `Contradiction`, of the first such symbol; an undefined weak symbol that the dynamic linker may
+/// define is none.
 ///
 /// ```
 /// use linker_utils::elf::Architecture;
@@ -837,10 +826,8 @@ pub fn rewrite_placed_section<B: AsMut<[u8]>, R: AsMut<[u8]>, D: AsDecision, L: 
 /// Notes which words of an object's section of addresses stay, since a relocation of this section
 /// of code is of an instruction that loads one and can't compute its address: it is none that the
 /// rewrite is meant for, the address may be of another file or in another place each time, or it is
-/// out of reach. [`rewrite_toc_loads`](crate::rewriting::rewrite_toc_loads()) rewrites all loads of a word or none by these notes, so
-/// survey each section of code of the object before one of them is rewritten, with one table for
-/// the section of addresses, all of whose elements are false at first. What stays there already
-/// stays. A word without an element stays.
+/// out of reach. As with [`survey`](crate::rewriting::survey()) there is one table, for the section of addresses, all of whose
+/// elements are false at first. A word without an element stays.
 ///
 /// `words.relocations` are the relocations of the section of addresses, as `output`'s description names
 /// it, and have to ascend by offset; `kept` has an element for each. `words.address` is its address.
@@ -849,9 +836,8 @@ pub fn rewrite_placed_section<B: AsMut<[u8]>, R: AsMut<[u8]>, D: AsDecision, L: 
 ///
 /// # Errors
 ///
-/// `kept` is as before. `facts` and `values` contradict each other about the symbol of a
-/// relocation of the section, as [`RewritingError::Contradiction`](crate::rewriting::RewritingError::Contradiction) says: the index of the first such
-/// symbol. Those of words are compared by the call that writes the words' values by both tables.
+/// `kept` is as before. The index of the first symbol that is a [`RewritingError::Contradiction`](crate::rewriting::RewritingError::Contradiction).
+/// Those of words are compared by the call that writes the words' values by both tables.
 ///
 /// ```
 /// use linker_utils::elf::Architecture;
@@ -909,12 +895,7 @@ pub fn survey_toc_loads<B: AsRef<[u8]>, R: AsRef<[u8]>>(
 ///
 /// # Errors
 ///
-/// The section and its relocations are as before. `TooShort`: there are more relocations than
-/// `decisions`. `NotSurveyed`: a load of a word that doesn't stay can't be rewritten; it never
-/// comes where the section was surveyed into the table with the same facts. `Overlaps`: the bytes
-/// of two rewrites overlap, or those of the second lie below those of the first; where none do, the
-/// field of the relocation with the index, the first such, has a byte that the rewrite of another
-/// one writes. Before these `Contradiction`, as in [`survey_toc_loads`](crate::rewriting::survey_toc_loads()).
+/// The section and its relocations are as before. `Contradiction` comes first.
 ///
 /// ```
 /// use linker_utils::elf::Architecture;
@@ -972,17 +953,13 @@ pub fn rewrite_toc_loads<B: AsMut<[u8]>, R: AsMut<[u8]>, D: AsDecision>(
 /// relocations don't ascend, and all where the output isn't an executable that is always loaded at
 /// the address that it is linked for.
 ///
-/// [`rewrite_global_pointer`](crate::rewriting::rewrite_global_pointer()) rewrites all of a symbol or none by these notes, so survey each section
-/// of code of the object before one of them is rewritten, with one table, all of whose elements are
-/// false at first. What stays there already stays. A symbol without an element stays.
-///
-/// `global_pointer` is the address of `__global_pointer$`, and `kept` has an element for each symbol of the
-/// object. For other architectures than RISC-V nothing is noted.
+/// As with [`survey`](crate::rewriting::survey()) there is one table, with an element for each symbol of the object, all of which
+/// are false at first. A symbol without an element stays. `global_pointer` is the address of
+/// `__global_pointer$`. For other architectures than RISC-V nothing is noted.
 ///
 /// # Errors
 ///
-/// `kept` is as before. `facts` and `values` contradict each other about the symbol of a
-/// relocation, as [`RewritingError::Contradiction`](crate::rewriting::RewritingError::Contradiction) says: the index of the first such symbol.
+/// `kept` is as before. The index of the first symbol that is a [`RewritingError::Contradiction`](crate::rewriting::RewritingError::Contradiction).
 ///
 /// ```
 /// use linker_utils::elf::Architecture;
@@ -1039,13 +1016,8 @@ pub fn survey_global_pointer<B: AsRef<[u8]>, R: AsRef<[u8]>>(
 ///
 /// # Errors
 ///
-/// The relocations are as before. `Contradiction`, as in [`survey_global_pointer`](crate::rewriting::survey_global_pointer()), comes first.
-/// `TooShort`: there are more relocations than `decisions`, or `deleted` has less room than there
-/// are deletions. `NotSurveyed`: a relocation of a symbol that doesn't stay can't be rewritten; it
-/// never comes where the section was surveyed into the table with the same facts. `Overlaps`: the
-/// instruction of the relocation with the index overlaps one of a relocation before it that is
-/// rewritten too; where none do, its field is the first that has a byte of another one's `lui` or
-/// `auipc` that goes.
+/// The relocations are as before. `Contradiction` comes first. `Overlaps`: low parts count as four
+/// bytes that are rewritten, too.
 ///
 /// ```
 /// use linker_utils::elf::Architecture;
@@ -1175,11 +1147,7 @@ pub fn first_changed<B: AsRef<[u8]>, R: AsRef<[u8]>>(
 ///
 /// # Errors
 ///
-/// The section is as before. The first that applies of `Contradiction`: `facts` and `values`
-/// contradict each other about the symbol of a relocation, with the index of the first such symbol;
-/// `Changed`: of a symbol other facts hold than are kept, or none are kept, with the index of the
-/// first such relocation; `NeedsStub`: a call of PowerPC64 may lose its TOC pointer, with the index
-/// of the first one; `Section`: a value isn't written.
+/// The section is as before. The first of the list that applies, with the first such index.
 ///
 /// ```
 /// use linker_utils::elf::Architecture;

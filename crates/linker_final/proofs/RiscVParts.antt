@@ -2,7 +2,7 @@
 -- what the rewrites left, with the values of their relocations.
 use Rattle.linker_final.proofs.RiscVChosen.{Becomes, EachBecomes, becomes_of, of_subject}
 use Rattle.linker_final.proofs.RiscVWritten.{IsAfter, IsOwn, becomes, bytes_there, long_there, made_bytes, own_row, redirected_after, rewritten_after}
-use Rattle.linker_final.proofs.RiscVImports.{◌≡◌, ℕ, ◌+◌, ◌/◌, ◌<◌, ◌≤◌, List, length, refl, sym, ap, subst, ◌∙◌, arith, Option, Some, Ok, IsSomeAnd, slice_get, BitRange, IsApplied, IsRow, IsNamed, r_type_of, Choice, addend_after, offset_after, pair_row, riscv_name, riscv_relocation, riscv_row, difference_64, value_of, Relative, RelativeRiscVLow12, RowInfo, Architecture, RiscV, Operands, IType, UType, RiscVRelocation, after_rewrite, decision_at, Rewritten, RewrittenWithSymbol, Subject, riscv_entries, riscv_rewrite, Relaxation, RiscV64, relocation_in, offset_at, operands_in, operands_of, operands_with, AreWritten, Addresses, Symbol, Rela, AreBytes, AreRewritten, IsLinked, Linked, UntouchedInstruction, count, instruction_at, IsKeptInstruction, IsRewrittenAndPacked, Packed, architecture_of, place_of, HasLow, HasNamed, HasOwn, IsNamedAs, New, anywhere, final, packed, IsOfDescriptor, named_as, offset_of, Has, Stands, rewrites_word, RewriteKind, applied, applied_found, of_bits, r_type_is, final_inside, place_is, rewritten_inside, same_kept, within, low_found, bytes_left, last_length, last_within, later_bytes, relocation_left, IsRowOf, by_name, rela, row_in, with_operands}
+use Rattle.linker_final.proofs.RiscVImports.{◌≡◌, ℕ, ◌+◌, ◌/◌, ◌<◌, ◌≤◌, List, length, refl, sym, ap, subst, ◌∙◌, arith, Option, Some, Ok, IsSomeAnd, slice_get, BitRange, IsApplied, IsRow, IsNamed, r_type_of, Choice, addend_after, offset_after, pair_row, riscv_name, riscv_relocation, riscv_row, difference_64, value_of, Relative, RelativeRiscVLow12, RowInfo, Architecture, RiscV, Operands, IType, UType, RiscVRelocation, after_rewrite, decision_at, Rewritten, RewrittenWithSymbol, Subject, riscv_entries, riscv_rewrite, Relaxation, relocation_in, offset_at, operands_in, operands_of, operands_with, AreWritten, Addresses, Symbol, Rela, AreBytes, AreRewritten, IsLinked, Linked, UntouchedInstruction, count, instruction_at, IsKeptInstruction, IsRewrittenAndPacked, Packed, architecture_of, place_of, HasLow, HasNamed, HasOwn, IsNamedAs, New, anywhere, final, packed, IsOfDescriptor, named_as, offset_of, Has, Stands, rewrites_word, RewriteKind, applied, applied_found, of_bits, r_type_is, final_inside, place_is, rewritten_inside, same_kept, within, low_found, bytes_left, last_length, last_within, later_bytes, relocation_left, IsRowOf, by_name, rela, row_in, with_operands}
 use Rattle.linker_final.specs.RiscVSection.{HasValue}
 use Rattle.linker_elf.specs.declared.elf.AnyForm.TheVariants as insns
 use Rattle.linker_elf.specs.declared.riscv64.relocations.RiscVRelocation.TheVariants as names

@@ -4,6 +4,7 @@
 
 use crate::linker_rewriting::facts::{OutputFacts, RelaxContext, SymbolFacts, link_facts};
 use crate::linker_rewriting::phases::Phase;
+use crate::linker_rewriting::relocations::Site;
 use crate::linker_rewriting::sequences::{is_marked_in, is_whole};
 use crate::linker_base::rewrite::DeletedBytes;
 use crate::linker_section::facts::{Addresses, Symbol};
@@ -33,17 +34,11 @@ fn is_call(context: &RelaxContext<'_>, offset: u64, distance: u64, next: Option<
 
 /// Whether the relocation that a rewrite takes along, if any, is the next one.
 #[inline(always)]
-fn finds_next(
-    context: &RelaxContext<'_>,
-    relocations: &[u8],
-    index: usize,
-    offset: u64,
-    kind: Relaxation,
-) -> bool {
+fn finds_next(context: &RelaxContext<'_>, site: &Site<'_>, kind: Relaxation) -> bool {
     match kind.skipped_offset() {
         Some(distance) => {
-            let next = relocation_at(relocations, index + 1);
-            is_call(context, offset, distance, next)
+            let next = relocation_at(site.relocations, site.index + 1);
+            is_call(context, site.relocation.offset, distance, next)
         }
         None => true,
     }
@@ -71,29 +66,26 @@ pub(crate) fn deletes_within(section: &[u8], offset: u64, deleted: Option<Delete
 #[inline(always)]
 pub(crate) fn candidate_by(
     context: &RelaxContext<'_>,
-    relocations: &[u8],
-    section: &[u8],
-    index: usize,
-    relocation: &Rela,
+    site: &Site<'_>,
     facts: &Option<LinkFacts>,
 ) -> Option<Choice<Relaxation, u32>> {
     let Some(facts) = facts else {
         return None;
     };
     let architecture = context.architecture;
-    let offset = relocation.offset;
-    let chosen = choose(architecture, relocation.r_type, section, offset, facts);
-    if chosen.is_unchanged(relocation.r_type) {
+    let (r_type, offset) = (site.relocation.r_type, site.relocation.offset);
+    let chosen = choose(architecture, r_type, site.section, offset, facts);
+    if chosen.is_unchanged(r_type) {
         return None;
     }
     let kind = chosen.kind;
-    if !finds_next(context, relocations, index, offset, kind) {
+    if !finds_next(context, site, kind) {
         return None;
     }
-    if !is_whole(architecture, relocations, index, relocation) {
+    if !is_whole(architecture, site) {
         return None;
     }
-    if !deletes_within(section, offset, kind.deleted()) {
+    if !deletes_within(site.section, offset, kind.deleted()) {
         return None;
     }
     Some(chosen)
@@ -101,15 +93,9 @@ pub(crate) fn candidate_by(
 
 /// What the rewrite of a relocation is chosen by, by its own symbol and mark.
 #[inline(always)]
-fn own_facts(
-    context: &RelaxContext<'_>,
-    relocations: &[u8],
-    index: usize,
-    relocation: &Rela,
-) -> Option<LinkFacts> {
-    let phase = context.phase;
-    let marked = is_marked_in(phase, context.architecture, relocations, index, relocation);
-    link_facts(context, relocation, relocation, marked)
+fn own_facts(context: &RelaxContext<'_>, site: &Site<'_>) -> Option<LinkFacts> {
+    let marked = is_marked_in(context.phase, context.architecture, site);
+    link_facts(context, &site.relocation, &site.relocation, marked)
 }
 
 /// The rewrite of the instruction of the relocation with an index by its own symbol, as
@@ -117,13 +103,9 @@ fn own_facts(
 #[inline(always)]
 pub(crate) fn candidate(
     context: &RelaxContext<'_>,
-    relocations: &[u8],
-    section: &[u8],
-    index: usize,
-    relocation: &Rela,
+    site: &Site<'_>,
 ) -> Option<Choice<Relaxation, u32>> {
-    let facts = own_facts(context, relocations, index, relocation);
-    candidate_by(context, relocations, section, index, relocation, &facts)
+    candidate_by(context, site, &own_facts(context, site))
 }
 
 /// The same facts of what is where the GOT's or the TOC's base is, at the distance 0.
@@ -143,13 +125,6 @@ fn at_base(facts: Option<LinkFacts>) -> Option<LinkFacts> {
 /// Whether the instruction of the relocation with an index is one that its rewrite is meant for,
 /// whatever the distance.
 #[inline(always)]
-pub(crate) fn is_matched(
-    context: &RelaxContext<'_>,
-    relocations: &[u8],
-    section: &[u8],
-    index: usize,
-    relocation: &Rela,
-) -> bool {
-    let facts = at_base(own_facts(context, relocations, index, relocation));
-    candidate_by(context, relocations, section, index, relocation, &facts).is_some()
+pub(crate) fn is_matched(context: &RelaxContext<'_>, site: &Site<'_>) -> bool {
+    candidate_by(context, site, &at_base(own_facts(context, site))).is_some()
 }

@@ -8,7 +8,7 @@ use crate::linker_rewriting::facts::{OutputFacts, RelaxContext, SymbolFacts};
 use crate::linker_rewriting::groups::{Scope, UnrelaxableGroups, group_stays, scope_in};
 use crate::linker_rewriting::phases::Phase;
 use crate::linker_rewriting::r_types::{is_listed, lists_any, of_each};
-use crate::linker_rewriting::relocations::relocation_in;
+use crate::linker_rewriting::relocations::{Site, relocation_in};
 use crate::linker_rewriting::riscv_pcrel_groups::{high_of, label_candidate, note_labels, set_all};
 use crate::linker_rewriting::rules::{Rule, decide_by};
 use crate::linker_base::rewrite::DeletedBytes;
@@ -147,11 +147,12 @@ pub enum RewritingError {
     /// There are fewer decisions than relocations, or less room for deletions than there are.
     TooShort,
     /// The relocation with this index can't be rewritten, though its group doesn't stay: the
-    /// section was surveyed with other facts, or not at all.
+    /// section wasn't surveyed into the table, or with other facts.
     NotSurveyed(usize),
     /// Bytes that would be rewritten or deleted at the relocation with this index are also
-    /// rewritten or deleted at one before it, or lie below such bytes; or its field, where no
-    /// rewrite takes it along, has a byte that the rewrite at another one writes or deletes.
+    /// rewritten or deleted at one before it, or lie below such bytes. Where no other error is, it
+    /// is the first whose field, where no rewrite takes it along, has a byte that the rewrite at
+    /// another one writes or deletes.
     Overlaps(usize),
     /// The tables of facts and of addresses contradict each other about the symbol with this index:
     /// it is local, and undefined and weak, or `other` isn't the same in both. That a thread-local
@@ -165,8 +166,9 @@ pub enum RewritingError {
 pub enum DecisionError {
     /// There are fewer decisions than relocations.
     TooShort,
-    /// The instructions at the relocation with this index aren't those that its decision was made
-    /// on or rewrites, or what it deletes isn't in the section.
+    /// The bytes that the rewrite at the relocation with this index overwrites have another number
+    /// than is kept, or the instructions aren't those that it is meant for, as
+    /// [`Relaxation::matches`](crate::architecture::Relaxation::matches) says, or what it deletes isn't in the section.
     Changed(usize),
     /// Bytes that would be rewritten or deleted at the relocation with this index are also
     /// rewritten or deleted at one before it, or lie below such bytes.
@@ -209,21 +211,19 @@ impl Decision {
     }
 }
 
-/// Whether the relocation with an index, if there is one, is alone and is rewritten.
-fn is_rewritten_at(
-    context: &RelaxContext<'_>,
-    relocations: &[u8],
-    section: &[u8],
-    index: usize,
-) -> bool {
-    let Some(relocation) = relocation_at(relocations, index) else {
+/// Whether the relocation after one, if there is one, is alone and is rewritten.
+fn is_next_rewritten(context: &RelaxContext<'_>, site: &Site<'_>) -> bool {
+    let index = site.index + 1;
+    let Some(relocation) = relocation_at(site.relocations, index) else {
         return false;
     };
+    let next = Site {
+        index,
+        relocation,
+        ..*site
+    };
     match scope_in(context.architecture, context.phase, relocation.r_type) {
-        Scope::Independent => {
-            let chosen = candidate(context, relocations, section, index, &relocation);
-            chosen.is_some()
-        }
+        Scope::Independent => candidate(context, &next).is_some(),
         _ => false,
     }
 }
@@ -265,63 +265,50 @@ fn label_decision(phase: Phase, chosen: Choice<Relaxation, u32>, high: &Rela) ->
 }
 
 /// What becomes of a relocation of a label whose group stays or doesn't.
-fn decide_label(
-    stays: bool,
-    context: &RelaxContext<'_>,
-    relocations: &[u8],
-    section: &[u8],
-    index: usize,
-    relocation: &Rela,
-) -> Decision {
+fn decide_label(stays: bool, context: &RelaxContext<'_>, site: &Site<'_>) -> Decision {
     if stays {
         return Decision::Kept;
     }
-    let Some(high) = high_of(context, relocations, relocation) else {
+    let Some(high) = high_of(context, site.relocations, &site.relocation) else {
         return Decision::Kept;
     };
-    match label_candidate(context, relocations, section, index, relocation, high) {
-        Some(chosen) => label_decision(context.phase, chosen, &relocation_in(relocations, high)),
+    match label_candidate(context, site, high) {
+        Some(chosen) => {
+            let part = relocation_in(site.relocations, high);
+            label_decision(context.phase, chosen, &part)
+        }
         None => Decision::Kept,
     }
 }
 
 /// What becomes of a relocation that no other takes along. `stays` is what was noted of its label.
 /// None if its group doesn't stay, but it can't be rewritten.
-fn decide(
-    stays: bool,
-    context: &RelaxContext<'_>,
-    kept: &[UnrelaxableGroups],
-    relocations: &[u8],
-    section: &[u8],
-    index: usize,
-    relocation: &Rela,
-) -> Option<Decision> {
-    let is_grouped = match scope_in(context.architecture, context.phase, relocation.r_type) {
+fn decide(rule: &Groups<'_>, stays: bool, site: &Site<'_>) -> Option<Decision> {
+    let (context, symbol) = (rule.context, site.relocation.symbol);
+    let is_grouped = match scope_in(context.architecture, context.phase, site.relocation.r_type) {
         Scope::NotRelaxable => return Some(Decision::Kept),
-        Scope::Labelled => {
-            return Some(decide_label(stays, context, relocations, section, index, relocation));
-        }
+        Scope::Labelled => return Some(decide_label(stays, context, site)),
         Scope::FirstOfPair => {
-            if is_rewritten_at(context, relocations, section, index + 1) {
+            if is_next_rewritten(context, site) {
                 return Some(Decision::Consumed);
             }
             return Some(Decision::Kept);
         }
         Scope::Grouped(group) => {
-            if group_stays(kept, group, relocation.symbol) {
+            if group_stays(rule.kept, group, symbol) {
                 return Some(Decision::Kept);
             }
             true
         }
         Scope::IfGroupMatches(group) => {
-            if group_stays(kept, group, relocation.symbol) {
+            if group_stays(rule.kept, group, symbol) {
                 return Some(Decision::Kept);
             }
             false
         }
         Scope::Independent => false,
     };
-    match candidate(context, relocations, section, index, relocation) {
+    match candidate(context, site) {
         Some(choice) => Some(Decision::Rewritten(choice)),
         None if is_grouped => None,
         None => Some(Decision::Kept),
@@ -392,27 +379,11 @@ impl Rule for Groups<'_> {
     }
 
     #[inline(always)]
-    fn decide(
-        &self,
-        is_taken: bool,
-        stays: bool,
-        relocations: &[u8],
-        section: &[u8],
-        index: usize,
-        relocation: &Rela,
-    ) -> Option<Decision> {
+    fn decide(&self, is_taken: bool, stays: bool, site: &Site<'_>) -> Option<Decision> {
         if is_taken {
             return Some(Decision::Consumed);
         }
-        decide(
-            stays,
-            self.context,
-            self.kept,
-            relocations,
-            section,
-            index,
-            relocation,
-        )
+        decide(self, stays, site)
     }
 
     #[inline(always)]

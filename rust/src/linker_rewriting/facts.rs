@@ -165,56 +165,25 @@ fn placed_facts(
     marked: bool,
 ) -> LinkFacts {
     let (phase, output, addresses) = (context.phase, context.output, context.addresses);
-    let has_own_address = has_own_address(symbol);
-    let is_near = output.is_fixed || !has_own_address;
+    let is_near = output.is_fixed || !has_own_address(symbol);
+    let facts = facts_of(output, symbol, addend, marked);
     LinkFacts {
-        is_local: symbol.is_local,
-        is_ifunc: symbol.is_ifunc,
-        is_undefined_weak: symbol.is_undefined_weak,
-        has_fixed_address: output.is_fixed || has_own_address,
         is_pcrel_link_time_constant: is_near && !symbol.is_undefined_weak,
         is_executable: is_executable_in(phase, output, symbol),
-        has_local_exec_base: true,
-        may_compress: false,
         is_relaxable: marked && may_delete(phase),
         has_got_high_part: true,
         is_label_relaxable: marked,
         toc_base_is_exclusive: true,
-        may_change_toc: may_change_toc(symbol),
-        group_fits: true,
         has_addresses: true,
         operands: Operands {
-            addend,
             symbol: address_in(addresses, value),
             place: addresses.section.wrapping_add(offset),
-            got_entry: 0,
             got_base: addresses.got_base,
-            plt_entry: 0,
-            symbol_size: 0,
             tls_base: addresses.thread_origin,
-            has_got_entry: false,
-            has_plt_entry: false,
             has_tls_base: addresses.has_tls,
+            ..facts.operands
         },
-    }
-}
-
-/// The facts of a relocation of a symbol in a phase, as `facts_at` says.
-#[inline(always)]
-fn facts_at(
-    context: &RelaxContext<'_>,
-    relocation: &Rela,
-    subject: &Rela,
-    marked: bool,
-    symbol: &SymbolFacts,
-) -> Option<LinkFacts> {
-    match context.phase {
-        Phase::PreLayout => Some(facts_of(context.output, symbol, subject.addend, marked)),
-        _ => {
-            let value = context.values.get(subject.symbol as usize)?;
-            let (offset, addend) = (relocation.offset, subject.addend);
-            Some(placed_facts(context, symbol, value, offset, addend, marked))
-        }
+        ..facts
     }
 }
 
@@ -228,5 +197,12 @@ pub(crate) fn link_facts(
     marked: bool,
 ) -> Option<LinkFacts> {
     let symbol = context.symbols.get(subject.symbol as usize)?;
-    facts_at(context, relocation, subject, marked, symbol)
+    match context.phase {
+        Phase::PreLayout => Some(facts_of(context.output, symbol, subject.addend, marked)),
+        _ => {
+            let value = context.values.get(subject.symbol as usize)?;
+            let (offset, addend) = (relocation.offset, subject.addend);
+            Some(placed_facts(context, symbol, value, offset, addend, marked))
+        }
+    }
 }

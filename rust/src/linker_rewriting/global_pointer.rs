@@ -9,7 +9,7 @@ use crate::linker_rewriting::decisions::{
 };
 use crate::linker_rewriting::facts::{OutputFacts, RelaxContext, SymbolFacts, address_in};
 use crate::linker_rewriting::phases::Phase;
-use crate::linker_rewriting::relocations::relocation_in;
+use crate::linker_rewriting::relocations::{Site, relocation_in};
 use crate::linker_rewriting::riscv_pcrel_groups::{high_at, is_beyond, label_at};
 use crate::linker_rewriting::rules::{Rule, decide_by};
 use crate::linker_rewriting::sections::list_deletions;
@@ -177,12 +177,6 @@ fn is_low_at(section: &[u8], offset: u64) -> bool {
         && (writes_none(word) || destination(word) != 3)
 }
 
-/// Whether the base of an instruction is what that of its high part writes.
-#[inline(always)]
-fn has_base(section: &[u8], offset: u64, high: u64) -> bool {
-    has_word(section, high) && base(word_at(section, offset)) == destination(word_at(section, high))
-}
-
 /// Whether the instruction of a relocation is one of such a part.
 fn is_expected(section: &[u8], relocation: &Rela, part: Part, subject: &Rela) -> bool {
     let offset = relocation.offset;
@@ -193,7 +187,9 @@ fn is_expected(section: &[u8], relocation: &Rela, part: Part, subject: &Rela) ->
         Part::High(r_type) => is_high_word(r_type, word_at(section, offset)),
         Part::Low(_) => is_low_at(section, offset),
         Part::Labelled(_) => {
-            is_low_at(section, offset) && has_base(section, offset, subject.offset)
+            is_low_at(section, offset)
+                && has_word(section, subject.offset)
+                && base(word_at(section, offset)) == destination(word_at(section, subject.offset))
         }
     }
 }
@@ -211,36 +207,24 @@ struct Parts<'a> {
 
 /// Whether a part can be rewritten, if all of its symbol can.
 #[inline(always)]
-fn fits(
-    parts: &Parts<'_>,
-    relocations: &[u8],
-    section: &[u8],
-    index: usize,
-    relocation: &Rela,
-    member: &(Part, Rela),
-) -> bool {
-    let context = parts.context;
+fn fits(parts: &Parts<'_>, site: &Site<'_>, member: &(Part, Rela)) -> bool {
+    let (context, relocation) = (parts.context, &site.relocation);
+    let (relocations, index) = (site.relocations, site.index);
     parts.ascends
         && !is_beyond(relocations, relocation.offset, index)
         && context.output.is_executable
         && context.output.is_fixed
         && is_marked_at(context.architecture, relocations, index, relocation)
         && is_reached(context, parts.gp, &member.1)
-        && is_expected(section, relocation, member.0, &member.1)
+        && is_expected(site.section, relocation, member.0, &member.1)
 }
 
 /// The symbol that a relocation keeps, since it is of an address and doesn't fit.
-fn keeping_symbol(
-    parts: &Parts<'_>,
-    relocations: &[u8],
-    section: &[u8],
-    index: usize,
-    relocation: &Rela,
-) -> Option<usize> {
-    let Some(member) = member_of(parts.context, relocations, relocation) else {
+fn keeping_symbol(parts: &Parts<'_>, site: &Site<'_>) -> Option<usize> {
+    let Some(member) = member_of(parts.context, site.relocations, &site.relocation) else {
         return None;
     };
-    if fits(parts, relocations, section, index, relocation, &member) {
+    if fits(parts, site, &member) {
         None
     } else {
         Some(member.1.symbol as usize)
@@ -264,8 +248,13 @@ pub fn survey_global_pointer(
         ascends: is_ascending(relocations),
     };
     for index in 0..relocations_len(relocations) {
-        let relocation = relocation_in(relocations, index);
-        let symbol = keeping_symbol(&parts, relocations, section, index, &relocation);
+        let site = Site {
+            relocations,
+            section,
+            index,
+            relocation: relocation_in(relocations, index),
+        };
+        let symbol = keeping_symbol(&parts, &site);
         keep_word(kept, symbol);
     }
     Ok(())
@@ -299,21 +288,15 @@ struct Symbols<'a, 'b> {
 }
 
 /// What becomes of a relocation. None if its symbol doesn't stay, but it can't be rewritten.
-fn decide_part(
-    rule: &Symbols<'_, '_>,
-    relocations: &[u8],
-    section: &[u8],
-    index: usize,
-    relocation: &Rela,
-) -> Option<Decision> {
+fn decide_part(rule: &Symbols<'_, '_>, site: &Site<'_>) -> Option<Decision> {
     let parts = &rule.parts;
-    let Some(member) = member_of(parts.context, relocations, relocation) else {
+    let Some(member) = member_of(parts.context, site.relocations, &site.relocation) else {
         return Some(Decision::Kept);
     };
     if word_stays(rule.kept, member.1.symbol as usize) {
         return Some(Decision::Kept);
     }
-    if fits(parts, relocations, section, index, relocation, &member) {
+    if fits(parts, site, &member) {
         Some(part_decision(member.0, &member.1))
     } else {
         None
@@ -332,16 +315,8 @@ fn part_end(decision: &Decision, offset: u64) -> u64 {
 
 impl Rule for Symbols<'_, '_> {
     #[inline(always)]
-    fn decide(
-        &self,
-        _is_taken: bool,
-        _stays: bool,
-        relocations: &[u8],
-        section: &[u8],
-        index: usize,
-        relocation: &Rela,
-    ) -> Option<Decision> {
-        decide_part(self, relocations, section, index, relocation)
+    fn decide(&self, _is_taken: bool, _stays: bool, site: &Site<'_>) -> Option<Decision> {
+        decide_part(self, site)
     }
 
     #[inline(always)]
@@ -472,47 +447,38 @@ fn base_for(gp: u64, address: u64) -> Option<(u32, u64)> {
     }
 }
 
+/// What bases are chosen by: all addresses.
+#[derive(Clone, Copy)]
+struct Bases<'a> {
+    /// Those that values are counted from.
+    addresses: &'a Addresses,
+    /// Those of the object's symbols.
+    values: &'a [Symbol],
+    /// That of the global pointer.
+    gp: u64,
+}
+
 /// The base of what a relocation refers to.
 #[inline(always)]
-fn base_of(
-    addresses: &Addresses,
-    values: &[Symbol],
-    gp: u64,
-    relocation: &Rela,
-) -> Option<(u32, u64)> {
-    let value = values.get(relocation.symbol as usize)?;
-    base_for(gp, address_of(addresses, relocation, value))
+fn base_of(bases: &Bases<'_>, relocation: &Rela) -> Option<(u32, u64)> {
+    let value = bases.values.get(relocation.symbol as usize)?;
+    base_for(bases.gp, address_of(bases.addresses, relocation, value))
 }
 
 /// Whether a relocation is of no low part without a base, or its instruction is in the section and
 /// a base reaches what it refers to.
-fn is_placed(
-    addresses: &Addresses,
-    values: &[Symbol],
-    gp: u64,
-    section: &[u8],
-    relocation: &Rela,
-) -> bool {
+fn is_placed(bases: &Bases<'_>, section: &[u8], relocation: &Rela) -> bool {
     match low_r_type(relocation.r_type) {
-        Some(_) => {
-            has_word(section, relocation.offset)
-                && base_of(addresses, values, gp, relocation).is_some()
-        }
+        Some(_) => has_word(section, relocation.offset) && base_of(bases, relocation).is_some(),
         None => true,
     }
 }
 
 /// The index of the first relocation that isn't placed.
-fn first_unplaced(
-    addresses: &Addresses,
-    values: &[Symbol],
-    gp: u64,
-    relocations: &[u8],
-    section: &[u8],
-) -> Option<usize> {
+fn first_unplaced(bases: &Bases<'_>, relocations: &[u8], section: &[u8]) -> Option<usize> {
     for index in 0..relocations_len(relocations) {
         let relocation = relocation_in(relocations, index);
-        if !is_placed(addresses, values, gp, section, &relocation) {
+        if !is_placed(bases, section, &relocation) {
             return Some(index);
         }
     }
@@ -527,17 +493,11 @@ fn with_base(register: u32, word: u32) -> u32 {
 
 /// Writes the base of a low part. Returns its relocation after it.
 #[inline(always)]
-fn set_base(
-    addresses: &Addresses,
-    values: &[Symbol],
-    gp: u64,
-    section: &mut [u8],
-    relocation: &Rela,
-) -> Rela {
+fn set_base(bases: &Bases<'_>, section: &mut [u8], relocation: &Rela) -> Rela {
     let Some(r_type) = low_r_type(relocation.r_type) else {
         return *relocation;
     };
-    let Some((register, address)) = base_of(addresses, values, gp, relocation) else {
+    let Some((register, address)) = base_of(bases, relocation) else {
         return *relocation;
     };
     let word = with_base(register, window_at(section, relocation.offset));
@@ -551,16 +511,10 @@ fn set_base(
 }
 
 /// Writes the base of each low part of a section.
-fn set_bases(
-    addresses: &Addresses,
-    values: &[Symbol],
-    gp: u64,
-    relocations: &mut [u8],
-    section: &mut [u8],
-) {
+fn set_bases(bases: &Bases<'_>, relocations: &mut [u8], section: &mut [u8]) {
     for index in 0..relocations_len(relocations) {
         let relocation = relocation_in(relocations, index);
-        let based = set_base(addresses, values, gp, section, &relocation);
+        let based = set_base(bases, section, &relocation);
         set_relocation(relocations, index, &based);
     }
 }
@@ -573,11 +527,14 @@ pub fn finish_gp_relaxation(
     relocations: &mut [u8],
     section: &mut [u8],
 ) -> Result<(), usize> {
-    match first_unplaced(addresses, values, gp, relocations, section) {
-        Some(index) => Err(index),
-        None => {
-            set_bases(addresses, values, gp, relocations, section);
-            Ok(())
-        }
+    let bases = Bases {
+        addresses,
+        values,
+        gp,
+    };
+    if let Some(index) = first_unplaced(&bases, relocations, section) {
+        return Err(index);
     }
+    set_bases(&bases, relocations, section);
+    Ok(())
 }

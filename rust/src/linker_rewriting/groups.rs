@@ -280,15 +280,6 @@ fn is_listed(architecture: Architecture, phase: Phase) -> bool {
 
 /// Whether an architecture has rewrites in a phase. In one without them a linker surveys and
 /// rewrites nothing: each relocation is [`Scope::NotRelaxable`](crate::rewriting::Scope::NotRelaxable).
-///
-/// ```
-/// use linker_utils::rewriting::has_rewrites;
-/// use linker_utils::rewriting::Phase;
-/// use linker_utils::elf::Architecture;
-///
-/// assert!(has_rewrites(Architecture::RiscV, Phase::TlsLocalExec));
-/// assert!(!has_rewrites(Architecture::X86_64, Phase::TlsLocalExec));
-/// ```
 #[must_use]
 pub fn has_rewrites(architecture: Architecture, phase: Phase) -> bool {
     is_listed(architecture, phase)
@@ -296,16 +287,6 @@ pub fn has_rewrites(architecture: Architecture, phase: Phase) -> bool {
 
 /// What is rewritten together with the instruction of a relocation with an `r_type`, before
 /// addresses are known. RISC-V's rewrites all wait for them.
-///
-/// ```
-/// use linker_utils::rewriting::{Group, Scope, scope_of};
-/// use linker_utils::elf::Architecture;
-///
-/// // R_X86_64_GOTPCRELX, R_X86_64_TLSLD and R_X86_64_PC32
-/// assert_eq!(scope_of(Architecture::X86_64, 41), Scope::Independent);
-/// assert_eq!(scope_of(Architecture::X86_64, 20), Scope::Grouped(Group::LocalDynamic));
-/// assert_eq!(scope_of(Architecture::X86_64, 2), Scope::NotRelaxable);
-/// ```
 #[must_use]
 #[inline(always)]
 pub fn scope_of(architecture: Architecture, r_type: u32) -> Scope {

@@ -28,7 +28,8 @@ pub enum WritingError {
     /// The tables of facts and of addresses contradict each other about the symbol with this index,
     /// as [`RewritingError::Contradiction`](crate::rewriting::RewritingError::Contradiction) says.
     Contradiction(usize),
-    /// Of the symbol of the relocation with this index other facts hold than those that are kept.
+    /// Of the symbol of the relocation with this index other facts hold than those that are kept,
+    /// or none are kept.
     Changed(usize),
     /// The relocation with this index is an `R_PPC64_REL24` of a function of another file, which
     /// may return with another TOC pointer, and whose symbol has no stub that keeps the caller's.

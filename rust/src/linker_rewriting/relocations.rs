@@ -4,6 +4,19 @@
 
 use crate::linker_section::relocations::{RELA_LEN, Rela, relocation_at};
 
+/// A relocation of a section.
+#[derive(Clone, Copy, Debug, PartialEq, Eq, Hash)]
+pub(crate) struct Site<'a> {
+    /// All of the section.
+    pub relocations: &'a [u8],
+    /// The section's bytes.
+    pub section: &'a [u8],
+    /// Its index.
+    pub index: usize,
+    /// The relocation.
+    pub relocation: Rela,
+}
+
 /// The relocation with an index below `relocations_len`. Its bounds are tested once: the compiler
 /// sees that its bytes are in the slice.
 #[inline(always)]

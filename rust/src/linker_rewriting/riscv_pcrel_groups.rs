@@ -7,7 +7,7 @@ use crate::linker_rewriting::decisions::{AsDecision, Decision, decision_in};
 use crate::linker_rewriting::facts::{OutputFacts, RelaxContext, SymbolFacts, link_facts};
 use crate::linker_rewriting::groups::{Scope, scope_in};
 use crate::linker_rewriting::phases::Phase;
-use crate::linker_rewriting::relocations::relocation_in;
+use crate::linker_rewriting::relocations::{Site, relocation_in};
 use crate::linker_rewriting::sequences::is_marked_at;
 use crate::linker_section::facts::{Addresses, Symbol};
 use crate::linker_section::relocations::{Rela, first_from, is_ascending, relocations_len};
@@ -95,52 +95,34 @@ pub(crate) fn high_of(
     high_at(relocations, high_r_type(context.phase), at)
 }
 
-/// Whether a scope is that of one label.
-#[inline(always)]
-fn is_labelled(scope: Scope) -> bool {
-    matches!(scope, Scope::Labelled)
-}
-
 /// Whether a relocation with an `r_type` is rewritten with its label.
 #[inline(always)]
 pub(crate) fn is_in_label(architecture: Architecture, phase: Phase, r_type: u32) -> bool {
-    is_labelled(scope_in(architecture, phase, r_type))
+    matches!(scope_in(architecture, phase, r_type), Scope::Labelled)
 }
 
 /// Whether the mark is there that counts for a relocation with a high part.
 #[inline(always)]
-fn is_label_marked(
-    context: &RelaxContext<'_>,
-    relocations: &[u8],
-    index: usize,
-    relocation: &Rela,
-    high: usize,
-) -> bool {
-    let architecture = context.architecture;
+fn is_label_marked(context: &RelaxContext<'_>, site: &Site<'_>, high: usize) -> bool {
+    let (architecture, relocations) = (context.architecture, site.relocations);
     match context.phase {
         Phase::TlsLocalExec => {
             let part = relocation_in(relocations, high);
             is_marked_at(architecture, relocations, high, &part)
         }
-        _ => is_marked_at(architecture, relocations, index, relocation),
+        _ => is_marked_at(architecture, relocations, site.index, &site.relocation),
     }
 }
 
-/// G, where G + A is 2^63 bytes from the place.
-#[inline(always)]
-fn far_entry(operands: &Operands) -> u64 {
-    let addend = operands.addend as u64;
-    let far = operands.place.wrapping_add(0x8000_0000_0000_0000);
-    far.wrapping_sub(addend)
-}
-
-/// The same facts, where no entry of the GOT is in reach.
+/// The same facts, where no entry of the GOT is in reach: G + A is 2^63 bytes from the place.
 #[inline(always)]
 fn without_entry(facts: Option<LinkFacts>) -> Option<LinkFacts> {
     let facts = facts?;
+    let addend = facts.operands.addend as u64;
+    let far = facts.operands.place.wrapping_add(0x8000_0000_0000_0000);
     Some(LinkFacts {
         operands: Operands {
-            got_entry: far_entry(&facts.operands),
+            got_entry: far.wrapping_sub(addend),
             ..facts.operands
         },
         ..facts
@@ -151,33 +133,24 @@ fn without_entry(facts: Option<LinkFacts>) -> Option<LinkFacts> {
 /// part.
 pub(crate) fn label_candidate(
     context: &RelaxContext<'_>,
-    relocations: &[u8],
-    section: &[u8],
-    index: usize,
-    relocation: &Rela,
+    site: &Site<'_>,
     high: usize,
 ) -> Option<Choice<Relaxation, u32>> {
-    let part = relocation_in(relocations, high);
-    let marked = is_label_marked(context, relocations, index, relocation, high);
+    let part = relocation_in(site.relocations, high);
+    let marked = is_label_marked(context, site, high);
     let facts = without_entry(link_facts(context, &part, &part, marked));
-    candidate_by(context, relocations, section, index, relocation, &facts)
+    candidate_by(context, site, &facts)
 }
 
 /// The index of the high part whose group stays, since this relocation is of it and has no rewrite.
-fn lacking(
-    context: &RelaxContext<'_>,
-    relocations: &[u8],
-    section: &[u8],
-    index: usize,
-    relocation: &Rela,
-) -> Option<usize> {
-    if !is_in_label(context.architecture, context.phase, relocation.r_type) {
+fn lacking(context: &RelaxContext<'_>, site: &Site<'_>) -> Option<usize> {
+    if !is_in_label(context.architecture, context.phase, site.relocation.r_type) {
         return None;
     }
-    let Some(high) = high_of(context, relocations, relocation) else {
+    let Some(high) = high_of(context, site.relocations, &site.relocation) else {
         return None;
     };
-    match label_candidate(context, relocations, section, index, relocation, high) {
+    match label_candidate(context, site, high) {
         Some(_) => None,
         None => Some(high),
     }
@@ -204,8 +177,13 @@ fn note_highs<D: AsDecision>(
     decisions: &mut [D],
 ) {
     for index in 0..relocations_len(relocations) {
-        let relocation = relocation_in(relocations, index);
-        let Some(high) = lacking(context, relocations, section, index, &relocation) else {
+        let site = Site {
+            relocations,
+            section,
+            index,
+            relocation: relocation_in(relocations, index),
+        };
+        let Some(high) = lacking(context, &site) else {
             continue;
         };
         decisions[high] = D::from_decision(Decision::Consumed);

@@ -5,9 +5,9 @@
 
 use crate::linker_rewriting::covered::first_covered;
 use crate::linker_rewriting::decisions::{AsDecision, Decision, RewritingError, decision_in, end_after};
-use crate::linker_rewriting::relocations::relocation_in;
+use crate::linker_rewriting::relocations::{Site, relocation_in};
 use crate::linker_rewriting::riscv_pcrel_groups::is_note;
-use crate::linker_section::relocations::{Rela, relocations_len};
+use crate::linker_section::relocations::relocations_len;
 use crate::elf::Architecture;
 
 /// A rule by which relocations are decided: all of a group are rewritten, or none is.
@@ -21,15 +21,7 @@ pub(crate) trait Rule {
 
     /// What becomes of the relocation with an index. None if its group doesn't stay, but it can't
     /// be rewritten. `stays` is what was noted of it.
-    fn decide(
-        &self,
-        is_taken: bool,
-        stays: bool,
-        relocations: &[u8],
-        section: &[u8],
-        index: usize,
-        relocation: &Rela,
-    ) -> Option<Decision>;
+    fn decide(&self, is_taken: bool, stays: bool, site: &Site<'_>) -> Option<Decision>;
 
     /// Where those bytes of a decision begin and end that no other one may have.
     fn span(&self, decision: &Decision, offset: u64) -> (u64, u64);
@@ -54,8 +46,13 @@ pub(crate) fn decide_by<R: Rule, D: AsDecision>(
         }
         let relocation = relocation_in(relocations, index);
         let stays = is_note(&decision_in(decisions, index));
-        let Some(decision) = rule.decide(is_taken, stays, relocations, section, index, &relocation)
-        else {
+        let site = Site {
+            relocations,
+            section,
+            index,
+            relocation,
+        };
+        let Some(decision) = rule.decide(is_taken, stays, &site) else {
             return Err(RewritingError::NotSurveyed(index));
         };
         let (start, own) = rule.span(&decision, relocation.offset);

@@ -3,6 +3,7 @@
 //! Sequences whose relocations are next to each other, and marks of what may be relaxed.
 
 use crate::linker_rewriting::phases::Phase;
+use crate::linker_rewriting::relocations::Site;
 use crate::linker_section::relocations::{Rela, relocation_at};
 #[cfg(feature = "aarch64")]
 use crate::aarch64::AArch64Relocation;
@@ -73,16 +74,13 @@ fn mark_r_type_in(phase: Phase, architecture: Architecture) -> Option<u32> {
 
 /// Whether what is marked in a phase stands after a relocation with an index.
 #[inline(always)]
-pub(crate) fn is_marked_in(
-    phase: Phase,
-    architecture: Architecture,
-    relocations: &[u8],
-    index: usize,
-    relocation: &Rela,
-) -> bool {
-    let next = relocation_at(relocations, index + 1);
-    let r_type = mark_r_type_in(phase, architecture);
-    is_mark_of(r_type, relocation.offset, next)
+pub(crate) fn is_marked_in(phase: Phase, architecture: Architecture, site: &Site<'_>) -> bool {
+    let next = relocation_at(site.relocations, site.index + 1);
+    is_mark_of(
+        mark_r_type_in(phase, architecture),
+        site.relocation.offset,
+        next,
+    )
 }
 
 /// What ties a relocation to the others of its sequence.
@@ -150,19 +148,13 @@ fn are_members(
 /// Whether all of a sequence are there, of which the relocation with an index is at a place, n
 /// bytes after the first one.
 #[inline(always)]
-fn is_among(
-    members: &[Member],
-    place: usize,
-    distance: u64,
-    relocations: &[u8],
-    index: usize,
-    relocation: &Rela,
-) -> bool {
-    if index < place || relocation.offset < distance {
+fn is_among(members: &[Member], place: usize, distance: u64, site: &Site<'_>) -> bool {
+    let relocation = &site.relocation;
+    if site.index < place || relocation.offset < distance {
         return false;
     }
-    let (first, offset) = (index - place, relocation.offset - distance);
-    are_members(members, relocations, first, offset, relocation)
+    let (first, offset) = (site.index - place, relocation.offset - distance);
+    are_members(members, site.relocations, first, offset, relocation)
 }
 
 /// Whether a relocation with a type may be a member, and isn't its mark.
@@ -173,11 +165,10 @@ fn is_place(member: Member, r_type: u32) -> bool {
 
 /// Whether the relocation with an index is at no place of a sequence, or all of it are there.
 #[inline(always)]
-fn is_whole_in(members: &[Member], relocations: &[u8], index: usize, relocation: &Rela) -> bool {
+fn is_whole_in(members: &[Member], site: &Site<'_>) -> bool {
     for (place, &member) in members.iter().enumerate() {
-        if is_place(member, relocation.r_type) {
-            let distance = member.distance;
-            return is_among(members, place, distance, relocations, index, relocation);
+        if is_place(member, site.relocation.r_type) {
+            return is_among(members, place, member.distance, site);
         }
     }
     true
@@ -187,7 +178,7 @@ fn is_whole_in(members: &[Member], relocations: &[u8], index: usize, relocation:
 /// bytes it is after the first one, and its tie.
 macro_rules! sequences {
     (
-        $relocations:ident, $index:ident, $relocation:ident: $names:ident
+        $site:ident: $names:ident
         $([$($name:ident $distance:literal $tie:ident),+])+
     ) => {
         $(is_whole_in(
@@ -196,9 +187,7 @@ macro_rules! sequences {
                 distance: $distance,
                 tie: Tie::$tie,
             }),+],
-            $relocations,
-            $index,
-            $relocation,
+            $site,
         ))&&+
     };
 }
@@ -206,16 +195,11 @@ macro_rules! sequences {
 /// Whether a relocation with an index is of no sequence whose relocations are next to each other,
 /// or all of its sequence are.
 #[inline(always)]
-pub(crate) fn is_whole(
-    architecture: Architecture,
-    relocations: &[u8],
-    index: usize,
-    relocation: &Rela,
-) -> bool {
+pub(crate) fn is_whole(architecture: Architecture, site: &Site<'_>) -> bool {
     match architecture {
         #[cfg(feature = "aarch64")]
         Architecture::AArch64 => sequences! {
-            relocations, index, relocation: AArch64Relocation
+            site: AArch64Relocation
             [R_AARCH64_TLSDESC_ADR_PAGE21 0 Subject, R_AARCH64_TLSDESC_LD64_LO12 4 Subject,
                 R_AARCH64_TLSDESC_ADD_LO12 8 Subject, R_AARCH64_TLSDESC_CALL 12 Subject]
             [R_AARCH64_ADR_GOT_PAGE 0 Symbol, R_AARCH64_LD64_GOT_LO12_NC 4 Symbol]
@@ -223,7 +207,7 @@ pub(crate) fn is_whole(
         },
         #[cfg(feature = "loongarch64")]
         Architecture::LoongArch64 => sequences! {
-            relocations, index, relocation: LoongArch64Relocation
+            site: LoongArch64Relocation
             [R_LARCH_GOT_PC_HI20 0 Subject, R_LARCH_RELAX 0 Mark,
                 R_LARCH_GOT_PC_LO12 4 Subject, R_LARCH_RELAX 4 Mark]
         },

@@ -10,7 +10,7 @@ use crate::linker_rewriting::groups::{Group, Scope, UnrelaxableGroups, scope_in,
 use crate::linker_rewriting::groups::marks_call;
 use crate::linker_rewriting::phases::Phase;
 use crate::linker_rewriting::r_types::{is_surveyed, of_each};
-use crate::linker_rewriting::relocations::relocation_in;
+use crate::linker_rewriting::relocations::{Site, relocation_in};
 use crate::linker_section::relocations::{Rela, relocations_len};
 use crate::elf::Architecture;
 
@@ -43,22 +43,14 @@ fn keep_threads(kept: &mut [UnrelaxableGroups], stay: bool) {
 
 /// The kind of the groups that a relocation keeps, since it has no rewrite, though it is of one.
 #[inline(always)]
-fn keeping(
-    context: &RelaxContext<'_>,
-    relocations: &[u8],
-    section: &[u8],
-    index: usize,
-    relocation: &Rela,
-) -> Option<Group> {
-    match scope_in(context.architecture, context.phase, relocation.r_type) {
-        Scope::Grouped(group) => {
-            match candidate(context, relocations, section, index, relocation) {
-                Some(_) => None,
-                None => Some(group),
-            }
-        }
+fn keeping(context: &RelaxContext<'_>, site: &Site<'_>) -> Option<Group> {
+    match scope_in(context.architecture, context.phase, site.relocation.r_type) {
+        Scope::Grouped(group) => match candidate(context, site) {
+            Some(_) => None,
+            None => Some(group),
+        },
         Scope::IfGroupMatches(group) => {
-            if is_matched(context, relocations, section, index, relocation) {
+            if is_matched(context, site) {
                 None
             } else {
                 Some(group)
@@ -71,13 +63,13 @@ fn keeping(
 /// PowerPC64: whether the relocation before is a mark of a call at the same place.
 #[cfg(feature = "ppc64")]
 #[inline(always)]
-fn is_marked(relocations: &[u8], index: usize, relocation: &Rela) -> bool {
-    if index == 0 {
+fn is_marked(site: &Site<'_>) -> bool {
+    if site.index == 0 {
         return false;
     }
-    let before = relocation_in(relocations, index - 1);
+    let before = relocation_in(site.relocations, site.index - 1);
     let is_mark = marks_call(before.r_type);
-    is_mark && before.offset == relocation.offset
+    is_mark && before.offset == site.relocation.offset
 }
 
 /// Whether a relocation is one whose mark a survey looks for: a use of `__tls_get_addr` on
@@ -99,42 +91,19 @@ fn needs_mark(
 /// Whether a relocation is one that keeps all thread-local storage of its object: it needs a mark,
 /// and has none.
 #[inline(always)]
-fn is_unmarked(
-    context: &RelaxContext<'_>,
-    relocations: &[u8],
-    index: usize,
-    relocation: &Rela,
-) -> bool {
+fn is_unmarked(context: &RelaxContext<'_>, site: &Site<'_>) -> bool {
     #[cfg(not(feature = "ppc64"))]
     {
         false
     }
     #[cfg(feature = "ppc64")]
     {
-    if !needs_mark(
-        context.architecture,
-        context.phase,
-        context.symbols,
-        relocation,
-    ) {
+    let (architecture, phase) = (context.architecture, context.phase);
+    if !needs_mark(architecture, phase, context.symbols, &site.relocation) {
         return false;
     }
-    !is_marked(relocations, index, relocation)
+    !is_marked(site)
     }
-}
-
-/// Whether the relocation with an index is of no group by its `r_type`, and needs no mark.
-#[inline(always)]
-fn keeps_none(
-    architecture: Architecture,
-    phase: Phase,
-    symbols: &[SymbolFacts],
-    relocations: &[u8],
-    index: usize,
-) -> bool {
-    let relocation = relocation_in(relocations, index);
-    let surveyed = is_surveyed(architecture, phase, relocation.r_type);
-    !surveyed && !needs_mark(architecture, phase, symbols, &relocation)
 }
 
 /// The index of the first relocation from an index on that may keep a group, or how many
@@ -149,7 +118,11 @@ fn next_in(
 ) -> usize {
     let len = relocations_len(relocations);
     for index in from..len {
-        if !keeps_none(architecture, phase, context.symbols, relocations, index) {
+        let relocation = relocation_in(relocations, index);
+        if is_surveyed(architecture, phase, relocation.r_type) {
+            return index;
+        }
+        if needs_mark(architecture, phase, context.symbols, &relocation) {
             return index;
         }
     }
@@ -177,9 +150,15 @@ fn survey_in(
     let mut index = next_keeping(context, relocations, 0);
     while index < len {
         let relocation = relocation_in(relocations, index);
-        let group = keeping(context, relocations, section, index, &relocation);
+        let site = Site {
+            relocations,
+            section,
+            index,
+            relocation,
+        };
+        let group = keeping(context, &site);
         keep_group(kept, group, relocation.symbol);
-        let unmarked = is_unmarked(context, relocations, index, &relocation);
+        let unmarked = is_unmarked(context, &site);
         keep_threads(kept, unmarked);
         index = next_keeping(context, relocations, index + 1);
     }

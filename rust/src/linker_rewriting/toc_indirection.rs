@@ -9,7 +9,7 @@ use crate::linker_rewriting::candidates::candidate_by;
 use crate::linker_rewriting::decisions::{AsDecision, Decision, RewritingError, span_of, subject_of};
 use crate::linker_rewriting::facts::{OutputFacts, RelaxContext, SymbolFacts, address_in, link_facts};
 use crate::linker_rewriting::phases::Phase;
-use crate::linker_rewriting::relocations::relocation_in;
+use crate::linker_rewriting::relocations::{Site, relocation_in};
 use crate::linker_rewriting::riscv_pcrel_groups::high_at;
 use crate::linker_rewriting::rules::{Rule, decide_by};
 use crate::linker_rewriting::sections::make_all;
@@ -61,19 +61,6 @@ fn entry_r_type(architecture: Architecture, r_type: u32) -> Option<u32> {
     }
 }
 
-/// The `r_type` of a word's own relocation.
-#[inline(always)]
-fn word_r_type() -> u32 {
-    #[cfg(not(feature = "ppc64"))]
-    {
-        0
-    }
-    #[cfg(feature = "ppc64")]
-    {
-    Ppc64Relocation::R_PPC64_ADDR64.r_type()
-    }
-}
-
 /// How far what a relocation refers to is after the start of the section of words.
 #[inline(always)]
 fn word_offset(context: &RelaxContext<'_>, start: u64, relocation: &Rela) -> Option<u64> {
@@ -97,6 +84,12 @@ struct Words<'a> {
 /// What a relocation loads: the `r_type` for an entry of the GOT, and the index of the word's
 /// relocation.
 fn load_of(words: &Words<'_>, relocation: &Rela) -> Option<(u32, usize)> {
+    #[cfg(not(feature = "ppc64"))]
+    {
+        None
+    }
+    #[cfg(feature = "ppc64")]
+    {
     let context = words.context;
     let Some(entry) = entry_r_type(context.architecture, relocation.r_type) else {
         return None;
@@ -104,9 +97,11 @@ fn load_of(words: &Words<'_>, relocation: &Rela) -> Option<(u32, usize)> {
     let Some(at) = word_offset(context, words.start, relocation) else {
         return None;
     };
-    match high_at(words.relocations, word_r_type(), at) {
+    let r_type = Ppc64Relocation::R_PPC64_ADDR64.r_type();
+    match high_at(words.relocations, r_type, at) {
         Some(word) => Some((entry, word)),
         None => None,
+    }
     }
 }
 
@@ -123,24 +118,17 @@ fn with_r_type(r_type: u32, relocation: &Rela) -> Rela {
 #[inline(always)]
 fn load_candidate(
     words: &Words<'_>,
-    relocations: &[u8],
-    section: &[u8],
-    index: usize,
-    relocation: &Rela,
+    site: &Site<'_>,
     load: (u32, usize),
 ) -> Option<Choice<Relaxation, u32>> {
     let (entry, word) = load;
     let word = relocation_in(words.relocations, word);
-    let facts = link_facts(words.context, relocation, &word, false);
-    let of_entry = with_r_type(entry, relocation);
-    candidate_by(
-        words.context,
-        relocations,
-        section,
-        index,
-        &of_entry,
-        &facts,
-    )
+    let facts = link_facts(words.context, &site.relocation, &word, false);
+    let site = Site {
+        relocation: with_r_type(entry, &site.relocation),
+        ..*site
+    };
+    candidate_by(words.context, &site, &facts)
 }
 
 /// Whether a word stays, by the index of its relocation.
@@ -164,15 +152,9 @@ pub(crate) fn keep_word(kept: &mut [bool], word: Option<usize>) {
 
 /// The word that a relocation keeps, since it loads it and has no rewrite.
 #[inline(always)]
-fn keeping_word(
-    words: &Words<'_>,
-    relocations: &[u8],
-    section: &[u8],
-    index: usize,
-    relocation: &Rela,
-) -> Option<usize> {
-    let load = load_of(words, relocation)?;
-    match load_candidate(words, relocations, section, index, relocation, load) {
+fn keeping_word(words: &Words<'_>, site: &Site<'_>) -> Option<usize> {
+    let load = load_of(words, &site.relocation)?;
+    match load_candidate(words, site, load) {
         Some(_) => None,
         None => Some(load.1),
     }
@@ -196,8 +178,13 @@ pub fn survey_toc_loads(
         relocations: words,
     };
     for index in 0..relocations_len(relocations) {
-        let relocation = relocation_in(relocations, index);
-        let word = keeping_word(&words, relocations, section, index, &relocation);
+        let site = Site {
+            relocations,
+            section,
+            index,
+            relocation: relocation_in(relocations, index),
+        };
+        let word = keeping_word(&words, &site);
         keep_word(kept, word);
     }
     Ok(())
@@ -213,21 +200,15 @@ struct Loads<'a, 'b> {
 }
 
 /// What becomes of a relocation. None if it loads a word that doesn't stay, but can't be rewritten.
-fn decide_load(
-    rule: &Loads<'_, '_>,
-    relocations: &[u8],
-    section: &[u8],
-    index: usize,
-    relocation: &Rela,
-) -> Option<Decision> {
+fn decide_load(rule: &Loads<'_, '_>, site: &Site<'_>) -> Option<Decision> {
     let words = &rule.words;
-    let Some(load) = load_of(words, relocation) else {
+    let Some(load) = load_of(words, &site.relocation) else {
         return Some(Decision::Kept);
     };
     if word_stays(rule.kept, load.1) {
         return Some(Decision::Kept);
     }
-    match load_candidate(words, relocations, section, index, relocation, load) {
+    match load_candidate(words, site, load) {
         Some(chosen) => {
             let subject = subject_of(&relocation_in(words.relocations, load.1));
             Some(Decision::RewrittenWithSymbol(chosen, subject))
@@ -238,16 +219,8 @@ fn decide_load(
 
 impl Rule for Loads<'_, '_> {
     #[inline(always)]
-    fn decide(
-        &self,
-        _is_taken: bool,
-        _stays: bool,
-        relocations: &[u8],
-        section: &[u8],
-        index: usize,
-        relocation: &Rela,
-    ) -> Option<Decision> {
-        decide_load(self, relocations, section, index, relocation)
+    fn decide(&self, _is_taken: bool, _stays: bool, site: &Site<'_>) -> Option<Decision> {
+        decide_load(self, site)
     }
 
     #[inline(always)]
