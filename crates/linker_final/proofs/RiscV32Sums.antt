@@ -5,7 +5,7 @@ use Rattle.linker_final.proofs.Imports.{RowInfo}
 use Rattle.linker_laws.specs.RiscVRelocationLaws.{even, low_load, low_store, of_entry, upper_and_low, without_bit_0}
 use Rattle.linker_laws.specs.Schemes.{zero}
 use Rattle.linker_final.specs.RiscV32.{Descriptor, DescriptorAddresses}
-use Rattle.linker_final.proofs.RiscVImports.{mapped, ◌≡◌, ℕ, ℤ, pos, ◌%◌, ◌^◌, ◌+◌, ◌+ℤ◌, ◌*ℤ◌, refl, sym, ap, ◌∙◌, arith, List, [], ◌∷◌, rem_rem, RiscVInstruction, BType, CbType, CjType, JType, SType, UiType, number_of_bytes, riscv_form, riscv_row, Operands, IType, UType, RiscVRelocation, AreAddresses, plt_address, symbol_address, Step, Computed, Reaches, Law, HoldsDistance, entry_and_addend, here, number_at, place, tls_base, AbsoluteAddresses, Branches, Call, Entries, IsSame32, Jump, Law32, Pairs, Reaches32, RelativeAddresses, ThreadAddresses, Word, Words}
+use Rattle.linker_final.proofs.RiscVImports.{Option, Some, mapped, ◌≡◌, ℕ, ℤ, pos, ◌%◌, ◌^◌, ◌+◌, ◌+ℤ◌, ◌*ℤ◌, refl, sym, ap, ◌∙◌, arith, List, [], ◌∷◌, rem_rem, RiscVInstruction, BType, CbType, CjType, JType, SType, UiType, number_of_bytes, riscv_form, riscv_row, Operands, IType, UType, RiscVRelocation, AreAddresses, plt_address, symbol_address, Step, Computed, Reaches, Law, HoldsDistance, entry_and_addend, here, number_at, place, tls_base, AbsoluteAddresses, Branches, Call, Entries, IsSame32, Jump, Law32, Pairs, Reaches32, RelativeAddresses, ThreadAddresses, Word, Words}
 use Rattle.linker_elf.specs.declared.riscv64.relocations.RiscVRelocation.TheVariants as names
 use Rattle.linker_laws.specs.RiscVRelocationLaws as laws
 
