@@ -1,14 +1,9 @@
 -- What is written to a section, byte by byte.
-use Rattle.std.proofs.Common.{◌≡◌, ℕ, ℤ, ◌+◌, ◌-◌, ◌/◌, ◌<◌, ◌≤◌, ◌⊎◌, List, [], ◌∷◌, zero, suc, length, take, drop, get_or, cond, ltb, true, true≢false, refl, sym, ap, subst, ◌∙◌, inl, inr, arith}
-use Rattle.linker_section.proofs.Imports.{cases_eq, cases_lt, cases_Bool, or_left, cond_both, cond-true, cond-false, get_or-take, get_or-drop, length-drop, slice_index, window_len, RowInfo, Architecture}
+use Rattle.linker_section.proofs.Imports.{◌≡◌, ℕ, ℤ, ◌+◌, ◌-◌, ◌/◌, ◌<◌, ◌≤◌, ◌⊎◌, List, [], ◌∷◌, zero, suc, length, take, drop, get_or, cond, ltb, true, true≢false, refl, sym, ap, subst, ◌∙◌, inl, inr, arith, cases_eq, cases_lt, cases_Bool, or_left, cond_both, cond-true, cond-false, get_or-take, get_or-drop, length-drop, slice_index, window_len, RowInfo, Architecture, IsField, field_end, field_len, begins_pair, ends_pair, uleb_len, of_number, of_pair, AreApart, Overlap, AreRelocated, none, mark, one, pair, IsInNoField, AreAllRelocatedBy, IsValued, IsWritten, IsPairWritten, Values, offset_at, Addresses}
 use Rattle.linker_section.proofs.Ulebs.{some_uleb}
 use Rattle.linker_section.proofs.Composing.{begun_is_continued_none, begun_ends_none, begun_has_value}
 use Rattle.linker_section.proofs.Local.{IsLocal, one_local, pair_local}
 use Rattle.linker_section.proofs.Stepping.{len_alone, len_paired, written_alone, unchanged, split}
-use Rattle.linker_section.specs.Fields.{IsField, field_end, field_len, begins_pair, ends_pair, uleb_len, of_number, of_pair, AreApart, Overlap}
-use Rattle.linker_section.specs.Sections.{AreRelocated, none, mark, one, pair, IsInNoField, AreAllRelocatedBy, IsValued, IsWritten, IsPairWritten, Values}
-use Rattle.linker_section.specs.Values.{offset_at}
-use Rattle.linker_section.specs.declared.facts.Addresses.{Addresses}
 
 -- ---- bytes outside of a field
 

@@ -1,18 +1,7 @@
 -- Fields that are gone through by ascending offsets are apart, if each is clear of the last one.
-use Rattle.std.proofs.Common.{◌≡◌, ℕ, ◌+◌, ◌-◌, ◌/◌, ◌<◌, ◌≤◌, ◌⊎◌, ◌&&◌, eqb, leb, sym, ap, subst, ◌∙◌, inl, inr, arith, true, false, true≢false, List, length, Some}
-use Rattle.linker_section.proofs.Imports.{or_cases, or_parts, and_parts, eqb-true, eq-eqb, leb-true, cases_eq, window_len, RowInfo, IsRow, IfSome, is_some, Option, Architecture, never}
-use Rattle.std.proofs.lemmas.Bool.{leb-false, and_from, both_ways}
+use Rattle.linker_section.proofs.Imports.{◌≡◌, ℕ, ◌+◌, ◌-◌, ◌/◌, ◌<◌, ◌≤◌, ◌⊎◌, ◌&&◌, eqb, leb, sym, ap, subst, ◌∙◌, inl, inr, arith, true, false, true≢false, List, length, Some, or_cases, or_parts, and_parts, eqb-true, eq-eqb, leb-true, cases_eq, window_len, RowInfo, IsRow, IfSome, is_some, Option, Architecture, never, leb-false, and_from, both_ways, IsField, continues, field_end, begins_pair, ends_pair, is_of_pair, Overlap, Composes, of_number, of_pair, AreApart, IsOverlapped, relocation_in, BeginsPair, continues_at, is_clear_of, IsContinued, IsLastField, AreClaimed, HasField, ApartIn, Rela, None, offset_at, Field}
 use Rattle.linker_section.proofs.Composing.{continues_on, second_is_none, first_is_none, begun_continues_none, begun_is_continued_none, begun_ends_none}
 use Rattle.linker_section.proofs.Rows.{one_info}
-use Rattle.linker_section.specs.Fields.{IsField, continues, field_end, begins_pair, ends_pair, is_of_pair, Overlap, Composes, of_number, of_pair, AreApart, IsOverlapped}
-use Rattle.linker_section.specs.Relocations.{relocation_in}
-use Rattle.linker_section.specs.Sections.{BeginsPair}
-use Rattle.linker_section.specs.Inner.Claims.{continues_at, is_clear_of, IsContinued, IsLastField, AreClaimed, HasField}
-use Rattle.linker_section.specs.Inner.Order.{ApartIn}
-use Rattle.linker_section.specs.declared.relocations.Rela.{Rela}
-use Rattle.std.specs.Prelude.{None}
-use Rattle.linker_section.specs.Values.{offset_at}
-use Rattle.linker_section.specs.declared.fields.Field.{Field}
 
 -- ---- what the test says
 

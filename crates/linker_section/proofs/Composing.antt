@@ -1,9 +1,6 @@
 -- Which kinds compose, and which rows are of a pair at a ULEB128 number.
-use Rattle.std.proofs.Common.{◌≡◌, ◌||◌, refl, sym, ◌∙◌, true, false, true≢false}
-use Rattle.linker_section.proofs.Imports.{RelocationKind, RowSize, ByteSize, BitMasking, never}
+use Rattle.linker_section.proofs.Imports.{◌≡◌, ◌||◌, refl, sym, ◌∙◌, true, false, true≢false, RelocationKind, RowSize, ByteSize, BitMasking, never, begins_pair, ends_pair, changes_number, changes_bits, continues, has_value}
 use Rattle.linker_elf.specs.declared.elf.RelocationKind.TheVariants as kinds
-use Rattle.linker_section.specs.Fields.{begins_pair, ends_pair, changes_number, changes_bits, continues}
-use Rattle.linker_section.specs.Values.{has_value}
 
 changed_number : (second third : RelocationKind) → changes_number second ≡ true
     → continues second third ≡ changes_number third

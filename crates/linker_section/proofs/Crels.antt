@@ -1,20 +1,13 @@
 -- Numbers of compact relocations, and relocations one after the other.
-use Rattle.std.proofs.Common.{◌≡◌, ℕ, zero, suc, ◌+◌, ◌-◌, ◌*◌, ◌/◌, ◌%◌, ◌^◌, ◌<◌, ◌≤◌, ◌⊎◌, inl, inr, Bool, true, false, List, [], ◌∷◌, ◌++◌, length, take, drop, slice_index, Ok, Err, refl, sym, ◌∙◌, ap, arith, Some, None, ℤ, bit_and, bit_or, pow-suc, add-one, true≢false, ◌≢◌, below_more}
-use Rattle.std.proofs.Math.Nat.{pow-le-pow_right}
-use Rattle.linker_section.proofs.Imports.{cases_lt, nat_tests, mod_below, mul-le, take_all, length-drop, drop-append-le, take-append-le, nat_lt, ◌==◌, ◌&&◌, AllContinue, uleb_number, low_groups}
-use Rattle.std.proofs.lemmas.Nat.{or_shifted, or_comm, one_shl, and_mask, mul-mod_first}
+use Rattle.linker_section.proofs.Imports.{◌≡◌, ℕ, zero, suc, ◌+◌, ◌-◌, ◌*◌, ◌/◌, ◌%◌, ◌^◌, ◌<◌, ◌≤◌, ◌⊎◌, inl, inr, Bool, true, false, List, [], ◌∷◌, ◌++◌, length, take, drop, slice_index, Ok, Err, refl, sym, ◌∙◌, ap, arith, Some, None, ℤ, bit_and, bit_or, add-one, true≢false, ◌≢◌, below_more, pow-le-pow_right, cases_lt, nat_tests, mod_below, mul-le, take_all, length-drop, drop-append-le, take-append-le, nat_lt, ◌==◌, ◌&&◌, AllContinue, uleb_number, low_groups, or_shifted, or_comm, one_shl, and_mask, mul-mod_first, prefix_len, nat_le, pow_128, groups_lt, number_at, number_in, number_to, word_of, delta_at, flags_of, next_of, followed, relocation_of_place, relocation_in, relocation_of, Rela}
+use Rattle.std.proofs.Common.{pow-suc}
 use Rattle.std.proofs.lemmas.List.Sums.{prefix_len-le-length}
-use Rattle.std.specs.List.{prefix_len}
-use Rattle.std.specs.Prelude.{nat_le}
-use Rattle.linker_base.proofs.UlebLemmas.{pow_128, groups_lt}
-use Rattle.linker_section.specs.Crel.{number_at, number_in, number_to, word_of, delta_at, flags_of, next_of, after, followed, relocation_of_place}
-use Rattle.linker_section.specs.Relocations.{relocation_in, relocation_of}
+use Rattle.linker_section.specs.Crel.{after}
 use Rattle.linker_section.specs.declared.crel.CrelError.TheVariants.{CutOff, TooLarge}
 use Rattle.linker_section.specs.declared.crel.CrelError.{CrelError}
 use Rattle.linker_section.specs.declared.crel.Header.{Header}
 use Rattle.linker_section.specs.declared.crel.Number.{Number}
 use Rattle.linker_section.specs.declared.crel.Place.{Place}
-use Rattle.linker_section.specs.declared.relocations.Rela.{Rela}
 
 -- ---- the last byte of a number
 

@@ -1,27 +1,13 @@
 -- A section that can be written has no fault: each relocation has one value.
-use Rattle.std.proofs.Common.{◌≡◌, ℕ, ℤ, ◌+◌, ◌/◌, ◌<◌, ◌≤◌, ◌⊎◌, ◌^◌, List, length, drop, Bool, true, false, true≢false, ltb, refl, sym, ap, subst, ◌∙◌, inl, inr, arith, Option, Some, None, Ok, Err, Result}
-use Rattle.linker_section.proofs.Imports.{cases_eq, cases_lt, cases_Bool, and_parts, or_left, cond-true, cond-false, le-ltb, lt-ltb, slice_get, slice_index, ◌||◌, Uleb, IsUlebCause, BitRange, Uleb128Error, Ended, TooLarge, DoesNotFit, IsCause, IsAccepted, size_len, RiscV, RelocationKind, RowInfo, RowSize, BitMasking, RelocateError, Unsupported, TooShort, Misaligned, OutOfReach, UType, IsRow, Architecture}
+use Rattle.linker_section.proofs.Imports.{◌≡◌, ℕ, ℤ, ◌+◌, ◌/◌, ◌<◌, ◌≤◌, ◌⊎◌, ◌^◌, List, length, drop, Bool, true, false, true≢false, ltb, refl, sym, ap, subst, ◌∙◌, inl, inr, arith, Option, Some, None, Ok, Err, Result, cases_eq, cases_lt, cases_Bool, and_parts, or_left, cond-true, cond-false, le-ltb, lt-ltb, slice_get, slice_index, ◌||◌, Uleb, IsUlebCause, BitRange, Uleb128Error, Ended, TooLarge, DoesNotFit, IsCause, IsAccepted, size_len, RiscV, RelocationKind, RowInfo, RowSize, BitMasking, RelocateError, Unsupported, TooShort, Misaligned, OutOfReach, UType, IsRow, Architecture, IsInReach, IsField, begins_pair, ends_pair, is_of_pair, Composes, of_number, of_pair, AreApart, relocation_in, relocation_at, Values, by_index, HasValue, IsRowValue, IsValueless, no_value, not_filled, no_stub, beyond, IsOtherLength, IsNotAccepted, IsPairRejected, IsNumberOfPair, IsCauseAt, IsOfValue, BeginsPair, offset_at, is_auipc, is_high_kind, is_high_part, names_label, IsHighPart, IsHighPartAt, low_value, IsLowValue, IsValueBy, IsValueIn, IsValue, CanBeWrittenBy, IsFirstFaultBy, PairFits, Addresses, Symbol, Rela, RelocationError, Value, Overlaps, OtherLength, Write, Uleb128, SectionError, ValueError}
 use Rattle.linker_elf.specs.declared.elf.RelocationKind.TheVariants as kinds
 use Rattle.linker_section.proofs.Composing.{begun_ends_none}
 use Rattle.linker_section.proofs.Fronts.{some_window}
 use Rattle.linker_section.proofs.Rows.{one_row, one_info}
 use Rattle.linker_section.proofs.Sized.{is_composing, first_composes, instruction_alone, auipc_valued}
 use Rattle.linker_section.proofs.Stepping.{len_alone}
-use Rattle.linker_section.specs.Conditions.{IsInReach}
-use Rattle.linker_section.specs.Fields.{IsField, begins_pair, ends_pair, is_of_pair, Composes, of_number, of_pair, AreApart}
-use Rattle.linker_section.specs.Relocations.{relocation_in, relocation_at}
 use Rattle.linker_section.proofs.Lengths.{pair_shows}
 use Rattle.linker_section.proofs.Valued.{mark_none}
-use Rattle.linker_section.specs.Sections.{Values, by_index, HasValue, IsRowValue, IsValueless, no_value, not_filled, no_stub, beyond, IsOtherLength, IsNotAccepted, IsPairRejected, IsNumberOfPair, IsCauseAt, IsOfValue, BeginsPair}
-use Rattle.linker_section.specs.Values.{offset_at, is_auipc, is_high_kind, is_high_part, names_label, IsHighPart, IsHighPartAt, low_value, IsLowValue, IsValueBy, IsValueIn, IsValue}
-use Rattle.linker_section.specs.WrittenFields.{CanBeWrittenBy, IsFirstFaultBy, PairFits}
-use Rattle.linker_section.specs.declared.facts.Addresses.{Addresses}
-use Rattle.linker_section.specs.declared.facts.Symbol.{Symbol}
-use Rattle.linker_section.specs.declared.relocations.Rela.{Rela}
-use Rattle.linker_section.specs.declared.sections.RelocationError.{RelocationError}
-use Rattle.linker_section.specs.declared.sections.RelocationError.TheVariants.{Value, Overlaps, OtherLength, Write, Uleb128}
-use Rattle.linker_section.specs.declared.sections.SectionError.{SectionError}
-use Rattle.linker_section.specs.declared.values.ValueError.{ValueError}
 
 -- ---- one high part
 

@@ -1,6 +1,5 @@
 -- The first relocation that can't be written is that by the section before all writes.
-use Rattle.std.proofs.Common.{◌≡◌, ℕ, zero, suc, ℤ, ◌+◌, ◌^◌, ◌<◌, ◌≤◌, ◌⊎◌, List, [], ◌∷◌, length, take, drop, ltb, refl, sym, ap, subst, ◌∙◌, inl, inr, arith}
-use Rattle.linker_section.proofs.Imports.{cases_eq, or_left, cond_both, cond-false, le-ltb, length-drop, take_all, take-append-drop, get_or-take, drop_all, slice_index, AllContinue, IsUlebCause, Uleb128Error, Ended, TooLarge, DoesNotFit, IsCause, RowInfo, RelocateError, Unsupported, TooShort, Misaligned, OutOfReach, Architecture}
+use Rattle.linker_section.proofs.Imports.{◌≡◌, ℕ, zero, suc, ℤ, ◌+◌, ◌^◌, ◌<◌, ◌≤◌, ◌⊎◌, List, [], ◌∷◌, length, take, drop, ltb, refl, sym, ap, subst, ◌∙◌, inl, inr, arith, cases_eq, or_left, cond_both, cond-false, le-ltb, length-drop, take_all, take-append-drop, get_or-take, drop_all, slice_index, AllContinue, IsUlebCause, Uleb128Error, Ended, TooLarge, DoesNotFit, IsCause, RowInfo, RelocateError, Unsupported, TooShort, Misaligned, OutOfReach, Architecture, IsField, field_len, begins_pair, ends_pair, uleb_len, AreApart, AreRelocated, IsUnwritable, IsPairRejected, IsNotAccepted, IsOtherLength, IsCauseAt, BeginsPair, IsOfValue, IsFirstRejectedBy, Values, offset_at, IsFirstFaultBy, Addresses, RelocationError, Value, Overlaps, OtherLength, Write, Uleb128, SectionError}
 use Rattle.linker_section.proofs.All.{untouched, pair_first, same_uleb}
 use Rattle.linker_section.proofs.Composing.{begun_has_value}
 use Rattle.linker_section.proofs.Fielded.{found_of, uses, found_are, are_inside, are_accepted, front_at, same_at}
@@ -9,14 +8,6 @@ use Rattle.linker_section.proofs.Held.{field_untouched}
 use Rattle.linker_section.proofs.Lengths.{offset_same, length_same, shows_same}
 use Rattle.linker_section.proofs.Stepping.{len_paired}
 use Rattle.linker_section.proofs.Ulebs.{some_uleb, uleb_len_is, uleb_same, pair_number_from}
-use Rattle.linker_section.specs.Fields.{IsField, field_len, begins_pair, ends_pair, uleb_len, AreApart}
-use Rattle.linker_section.specs.Sections.{AreRelocated, IsUnwritable, IsPairRejected, IsNotAccepted, IsOtherLength, IsCauseAt, BeginsPair, IsOfValue, IsFirstRejectedBy, Values}
-use Rattle.linker_section.specs.Values.{offset_at}
-use Rattle.linker_section.specs.WrittenFields.{IsFirstFaultBy}
-use Rattle.linker_section.specs.declared.facts.Addresses.{Addresses}
-use Rattle.linker_section.specs.declared.sections.RelocationError.{RelocationError}
-use Rattle.linker_section.specs.declared.sections.RelocationError.TheVariants.{Value, Overlaps, OtherLength, Write, Uleb128}
-use Rattle.linker_section.specs.declared.sections.SectionError.{SectionError}
 
 -- ---- a value of one relocation
 

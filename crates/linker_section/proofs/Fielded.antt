@@ -1,6 +1,5 @@
 -- All fields of a section, after all writes.
-use Rattle.std.proofs.Common.{◌≡◌, ℕ, zero, suc, ℤ, pos, ◌+◌, ◌*◌, ◌^◌, ◌/◌, ◌<◌, ◌≤◌, ◌⊎◌, List, [], length, take, drop, true, false, true≢false, eqb, ltb, cond, refl, sym, ap, subst, ◌∙◌, inl, inr, arith, Option, Some, None, Ok}
-use Rattle.linker_section.proofs.Imports.{cases_eq, cases_lt, cases_Bool, or_left, or_right, cond-true, cond-false, eq-eqb, ne_eqb, eqb-true, lt-ltb, le-ltb, drop_at, length-drop, length-take, length-take-le, get_or-take, get_or-drop, get_or_past, slice_index, ◌||◌, Uleb, IsUlebWritten, WritesRow, SizeNumber, number_of_bytes, size_len, window_len, takes_size, RowInfo, RowSize, ByteSize, BitMasking, Architecture, supported_size}
+use Rattle.linker_section.proofs.Imports.{◌≡◌, ℕ, zero, suc, ℤ, pos, ◌+◌, ◌*◌, ◌^◌, ◌/◌, ◌<◌, ◌≤◌, ◌⊎◌, List, [], length, take, drop, true, false, true≢false, eqb, ltb, cond, refl, sym, ap, subst, ◌∙◌, inl, inr, arith, Option, Some, None, Ok, cases_eq, cases_lt, cases_Bool, or_left, or_right, cond-true, cond-false, eq-eqb, ne_eqb, eqb-true, lt-ltb, le-ltb, drop_at, length-drop, length-take, length-take-le, get_or-take, get_or-drop, get_or_past, slice_index, ◌||◌, Uleb, IsUlebWritten, WritesRow, SizeNumber, number_of_bytes, size_len, window_len, takes_size, RowInfo, RowSize, ByteSize, BitMasking, Architecture, supported_size, IsField, field_end, field_len, begins_pair, ends_pair, is_of_pair, Composes, of_number, of_pair, AreApart, AreRelocated, none, mark, one, pair, IsInside, IsValued, IsPairWritten, AreAllRelocatedBy, Values, has_value, offset_at, Found, AreFound, composed, composed_by, composed_with, field_bytes, HoldsNumber, HoldsValue, IsHeld, AreWrittenBy, MakePair, OfPair, HoldsPair, PairFits, IsAcceptedAt, AreAccepted, AreInside, IsUnwritten, Addresses}
 use Rattle.linker_section.proofs.All.{AreUntouched, IsFirstAt, local_byte, pair_place, pair_first, untouched}
 use Rattle.linker_section.proofs.Composing.{begun_has_value, begun_ends_none, first_is_none, second_is_none}
 use Rattle.linker_section.proofs.Fronts.{HaveSameWindow, same_window, accepted_same, some_window, window_back}
@@ -12,11 +11,6 @@ use Rattle.linker_section.proofs.Rows.{one_info}
 use Rattle.linker_section.proofs.Sized.{is_composing, second_composes, whole_bytes, instruction_alone}
 use Rattle.linker_section.proofs.Stepping.{len_alone, written_alone, same_place}
 use Rattle.linker_section.proofs.Ulebs.{uleb_len_is, uleb_same, uleb_front, same_last, written_front, uleb_below, pair_number_same}
-use Rattle.linker_section.specs.Fields.{IsField, field_end, field_len, begins_pair, ends_pair, is_of_pair, Composes, of_number, of_pair, AreApart}
-use Rattle.linker_section.specs.Sections.{AreRelocated, none, mark, one, pair, IsInside, IsValued, IsPairWritten, AreAllRelocatedBy, Values}
-use Rattle.linker_section.specs.Values.{has_value, offset_at}
-use Rattle.linker_section.specs.WrittenFields.{Found, AreFound, composed, composed_by, composed_with, field_bytes, HoldsNumber, HoldsValue, IsHeld, AreWrittenBy, MakePair, OfPair, HoldsPair, PairFits, IsAcceptedAt, AreAccepted, AreInside, IsUnwritten}
-use Rattle.linker_section.specs.declared.facts.Addresses.{Addresses}
 use Rattle.linker_section.proofs.Exact.{one_found}
 
 -- ---- what is composed

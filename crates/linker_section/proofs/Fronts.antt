@@ -1,13 +1,7 @@
 -- A write of a row reads and changes the bytes of its field only.
-use Rattle.std.proofs.Common.{◌≡◌, ℕ, ℤ, ◌-◌, ◌*◌, ◌^◌, ◌<◌, ◌≤◌, pos, List, ◌++◌, length, take, drop, Bool, true, sym, ap, subst, ◌∙◌, arith, lit≤}
-use Rattle.linker_section.proofs.Imports.{get_or-take, take-take, take_at, length-take-le, append-nil, Option, replicate, byte_len, byte_worth, from_le_bytes, w64, to_le_bytes, int_rem_euclid, window_of, BitRange, relocation_form, WritesRow, IsAccepted, SizeNumber, number_of_bytes, whole_number, size_len, window_len, takes_size, AArch64Instruction, Movnz, LoongArch64Instruction, Call36, Ppc64Form, D, RiscVInstruction, UType, AnyForm, RiscV, Ppc64, LoongArch64, RelocationKind, RowInfo, RowSize, ByteSize, BitMasking, window_at, supported_size}
-use Rattle.std.specs.Prelude.{int_lt}
-use Rattle.std.specs.Int.{Width}
-use Rattle.linker_base.specs.Form.{Written, BitsWritten, Fits}
+use Rattle.linker_section.proofs.Imports.{◌≡◌, ℕ, ℤ, ◌-◌, ◌*◌, ◌^◌, ◌<◌, ◌≤◌, pos, List, ◌++◌, length, take, drop, Bool, true, sym, ap, subst, ◌∙◌, arith, lit≤, get_or-take, take-take, take_at, length-take-le, append-nil, Option, replicate, byte_len, byte_worth, from_le_bytes, w64, to_le_bytes, int_rem_euclid, window_of, BitRange, relocation_form, WritesRow, IsAccepted, SizeNumber, number_of_bytes, whole_number, size_len, window_len, takes_size, AArch64Instruction, Movnz, LoongArch64Instruction, Call36, Ppc64Form, D, RiscVInstruction, UType, AnyForm, RiscV, Ppc64, LoongArch64, RelocationKind, RowInfo, RowSize, ByteSize, BitMasking, window_at, supported_size, int_lt, Width, Written, BitsWritten, Fits, IsMultiple, IsAligned, IsInUnits, IsInWords, HoldsBits, IsReached, InstructionWritten, SizeReads, SizeHolds, FieldReads, InstructionHolds, number_written, low_bytes, bits_taken, bits_at, value_at, insn_at, is_dq_form, is_low_jump, Ds}
 use Rattle.linker_elf.specs.Reach.{reach_of}
 use Rattle.linker_elf.specs.Relocate as relocate
-use Rattle.linker_elf.specs.Relocate.{IsMultiple, IsAligned, IsInUnits, IsInWords, HoldsBits, IsReached, InstructionWritten, SizeReads, SizeHolds, FieldReads, InstructionHolds, number_written, low_bytes, bits_taken, bits_at, value_at, insn_at, is_dq_form, is_low_jump}
-use Rattle.linker_elf.specs.declared.ppc64.forms.Ppc64Form.TheVariants.{Ds}
 use Rattle.linker_elf.specs.declared.elf.AnyForm.TheVariants.{AArch64}
 use Rattle.linker_section.proofs.Local.{small_bytes}
 use Rattle.linker_section.proofs.Ulebs.{sum_same, no_rest}

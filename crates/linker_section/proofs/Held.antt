@@ -1,7 +1,5 @@
 -- What each field holds after all writes.
-use Rattle.std.proofs.Common.{◌≡◌, ℕ, ℤ, ◌+◌, ◌<◌, ◌≤◌, ◌⊎◌, List, take, drop, true, false, true≢false, sym, ap, subst, ◌∙◌, inl, inr, arith}
-use Rattle.linker_section.proofs.Imports.{cases_eq, cases_lt, or_left, or_right, take-take, drop_at, drop-take, length-drop, length-take-le, get_or-take, get_or-drop, length-take, WritesRow, window_len, RowInfo, Architecture}
-use Rattle.std.proofs.lemmas.List.{ext_get_or}
+use Rattle.linker_section.proofs.Imports.{◌≡◌, ℕ, ℤ, ◌+◌, ◌<◌, ◌≤◌, ◌⊎◌, List, take, drop, true, false, true≢false, sym, ap, subst, ◌∙◌, inl, inr, arith, cases_eq, cases_lt, or_left, or_right, take-take, drop_at, drop-take, length-drop, length-take-le, get_or-take, get_or-drop, length-take, WritesRow, window_len, RowInfo, Architecture, ext_get_or, IsField, field_end, field_len, begins_pair, ends_pair, is_of_pair, Composes, of_number, of_pair, AreApart, IsValued, IsWritten, Values, offset_at, field_bytes, Addresses}
 use Rattle.linker_section.proofs.All.{AreUntouched, IsFirstAt, first_byte}
 use Rattle.linker_section.proofs.Composing.{first_is_none, second_is_none}
 use Rattle.linker_section.proofs.Fronts.{writes_front}
@@ -9,11 +7,6 @@ use Rattle.linker_section.proofs.Local.{IsLocal, one_local}
 use Rattle.linker_section.proofs.Numbers.{is_word6}
 use Rattle.linker_section.proofs.Sized.{is_composing, first_composes, second_composes, alike}
 use Rattle.linker_section.proofs.Stepping.{len_alone, written_alone, drop_after}
-use Rattle.linker_section.specs.Fields.{IsField, field_end, field_len, begins_pair, ends_pair, is_of_pair, Composes, of_number, of_pair, AreApart}
-use Rattle.linker_section.specs.Sections.{IsValued, IsWritten, Values}
-use Rattle.linker_section.specs.Values.{offset_at}
-use Rattle.linker_section.specs.WrittenFields.{field_bytes}
-use Rattle.linker_section.specs.declared.facts.Addresses.{Addresses}
 
 -- ---- two fields
 

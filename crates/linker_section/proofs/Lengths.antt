@@ -1,19 +1,8 @@
 -- Whether an instruction is as long as the form of its relocation.
-use Rattle.std.proofs.Common.{◌≡◌, ℕ, ℤ, ◌<◌, List, length, take, drop, Bool, true, false, true≢false, eqb, ◌&&◌, ◌/◌, refl, sym, ap, ◌∙◌, inl, inr, arith}
-use Rattle.linker_section.proofs.Imports.{cases_Bool, cases_lt, get_or-take, length-drop, w64, from_le_bytes, slice_index, not, ◌||◌, size_len, window_len, RiscV, Ppc64, LoongArch64, RowInfo, RowSize, ByteSize, BitMasking, RiscVInstruction, OutOfReach, Architecture}
-use Rattle.std.specs.Prelude.{◌↔◌, IsTrue, ◌%◌, ◌^◌}
+use Rattle.linker_section.proofs.Imports.{◌≡◌, ℕ, ℤ, ◌<◌, List, length, take, drop, Bool, true, false, true≢false, eqb, ◌&&◌, ◌/◌, refl, sym, ap, ◌∙◌, inl, inr, arith, cases_Bool, cases_lt, get_or-take, length-drop, w64, from_le_bytes, slice_index, not, ◌||◌, size_len, window_len, RiscV, Ppc64, LoongArch64, RowInfo, RowSize, ByteSize, BitMasking, RiscVInstruction, OutOfReach, Architecture, ◌↔◌, IsTrue, ◌%◌, ◌^◌, Shift10, Prefixed, IType, SType, CbType, CjType, CluiType, HasLength, HoldsOffset, holds_offset, is_12_bits, is_thread_based, is_tp_off, shows, shows_length, is_of_pair, word_shows, IsValued, IsOtherLength, IsUnwritable, Values, offset_at, Addresses}
 use Rattle.linker_elf.specs.declared.elf.facts.Length.{Length}
 use Rattle.linker_elf.specs.declared.elf.facts.Length.TheVariants as lengths
-use Rattle.linker_elf.specs.declared.loongarch64.forms.LoongArch64Instruction.TheVariants.{Shift10}
-use Rattle.linker_elf.specs.declared.ppc64.forms.Ppc64Form.TheVariants.{Prefixed}
-use Rattle.linker_elf.specs.declared.riscv64.forms.RiscVInstruction.TheVariants.{IType, SType, CbType, CjType, CluiType}
 use Rattle.linker_section.proofs.Fronts.{some_window, HaveSameWindow}
-use Rattle.linker_section.specs.Conditions.{HasLength, HoldsOffset, holds_offset, is_12_bits, is_thread_based, is_tp_off, shows, shows_length}
-use Rattle.linker_section.specs.Fields.{is_of_pair}
-use Rattle.linker_section.specs.Inner.Facts.{word_shows}
-use Rattle.linker_section.specs.Sections.{IsValued, IsOtherLength, IsUnwritable, Values}
-use Rattle.linker_section.specs.Values.{offset_at}
-use Rattle.linker_section.specs.declared.facts.Addresses.{Addresses}
 
 -- ---- what a test says
 

@@ -1,15 +1,8 @@
 -- A write changes the bytes of its field only.
-use Rattle.std.proofs.Common.{◌≡◌, ℕ, ℤ, ◌+◌, ◌≤◌, List, length, take, drop, true, ap, sym, ◌∙◌, arith, lit≤}
-use Rattle.linker_section.proofs.Imports.{and_parts, ltb-true, take_at, drop_at, drop-drop, length-drop, length-take-le, length-append, not, nat_lt, byte_len, w64, to_le_bytes, window_of, relocation_form, WritesRow, takes_size, size_len, window_len, AArch64Instruction, Movnz, RiscVInstruction, UType, Ppc64Form, D, LoongArch64Instruction, Call36, AnyForm, RiscV, Ppc64, LoongArch64, RelocationKind, RowInfo, RowSize, ByteSize, BitMasking, Architecture, window_at, supported_size}
-use Rattle.std.proofs.lemmas.Slice.{drop-append-drop}
+use Rattle.linker_section.proofs.Imports.{◌≡◌, ℕ, ℤ, ◌+◌, ◌≤◌, List, length, take, drop, true, ap, sym, ◌∙◌, arith, lit≤, and_parts, ltb-true, take_at, drop_at, drop-drop, length-drop, length-take-le, length-append, not, nat_lt, byte_len, w64, to_le_bytes, window_of, relocation_form, WritesRow, takes_size, size_len, window_len, AArch64Instruction, Movnz, RiscVInstruction, UType, Ppc64Form, D, LoongArch64Instruction, Call36, AnyForm, RiscV, Ppc64, LoongArch64, RelocationKind, RowInfo, RowSize, ByteSize, BitMasking, Architecture, window_at, supported_size, drop-append-drop, is_of_uleb128, uleb_len, IsWritten, IsPairWritten, Values, Addresses, offset_at}
 use Rattle.linker_elf.specs.Relocate as relocate
-use Rattle.linker_elf.specs.Relocate.{is_of_uleb128}
 use Rattle.linker_elf.specs.declared.elf.AnyForm.TheVariants.{AArch64}
 use Rattle.linker_section.proofs.Ulebs.{uleb_len_is, same_last}
-use Rattle.linker_section.specs.Fields.{uleb_len}
-use Rattle.linker_section.specs.Sections.{IsWritten, IsPairWritten, Values}
-use Rattle.linker_section.specs.declared.facts.Addresses.{Addresses}
-use Rattle.linker_section.specs.Values.{offset_at}
 
 -- of a section only the bytes from an offset on change, as many as a field has
 pub record IsLocal (offset len : ℕ) (before after : List ℕ) : Type 0 where

@@ -1,12 +1,7 @@
 -- Numbers that relocations compose, modulo the size of their field.
-use Rattle.std.proofs.Common.{Bool, ◌≡◌, ℕ, zero, suc, ℤ, pos, negsuc, ◌+ℤ◌, ◌-ℤ◌, neg_ℤ, ◌+◌, ◌-◌, ◌*◌, ◌/◌, ◌%◌, ◌^◌, ◌<◌, ◌≤◌, List, ◌++◌, length, take, true, false, inl, inr, refl, sym, ap, subst, ◌∙◌, arith, unsigned_abs}
-use Rattle.linker_section.proofs.Imports.{cases_Bool, cases_lt, get_or-take, get_or_append_left, get_or-append_right, get_or-replicate, get_or_past, length-take, length-replicate, mod_below, mul-le, mod-eq_of_lt, pow-suc, slice_index, replicate, int_rem_euclid, byte_worth, sum_through, number_of_bytes, whole_number, SizeNumber, ByteSize, RelocationKind, never}
-use Rattle.std.proofs.lemmas.Int.{ints, int_rem_euclid_is}
-use Rattle.std.proofs.lemmas.Nat.{pow_pos, pow-add, div-add-mod', shr_below}
-use Rattle.std.proofs.Math.Nat.{add-mul-mod_self_right}
+use Rattle.linker_section.proofs.Imports.{Bool, ◌≡◌, ℕ, zero, suc, ℤ, pos, negsuc, ◌+ℤ◌, ◌-ℤ◌, neg_ℤ, ◌+◌, ◌-◌, ◌*◌, ◌/◌, ◌%◌, ◌^◌, ◌<◌, ◌≤◌, List, ◌++◌, length, take, true, false, inl, inr, refl, sym, ap, subst, ◌∙◌, arith, unsigned_abs, cases_Bool, cases_lt, get_or-take, get_or_append_left, get_or-append_right, get_or-replicate, get_or_past, length-take, length-replicate, mod_below, mul-le, mod-eq_of_lt, pow-suc, slice_index, replicate, int_rem_euclid, byte_worth, sum_through, number_of_bytes, whole_number, SizeNumber, ByteSize, RelocationKind, never, ints, int_rem_euclid_is, pow_pos, pow-add, div-add-mod', shr_below, add-mul-mod_self_right, composed_with, HoldsWord6, HoldsNumber}
 use Rattle.linker_elf.proofs.Agreement.{rem_rem, rem_below}
 use Rattle.linker_elf.specs.declared.elf.RelocationKind.TheVariants as kinds
-use Rattle.linker_section.specs.WrittenFields.{composed_with, HoldsWord6, HoldsNumber}
 
 -- ---- sums and differences modulo a number
 

@@ -1,15 +1,8 @@
 -- What a call that relocates a section returns, by what it returns of one value after the other.
-use Rattle.std.proofs.Common.{ℕ, ◌/◌, ◌<◌, List, length, Ok, Err, Result, refl, sym, true≢false}
-use Rattle.std.specs.Prelude.{IfErr, IsOk, OnOk, slice_index, ◌↔◌}
-use Rattle.linker_elf.specs.declared.elf.architecture.Architecture.{Architecture}
+use Rattle.linker_section.proofs.Imports.{ℕ, ◌/◌, ◌<◌, List, length, Ok, Err, Result, refl, sym, true≢false, IfErr, IsOk, OnOk, slice_index, ◌↔◌, Architecture, AreApart, AreAllRelocatedBy, IsFirstRejectedBy, Values, AreWrittenBy, CanBeWrittenBy, IsFirstFaultBy, Addresses, SectionError}
 use Rattle.linker_section.proofs.Exact.{AreUnique, no_fault}
 use Rattle.linker_section.proofs.Faults.{first_fault}
 use Rattle.linker_section.proofs.Fielded.{are_written}
-use Rattle.linker_section.specs.Fields.{AreApart}
-use Rattle.linker_section.specs.Sections.{AreAllRelocatedBy, IsFirstRejectedBy, Values}
-use Rattle.linker_section.specs.WrittenFields.{AreWrittenBy, CanBeWrittenBy, IsFirstFaultBy}
-use Rattle.linker_section.specs.declared.facts.Addresses.{Addresses}
-use Rattle.linker_section.specs.declared.sections.SectionError.{SectionError}
 
 module _ (architecture : Architecture) (addresses : Addresses) (bytes : List ℕ) (values : Values) (before after : List ℕ) where
   pub fields_of : ((j : ℕ) → slice_index before j < 256) → (result : Result Unit SectionError)

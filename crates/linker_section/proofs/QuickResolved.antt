@@ -1,28 +1,9 @@
 -- Values that are found by a look-up with few tests.
-use Rattle.std.proofs.Common.{◌≡◌, ℕ, ℤ, ◌<◌, ◌/◌, true, false, true≢false, List, length, Option, Some, None, Ok, refl, sym, ap, subst, ◌∙◌}
-use Rattle.std.specs.Prelude.{IfSome, ◌&&◌, not}
-use Rattle.std.proofs.lemmas.Bool.{cond-true, ltb-true, lt-ltb, or_left, or_right}
-use Rattle.linker_elf.specs.Architectures.{IsRow}
-use Rattle.linker_elf.specs.Facts.{way_of}
-use Rattle.linker_elf.specs.Relocate.{window_len}
-use Rattle.linker_elf.specs.Value.{difference_64, is_offset}
+use Rattle.linker_section.proofs.Imports.{◌≡◌, ℕ, ℤ, ◌<◌, ◌/◌, true, false, true≢false, List, length, Option, Some, None, Ok, refl, sym, ap, subst, ◌∙◌, IfSome, ◌&&◌, not, cond-true, ltb-true, lt-ltb, or_left, or_right, IsRow, way_of, window_len, difference_64, is_offset, RowInfo, Architecture, Way, is_tp_off, needs_upper, is_of_pair, SaysWay, is_high, is_high_way, is_low, is_low_way, is_offset_way, is_plain, is_quick, IsPlainResolved, IsQuickAt, IsResolvedHigh, IsValueAt, relocation_in, IsResolvedBy, IsResolvedUnless, IsLowResolved, Lookup, by_lookup, is_defined_in, is_skipped, lacks_resolved_stub, resolved_operands, has_value, is_high_part, low_by, low_operands, names_label, value_by, IsHighPart, Addresses, HighPart, Resolved}
 use Rattle.linker_elf.specs.declared.elf.RelocationKind.TheVariants as kinds
-use Rattle.linker_elf.specs.declared.elf.RowInfo.{RowInfo}
-use Rattle.linker_elf.specs.declared.elf.architecture.Architecture.{Architecture}
-use Rattle.linker_elf.specs.declared.elf.facts.Way.{Way}
 use Rattle.linker_elf.specs.declared.elf.facts.Way.TheVariants as ways
 use Rattle.linker_section.proofs.QuickValues.{and_false, when_true}
-use Rattle.linker_section.specs.Conditions.{is_tp_off, needs_upper}
-use Rattle.linker_section.specs.Fields.{is_of_pair}
-use Rattle.linker_section.specs.Inner.Facts.{SaysWay, is_high, is_high_way, is_low, is_low_way, is_offset_way, is_plain, is_quick}
-use Rattle.linker_section.specs.Inner.Quick.{IsPlainResolved, IsQuickAt, IsResolvedHigh, IsValueAt}
 use Rattle.linker_section.specs.Inner.Resolved.{IsQuickResolved}
-use Rattle.linker_section.specs.Relocations.{relocation_in}
-use Rattle.linker_section.specs.Resolved.{IsResolvedBy, IsResolvedUnless, IsLowResolved, Lookup, by_lookup, is_defined_in, is_skipped, lacks_resolved_stub, resolved_operands}
-use Rattle.linker_section.specs.Values.{has_value, is_high_part, low_by, low_operands, names_label, value_by, IsHighPart}
-use Rattle.linker_section.specs.declared.facts.Addresses.{Addresses}
-use Rattle.linker_section.specs.declared.quick.HighPart.{HighPart}
-use Rattle.linker_section.specs.declared.resolved.Resolved.{Resolved}
 
 module _ (architecture : Architecture) (addresses : Addresses) (bytes : List ℕ) (lookup : Lookup) (i : ℕ) (row : RowInfo) (v : ℤ) (known : Resolved) (there : i < length bytes / 24) (is_row : IsRow architecture (relocation_in bytes i).r_type (Some row)) (way : SaysWay architecture row) (same : lookup i (relocation_in bytes i) ≡ Some known) (kept : known.is_left_out ≡ false) (keeps : lacks_resolved_stub architecture (relocation_in bytes i) (Some known) ≡ false) (reached : needs_upper architecture (relocation_in bytes i) v ≡ false) where
   -- a relocation with a value of its own is written

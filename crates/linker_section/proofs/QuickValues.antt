@@ -1,24 +1,7 @@
 -- Values that are found by the facts of rows.
-use Rattle.std.proofs.Common.{◌≡◌, ℕ, ℤ, ◌<◌, ◌/◌, Bool, true, false, true≢false, not, ◌&&◌, List, length, Option, Some, None, Result, Ok, Err, refl, sym, ap, subst, ◌∙◌}
-use Rattle.linker_section.proofs.Imports.{IfSome, slice_get, if◌then◌else◌, cond-true, ltb-true, lt-ltb, or_left, or_right, window_len, value_of, RowInfo, Operands, IsRow, Architecture}
-use Rattle.linker_elf.specs.Facts.{way_of}
-use Rattle.linker_elf.specs.Value.{difference_64, is_offset}
+use Rattle.linker_section.proofs.Imports.{◌≡◌, ℕ, ℤ, ◌<◌, ◌/◌, Bool, true, false, true≢false, not, ◌&&◌, List, length, Option, Some, None, Result, Ok, Err, refl, sym, ap, subst, ◌∙◌, IfSome, slice_get, if◌then◌else◌, cond-true, ltb-true, lt-ltb, or_left, or_right, window_len, value_of, RowInfo, Operands, IsRow, Architecture, way_of, difference_64, is_offset, Way, is_tp_off, lacks_stub, needs_upper, is_of_pair, When, SaysWay, is_plain_way, is_offset_way, is_high_way, is_plain, is_high, is_low, is_quick, IsPlainValue, IsQuickAt, IsQuickValue, IsHighValue, HasHighValue, may_use_stub, relocation_in, has_value, names_label, is_high_part, is_defined, lacks_origin, operands_of, value_by, own_value, low_by, low_value, low_operands, offset_at, IsHighPart, IsHighPartAt, IsValueBy, IsLowValue, address_of, target_of, Addresses, Symbol, HighPart, Rela, ValueError, by_index}
 use Rattle.linker_elf.specs.declared.elf.RelocationKind.TheVariants as kinds
-use Rattle.linker_elf.specs.declared.elf.facts.Way.{Way}
 use Rattle.linker_elf.specs.declared.elf.facts.Way.TheVariants as ways
-use Rattle.linker_section.specs.Conditions.{is_tp_off, lacks_stub, needs_upper}
-use Rattle.linker_section.specs.Fields.{is_of_pair}
-use Rattle.linker_section.specs.Inner.Facts.{When, SaysWay, is_plain_way, is_offset_way, is_high_way, is_plain, is_high, is_low, is_quick}
-use Rattle.linker_section.specs.Inner.Quick.{IsPlainValue, IsQuickAt, IsQuickValue, IsHighValue, HasHighValue}
-use Rattle.linker_section.specs.Needed.{may_use_stub}
-use Rattle.linker_section.specs.Relocations.{relocation_in}
-use Rattle.linker_section.specs.Values.{has_value, names_label, is_high_part, is_defined, lacks_origin, operands_of, value_by, own_value, low_by, low_value, low_operands, offset_at, IsHighPart, IsHighPartAt, IsValueBy, IsLowValue, address_of, target_of}
-use Rattle.linker_section.specs.declared.facts.Addresses.{Addresses}
-use Rattle.linker_section.specs.declared.facts.Symbol.{Symbol}
-use Rattle.linker_section.specs.declared.quick.HighPart.{HighPart}
-use Rattle.linker_section.specs.declared.relocations.Rela.{Rela}
-use Rattle.linker_section.specs.declared.values.ValueError.{ValueError}
-use Rattle.linker_section.specs.Sections.{by_index}
 
 pub when_true : {A : Type 0} (test : Bool) (x y : A) → When test x y → test ≡ true → x ≡ y
 when_true test x y is holds = sym (cond-true test x y holds) ∙ is

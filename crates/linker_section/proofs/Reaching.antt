@@ -1,21 +1,11 @@
 -- What is known of a section before and after some of its values are written.
-use Rattle.std.proofs.Common.{◌≡◌, ℕ, ℤ, ◌+◌, ◌-◌, ◌*◌, ◌^◌, ◌/◌, ◌<◌, ◌≤◌, List, length, drop, Option, None, inl, inr, Result, Ok, Err, leb, refl, sym, ap, subst, ◌∙◌, arith, eqb, true, false, true≢false}
-use Rattle.linker_section.proofs.Imports.{cases_eq, cond-false, or_left, or_right, ne_eqb, le-leb, drop-drop, length-drop, window_len, RowInfo, RelocateError, slice_index, Architecture}
+use Rattle.linker_section.proofs.Imports.{◌≡◌, ℕ, ℤ, ◌+◌, ◌-◌, ◌*◌, ◌^◌, ◌/◌, ◌<◌, ◌≤◌, List, length, drop, Option, None, inl, inr, Result, Ok, Err, leb, refl, sym, ap, subst, ◌∙◌, arith, eqb, true, false, true≢false, cases_eq, cond-false, or_left, or_right, ne_eqb, le-leb, drop-drop, length-drop, window_len, RowInfo, RelocateError, slice_index, Architecture, AreApart, is_clear_of, next_field, AreSmall, Step, Ascends, IsLimit, Reached, clear_in, field_of_row, AreWrittenBelow, IsFirstRun, IsFront, IsOwnField, IsQuickStep, AreRelocated, IsWritten, IsWrittenAt, AreAllRelocatedBy, Values, offset_at, Addresses, Field}
 use Rattle.linker_elf.specs.declared.elf.RelocationKind.TheVariants as kinds
 use Rattle.std.specs.Result.{is_err}
 use Rattle.linker_section.proofs.All.{all_relocated}
 use Rattle.linker_section.proofs.Runs.{fields_small}
 use Rattle.linker_section.proofs.Stepping.{first_order, ascends_one, one_restores, apart_now, len_alone}
 use Rattle.linker_section.proofs.Saving.{restores_by}
-use Rattle.linker_section.specs.Fields.{AreApart}
-use Rattle.linker_section.specs.Inner.Claims.{is_clear_of, next_field}
-use Rattle.linker_section.specs.Inner.Order.{AreSmall}
-use Rattle.linker_section.specs.declared.sections.Step.{Step}
-use Rattle.linker_section.specs.Inner.Steps.{Ascends, IsLimit, Reached, clear_in, field_of_row, AreWrittenBelow, IsFirstRun, IsFront, IsOwnField, IsQuickStep}
-use Rattle.linker_section.specs.Sections.{AreRelocated, IsWritten, IsWrittenAt, AreAllRelocatedBy, Values}
-use Rattle.linker_section.specs.Values.{offset_at}
-use Rattle.linker_section.specs.declared.facts.Addresses.{Addresses}
-use Rattle.linker_section.specs.declared.fields.Field.{Field}
 
 pub below_first : (architecture : Architecture) (addresses : Addresses) (bytes : List ℕ)
     (values : Values) (before memory : List ℕ)

@@ -1,22 +1,8 @@
 -- What is found by a look-up is found once.
-use Rattle.std.proofs.Common.{◌≡◌, ℕ, ℤ, ◌/◌, List, length, Bool, true, false, true≢false, refl, sym, ap, subst, ◌∙◌, Option, Some, None, Ok, Err, Result}
-use Rattle.linker_elf.specs.Architectures.{IsRow}
-use Rattle.linker_elf.specs.Value.{difference_64}
-use Rattle.linker_elf.specs.declared.elf.RowInfo.{RowInfo}
-use Rattle.linker_elf.specs.declared.elf.architecture.Architecture.{Architecture}
+use Rattle.linker_section.proofs.Imports.{◌≡◌, ℕ, ℤ, ◌/◌, List, length, Bool, true, false, true≢false, refl, sym, ap, subst, ◌∙◌, Option, Some, None, Ok, Err, Result, IsRow, difference_64, RowInfo, Architecture, IsInReach, is_filled, AreApart, relocation_in, IsLabelResolved, IsLowResolved, IsResolvedBy, IsResolvedIn, IsResolvedUnless, IsResolvedValue, IsUnresolved, Lookup, by_high, by_lookup, is_skipped, resolved_operands, stubless, too_far, unfilled, valueless, without, IsValued, Outcome, low_by, names_label, Addresses, Rela, Resolved, ValueError}
 use Rattle.linker_section.proofs.Exact.{AreUnique, first_of, is_ok, of_ok, no_high, one_high}
 use Rattle.linker_section.proofs.ResolvedValues.{lookup_outcome}
 use Rattle.linker_section.proofs.Rows.{one_row}
-use Rattle.linker_section.specs.Conditions.{IsInReach, is_filled}
-use Rattle.linker_section.specs.Fields.{AreApart}
-use Rattle.linker_section.specs.Relocations.{relocation_in}
-use Rattle.linker_section.specs.Resolved.{IsLabelResolved, IsLowResolved, IsResolvedBy, IsResolvedIn, IsResolvedUnless, IsResolvedValue, IsUnresolved, Lookup, by_high, by_lookup, is_skipped, resolved_operands, stubless, too_far, unfilled, valueless, without}
-use Rattle.linker_section.specs.Sections.{IsValued, Outcome}
-use Rattle.linker_section.specs.Values.{low_by, names_label}
-use Rattle.linker_section.specs.declared.facts.Addresses.{Addresses}
-use Rattle.linker_section.specs.declared.relocations.Rela.{Rela}
-use Rattle.linker_section.specs.declared.resolved.Resolved.{Resolved}
-use Rattle.linker_section.specs.declared.values.ValueError.{ValueError}
 
 -- ---- what is in an outcome
 

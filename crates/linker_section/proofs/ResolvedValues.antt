@@ -1,22 +1,7 @@
 -- Values that are found by a look-up.
-use Rattle.std.proofs.Common.{◌≡◌, ℕ, ℤ, List, Bool, true, false, true≢false, refl, sym, subst, ◌∙◌, inl, inr, Option, Some, None, Ok, Err}
-use Rattle.std.proofs.lemmas.Bool.{and_parts, cases_Bool, cond-true, cond-false, not-true}
-use Rattle.std.specs.Prelude.{◌&&◌, not}
-use Rattle.linker_elf.specs.Architectures.{IsRow}
-use Rattle.linker_elf.specs.Value.{difference_64, is_offset}
-use Rattle.linker_elf.specs.declared.elf.RowInfo.{RowInfo}
-use Rattle.linker_elf.specs.declared.elf.architecture.Architecture.{Architecture}
+use Rattle.linker_section.proofs.Imports.{◌≡◌, ℕ, ℤ, List, Bool, true, false, true≢false, refl, sym, subst, ◌∙◌, inl, inr, Option, Some, None, Ok, Err, and_parts, cases_Bool, cond-true, cond-false, not-true, ◌&&◌, not, IsRow, difference_64, is_offset, RowInfo, Architecture, is_of_pair, IsOutcome, relocation_in, IsLabelResolved, IsLowResolved, IsResolvedBy, IsResolvedIn, IsResolvedUnless, Lookup, by_high, by_lookup, is_defined_in, is_left_out, is_skipped, resolved_operands, resolved_value, without, Outcome, has_value, names_label, Addresses, Rela, Resolved}
 use Rattle.linker_section.proofs.Rows.{one_row}
 use Rattle.linker_section.proofs.Valued.{IsNoValue, IsSomeValue, by_none, low_by_none, unlabelled, unpaired}
-use Rattle.linker_section.specs.Fields.{is_of_pair}
-use Rattle.linker_section.specs.Inner.Steps.{IsOutcome}
-use Rattle.linker_section.specs.Relocations.{relocation_in}
-use Rattle.linker_section.specs.Resolved.{IsLabelResolved, IsLowResolved, IsResolvedBy, IsResolvedIn, IsResolvedUnless, Lookup, by_high, by_lookup, is_defined_in, is_left_out, is_skipped, resolved_operands, resolved_value, without}
-use Rattle.linker_section.specs.Sections.{Outcome}
-use Rattle.linker_section.specs.Values.{has_value, names_label}
-use Rattle.linker_section.specs.declared.facts.Addresses.{Addresses}
-use Rattle.linker_section.specs.declared.relocations.Rela.{Rela}
-use Rattle.linker_section.specs.declared.resolved.Resolved.{Resolved}
 
 -- ---- no value
 

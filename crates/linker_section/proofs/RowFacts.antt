@@ -1,15 +1,11 @@
 -- The facts of each row say what it requires, and what its way requires of it: by computation, name
 -- by name.
-use Rattle.std.proofs.Common.{◌≡◌, ℕ, ℤ, refl, sym, subst, true, false, true≢false, Option, Some, None}
-use Rattle.linker_section.proofs.Imports.{aarch64_name, aarch64_row, ElfName, loongarch_name, loongarch_row, ppc64_name, ppc64_row, riscv_name, riscv_relocation, x86_64_name, x86_64_row, AArch64Relocation, RowInfo, LoongArch64Relocation, Ppc64Relocation, RiscVRelocation, X86_64Relocation, IsNamedValue, IsRow, Architecture, AArch64, X86_64}
-use Rattle.linker_elf.specs.Facts.{facts_of}
+use Rattle.linker_section.proofs.Imports.{◌≡◌, ℕ, ℤ, refl, sym, subst, true, false, true≢false, Option, Some, None, aarch64_name, aarch64_row, ElfName, loongarch_name, loongarch_row, ppc64_name, ppc64_row, riscv_name, riscv_relocation, x86_64_name, x86_64_row, AArch64Relocation, RowInfo, LoongArch64Relocation, Ppc64Relocation, RiscVRelocation, X86_64Relocation, IsNamedValue, IsRow, Architecture, AArch64, X86_64, facts_of, requirements_by, SaysNeeds, SaysWay, needs_of}
 use Rattle.linker_elf.specs.declared.aarch64.relocations.AArch64Relocation.TheVariants as aarch64
 use Rattle.linker_elf.specs.declared.loongarch64.relocations.LoongArch64Relocation.TheVariants as loongarch64
 use Rattle.linker_elf.specs.declared.ppc64.relocations.Ppc64Relocation.TheVariants as ppc64
 use Rattle.linker_elf.specs.declared.riscv64.relocations.RiscVRelocation.TheVariants as riscv64
 use Rattle.linker_elf.specs.declared.x86_64.relocations.X86_64Relocation.TheVariants as x86_64
-use Rattle.linker_section.specs.Inner.Facts.{requirements_by, SaysNeeds, SaysWay}
-use Rattle.linker_section.specs.Needed.{needs_of}
 use Rattle.linker_elf.specs.declared.elf.architecture.Architecture.TheVariants.{RiscV, LoongArch64, Ppc64}
 
 -- ---- names

@@ -1,7 +1,5 @@
 -- An `r_type` has one row.
-use Rattle.std.proofs.Common.{◌≡◌, ℕ, refl, sym, ap, ◌∙◌, Option, Some, None, ◌⊎◌, inl, inr}
-use Rattle.linker_section.proofs.Imports.{aarch64_name, aarch64_row, ElfName, loongarch_name, loongarch_row, ppc64_name, ppc64_row, riscv_name, riscv_relocation, x86_64_name, x86_64_row, AArch64Relocation, RowInfo, LoongArch64Relocation, Ppc64Relocation, RiscVRelocation, X86_64Relocation, IsNamedValue, IsRow, Architecture, AArch64, X86_64}
-use Rattle.linker_elf.specs.ElfNames.{named, unnamed, IsNamed}
+use Rattle.linker_section.proofs.Imports.{◌≡◌, ℕ, refl, sym, ap, ◌∙◌, Option, Some, None, ◌⊎◌, inl, inr, aarch64_name, aarch64_row, ElfName, loongarch_name, loongarch_row, ppc64_name, ppc64_row, riscv_name, riscv_relocation, x86_64_name, x86_64_row, AArch64Relocation, RowInfo, LoongArch64Relocation, Ppc64Relocation, RiscVRelocation, X86_64Relocation, IsNamedValue, IsRow, Architecture, AArch64, X86_64, named, unnamed, IsNamed}
 use Rattle.linker_elf.specs.declared.aarch64.relocations.AArch64Relocation.TheVariants as aarch64_names
 use Rattle.linker_elf.specs.declared.loongarch64.relocations.LoongArch64Relocation.TheVariants as loongarch64_names
 use Rattle.linker_elf.specs.declared.ppc64.relocations.Ppc64Relocation.TheVariants as ppc64_names

@@ -1,16 +1,9 @@
 -- Two runs of relocations by ascending offsets, gone through by offset.
-use Rattle.std.proofs.Common.{◌≡◌, ℕ, ◌+◌, ◌/◌, ◌<◌, ◌≤◌, List, length, drop, Some, true, false, ap, subst, inl, inr, arith}
-use Rattle.linker_section.proofs.Imports.{cases_eq, cases_lt, cases_Bool, cond-false, window_len, RowInfo, IsRow, Architecture}
+use Rattle.linker_section.proofs.Imports.{◌≡◌, ℕ, ◌+◌, ◌/◌, ◌<◌, ◌≤◌, List, length, drop, Some, true, false, ap, subst, inl, inr, arith, cases_eq, cases_lt, cases_Bool, cond-false, window_len, RowInfo, IsRow, Architecture, IsField, field_end, field_len, is_of_pair, AreApart, IsPast, AreSmall, IsOfRuns, ArePast, relocation_in, has_value, offset_at, Rela, ltb-true}
 use Rattle.linker_section.proofs.Claims.{OneMore}
 use Rattle.linker_section.proofs.RowFacts.{says_way}
 use Rattle.linker_section.proofs.Stepping.{len_alone, len_paired}
 use Rattle.linker_section.proofs.Ulebs.{uleb_len_most}
-use Rattle.linker_section.specs.Fields.{IsField, field_end, field_len, is_of_pair, AreApart}
-use Rattle.linker_section.specs.Inner.Order.{IsPast, AreSmall, IsOfRuns, ArePast}
-use Rattle.linker_section.specs.Relocations.{relocation_in}
-use Rattle.linker_section.specs.Values.{has_value, offset_at}
-use Rattle.linker_section.specs.declared.relocations.Rela.{Rela}
-use Rattle.std.proofs.lemmas.Bool.{ltb-true}
 
 -- ---- fields are small
 

@@ -1,13 +1,5 @@
 -- Bytes that are kept, put back.
-use Rattle.std.proofs.Common.{◌≡◌, ℕ, suc, zero, ◌+◌, ◌-◌, ◌<◌, ◌≤◌, List, ◌++◌, length, take, drop, set, leb, true, false, min, get_or, replicate, ap₂, refl, ap, sym, subst, ◌∙◌, inl, inr, arith, Option, Some}
-use Rattle.linker_section.proofs.Imports.{cond-true, cond-false, cases_lt, le-leb, take_at, drop_at, drop-drop, take-take, take_all, drop_all, take-append-drop, append-nil, length-take-le, length-append, length-drop, take-append-le, get_or-set_other, get_or-drop, get_or_past, get_or_append_left, get_or-append_right, get_or-replicate, length-replicate, w64, to_le_bytes, from_le_bytes, slice_index, sum_64, IsRow, Architecture, RowInfo}
-use Rattle.std.proofs.lemmas.Bool.{lt-leb}
-use Rattle.std.proofs.lemmas.List.{get_or-set_same, length-set}
-use Rattle.std.proofs.lemmas.Nat.{le_bytes_8}
-use Rattle.std.proofs.Math.Nat.{min-eq_left, min-eq_right}
-use Rattle.linker_section.specs.Fields.{ends_pair}
-use Rattle.linker_section.specs.Inner.Saved.{IsSavedAt, with_word, saved_place, Restores}
-use Rattle.linker_section.specs.Relocations.{relocation_in}
+use Rattle.linker_section.proofs.Imports.{◌≡◌, ℕ, suc, zero, ◌+◌, ◌-◌, ◌<◌, ◌≤◌, List, ◌++◌, length, take, drop, set, leb, true, false, min, get_or, replicate, ap₂, refl, ap, sym, subst, ◌∙◌, inl, inr, arith, Option, Some, cond-true, cond-false, cases_lt, le-leb, take_at, drop_at, drop-drop, take-take, take_all, drop_all, take-append-drop, append-nil, length-take-le, length-append, length-drop, take-append-le, get_or-set_other, get_or-drop, get_or_past, get_or_append_left, get_or-append_right, get_or-replicate, length-replicate, w64, to_le_bytes, from_le_bytes, slice_index, sum_64, IsRow, Architecture, RowInfo, lt-leb, get_or-set_same, length-set, le_bytes_8, min-eq_left, min-eq_right, ends_pair, IsSavedAt, with_word, saved_place, Restores, relocation_in}
 
 -- ---- one word
 

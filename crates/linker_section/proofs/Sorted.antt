@@ -1,23 +1,12 @@
 -- Fields that are gone through by sorted indexes.
-use Rattle.std.proofs.Common.{◌≡◌, ℕ, ◌+◌, ◌*◌, ◌/◌, ◌^◌, ◌<◌, ◌≤◌, ◌⊎◌, eqb, ltb, cond, refl, sym, ap, subst, ◌∙◌, inl, inr, arith, true, false, List, length, Some, None}
-use Rattle.linker_section.proofs.Imports.{cases_eq, cases_lt, cond-true, cond-false, eq-eqb, ne_eqb, lt-ltb, slice_index, RowInfo, Architecture}
-use Rattle.std.proofs.lemmas.List.{get_or_default}
+use Rattle.linker_section.proofs.Imports.{◌≡◌, ℕ, ◌+◌, ◌*◌, ◌/◌, ◌^◌, ◌<◌, ◌≤◌, ◌⊎◌, eqb, ltb, cond, refl, sym, ap, subst, ◌∙◌, inl, inr, arith, true, false, List, length, Some, None, cases_eq, cases_lt, cond-true, cond-false, eq-eqb, ne_eqb, lt-ltb, slice_index, RowInfo, Architecture, get_or_default, All-permutation, Contains-permutation, IsPermutation-keeps, swap, Contains, IsField, AreApart, begins_pair, ends_pair, is_clear_of, HasField, AreIndexes, place_in, place_of, IsOrder, IsOverlappedBelow, IsSeen, IsLastAt, AreSwept, relocation_in, BeginsPair, offset_at, Field}
 use Rattle.std.proofs.lemmas.List.Edits.{swapped_from_swap, length-swap}
 use Rattle.std.proofs.lemmas.List.Elements.{All-from_get_or}
-use Rattle.std.proofs.lemmas.List.Sorted.{All-permutation, Contains-permutation, IsPermutation-keeps}
-use Rattle.std.specs.List.{swap, Contains}
 use Rattle.std.specs.List.Sorted.{IsPermutation, IsNonDecreasingBy}
 use Rattle.linker_section.proofs.Claims.{OneMore, HaveNone, apart_more, claimed_more, apart_pair, claimed_pair, apart_without, claimed_without, not_clear, ordered_overlapped, after_overlapped}
 use Rattle.linker_section.proofs.Rows.{one_info}
 use Rattle.linker_section.proofs.Stepping.{same_place}
 use Rattle.linker_section.proofs.Composing.{begun_has_value}
-use Rattle.linker_section.specs.Fields.{IsField, AreApart, begins_pair, ends_pair}
-use Rattle.linker_section.specs.Inner.Claims.{is_clear_of, HasField}
-use Rattle.linker_section.specs.Inner.Order.{AreIndexes, place_in, place_of, IsOrder, IsOverlappedBelow, IsSeen, IsLastAt, AreSwept}
-use Rattle.linker_section.specs.Relocations.{relocation_in}
-use Rattle.linker_section.specs.Sections.{BeginsPair}
-use Rattle.linker_section.specs.Values.{offset_at}
-use Rattle.linker_section.specs.declared.fields.Field.{Field}
 
 -- ---- sorted indexes
 

@@ -1,29 +1,13 @@
 -- What is known of a section after one more relocation.
-use Rattle.std.proofs.Common.{◌≡◌, ◌≢◌, ℕ, ℤ, ◌+◌, ◌-◌, ◌/◌, ◌<◌, ◌≤◌, ◌⊎◌, ◌||◌, eqb, set, not, refl, sym, ap, subst, ◌∙◌, inl, inr, arith, true, false, true≢false, Bool, ◌++◌, List, length, take, drop, Option, Some, None, mod-eq_of_lt, ◌^◌}
-use Rattle.linker_section.proofs.Imports.{or_cases, or_parts, eqb-true, eq-eqb, ne_eqb, cases_eq, cases_Bool, cond-true, cond-false, and_parts, not-true, not-false, length-drop, drop_all, drop-drop, take-append-drop, get_or-set_other, window_len, takes_size, RelocationKind, RowInfo, RowSize, ByteSize, BitMasking, sum_64, slice_index, or_left, or_right, Ok, IfNone, IsRow, Architecture, never, supported_size}
-use Rattle.std.proofs.lemmas.Bool.{eqb-false}
+use Rattle.linker_section.proofs.Imports.{◌≡◌, ◌≢◌, ℕ, ℤ, ◌+◌, ◌-◌, ◌/◌, ◌<◌, ◌≤◌, ◌⊎◌, ◌||◌, eqb, set, not, refl, sym, ap, subst, ◌∙◌, inl, inr, arith, true, false, true≢false, Bool, ◌++◌, List, length, take, drop, Option, Some, None, ◌^◌, or_cases, or_parts, eqb-true, eq-eqb, ne_eqb, cases_eq, cases_Bool, cond-true, cond-false, and_parts, not-true, not-false, length-drop, drop_all, drop-drop, take-append-drop, get_or-set_other, window_len, takes_size, RelocationKind, RowInfo, RowSize, ByteSize, BitMasking, sum_64, slice_index, or_left, or_right, Ok, IfNone, IsRow, Architecture, never, supported_size, eqb-false, IsSavedAt, with_word, saved_place, Restores, RelocationError, Overlaps, Write, Step, TooShort, SectionError, IsField, continues, field_end, field_len, begins_pair, ends_pair, is_of_pair, uleb_len, of_number, of_pair, AreApart, IsOverlapped, is_clear_of, next_field, AreClaimed, HasField, AreWrittenBelow, Ascends, HasNoValue, IsAlone, IsInOrder, IsLeftOut, IsLimit, IsStep, IsStopped, Reached, clear_in, field_of_row, relocation_in, IsWritten, BeginsPair, IsPairWritten, IsFirstRejectedBy, IsCauseAt, IsInside, Values, has_value, offset_at, Addresses, Field, Err, Result}
+use Rattle.std.proofs.Common.{mod-eq_of_lt}
 use Rattle.linker_elf.specs.declared.elf.RelocationKind.TheVariants as kinds
 use Rattle.linker_section.proofs.Claims.{clear_cases, apart_more, claimed_more, overlapped, apart_pair, claimed_pair, apart_mark, claimed_mark, to_in, from_in, one_below, pair_below}
 use Rattle.linker_section.proofs.Composing.{second_is_none, begun_is_continued_none, begun_ends_none, ended_begins_none, ended_has_value}
 use Rattle.linker_section.proofs.Local.{IsLocal, one_local, pair_local, small_row}
 use Rattle.linker_section.proofs.Saving.{undone, restores_more, restores_by, restores_local, restores_pair, plus_one}
-use Rattle.linker_section.specs.Inner.Saved.{IsSavedAt, with_word, saved_place, Restores}
-use Rattle.linker_section.specs.declared.sections.RelocationError.{RelocationError}
-use Rattle.linker_section.specs.declared.sections.RelocationError.TheVariants.{Overlaps, Write}
-use Rattle.linker_section.specs.declared.sections.Step.{Step}
-use Rattle.linker_elf.specs.declared.elf.relocate.RelocateError.TheVariants.{TooShort}
-use Rattle.linker_section.specs.declared.sections.SectionError.{SectionError}
 use Rattle.linker_section.proofs.Rows.{one_info}
 use Rattle.linker_section.proofs.Ulebs.{some_uleb, uleb_len_is, uleb_len_most}
-use Rattle.linker_section.specs.Fields.{IsField, continues, field_end, field_len, begins_pair, ends_pair, is_of_pair, uleb_len, of_number, of_pair, AreApart, IsOverlapped}
-use Rattle.linker_section.specs.Inner.Claims.{is_clear_of, next_field, AreClaimed, HasField}
-use Rattle.linker_section.specs.Inner.Steps.{AreWrittenBelow, Ascends, HasNoValue, IsAlone, IsInOrder, IsLeftOut, IsLimit, IsStep, IsStopped, Reached, clear_in, field_of_row}
-use Rattle.linker_section.specs.Relocations.{relocation_in}
-use Rattle.linker_section.specs.Sections.{IsWritten, BeginsPair, IsPairWritten, IsFirstRejectedBy, IsCauseAt, IsInside, Values}
-use Rattle.linker_section.specs.Values.{has_value, offset_at}
-use Rattle.linker_section.specs.declared.facts.Addresses.{Addresses}
-use Rattle.linker_section.specs.declared.fields.Field.{Field}
-use Rattle.std.specs.Prelude.{Err, Result}
 
 -- ---- the length of a field
 

@@ -1,12 +1,6 @@
 -- How many bytes a ULEB128 number has.
-use Rattle.std.proofs.Common.{◌≡◌, ℕ, suc, zero, ◌+◌, ◌-◌, ◌*◌, ◌%◌, ◌^◌, ◌<◌, ◌≤◌, List, [], ◌∷◌, length, take, drop, cond, ltb, arith, refl, sym, ap, subst, ◌∙◌}
-use Rattle.linker_section.proofs.Imports.{pow-suc, mod_below, mul-le, RelocationKind, sum_through, cond_both, cond-true, cond-false, lt-ltb, le-ltb, drop_all, get_or-take, take-take, length-take, length-take-le, length-drop, slice_index, Uleb, AllContinue, uleb_number, IsUlebWritten}
-use Rattle.linker_base.proofs.UlebLemmas.{one_reading}
+use Rattle.linker_section.proofs.Imports.{◌≡◌, ℕ, suc, zero, ◌+◌, ◌-◌, ◌*◌, ◌%◌, ◌^◌, ◌<◌, ◌≤◌, List, [], ◌∷◌, length, take, drop, cond, ltb, arith, refl, sym, ap, subst, ◌∙◌, pow-suc, mod_below, mul-le, RelocationKind, sum_through, cond_both, cond-true, cond-false, lt-ltb, le-ltb, drop_all, get_or-take, take-take, length-take, length-take-le, length-drop, slice_index, Uleb, AllContinue, uleb_number, IsUlebWritten, one_reading, IsNumberOfPair, ℤ, drop_more, uleb_len}
 use Rattle.linker_elf.specs.declared.elf.RelocationKind.TheVariants as kinds
-use Rattle.linker_section.specs.Sections.{IsNumberOfPair}
-use Rattle.std.specs.Prelude.{ℤ}
-use Rattle.std.proofs.lemmas.List.{drop_more}
-use Rattle.linker_section.specs.Fields.{uleb_len}
 
 -- the number's last byte is the first below 0x80
 len_of : (last fuel : ℕ) (bytes : List ℕ) → last < fuel → last < length bytes

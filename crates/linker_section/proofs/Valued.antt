@@ -1,20 +1,8 @@
 -- Which relocations have a value.
-use Rattle.std.proofs.Common.{◌≡◌, ℕ, ℤ, List, Bool, true, false, true≢false, refl, sym, subst, ◌∙◌, inl, inr, Option, Some, None, Result, Ok, Err, ap}
-use Rattle.linker_section.proofs.Imports.{cases_Bool, cond-true, cond-false, value_of, RelocationKind, RowInfo, RowSize, Operands, slice_get, IsRow, Architecture}
-use Rattle.linker_elf.specs.Value.{formula, read_signed}
+use Rattle.linker_section.proofs.Imports.{◌≡◌, ℕ, ℤ, List, Bool, true, false, true≢false, refl, sym, subst, ◌∙◌, inl, inr, Option, Some, None, Result, Ok, Err, ap, cases_Bool, cond-true, cond-false, value_of, RelocationKind, RowInfo, RowSize, Operands, slice_get, IsRow, Architecture, formula, read_signed, ends_pair, is_of_pair, IsOutcome, relocation_in, by_index, HasValue, IsMark, IsRowValue, Outcome, has_value, names_label, lacks_origin, own_value, value_by, low_by, low_value, operands_of, IsValueBy, IsLowValue, IsValueIn, IsValue, Addresses, Symbol, Rela, ValueError, ◌||◌}
 use Rattle.linker_elf.specs.declared.elf.RelocationKind.TheVariants as kinds
 use Rattle.linker_section.proofs.Rows.{one_row}
 use Rattle.linker_section.proofs.Composing.{unvalued_begins_none, unvalued_ends_none}
-use Rattle.linker_section.specs.Fields.{ends_pair, is_of_pair}
-use Rattle.linker_section.specs.Inner.Steps.{IsOutcome}
-use Rattle.linker_section.specs.Relocations.{relocation_in}
-use Rattle.linker_section.specs.Sections.{by_index, HasValue, IsMark, IsRowValue, Outcome}
-use Rattle.linker_section.specs.Values.{has_value, names_label, lacks_origin, own_value, value_by, low_by, low_value, operands_of, IsValueBy, IsLowValue, IsValueIn, IsValue}
-use Rattle.linker_section.specs.declared.facts.Addresses.{Addresses}
-use Rattle.linker_section.specs.declared.facts.Symbol.{Symbol}
-use Rattle.linker_section.specs.declared.relocations.Rela.{Rela}
-use Rattle.linker_section.specs.declared.values.ValueError.{ValueError}
-use Rattle.std.specs.Prelude.{◌||◌}
 
 -- ---- what a result is
 

@@ -1,6 +1,5 @@
 -- A section of which one window is rewritten: what that window has then, and that all else stays.
-use Rattle.std.proofs.Common.{◌≡◌, ℕ, zero, suc, ◌+◌, ◌-◌, ◌≤◌, ◌<◌, ◌⊎◌, inl, inr, ◌∙◌, List, [], ◌∷◌, ◌++◌, length, take, drop, get_or, ap, sym, arith, refl, append_assoc}
-use Rattle.std.proofs.lemmas.List.{length-take-le, length-append, length-drop, take_at, drop_at, drop-append-le, take-append-le, drop-take, take-take, drop-drop, get_or-drop, get_or-take, get_or_append_left, take-append-drop}
+use Rattle.linker_section.proofs.Imports.{◌≡◌, ℕ, zero, suc, ◌+◌, ◌-◌, ◌≤◌, ◌<◌, ◌⊎◌, inl, inr, ◌∙◌, List, [], ◌∷◌, ◌++◌, length, take, drop, get_or, ap, sym, arith, refl, append_assoc, length-take-le, length-append, length-drop, take_at, drop_at, drop-append-le, take-append-le, drop-take, take-take, drop-drop, get_or-drop, get_or-take, get_or_append_left, take-append-drop}
 
 -- a section with other bytes in a window
 pub record IsReplaced (start len : ℕ) (bytes before after : List ℕ) : Type 0 where

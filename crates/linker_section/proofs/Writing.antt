@@ -1,9 +1,5 @@
 -- A value that is written to the bytes from an offset on.
-use Rattle.std.proofs.Common.{◌≡◌, ℕ, ℤ, ◌≤◌, ◌∙◌, List, ◌++◌, length, take, drop, ap, arith, inl}
-use Rattle.linker_section.proofs.Imports.{take-append-drop, Ok, OnOk, IfErr, WritesRow, RejectsValue, RowInfo, RelocateError}
-use Rattle.std.specs.Prelude.{Result, Err}
-use Rattle.linker_section.specs.Conditions.{HasLength, HoldsOffset}
-use Rattle.linker_section.specs.Sections.{IsWrittenAt}
+use Rattle.linker_section.proofs.Imports.{◌≡◌, ℕ, ℤ, ◌≤◌, ◌∙◌, List, ◌++◌, length, take, drop, ap, arith, inl, take-append-drop, Ok, OnOk, IfErr, WritesRow, RejectsValue, RowInfo, RelocateError, Result, Err, HasLength, HoldsOffset, IsWrittenAt}
 
 pub written_at : (row : RowInfo) (v : ℤ) (offset : ℕ) (before after rest : List ℕ)
     (result : Result Unit RelocateError) → offset ≤ length before → HasLength row offset before

@@ -1,9 +1,5 @@
-use Rattle.std.proofs.Common.{◌≡◌, ◌-◌, ◌∙◌, refl, sym, ap, subst, arith, true≢false, Some, None}
-use Rattle.linker_section.proofs.Imports.{is_some, window_len, IsRow}
+use Rattle.linker_section.proofs.Imports.{◌≡◌, ◌-◌, ◌∙◌, refl, sym, ap, subst, arith, true≢false, Some, None, is_some, window_len, IsRow, relocation_in, offset_at, Field}
 use Rattle.linker_section.proofs.Rows.{one_info, one_row}
-use Rattle.linker_section.specs.Relocations.{relocation_in}
-use Rattle.linker_section.specs.Values.{offset_at}
-use Rattle.linker_section.specs.declared.fields.Field.{Field}
 use Rattle.linker_section.proofs.ascending.last_field.Goals as goal
 
 pub returns-in-Some : goal.returns-in-Some

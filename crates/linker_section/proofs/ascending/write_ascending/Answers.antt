@@ -1,8 +1,5 @@
-use Rattle.std.proofs.Common.{◌≡◌, ◌<◌, ◌^◌, ◌∙◌, refl, sym, ap, subst, arith, rules, length, take, Ok, None}
-use Rattle.std.specs.Prelude.{IfSome, IfNone}
+use Rattle.linker_section.proofs.Imports.{◌≡◌, ◌<◌, ◌^◌, ◌∙◌, refl, sym, ap, subst, arith, rules, length, take, Ok, None, IfSome, IfNone, IsFront, IsQuickStep, IsSlowStep, IsStep, relocation_of}
 use Rattle.linker_section.proofs.Reaching.{below_first, below_kept, below_quickly, front_first, front_quickly, front_slowly, end_fits, there_is, there_isnt, rest_after, first_run, only_run}
-use Rattle.linker_section.specs.Inner.Steps.{IsFront, IsQuickStep, IsSlowStep, IsStep}
-use Rattle.linker_section.specs.Relocations.{relocation_of}
 use Rattle.linker_section.proofs.ascending.write_ascending.Goals.{After-write_slowly, In-Ok-Some}
 use Rattle.linker_section.proofs.ascending.write_ascending.Given.{Over}
 use Rattle.linker_section.proofs.ascending.write_ascending.Goals as goal

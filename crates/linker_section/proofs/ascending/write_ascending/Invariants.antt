@@ -1,6 +1,4 @@
-use Rattle.std.proofs.Common.{◌≡◌, ◌-◌, ◌*◌, ◌/◌, ◌≤◌, length, drop}
-use Rattle.std.specs.Prelude.{IfSome}
-use Rattle.linker_section.specs.Inner.Steps.{AreWrittenBelow, IsFront}
+use Rattle.linker_section.proofs.Imports.{◌≡◌, ◌-◌, ◌*◌, ◌/◌, ◌≤◌, length, drop, IfSome, AreWrittenBelow, IsFront}
 use Rattle.linker_section.proofs.ascending.write_ascending.Given as goal
 
 abbrev pub invariant-loop-entry : goal.invariant-loop-entry

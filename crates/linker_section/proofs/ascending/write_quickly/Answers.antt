@@ -1,14 +1,8 @@
-use Rattle.linker_section.proofs.Imports.{from_le_bytes, IfSome, slice_index, not, ◌||◌, cases_Bool, IsRow, get_or-drop, w64, to_z-of_z}
+use Rattle.linker_section.proofs.Imports.{from_le_bytes, IfSome, slice_index, not, ◌||◌, cases_Bool, IsRow, get_or-drop, w64, to_z-of_z, shows_lengths, word_shows, length_of, ◌≡◌, ℕ, ◌+◌, drop, ◌<◌, ◌^◌, ◌∙◌, refl, sym, ap, subst, arith, rules, length, FitsSigned, to_z, of_z, inl, inr, IsSavedAt, IsWrittenAt, offset_at}
 use Rattle.linker_section.proofs.RowFacts.{says_way}
-use Rattle.linker_section.specs.Inner.Facts.{shows_lengths, word_shows}
-use Rattle.linker_elf.specs.Facts.{length_of}
-use Rattle.std.proofs.Common.{◌≡◌, ℕ, ◌+◌, drop, ◌<◌, ◌^◌, ◌∙◌, refl, sym, ap, subst, arith, rules, length, FitsSigned, to_z, of_z, inl, inr}
 use Rattle.linker_section.proofs.Lengths.{unthreaded_holds, word_says}
 use Rattle.linker_section.proofs.Local.{one_local}
 use Rattle.linker_section.proofs.Reaching.{is_written, not_written}
-use Rattle.linker_section.specs.Inner.Saved.{IsSavedAt}
-use Rattle.linker_section.specs.Sections.{IsWrittenAt}
-use Rattle.linker_section.specs.Values.{offset_at}
 use Rattle.linker_section.proofs.ascending.write_quickly.Goals as goal
 
 pub returns-then-is_err-clause-none : goal.returns-then-is_err-clause-none

@@ -1,7 +1,5 @@
-use Rattle.std.proofs.Common.{◌≡◌, ◌<◌, ◌/◌, ◌∙◌, refl, subst, arith, length}
-use Rattle.std.specs.Prelude.{IfSome, IfNone}
+use Rattle.linker_section.proofs.Imports.{◌≡◌, ◌<◌, ◌/◌, ◌∙◌, refl, subst, arith, length, IfSome, IfNone, IsQuickStep}
 use Rattle.linker_section.proofs.Reaching.{below_kept, below_quickly, runs_written}
-use Rattle.linker_section.specs.Inner.Steps.{IsQuickStep}
 use Rattle.linker_section.proofs.ascending.write_second_run.Goals as goal
 
 pub loop-index-init : goal.loop-index-init

@@ -1,6 +1,4 @@
-use Rattle.std.proofs.Common.{◌≡◌, ◌-◌, ◌/◌, ◌≤◌, List, ℕ, length}
-use Rattle.std.specs.Prelude.{IfSome}
-use Rattle.linker_section.specs.Inner.Steps.{AreWrittenBelow}
+use Rattle.linker_section.proofs.Imports.{◌≡◌, ◌-◌, ◌/◌, ◌≤◌, List, ℕ, length, IfSome, AreWrittenBelow}
 use Rattle.linker_section.proofs.ascending.write_second_run.Given as goal
 
 abbrev pub invariant-loop-index : goal.invariant-loop-index

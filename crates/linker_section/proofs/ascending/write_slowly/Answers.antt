@@ -1,5 +1,4 @@
-use Rattle.std.proofs.Common.{sym, subst, None}
-use Rattle.linker_section.specs.Inner.Steps.{IsInOrder, IsStep}
+use Rattle.linker_section.proofs.Imports.{sym, subst, None, IsInOrder, IsStep}
 use Rattle.linker_section.proofs.ascending.write_slowly.Goals as goal
 
 pub returns-in-Ok-clause-step : goal.returns-in-Ok-clause-step

@@ -1,5 +1,4 @@
-use Rattle.std.proofs.Common.{arith}
-use Rattle.linker_section.proofs.Imports.{nat_tests, take_rest}
+use Rattle.linker_section.proofs.Imports.{arith, nat_tests, take_rest}
 use Rattle.linker_section.proofs.conditions.has_length.Goals as goal
 
 pub returns-then-there-window : goal.returns-then-there-window

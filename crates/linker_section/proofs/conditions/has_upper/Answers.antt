@@ -1,5 +1,4 @@
-use Rattle.std.proofs.Common.{◌∙◌, arith, sym, true≢false, inl, inr}
-use Rattle.std.proofs.lemmas.Bool.{cases_Bool, cases_lt}
+use Rattle.linker_section.proofs.Imports.{◌∙◌, arith, sym, true≢false, inl, inr, cases_Bool, cases_lt}
 use Rattle.linker_section.proofs.conditions.has_upper.Goals as goal
 
 pub returns-else-has_upper_among : goal.returns-else-has_upper_among

@@ -1,6 +1,4 @@
-use Rattle.std.proofs.Common.{◌≡◌, ◌≤◌, ◌∙◌, subst, sym, false, below_more}
-use Rattle.linker_section.specs.Conditions.{is_upper}
-use Rattle.linker_section.specs.Relocations.{relocation_in}
+use Rattle.linker_section.proofs.Imports.{◌≡◌, ◌≤◌, ◌∙◌, subst, sym, false, below_more, is_upper, relocation_in}
 use Rattle.linker_section.proofs.conditions.has_upper_among.Goals as goal
 
 pub loop-index-preserved : goal.loop-index-preserved

@@ -1,6 +1,4 @@
-use Rattle.std.proofs.Common.{◌≡◌, ◌<◌, ◌≤◌, ℕ, false}
-use Rattle.linker_section.specs.Conditions.{is_upper}
-use Rattle.linker_section.specs.Relocations.{relocation_in}
+use Rattle.linker_section.proofs.Imports.{◌≡◌, ◌<◌, ◌≤◌, ℕ, false, is_upper, relocation_in}
 use Rattle.linker_section.proofs.conditions.has_upper_among.Given as goal
 
 abbrev pub invariant-loop-index : goal.invariant-loop-index

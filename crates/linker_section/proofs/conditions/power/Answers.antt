@@ -1,6 +1,5 @@
-use Rattle.std.proofs.Common.{◌≡◌, ◌≤◌, ◌<◌, ◌*◌, ◌^◌, ◌%◌, ℕ, arith, ap, subst, sym, ◌∙◌}
+use Rattle.linker_section.proofs.Imports.{◌≡◌, ◌≤◌, ◌<◌, ◌*◌, ◌^◌, ◌%◌, ℕ, arith, ap, subst, sym, ◌∙◌, mod-eq_of_lt}
 use Rattle.std.proofs.Math.Pow.{pow_mono}
-use Rattle.std.proofs.Math.Nat.{mod-eq_of_lt}
 use Rattle.linker_section.proofs.conditions.power.Goals as goal
 
 -- what the shift makes

@@ -1,7 +1,5 @@
-use Rattle.std.proofs.Common.{rules, ◌/◌, arith, refl, sym, ap, ◌∙◌, length}
-use Rattle.linker_section.proofs.Imports.{to_z-of_z, w64, err_from_is_err_and}
+use Rattle.linker_section.proofs.Imports.{rules, ◌/◌, arith, refl, sym, ap, ◌∙◌, length, to_z-of_z, w64, err_from_is_err_and, relocation_in}
 use Rattle.linker_section.specs.Crel.{after}
-use Rattle.linker_section.specs.Relocations.{relocation_in}
 use Rattle.linker_section.proofs.Crels.{after_next, fails, rela_of, written_more}
 use Rattle.linker_section.proofs.crel.decode.Goals as goal
 use Rattle.linker_section.proofs.crel.decode.Goals.{then-index-relocations_len, else-index-relocations_len}

@@ -1,5 +1,4 @@
-use Rattle.std.proofs.Common.{◌≡◌, ◌≤◌, ◌/◌, length, Ok}
-use Rattle.linker_section.specs.Crel.{after}
+use Rattle.linker_section.proofs.Imports.{◌≡◌, ◌≤◌, ◌/◌, length, Ok, after}
 use Rattle.linker_section.proofs.Crels.{AreWritten}
 use Rattle.linker_section.proofs.crel.decode.Given as goal
 

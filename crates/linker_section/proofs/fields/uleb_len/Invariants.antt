@@ -1,5 +1,4 @@
-use Rattle.std.proofs.Common.{◌≡◌, ◌+◌, ◌-◌, ◌≤◌, take, drop, length}
-use Rattle.linker_section.specs.Fields.{uleb_len}
+use Rattle.linker_section.proofs.Imports.{◌≡◌, ◌+◌, ◌-◌, ◌≤◌, take, drop, length, uleb_len}
 use Rattle.linker_section.proofs.fields.uleb_len.Given as goal
 
 abbrev pub invariant-loop-len : goal.invariant-loop-len

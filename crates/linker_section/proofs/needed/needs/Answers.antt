@@ -1,8 +1,5 @@
-use Rattle.std.proofs.Common.{◌∙◌, ap, refl, subst, Some, None, to_z, of_z}
-use Rattle.linker_section.proofs.Imports.{to_z-of_z, w64, IsRow}
+use Rattle.linker_section.proofs.Imports.{◌∙◌, ap, refl, subst, Some, None, to_z, of_z, to_z-of_z, w64, IsRow, requirements_by, needs_in}
 use Rattle.linker_section.proofs.RowFacts.{says}
-use Rattle.linker_section.specs.Inner.Facts.{requirements_by}
-use Rattle.linker_section.specs.Needed.{needs_in}
 use Rattle.linker_section.proofs.needed.needs.Goals as goal
 
 pub returns-in-Some : goal.returns-in-Some

@@ -1,7 +1,5 @@
-use Rattle.std.proofs.Common.{◌≡◌, ◌∙◌, ◌<◌, ◌≤◌, length, sym, arith, false}
-use Rattle.std.specs.Prelude.{slice_index}
+use Rattle.linker_section.proofs.Imports.{◌≡◌, ◌∙◌, ◌<◌, ◌≤◌, length, sym, arith, false, slice_index, is_clear_of}
 use Rattle.linker_section.proofs.Sorted.{swept_without, swept_clear, swept_pair, swept_overlapped, swept_all, last_is}
-use Rattle.linker_section.specs.Inner.Claims.{is_clear_of}
 use Rattle.linker_section.proofs.order.are_apart.Goals as goal
 use Rattle.linker_section.proofs.order.are_apart.Goals.{then-is_clear_of, else-is_clear_of+else-not-is_second_of}
 

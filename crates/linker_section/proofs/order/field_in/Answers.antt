@@ -1,11 +1,6 @@
-use Rattle.std.proofs.Common.{◌≡◌, ◌∙◌, ℕ, sym, ap, subst, arith, drop, Some, false}
-use Rattle.linker_section.proofs.Imports.{cond-false, IsRow}
+use Rattle.linker_section.proofs.Imports.{◌≡◌, ◌∙◌, ℕ, sym, ap, subst, arith, drop, Some, false, cond-false, IsRow, field_len, field_of_row, relocation_in, has_value, offset_at}
 use Rattle.linker_section.proofs.Rows.{one_row, one_info}
 use Rattle.linker_section.proofs.Valued.{none_is_some}
-use Rattle.linker_section.specs.Fields.{field_len}
-use Rattle.linker_section.specs.Inner.Steps.{field_of_row}
-use Rattle.linker_section.specs.Relocations.{relocation_in}
-use Rattle.linker_section.specs.Values.{has_value, offset_at}
 use Rattle.linker_section.proofs.order.field_in.Goals as goal
 
 pub returns-in_default-clause-none : goal.returns-in_default-clause-none

@@ -1,8 +1,6 @@
-use Rattle.std.proofs.Common.{◌≡◌, ◌-◌, ◌∙◌, false, sym, ap, subst, arith}
-use Rattle.linker_section.proofs.Imports.{leb-true, window_len, IsRow}
+use Rattle.linker_section.proofs.Imports.{◌≡◌, ◌-◌, ◌∙◌, false, sym, ap, subst, arith, leb-true, window_len, IsRow, is_of_pair}
 use Rattle.linker_section.proofs.Rows.{one_info}
 use Rattle.linker_section.proofs.Runs.{len_within}
-use Rattle.linker_section.specs.Fields.{is_of_pair}
 use Rattle.linker_section.proofs.order.is_past.Goals as goal
 
 pub returns-then-not-is_of_pair : goal.returns-then-not-is_of_pair

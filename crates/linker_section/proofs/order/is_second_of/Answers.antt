@@ -1,7 +1,6 @@
-use Rattle.std.proofs.Common.{◌∙◌, sym, subst, Some}
+use Rattle.linker_section.proofs.Imports.{◌∙◌, sym, subst, Some, IsRow}
 use Rattle.linker_section.proofs.Rows.{one_row}
 use Rattle.linker_section.proofs.Valued.{none_is_some}
-use Rattle.linker_elf.specs.Architectures.{IsRow}
 use Rattle.linker_section.proofs.Claims.{begun_of}
 use Rattle.linker_section.proofs.order.is_second_of.Goals as goal
 

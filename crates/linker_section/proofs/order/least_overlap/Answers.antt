@@ -1,6 +1,4 @@
-use Rattle.std.proofs.Common.{arith, subst, inl, inr}
-use Rattle.std.proofs.lemmas.Bool.{cases_eq}
-use Rattle.linker_section.specs.Fields.{IsOverlapped}
+use Rattle.linker_section.proofs.Imports.{arith, subst, inl, inr, cases_eq, IsOverlapped}
 use Rattle.linker_section.proofs.order.least_overlap.Goals as goal
 
 pub returns-then-are_apart : goal.returns-then-are_apart

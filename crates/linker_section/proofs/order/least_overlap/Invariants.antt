@@ -1,6 +1,4 @@
-use Rattle.std.proofs.Common.{◌<◌, ◌≤◌, ◌-◌, ◌/◌, length}
-use Rattle.linker_section.specs.Fields.{AreApart}
-use Rattle.linker_section.specs.Inner.Order.{IsOverlappedBelow}
+use Rattle.linker_section.proofs.Imports.{◌<◌, ◌≤◌, ◌-◌, ◌/◌, length, AreApart, IsOverlappedBelow}
 use Rattle.linker_section.proofs.order.least_overlap.Given as goal
 
 abbrev pub invariant-loop-high : goal.invariant-loop-high

@@ -1,5 +1,4 @@
-use Rattle.std.proofs.Common.{◌≡◌, ℕ, ◌<◌, length}
-use Rattle.std.specs.Prelude.{slice_index}
+use Rattle.linker_section.proofs.Imports.{◌≡◌, ℕ, ◌<◌, length, slice_index}
 use Rattle.linker_section.proofs.order.list_indexes.Given as goal
 
 abbrev pub invariant-loop-index : goal.invariant-loop-index

@@ -1,7 +1,5 @@
-use Rattle.std.proofs.Common.{◌∙◌, ◌<◌, ◌^◌, length, rules, arith}
-use Rattle.std.proofs.lemmas.List.Sorted.{IsNonDecreasingBy-from_sort_by_key}
+use Rattle.linker_section.proofs.Imports.{◌∙◌, ◌<◌, ◌^◌, length, rules, arith, IsNonDecreasingBy-from_sort_by_key, place_of}
 use Rattle.linker_section.proofs.Sorted.{order_sorted}
-use Rattle.linker_section.specs.Inner.Order.{place_of}
 use Rattle.linker_section.proofs.order.sort_indexes.Goals as goal
 
 pub returns : goal.returns

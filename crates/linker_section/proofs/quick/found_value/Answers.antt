@@ -1,8 +1,6 @@
-use Rattle.std.proofs.Common.{◌≡◌, ◌∙◌, sym, ap, true}
-use Rattle.std.specs.Prelude.{◌&&◌, not}
+use Rattle.linker_section.proofs.Imports.{◌≡◌, ◌∙◌, sym, ap, true, ◌&&◌, not, is_plain_way, is_offset_way, is_low_way, is_plain, is_low}
 use Rattle.linker_section.proofs.RowFacts.{says, says_way}
 use Rattle.linker_section.proofs.QuickValues.{if_some, plain_quick, low_quick}
-use Rattle.linker_section.specs.Inner.Facts.{is_plain_way, is_offset_way, is_low_way, is_plain, is_low}
 use Rattle.linker_section.proofs.quick.found_value.Goals as goal
 
 pub plain_value-requires-clause-needs : goal.plain_value-requires-clause-needs

@@ -1,8 +1,5 @@
-use Rattle.std.proofs.Common.{◌≡◌, ◌∙◌, sym, ap, subst, rules, refl, FitsSigned, Ok}
-use Rattle.linker_section.proofs.Imports.{w64, to_z-of_z, slice_get_read, length, slice_get, Some}
+use Rattle.linker_section.proofs.Imports.{◌≡◌, ◌∙◌, sym, ap, subst, rules, refl, FitsSigned, Ok, w64, to_z-of_z, slice_get_read, length, slice_get, Some, entry_of, entry_address, operands_by, operands_in, operands_of}
 use Rattle.linker_section.proofs.QuickValues.{plain_some}
-use Rattle.linker_section.specs.Needed.{entry_of}
-use Rattle.linker_section.specs.Values.{entry_address, operands_by, operands_in, operands_of}
 use Rattle.linker_section.proofs.quick.plain_value.Goals as goal
 
 pub returns : goal.returns

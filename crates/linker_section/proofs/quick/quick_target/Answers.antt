@@ -1,5 +1,4 @@
-use Rattle.std.proofs.Common.{◌≡◌, ◌∙◌, sym, false, arith}
-use Rattle.std.proofs.lemmas.Bool.{eqb-true, not-false}
+use Rattle.linker_section.proofs.Imports.{◌≡◌, ◌∙◌, sym, false, arith, eqb-true, not-false}
 use Rattle.linker_section.proofs.QuickValues.{own_target}
 use Rattle.linker_section.proofs.quick.quick_target.Goals.{then-symbol-ne0, else-symbol-ne0}
 use Rattle.linker_section.proofs.quick.quick_target.Goals as goal

@@ -1,5 +1,4 @@
-use Rattle.std.proofs.Common.{ℕ, ◌≤◌, ◌<◌, ◌-◌, ◌/◌, length}
-use Rattle.linker_section.specs.Values.{offset_at, IsAscending}
+use Rattle.linker_section.proofs.Imports.{ℕ, ◌≤◌, ◌<◌, ◌-◌, ◌/◌, length, offset_at, IsAscending}
 use Rattle.linker_section.proofs.relocations.first_from.Given as goal
 
 abbrev pub invariant-loop-low : goal.invariant-loop-low

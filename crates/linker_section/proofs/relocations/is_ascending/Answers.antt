@@ -1,5 +1,4 @@
-use Rattle.std.proofs.Common.{◌-◌, sym, arith, true≢false, inl, inr}
-use Rattle.std.proofs.lemmas.Bool.{cases_eq}
+use Rattle.linker_section.proofs.Imports.{◌-◌, sym, arith, true≢false, inl, inr, cases_eq}
 use Rattle.linker_section.proofs.relocations.is_ascending.Goals as goal
 
 pub returns-then-offset-least : goal.returns-then-offset-least

@@ -1,6 +1,4 @@
-use Rattle.std.proofs.Common.{rules, ◌≡◌, ◌≢◌, ℕ, ◌+◌, ◌-◌, ◌*◌, ◌<◌, ◌≤◌, ◌⊎◌, inl, inr, ap, arith, List, length, take, drop, ◌++◌, ◌∙◌, append_assoc, sym}
-use Rattle.std.proofs.lemmas.List.{drop-drop, length-append, length-drop, length-take-le}
-use Rattle.linker_section.specs.Relocations.{relocation_of, relocation_in}
+use Rattle.linker_section.proofs.Imports.{rules, ◌≡◌, ◌≢◌, ℕ, ◌+◌, ◌-◌, ◌*◌, ◌<◌, ◌≤◌, ◌⊎◌, inl, inr, ap, arith, List, length, take, drop, ◌++◌, ◌∙◌, append_assoc, sym, drop-drop, length-append, length-drop, length-take-le, relocation_of, relocation_in}
 use Rattle.linker_section.proofs.Windows.{IsReplaced, in_window, below_window, above_window}
 use Rattle.linker_section.proofs.relocations.set_relocation.Goals as goal
 use borrow.Rule.Slice.PartMut.{put_mid}

@@ -1,13 +1,7 @@
-use Rattle.std.proofs.Common.{◌≡◌, ◌∙◌, sym, ap, subst, true, Some}
-use Rattle.std.specs.Prelude.{◌&&◌, not}
-use Rattle.linker_elf.specs.Architectures.{IsRow}
+use Rattle.linker_section.proofs.Imports.{◌≡◌, ◌∙◌, sym, ap, subst, true, Some, ◌&&◌, not, IsRow, is_plain_way, is_offset_way, is_low_way, is_plain, is_low, needs_upper, IsPlainResolved, lacks_resolved_stub}
 use Rattle.linker_section.proofs.QuickResolved.{plain_resolved, low_resolved}
 use Rattle.linker_section.proofs.QuickValues.{if_some}
 use Rattle.linker_section.proofs.RowFacts.{says, says_way}
-use Rattle.linker_section.specs.Inner.Facts.{is_plain_way, is_offset_way, is_low_way, is_plain, is_low}
-use Rattle.linker_section.specs.Conditions.{needs_upper}
-use Rattle.linker_section.specs.Inner.Quick.{IsPlainResolved}
-use Rattle.linker_section.specs.Resolved.{lacks_resolved_stub}
 use Rattle.linker_section.proofs.resolved.found_resolved.Goals as goal
 
 pub plain_value-requires-clause-needs : goal.plain_value-requires-clause-needs

@@ -1,14 +1,5 @@
-use Rattle.std.proofs.Common.{◌≡◌, ◌∙◌, ap, refl, rules, subst, sym, true, false, true≢false, FitsSigned, to_z, of_z, Ok, Err, Some, None}
-use Rattle.std.specs.Int.{w64}
-use Rattle.std.proofs.lemmas.Int.{to_z-of_z}
-use Rattle.linker_elf.specs.Architectures.{IsRow}
+use Rattle.linker_section.proofs.Imports.{◌≡◌, ◌∙◌, ap, refl, rules, subst, sym, true, false, true≢false, FitsSigned, to_z, of_z, Ok, Err, Some, None, w64, to_z-of_z, IsRow, IsInReach, is_filled, relocation_in, IsResolvedBy, IsResolvedIn, IsResolvedUnless, IsUnresolved, by_lookup, is_skipped, lacks_resolved_stub, Outcome, names_label, NotAligned}
 use Rattle.linker_section.proofs.RowFacts.{says}
-use Rattle.linker_section.specs.Conditions.{IsInReach, is_filled}
-use Rattle.linker_section.specs.Relocations.{relocation_in}
-use Rattle.linker_section.specs.Resolved.{IsResolvedBy, IsResolvedIn, IsResolvedUnless, IsUnresolved, by_lookup, is_skipped, lacks_resolved_stub}
-use Rattle.linker_section.specs.Sections.{Outcome}
-use Rattle.linker_section.specs.Values.{names_label}
-use Rattle.linker_section.specs.declared.values.ValueError.TheVariants.{NotAligned}
 use Rattle.linker_section.proofs.resolved.resolved_row_value.Given.{Over}
 use Rattle.linker_section.proofs.resolved.resolved_row_value.Goals.{After-value_by}
 use Rattle.linker_section.proofs.resolved.resolved_row_value.Goals as goal

@@ -1,9 +1,4 @@
-use Rattle.std.proofs.Common.{◌≡◌, ◌∙◌, refl, sym, ap, subst, true, Ok, Err, Some, None}
-use Rattle.std.specs.Prelude.{IfNone}
-use Rattle.linker_elf.specs.Value.{difference_64, value_of}
-use Rattle.linker_section.specs.Resolved.{IsLowResolved, IsResolvedBy, resolved_operands}
-use Rattle.linker_section.specs.Values.{IsHighPart, IsHighPartAt, is_high_part, low_by, names_label}
-use Rattle.linker_section.specs.declared.values.ValueError.TheVariants.{NoHighPart}
+use Rattle.linker_section.proofs.Imports.{◌≡◌, ◌∙◌, refl, sym, ap, subst, true, Ok, Err, Some, None, IfNone, difference_64, value_of, IsLowResolved, IsResolvedBy, resolved_operands, IsHighPart, IsHighPartAt, is_high_part, low_by, names_label, NoHighPart}
 use Rattle.linker_section.proofs.resolved.value_by.Given.{Over}
 use Rattle.linker_section.proofs.resolved.value_by.Goals.{In-Some, In-Some-indexed_high_part}
 use Rattle.linker_section.proofs.resolved.value_by.Goals as goal

@@ -1,7 +1,4 @@
-use Rattle.std.proofs.Common.{◌≡◌, ◌∙◌, ◌*◌, ◌++◌, ap, below_more, drop, length, subst, arith}
-use Rattle.linker_section.proofs.Imports.{drop_at, length-append, length-drop, length-take-le}
-use Rattle.linker_section.specs.Relocations.{relocation_in}
-use Rattle.linker_section.specs.RiscV32.{relocation32_in}
+use Rattle.linker_section.proofs.Imports.{◌≡◌, ◌∙◌, ◌*◌, ◌++◌, ap, below_more, drop, length, subst, arith, drop_at, length-append, length-drop, length-take-le, relocation_in, relocation32_in}
 use Rattle.linker_section.proofs.Crels.{in_front}
 use Rattle.linker_section.proofs.riscv32.read_rela32.Goals as goal
 

@@ -1,6 +1,4 @@
-use Rattle.std.proofs.Common.{◌≡◌, ℕ, ◌<◌}
-use Rattle.linker_section.specs.Relocations.{relocation_in}
-use Rattle.linker_section.specs.RiscV32.{relocation32_in}
+use Rattle.linker_section.proofs.Imports.{◌≡◌, ℕ, ◌<◌, relocation_in, relocation32_in}
 use Rattle.linker_section.proofs.riscv32.read_rela32.Given as goal
 
 -- the relocations below the index are copied

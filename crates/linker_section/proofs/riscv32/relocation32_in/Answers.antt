@@ -1,5 +1,4 @@
-use Rattle.std.proofs.Common.{◌*◌, refl, drop, arith}
-use Rattle.std.proofs.lemmas.List.{take_rest, length-drop, length-take-le}
+use Rattle.linker_section.proofs.Imports.{◌*◌, refl, drop, arith, take_rest, length-drop, length-take-le}
 use Rattle.linker_section.proofs.riscv32.relocation32_in.Goals as goal
 
 pub returns : goal.returns

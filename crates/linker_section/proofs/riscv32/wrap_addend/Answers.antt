@@ -1,6 +1,5 @@
-use Rattle.std.proofs.Common.{subst}
+use Rattle.linker_section.proofs.Imports.{subst, IsRow}
 use Rattle.linker_section.proofs.RowFacts.{says}
-use Rattle.linker_elf.specs.Architectures.{IsRow}
 use Rattle.linker_elf.specs.declared.elf.architecture.Architecture.TheVariants.{RiscV}
 use Rattle.linker_section.proofs.riscv32.wrap_addend.Goals as goal
 

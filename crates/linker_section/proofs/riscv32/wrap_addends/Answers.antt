@@ -1,8 +1,4 @@
-use Rattle.std.proofs.Common.{◌≡◌, ◌*◌, ◌++◌, ◌∙◌, ap, below_more, drop, length, sym, subst, take, arith}
-use Rattle.linker_section.proofs.Imports.{drop_at, length-append, length-drop, length-take-le, take-append-drop}
-use Rattle.linker_section.specs.Relocations.{relocation_in}
-use Rattle.linker_section.specs.RiscV32.{IsWrapped}
-use Rattle.linker_section.specs.declared.relocations.Rela.{Rela}
+use Rattle.linker_section.proofs.Imports.{◌≡◌, ◌*◌, ◌++◌, ◌∙◌, ap, below_more, drop, length, sym, subst, take, arith, drop_at, length-append, length-drop, length-take-le, take-append-drop, relocation_in, IsWrapped, Rela}
 use Rattle.linker_section.proofs.Crels.{in_front}
 use Rattle.linker_section.proofs.riscv32.wrap_addends.Goals as goal
 

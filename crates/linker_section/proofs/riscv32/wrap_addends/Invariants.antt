@@ -1,6 +1,4 @@
-use Rattle.std.proofs.Common.{◌≡◌, ℕ, ◌/◌, ◌<◌, ◌≤◌, length}
-use Rattle.linker_section.specs.Relocations.{relocation_in}
-use Rattle.linker_section.specs.RiscV32.{IsWrapped}
+use Rattle.linker_section.proofs.Imports.{◌≡◌, ℕ, ◌/◌, ◌<◌, ◌≤◌, length, relocation_in, IsWrapped}
 use Rattle.linker_section.proofs.riscv32.wrap_addends.Given as goal
 
 -- the relocations below the index are wrapped, and the others are as they were

@@ -1,7 +1,5 @@
-use Rattle.std.proofs.Common.{suc, ◌≡◌, ◌+◌, ◌-◌, ◌%◌, ◌^◌, ◌<◌, ◌∙◌, ap, sym, subst, refl, w64, ℕ, ℤ, pos, negsuc, ◌+ℤ◌, FitsSigned, arith}
-use Rattle.std.proofs.lemmas.Int.{int_rem_euclid_is, ints, to_z-of_z, to_z_pos}
-use Rattle.std.specs.Int.{cast_unsigned, int_rem_euclid}
-use Rattle.linker_section.specs.RiscV32.{IsLeastFrom}
+use Rattle.linker_section.proofs.Imports.{suc, ◌≡◌, ◌+◌, ◌-◌, ◌%◌, ◌^◌, ◌<◌, ◌∙◌, ap, sym, subst, refl, ℕ, ℤ, pos, negsuc, ◌+ℤ◌, FitsSigned, arith, int_rem_euclid_is, ints, to_z-of_z, to_z_pos, cast_unsigned, int_rem_euclid, IsLeastFrom}
+use Rattle.std.proofs.Common.{w64}
 use Rattle.linker_section.proofs.riscv32.wrapped.Goals as goal
 
 -- modulo 2^32 a number is its bits

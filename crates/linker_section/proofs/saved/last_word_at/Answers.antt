@@ -1,5 +1,4 @@
-use Rattle.std.proofs.Common.{◌∙◌, ◌++◌, ◌-◌, ap, arith, length, take, drop, replicate}
-use Rattle.linker_section.proofs.Imports.{w64, from_le_bytes, take_rest, length-drop}
+use Rattle.linker_section.proofs.Imports.{◌∙◌, ◌++◌, ◌-◌, ap, arith, length, take, drop, replicate, w64, from_le_bytes, take_rest, length-drop}
 use Rattle.linker_section.proofs.Saving.{saved_last}
 use Rattle.linker_section.proofs.saved.last_word_at.Goals as goal
 

@@ -1,7 +1,4 @@
-use Rattle.std.proofs.Common.{◌≡◌, ◌-◌, ◌∙◌, suc, ap, sym, subst, arith}
-use Rattle.linker_section.proofs.Imports.{slice_index, IsRow}
-use Rattle.linker_section.specs.Inner.Saved.{Restores, with_word, saved_place}
-use Rattle.linker_section.specs.Relocations.{relocation_in}
+use Rattle.linker_section.proofs.Imports.{◌≡◌, ◌-◌, ◌∙◌, suc, ap, sym, subst, arith, slice_index, IsRow, Restores, with_word, saved_place, relocation_in}
 use Rattle.linker_section.proofs.Rows.{one_row}
 use Rattle.linker_section.proofs.saved.restore.Goals as goal
 

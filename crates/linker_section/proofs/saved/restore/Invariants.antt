@@ -1,5 +1,4 @@
-use Rattle.std.proofs.Common.{ℕ, List, ◌≤◌}
-use Rattle.linker_section.specs.Inner.Saved.{Restores}
+use Rattle.linker_section.proofs.Imports.{ℕ, List, ◌≤◌, Restores}
 use Rattle.linker_section.proofs.saved.restore.Given as goal
 
 abbrev pub invariant-loop-index : goal.invariant-loop-index

@@ -1,7 +1,5 @@
-use Rattle.std.proofs.Common.{◌≡◌, ◌∙◌, ℕ, ◌+◌, ap, arith, drop}
+use Rattle.linker_section.proofs.Imports.{◌≡◌, ◌∙◌, ℕ, ◌+◌, ap, arith, drop, field_len, offset_at}
 use Rattle.linker_section.proofs.Rows.{one_info}
-use Rattle.linker_section.specs.Fields.{field_len}
-use Rattle.linker_section.specs.Values.{offset_at}
 use Rattle.linker_section.proofs.sections.field_len.Goals as goal
 
 same_len : (o len first count : ℕ) → o ≡ first → o + len ≡ first + count → count ≡ len

@@ -1,14 +1,6 @@
-use Rattle.std.proofs.Common.{◌≡◌, ◌+◌, ◌≤◌, ◌∙◌, ℕ, List, length, drop, refl, sym, ap, subst, arith, inl, inr, true, false}
-use Rattle.std.specs.Prelude.{IfNone}
-use Rattle.linker_elf.specs.declared.elf.RelocationKind.{RelocationKind}
-use Rattle.linker_elf.specs.declared.elf.RowInfo.{RowInfo}
+use Rattle.linker_section.proofs.Imports.{◌≡◌, ◌+◌, ◌≤◌, ◌∙◌, ℕ, List, length, drop, refl, sym, ap, subst, arith, inl, inr, true, false, IfNone, RelocationKind, RowInfo, IsField, field_end, field_len, is_of_pair, HasField, next_field, IsInOrder, clear_in, field_of_row, has_value, offset_at, Field}
 use Rattle.linker_section.proofs.Rows.{one_info}
 use Rattle.linker_section.proofs.Stepping.{alone_field, apart_next, field_valued, left_order, len_alone, mark_order, next_some, overlap_now}
-use Rattle.linker_section.specs.Fields.{IsField, field_end, field_len, is_of_pair}
-use Rattle.linker_section.specs.Inner.Claims.{HasField, next_field}
-use Rattle.linker_section.specs.Inner.Steps.{IsInOrder, clear_in, field_of_row}
-use Rattle.linker_section.specs.Values.{has_value, offset_at}
-use Rattle.linker_section.specs.declared.fields.Field.{Field}
 use Rattle.linker_section.proofs.sections.leave_out.Goals.{In-Some}
 use Rattle.linker_section.proofs.sections.leave_out.Goals as goal
 

@@ -1,9 +1,6 @@
-use Rattle.std.proofs.Common.{◌≡◌, ◌+◌, ◌∙◌, sym, ap, subst, true≢false, Some}
-use Rattle.linker_section.specs.Fields.{ends_pair}
-use Rattle.linker_section.specs.Relocations.{relocation_in}
+use Rattle.linker_section.proofs.Imports.{◌≡◌, ◌+◌, ◌∙◌, sym, ap, subst, true≢false, Some, ends_pair, relocation_in, IsRow}
 use Rattle.linker_section.proofs.Rows.{one_row, one_info}
 use Rattle.linker_section.proofs.Valued.{none_is_some}
-use Rattle.linker_elf.specs.Architectures.{IsRow}
 use Rattle.linker_section.proofs.sections.next_of_pair.Goals as goal
 
 pub returns-in_default-clause-none : goal.returns-in_default-clause-none

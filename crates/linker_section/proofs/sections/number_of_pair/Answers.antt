@@ -1,8 +1,5 @@
-use Rattle.std.proofs.Common.{subst, sym, arith}
-use Rattle.linker_section.proofs.Imports.{w64, to_z-of_z, drop_all, take_rest}
-use Rattle.std.specs.Int.{cast_unsigned}
+use Rattle.linker_section.proofs.Imports.{subst, sym, arith, w64, to_z-of_z, drop_all, take_rest, cast_unsigned, first_role}
 use Rattle.linker_elf.specs.Uleb128.{IsPairNumber}
-use Rattle.linker_section.specs.Sections.{first_role}
 use Rattle.linker_section.proofs.sections.number_of_pair.Goals as goal
 
 pub returns-then-section-offset : goal.returns-then-section-offset

@@ -1,13 +1,6 @@
-use Rattle.std.proofs.Common.{◌≡◌, ◌+◌, ◌≤◌, ◌++◌, ◌∙◌, ℕ, ℤ, List, length, take, refl, sym, ap, subst, true, true≢false, inr, drop, rules, FitsSigned, to_z, of_z, Ok}
-use Rattle.linker_section.proofs.Imports.{RowInfo, w64, to_z-of_z, IsUlebWritten, IsUlebCause, Architecture}
-use Rattle.linker_section.specs.Fields.{begins_pair, ends_pair}
-use Rattle.linker_section.specs.Relocations.{relocation_in}
-use Rattle.linker_section.specs.Sections.{IsPair, IsNumberOfPair, IsNumberWrittenAt, BeginsPair, IsValued, Values}
-use Rattle.linker_section.specs.declared.facts.Addresses.{Addresses}
+use Rattle.linker_section.proofs.Imports.{◌≡◌, ◌+◌, ◌≤◌, ◌++◌, ◌∙◌, ℕ, ℤ, List, length, take, refl, sym, ap, subst, true, true≢false, inr, drop, rules, FitsSigned, to_z, of_z, Ok, RowInfo, w64, to_z-of_z, IsUlebWritten, IsUlebCause, Architecture, begins_pair, ends_pair, relocation_in, IsPair, IsNumberOfPair, IsNumberWrittenAt, BeginsPair, IsValued, Values, Addresses, IsOutcome, or_right}
 use Rattle.linker_section.proofs.Rows.{one_info}
 use Rattle.linker_section.proofs.sections.relocate_pair.Goals as goal
-use Rattle.linker_section.specs.Inner.Steps.{IsOutcome}
-use Rattle.std.proofs.lemmas.Bool.{or_right}
 
 pub returns-in-Ok-None : goal.returns-in-Ok-None
 returns-in-Ok-None g c =

@@ -1,8 +1,6 @@
-use Rattle.std.proofs.Common.{ℕ, ◌<◌, rules}
-use Rattle.std.specs.Prelude.{slice_index}
+use Rattle.linker_section.proofs.Imports.{ℕ, ◌<◌, rules, slice_index, by_index}
 use Rattle.linker_section.proofs.Exact.{unique_by_index}
 use Rattle.linker_section.proofs.Outcomes.{exact_of, fault_of, fields_of}
-use Rattle.linker_section.specs.Sections.{by_index}
 use Rattle.linker_section.proofs.sections.relocate_section.Goals as goal
 
 pub returns-clause-fields : goal.returns-clause-fields

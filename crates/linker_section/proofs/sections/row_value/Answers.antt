@@ -1,9 +1,5 @@
-use Rattle.std.proofs.Common.{sym, ap, subst, refl, ◌∙◌, rules, true≢false, FitsSigned, Some, None, Ok}
-use Rattle.linker_section.proofs.Imports.{w64, to_z-of_z, IsRow}
+use Rattle.linker_section.proofs.Imports.{sym, ap, subst, refl, ◌∙◌, rules, true≢false, FitsSigned, Some, None, Ok, w64, to_z-of_z, IsRow, IsInReach, HasValue, IsValueless, IsValue, IsValueIn}
 use Rattle.linker_section.proofs.RowFacts.{says}
-use Rattle.linker_section.specs.Conditions.{IsInReach}
-use Rattle.linker_section.specs.Sections.{HasValue, IsValueless}
-use Rattle.linker_section.specs.Values.{IsValue, IsValueIn}
 use Rattle.linker_section.proofs.sections.row_value.Goals as goal
 
 pub value_of-requires : goal.value_of-requires

@@ -1,8 +1,5 @@
-use Rattle.std.proofs.Common.{◌∙◌, refl, subst, sym, true≢false, to_z, of_z}
-use Rattle.linker_section.proofs.Imports.{w64, to_z-of_z}
+use Rattle.linker_section.proofs.Imports.{◌∙◌, refl, subst, sym, true≢false, to_z, of_z, w64, to_z-of_z, HoldsOffset, IsWrittenAt}
 use Rattle.linker_section.proofs.Lengths.{offset_of, offset_beyond}
-use Rattle.linker_section.specs.Conditions.{HoldsOffset}
-use Rattle.linker_section.specs.Sections.{IsWrittenAt}
 use Rattle.linker_section.proofs.sections.write_at.Goals as goal
 
 pub returns-then-not-has_offset : goal.returns-then-not-has_offset

@@ -1,6 +1,4 @@
-use Rattle.std.proofs.Common.{rules, refl, ◌+◌, ◌-◌, ◌≤◌, length, drop, subst, arith, sym, ◌∙◌}
-use Rattle.linker_section.proofs.Imports.{w64, OnOk, IfErr, to_z-of_z, take_all, take_rest, WritesRow, RejectsValue}
-use Rattle.std.proofs.lemmas.Slice.{take-put_mid}
+use Rattle.linker_section.proofs.Imports.{rules, refl, ◌+◌, ◌-◌, ◌≤◌, length, drop, subst, arith, sym, ◌∙◌, w64, OnOk, IfErr, to_z-of_z, take_all, take_rest, WritesRow, RejectsValue, take-put_mid}
 use Rattle.linker_section.proofs.Writing.{written_at}
 use Rattle.linker_section.proofs.sections.write_held_at.Goals as goal
 

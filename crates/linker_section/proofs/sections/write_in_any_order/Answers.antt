@@ -1,6 +1,5 @@
-use Rattle.std.proofs.Common.{◌∙◌, refl, subst, arith, Some}
+use Rattle.linker_section.proofs.Imports.{◌∙◌, refl, subst, arith, Some, IsStep}
 use Rattle.linker_section.proofs.Reaching.{reached_first, reached_all}
-use Rattle.linker_section.specs.Inner.Steps.{IsStep}
 use Rattle.linker_section.proofs.sections.write_in_any_order.Goals as goal
 
 pub loop-index-init : goal.loop-index-init

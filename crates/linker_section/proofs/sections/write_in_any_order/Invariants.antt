@@ -1,5 +1,4 @@
-use Rattle.std.proofs.Common.{◌≡◌, ◌-◌, ◌/◌, length, Some}
-use Rattle.linker_section.specs.Inner.Steps.{Reached}
+use Rattle.linker_section.proofs.Imports.{◌≡◌, ◌-◌, ◌/◌, length, Some, Reached}
 use Rattle.linker_section.proofs.sections.write_in_any_order.Given as goal
 
 abbrev pub invariant-loop-index : goal.invariant-loop-index

@@ -1,16 +1,7 @@
-use Rattle.std.proofs.Common.{◌≡◌, ◌+◌, ◌∙◌, sym, ap, subst, arith, length, rules, FitsSigned, to_z, of_z, inl, inr, refl, true, true≢false, Ok, Err, ◌≤◌, ◌<◌, ◌^◌, set, List, ℕ}
-use Rattle.linker_section.proofs.Imports.{to_z-of_z, w64, IfNone, IfSome, sum_64}
+use Rattle.linker_section.proofs.Imports.{◌≡◌, ◌+◌, ◌∙◌, sym, ap, subst, arith, length, rules, FitsSigned, to_z, of_z, inl, inr, refl, true, true≢false, Ok, Err, ◌≤◌, ◌<◌, ◌^◌, set, List, ℕ, to_z-of_z, w64, IfNone, IfSome, sum_64, HasLength, next_field, IsSavedAt, clear_in, field_of_row, AreWrittenBelow, IsInOrder, IsOutcome, IsPairOutcome, IsStopped, IsUnvalued, Reached, relocation_in, IsInside, IsValued, AreRelocated, IsWrittenAt, IsFirstRejectedBy, BeginsPair, has_value, offset_at, Value, Overlaps, OtherLength, Write}
 use Rattle.linker_section.proofs.Lengths.{length_of, other_length}
 use Rattle.linker_section.proofs.Local.{pair_local}
 use Rattle.linker_section.proofs.Stepping.{left_step, mark_order, no_field, mark_restores, one_order, one_restores, pair_order, pair_restores, apart_now, apart_next, overlap_now, stop, stop_at, set_above}
-use Rattle.linker_section.specs.Conditions.{HasLength}
-use Rattle.linker_section.specs.Inner.Claims.{next_field}
-use Rattle.linker_section.specs.Inner.Saved.{IsSavedAt}
-use Rattle.linker_section.specs.Inner.Steps.{clear_in, field_of_row, AreWrittenBelow, IsInOrder, IsOutcome, IsPairOutcome, IsStopped, IsUnvalued, Reached}
-use Rattle.linker_section.specs.Relocations.{relocation_in}
-use Rattle.linker_section.specs.Sections.{IsInside, IsValued, AreRelocated, IsWrittenAt, IsFirstRejectedBy, BeginsPair}
-use Rattle.linker_section.specs.Values.{has_value, offset_at}
-use Rattle.linker_section.specs.declared.sections.RelocationError.TheVariants.{Value, Overlaps, OtherLength, Write}
 use Rattle.linker_section.specs.declared.sections.Stopped.{Stopped}
 use Rattle.linker_section.proofs.sections.write_one.Goals.{After-field_at-field, After-or-last, In-Ok-None}
 use Rattle.linker_section.proofs.sections.write_one.Given.{Over}

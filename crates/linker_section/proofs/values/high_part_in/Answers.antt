@@ -1,7 +1,4 @@
-use Rattle.std.proofs.Common.{◌≡◌, ◌∙◌, ◌/◌, length, sym, ap, subst, arith, true, Some, None, refl}
-use Rattle.linker_section.proofs.Imports.{cond-true, lt-ltb, IsRow}
-use Rattle.linker_section.specs.Relocations.{relocation_in}
-use Rattle.linker_section.specs.Values.{is_high_part}
+use Rattle.linker_section.proofs.Imports.{◌≡◌, ◌∙◌, ◌/◌, length, sym, ap, subst, arith, true, Some, None, refl, cond-true, lt-ltb, IsRow, relocation_in, is_high_part}
 use Rattle.linker_section.proofs.values.high_part_in.Goals as goal
 
 pub returns-then-is_high_part-clause-found : goal.returns-then-is_high_part-clause-found

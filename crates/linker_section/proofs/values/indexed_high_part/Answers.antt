@@ -1,7 +1,4 @@
-use Rattle.std.proofs.Common.{subst, below_more}
-use Rattle.std.specs.Prelude.{IfNone}
-use Rattle.linker_section.specs.Relocations.{relocation_in}
-use Rattle.linker_section.specs.Values.{IsNoHighPart}
+use Rattle.linker_section.proofs.Imports.{subst, below_more, IfNone, relocation_in, IsNoHighPart}
 use Rattle.linker_section.proofs.values.indexed_high_part.Goals as goal
 
 pub loop-index-preserved : goal.loop-index-preserved

@@ -1,6 +1,4 @@
-use Rattle.std.proofs.Common.{ℕ, ◌<◌}
-use Rattle.linker_section.specs.Relocations.{relocation_in}
-use Rattle.linker_section.specs.Values.{IsNoHighPart}
+use Rattle.linker_section.proofs.Imports.{ℕ, ◌<◌, relocation_in, IsNoHighPart}
 use Rattle.linker_section.proofs.values.indexed_high_part.Given as goal
 
 abbrev pub invariant-loop-index : goal.invariant-loop-index

@@ -1,5 +1,4 @@
-use Rattle.std.proofs.Common.{subst, Some}
-use Rattle.linker_section.proofs.Imports.{IfSome, IsRow}
+use Rattle.linker_section.proofs.Imports.{subst, Some, IfSome, IsRow}
 use Rattle.linker_section.proofs.RowFacts.{says}
 use Rattle.linker_section.proofs.values.low_value.Goals as goal
 

@@ -1,5 +1,4 @@
-use Rattle.std.proofs.Common.{◌≡◌, refl}
-use Rattle.linker_section.proofs.Imports.{slice_get_read, length, slice_get, Some}
+use Rattle.linker_section.proofs.Imports.{◌≡◌, refl, slice_get_read, length, slice_get, Some}
 use Rattle.linker_section.proofs.values.operands_of.Goals as goal
 
 pub returns : goal.returns

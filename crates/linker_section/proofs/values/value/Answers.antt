@@ -1,6 +1,5 @@
-use Rattle.std.proofs.Common.{subst}
+use Rattle.linker_section.proofs.Imports.{subst, IsRow}
 use Rattle.linker_section.proofs.RowFacts.{says}
-use Rattle.linker_elf.specs.Architectures.{IsRow}
 use Rattle.linker_section.proofs.values.value.Goals as goal
 
 pub value_of-requires : goal.value_of-requires

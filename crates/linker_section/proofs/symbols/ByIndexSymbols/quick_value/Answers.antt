@@ -1,7 +1,6 @@
-use Rattle.std.proofs.Common.{ap, subst}
+use Rattle.linker_section.proofs.Imports.{ap, subst, IsQuickValue}
 use Rattle.linker_section.proofs.QuickValues.{high_is, if_some, quick_at}
 use Rattle.linker_section.proofs.RowFacts.{says_way}
-use Rattle.linker_section.specs.Inner.Quick.{IsQuickValue}
 use Rattle.linker_section.proofs.symbols.ByIndexSymbols.quick_value.Goals as goal
 
 pub returns-clause-value : goal.returns-clause-value

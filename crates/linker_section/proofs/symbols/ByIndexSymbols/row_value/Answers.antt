@@ -1,6 +1,5 @@
-use Rattle.std.proofs.Common.{false, subst}
+use Rattle.linker_section.proofs.Imports.{false, subst, IsRowValue}
 use Rattle.linker_section.proofs.Valued.{outcome_of}
-use Rattle.linker_section.specs.Sections.{IsRowValue}
 use Rattle.linker_section.proofs.symbols.ByIndexSymbols.row_value.Goals as goal
 
 pub returns : goal.returns
