@@ -30,8 +30,7 @@ same_uleb (suc fuel) [] [] len same = refl
 same_uleb (suc fuel) [] (y ∷ ys) len same = absurd (omega (arith, len))
 same_uleb (suc fuel) (x ∷ xs) [] len same = absurd (omega (arith, len))
 same_uleb (suc fuel) (x ∷ xs) (y ∷ ys) len same =
-    let head : y ≡ x = same 0 (cond_both (ltb x 0x80) 1 (1 + uleb_len (take fuel xs)) (λ n. 0 < n) (λ _. omega arith) (λ _. omega arith)) in
-    ap (λ z. cond (ltb z 0x80) 1 (1 + uleb_len (take fuel ys))) head
+    ap (λ z. cond (ltb z 0x80) 1 (1 + uleb_len (take fuel ys))) (same 0 (cond_both (ltb x 0x80) 1 (1 + uleb_len (take fuel xs)) (λ n. 0 < n) (λ _. omega arith) (λ _. omega arith)))
     ∙ elim (cases_Bool (ltb x 0x80)) [
       | inl ends ↦
           cond-true (ltb x 0x80) 1 (1 + uleb_len (take fuel ys)) ends
@@ -65,8 +64,7 @@ one_untouched : (architecture : Architecture) (addresses : Addresses) (bytes bef
 one_untouched architecture addresses bytes before middle now values n row v so_far has written =
     let o = offset_at bytes n in
     let local = one_local row v o middle now written in
-    let some = has.valued in
-    let len : field_len row (drop o before) ≡ window_len row = len_alone row (drop o before) some (written_alone row v o middle now written) in (
+    let len : field_len row (drop o before) ≡ window_len row = len_alone row (drop o before) has.valued (written_alone row v o middle now written) in (
       (local.same_length ∙ so_far.0),
       (λ p outside. elim (cases_eq (window_len row) 0) [
         | inl empty ↦
@@ -129,14 +127,11 @@ pair_place architecture addresses bytes before middle now values n apart so_far 
     let o = offset_at bytes n in
     let pair = written.pair in
     let row = pair.row in
-    let local = pair_local architecture addresses bytes values n middle now written in
-    let has = begun_has_value row.size row.kind pair.begins in
     let paired = or_left (begins_pair row.size row.kind) (ends_pair row.size row.kind) pair.begins in
-    let len : field_len row (drop o before) ≡ uleb_len (take 10 (drop o before)) = len_paired row (drop o before) has paired in
+    let len : field_len row (drop o before) ≡ uleb_len (take 10 (drop o before)) = len_paired row (drop o before) (begun_has_value row.size row.kind pair.begins) paired in
     let same = so_far.0 in
     let d = length-drop o before in let dm = length-drop o middle in
-    let there = written.written.was.there in
-    let some = some_uleb (drop o before) (omega (arith, there, d, dm, same)) in
+    let some = some_uleb (drop o before) (omega (arith, written.written.was.there, d, dm, same)) in
     let is_field : IsField architecture bytes before n row = record { is_row = pair.has_value.is_row; some = omega (arith, some, len) } in
     let first = pair_first architecture bytes before n row (λ i j x y less under. apart i j x y less (omega (arith, under))) is_field pair.begins in
     let uleb : uleb_len (take 10 (drop o middle)) ≡ uleb_len (take 10 (drop o before)) =
@@ -147,7 +142,7 @@ pair_place architecture addresses bytes before middle now values n apart so_far 
     record {
       is_field = is_field;
       len_is = len ∙ sym uleb;
-      local = subst (λ w. IsLocal o w middle now) (uleb ∙ sym len) local;
+      local = subst (λ w. IsLocal o w middle now) (uleb ∙ sym len) (pair_local architecture addresses bytes values n middle now written);
     }
 
 pair_untouched : (architecture : Architecture) (addresses : Addresses) (bytes before middle now : List ℕ)

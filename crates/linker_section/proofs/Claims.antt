@@ -95,12 +95,11 @@ apart_more architecture bytes section IsSeen IsSeenNow last k row field more lat
         | inl was_j ↦ apart i j one other was_i was_j below is_one is_other overlap
         | inr new ↦
             let here : IsField architecture bytes section k other = subst (λ x. IsField architecture bytes section x other) new is_other in
-            let same : row ≡ other = one_info architecture _ row other h.is_field.is_row here.is_row in
             elim (earlier_composes architecture bytes section IsSeen last k row field claimed h order clear i one was_i is_one) [
               | inl before ↦
                   absurd (let o = h.offset_is in let b = overlap.1 in let n = ap (offset_at bytes) new in omega (arith, before, o, b, n))
               | inr found ↦
-                  subst (λ x. Composes bytes i one x other) (sym new) (subst (λ x. Composes bytes i one k x) same (found.3))
+                  subst (λ x. Composes bytes i one x other) (sym new) (subst (λ x. Composes bytes i one k x) (one_info architecture _ row other h.is_field.is_row here.is_row) (found.3))
             ]
       ]
       | inr new ↦ elim (more.before j seen_j) [
@@ -137,8 +136,7 @@ claimed_more architecture bytes section IsSeen IsSeenNow last k row field more c
           | inr found ↦ inr (found.0, found.1, found.2)
         ]
         | inr new ↦
-            let here : IsField architecture bytes section k other = subst (λ x. IsField architecture bytes section x other) new is_other in
-            let same : row ≡ other = one_info architecture _ row other h.is_field.is_row here.is_row in
+            let same : row ≡ other = one_info architecture _ row other h.is_field.is_row (subst (λ x. IsField architecture bytes section x other) new is_other).is_row in
             inr (
               (ap (offset_at bytes) new ∙ h.offset_is),
               (subst (λ x. field_end bytes section x other ≡ field.offset + field.len) (sym new)
@@ -164,10 +162,9 @@ overlapped architecture bytes section IsSeen last k row field claimed is_field p
     let not = not_clear field last order clear in
     let near = not.0 in
     let at = claimed.is_last (omega (arith, near, order)) in
-    let some = is_field.some in
     let o = at.offset_is in let e = at.end_is in (
       at,
-      ((omega (arith, o, p, some, order)), (omega (arith, p, e, near))),
+      ((omega (arith, o, p, is_field.some, order)), (omega (arith, p, e, near))),
       (λ no_pair composes. elim composes [
         | of_number offset window on ↦
             let kinds : continues last.kind field.kind ≡ true =
@@ -214,8 +211,7 @@ apart_pair architecture bytes section IsSeen IsSeenNow k row other more seen apa
       | inl was_i ↦ elim (more.before j seen_j) [
         | inl was_j ↦ apart i j one next was_i was_j below is_one is_next overlap
         | inr new ↦
-            let here : IsField architecture bytes section (k + 1) next = subst (λ x. IsField architecture bytes section x next) new is_next in
-            let same : other ≡ next = one_info architecture _ other next is_other.is_row here.is_row in
+            let same : other ≡ next = one_info architecture _ other next is_other.is_row (subst (λ x. IsField architecture bytes section x next) new is_next).is_row in
             let o = ap (offset_at bytes) new in
             let end : field_end bytes section j next ≡ field_end bytes section k row =
             subst (λ x. field_end bytes section x next ≡ field_end bytes section k row) (sym new)
@@ -240,13 +236,11 @@ apart_pair architecture bytes section IsSeen IsSeenNow k row other more seen apa
       | inr new ↦ elim (more.before j seen_j) [
         | inl was_j ↦
             let here : IsField architecture bytes section (k + 1) one = subst (λ x. IsField architecture bytes section x one) new is_one in
-            let same : other ≡ one = one_info architecture _ other one is_other.is_row here.is_row in
-            let o = ap (offset_at bytes) new in
             let end : field_end bytes section i one ≡ field_end bytes section k row =
             subst (λ x. field_end bytes section x one ≡ field_end bytes section k row) (sym new)
-            (subst (λ x. field_end bytes section (k + 1) x ≡ field_end bytes section k row) same same_end) in
+            (subst (λ x. field_end bytes section (k + 1) x ≡ field_end bytes section k row) (one_info architecture _ other one is_other.is_row here.is_row) same_end) in
             absurd (elim (apart k j row next seen was_j (omega (arith, below, new)) is_field is_next
-            ((omega (arith, overlap_0, o, same_offset)), (omega (arith, overlap_1, end)))) [
+            ((omega (arith, overlap_0, (ap (offset_at bytes) new), same_offset)), (omega (arith, overlap_1, end)))) [
               | of_number offset window on ↦
                   true≢false (sym on ∙ begun_continues_none row.size row.kind next.kind begins)
               | of_pair offset after begun ended ↦ omega (arith, after, new, below)
@@ -270,11 +264,10 @@ claimed_pair architecture bytes section IsSeen IsSeenNow k row other field more 
         | inl was ↦ claimed.others i next was is_next
         | inr new ↦
             let here : IsField architecture bytes section (k + 1) next = subst (λ x. IsField architecture bytes section x next) new is_next in
-            let same : other ≡ next = one_info architecture _ other next is_other.is_row here.is_row in
             inr (
               (ap (offset_at bytes) new ∙ (same_offset ∙ h.offset_is)),
               (subst (λ x. field_end bytes section x next ≡ field.offset + field.len) (sym new)
-                  (subst (λ x. field_end bytes section (k + 1) x ≡ field.offset + field.len) same (same_end ∙ h.end_is))),
+                  (subst (λ x. field_end bytes section (k + 1) x ≡ field.offset + field.len) (one_info architecture _ other next is_other.is_row here.is_row) (same_end ∙ h.end_is))),
               (λ kind is. absurd (true≢false (sym is ∙ subst (λ x. continues x kind ≡ false) h.kind_is (begun_continues_none row.size row.kind kind begins)))),
             )
       ];
@@ -397,7 +390,6 @@ pub ordered_overlapped : (architecture : Architecture) (bytes section : List ℕ
     → IsOverlapped architecture bytes section j
 ordered_overlapped architecture bytes section i j row other first second below under h g order clear no_pair =
     let not = not_clear second first order clear in
-    let near = not.0 in
     let some = g.is_field.some in let o = h.offset_is in let p = g.offset_is in let e = h.end_is in
     record {
       earlier = i;
@@ -406,7 +398,7 @@ ordered_overlapped architecture bytes section i j row other first second below u
       is_field = h.is_field;
       other = other;
       is_other = g.is_field;
-      overlap = ((omega (arith, o, p, some, order)), (omega (arith, p, e, near)));
+      overlap = ((omega (arith, o, p, some, order)), (omega (arith, p, e, not.0)));
       apart = λ composes. elim composes [
         | of_number offset window on ↦ not.1 (record {
           offset_is = sym p ∙ (sym offset ∙ o);
@@ -424,8 +416,6 @@ pub after_overlapped : (architecture : Architecture) (bytes section : List ℕ) 
     → HasField architecture bytes section j other second → second.offset < first.offset
     → is_clear_of first second ≡ false → IsOverlapped architecture bytes section j
 after_overlapped architecture bytes section i j row other first second below h g order clear =
-    let not = not_clear first second (omega (arith, order)) clear in
-    let near = not.0 in
     let some = h.is_field.some in let o = h.offset_is in let p = g.offset_is in let e = g.end_is in
     record {
       earlier = i;
@@ -434,7 +424,7 @@ after_overlapped architecture bytes section i j row other first second below h g
       is_field = h.is_field;
       other = other;
       is_other = g.is_field;
-      overlap = ((omega (arith, o, e, near)), (omega (arith, o, p, some, order)));
+      overlap = ((omega (arith, o, e, (not_clear first second (omega (arith, order)) clear).0)), (omega (arith, o, p, some, order)));
       apart = λ composes. elim composes [
         | of_number offset window on ↦ omega (arith, offset, o, p, order)
         | of_pair offset next begins ends ↦ omega (arith, offset, o, p, order)

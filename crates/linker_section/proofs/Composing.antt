@@ -54,19 +54,11 @@ second_is_none _ kind size is = never is
 
 pub first_is_none : (kind next : RelocationKind) (size : RowSize) → continues kind next ≡ true
     → (begins_pair size kind || ends_pair size kind) ≡ false
-first_is_none kinds.AbsoluteSet next (ByteSize n) is = refl
-first_is_none kinds.AbsoluteSet next (BitMasking bits insn) is = refl
-first_is_none kinds.AbsoluteAddition next (ByteSize n) is = refl
-first_is_none kinds.AbsoluteAddition next (BitMasking bits insn) is = refl
-first_is_none kinds.AbsoluteSubtraction next (ByteSize n) is = refl
-first_is_none kinds.AbsoluteSubtraction next (BitMasking bits insn) is = refl
-first_is_none kinds.AbsoluteSetWord6 next (ByteSize n) is = refl
-first_is_none kinds.AbsoluteSetWord6 next (BitMasking bits insn) is = refl
-first_is_none kinds.AbsoluteAdditionWord6 next (ByteSize n) is = refl
-first_is_none kinds.AbsoluteAdditionWord6 next (BitMasking bits insn) is = refl
-first_is_none kinds.AbsoluteSubtractionWord6 next (ByteSize n) is = refl
-first_is_none kinds.AbsoluteSubtractionWord6 next (BitMasking bits insn) is = refl
-first_is_none _ next size is = never is
+first_is_none kinds.Relative next size is = never is
+first_is_none kinds.PairSubtractionULEB128RiscV next size is = never is
+first_is_none kinds.PairSubtractionULEB128LoongArch next size is = never is
+first_is_none _ next (ByteSize n) is = refl
+first_is_none _ next (BitMasking bits insn) is = refl
 
 -- the first of a pair: nothing continues with it, and it ends none
 pub begun_continues_none : (size : RowSize) (kind next : RelocationKind)
@@ -83,11 +75,6 @@ begun_ends_none (BitMasking bits insn) _ is = never is
 
 continues_relative : (first : RelocationKind) → continues first kinds.Relative ≡ false
 continues_relative kinds.AbsoluteSet = refl
-continues_relative kinds.AbsoluteAddition = refl
-continues_relative kinds.AbsoluteSubtraction = refl
-continues_relative kinds.AbsoluteSetWord6 = refl
-continues_relative kinds.AbsoluteAdditionWord6 = refl
-continues_relative kinds.AbsoluteSubtractionWord6 = refl
 continues_relative _ = refl
 
 pub begun_is_continued_none : (size : RowSize) (kind first : RelocationKind)

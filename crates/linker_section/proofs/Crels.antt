@@ -19,8 +19,7 @@ last_is (b ∷ bs) zero continue ends = let e : nat_le 0x80 b ≡ false = grind 
 last_is (b ∷ bs) (suc i) continue ends =
     let h : 0x80 ≤ b = continue 0 (omega arith) in
     let e : nat_le 0x80 b ≡ true = grind (arith, nat_tests) in
-    let rest = last_is bs i (λ j below. continue (suc j) (omega arith)) ends in
-    rw (e, rest) (omega arith)
+    rw (e, (last_is bs i (λ j below. continue (suc j) (omega arith)) ends)) (omega arith)
 
 last_from : (bytes : List ℕ) (k : ℕ) → AllContinue k bytes → k ≤ prefix_len (nat_le 0x80) bytes
 last_from bytes zero continue = omega arith
@@ -51,10 +50,9 @@ number_is : (s : Bool) (bytes : List ℕ) (at i : ℕ) → i < length bytes → 
     → AllContinue i bytes → slice_index bytes i < 0x80
     → number_in s bytes at ≡ number_to (word_of s (128 ^ (i + 1)) (uleb_number bytes i)) at (at + i + 1)
 number_is s bytes at i there short continue ends =
-    let last = last_is bytes i continue ends in
     let no : nat_lt 9 i ≡ false = grind (arith, nat_tests) in
     let not : (i == length bytes) ≡ false = grind (arith, nat_tests) in
-    rw (last, no, not)
+    rw ((last_is bytes i continue ends), no, not)
 
 -- ---- the groups of a number
 
@@ -90,10 +88,9 @@ pub short_number : (s : Bool) (bytes : List ℕ) (at i low : ℕ) → i < length
     → (s ≡ false) ⊎ (slice_index bytes i < 0x40)
     → number_in s bytes at ≡ Ok (record { value = low; next = at + i + 1 })
 short_number false bytes at i low there short continue ends value which =
-    let lt = groups_lt bytes (suc i) in
     let le = limit_le i short in
     let e : suc i ≡ i + 1 = omega arith in
-    let below : uleb_number bytes i < 128 ^ (i + 1) = rw e at lt in
+    let below : uleb_number bytes i < 128 ^ (i + 1) = rw e at (groups_lt bytes (suc i)) in
     let word : word_of false (128 ^ (i + 1)) (uleb_number bytes i) ≡ Some (uleb_number bytes i) =
     plain (128 ^ (i + 1)) (uleb_number bytes i) (omega arith) in
     number_is false bytes at i there (omega arith) continue ends
@@ -102,10 +99,9 @@ short_number true bytes at i low there short continue ends value (inl not) = abs
 short_number true bytes at i low there short continue ends value (inr clear) =
     let lt = groups_lt bytes i in
     let le = limit_le i short in
-    let b = slice_index bytes i in
     let grows = grown bytes i in
     let next : 128 ^ (i + 1) ≡ 128 ^ i * 128 = ap (λ n. 128 ^ n) (add-one i) ∙ pow-suc 128 i in
-    let most = mul-le (b % 128) (128 ^ i) 63 (128 ^ i) (omega arith) (omega arith) in
+    let most = mul-le ((slice_index bytes i) % 128) (128 ^ i) 63 (128 ^ i) (omega arith) (omega arith) in
     let word : word_of true (128 ^ (i + 1)) (uleb_number bytes i) ≡ Some (uleb_number bytes i) =
     positive (128 ^ (i + 1)) (uleb_number bytes i) (omega arith) (omega arith) in
     number_is true bytes at i there (omega arith) continue ends
@@ -119,11 +115,10 @@ pub short_negative : (s : Bool) (bytes : List ℕ) (at i low value : ℕ) → s 
 short_negative s bytes at i low value signed there short continue ends is set made =
     let lt = groups_lt bytes (suc i) in
     let le = limit_le i short in
-    let b = slice_index bytes i in
     let grows = grown bytes i in
     let next : 128 ^ suc i ≡ 128 ^ i * 128 = pow-suc 128 i in
     let same : 128 ^ (i + 1) ≡ 128 ^ suc i = ap (λ n. 128 ^ n) (add-one i) in
-    let least = mul-le 64 (128 ^ i) (b % 128) (128 ^ i) (omega arith) (omega arith) in
+    let least = mul-le 64 (128 ^ i) ((slice_index bytes i) % 128) (128 ^ i) (omega arith) (omega arith) in
     let word : word_of true (128 ^ (i + 1)) (uleb_number bytes i) ≡ Some (uleb_number bytes i + 2 ^ 64 - 128 ^ (i + 1)) =
     negative (128 ^ (i + 1)) (uleb_number bytes i) (omega arith) (omega arith) in
     let power : 1 * 2 ^ (7 * i + 7) % 2 ^ 64 ≡ 128 ^ (i + 1) =
@@ -162,9 +157,8 @@ pub long_fault : (s : Bool) (bytes : List ℕ) (at b : ℕ) → 9 < length bytes
 long_fault s bytes at b there continue is nonzero most =
     elim (cases_lt b 0x80) [
       | inl small ↦
-          let lt = groups_lt bytes 9 in
           number_is s bytes at 9 there (omega arith) continue (omega arith)
-          ∙ ap (λ w. number_to w at (at + 9 + 1)) (none_word s (low_groups bytes 9) b (uleb_number bytes 9) lt (high_is bytes b is small) nonzero most small)
+          ∙ ap (λ w. number_to w at (at + 9 + 1)) (none_word s (low_groups bytes 9) b (uleb_number bytes 9) (groups_lt bytes 9) (high_is bytes b is small) nonzero most small)
       | inr large ↦ too_long s bytes at (below_more _ _ continue (omega arith))
     ]
 
@@ -245,10 +239,9 @@ next_is header section prior first flags has high symbol r_type addend there is 
     let t : nat_lt prior.next (length section) ≡ true = grind (arith, nat_tests) in
     let last : delta_at true (header.has_addends && (first / 4 % 2 == 1)) section r_type.next ≡ Ok addend =
     ap (λ b. delta_at true b section r_type.next) (sym test) ∙ four in
-    let offset = grows prior.offset high.value (128 / flags) (first % 128 / flags) header.scale in
     let r_type_is : (prior.r_type + r_type.value % 2 ^ 32) % 2 ^ 32 ≡ (prior.r_type + r_type.value) % 2 ^ 32 = omega arith in
     let symbol_is : (prior.symbol + symbol.value % 2 ^ 32) % 2 ^ 32 ≡ (prior.symbol + symbol.value) % 2 ^ 32 = omega arith in
-    rw (t, ← is, one, two, three, last, offset, r_type_is, symbol_is, bits)
+    rw (t, ← is, one, two, three, last, (grows prior.offset high.value (128 / flags) (first % 128 / flags) header.scale), r_type_is, symbol_is, bits)
 
 pub after_next : (n : ℕ) (header : Header) (section : List ℕ) (prior : Place) → after n header section ≡ Ok prior
     → after (n + 1) header section ≡ next_of header section prior

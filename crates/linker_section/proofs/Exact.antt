@@ -54,15 +54,12 @@ high_field : (architecture : Architecture) (bytes section : List ℕ) (low : Rel
     → IsHighField architecture bytes section high.index row
 high_field architecture bytes section low at r row high =
     let i = high.index in
-    let there = there_is bytes i r high.is_there in
-    let is_row : IsRow architecture (relocation_in bytes i).r_type (Some row) = subst (λ x. IsRow architecture x.r_type (Some row)) (sym there.is) high.row_is in
+    let is_row : IsRow architecture (relocation_in bytes i).r_type (Some row) = subst (λ x. IsRow architecture x.r_type (Some row)) (sym (there_is bytes i r high.is_there).is) high.row_is in
     let auipc = auipc_size row.size (and_parts (is_auipc row.size) (is_high_kind low row.kind) high.is_high).0 in
     let no_pair : is_of_pair row ≡ false = ap (λ x. begins_pair x row.kind || ends_pair x row.kind) auipc.is in
-    let valued = auipc_valued architecture _ row is_row (and_parts (is_auipc row.size) (is_high_kind low row.kind) high.is_high).0 in
-    let len = len_alone row (drop (offset_at bytes i) section) valued no_pair in
-    let width = some_window (RiscV UType) in
+    let len = len_alone row (drop (offset_at bytes i) section) (auipc_valued architecture _ row is_row (and_parts (is_auipc row.size) (is_high_kind low row.kind) high.is_high).0) no_pair in
     record {
-      is_field = record { is_row = is_row; some = subst (λ k. 0 < k) (sym (len ∙ ap size_len auipc.is)) width };
+      is_field = record { is_row = is_row; some = subst (λ k. 0 < k) (sym (len ∙ ap size_len auipc.is)) (some_window (RiscV UType)) };
       alone = instruction_alone architecture _ row auipc.bits (RiscV UType) is_row auipc.is;
       no_pair = no_pair;
     }
@@ -91,10 +88,9 @@ module _ (architecture : Architecture) (bytes section : List ℕ) (apart : AreAp
   high_apart low at r s row other x y less =
       let f = high_field architecture bytes section low at r row x in
       let g = high_field architecture bytes section low at s other y in
-      let a = there_is bytes x.index r x.is_there in
       let b = there_is bytes y.index s y.is_there in
       let same : offset_at bytes x.index ≡ offset_at bytes y.index =
-      ap (λ z. z.offset) a.is ∙ (x.offset_is ∙ (sym y.offset_is ∙ sym (ap (λ z. z.offset) b.is))) in
+      ap (λ z. z.offset) (there_is bytes x.index r x.is_there).is ∙ (x.offset_is ∙ (sym y.offset_is ∙ sym (ap (λ z. z.offset) b.is))) in
       let fs = f.is_field.some in let gs = g.is_field.some in
       high_composes_none f.alone f.no_pair
       (apart x.index y.index row other less b.within f.is_field g.is_field ((omega (arith, same, gs)), (omega (arith, same, fs))))
@@ -110,9 +106,7 @@ module _ (architecture : Architecture) (bytes section : List ℕ) (apart : AreAp
   one_high low at r s row other x y =
       elim (cases_eq x.index y.index) [
         | inl is ↦
-            let a = there_is bytes x.index r x.is_there in
-            let b = there_is bytes y.index s y.is_there in
-            let same : r ≡ s = sym a.is ∙ (ap (relocation_in bytes) is ∙ b.is) in
+            let same : r ≡ s = sym (there_is bytes x.index r x.is_there).is ∙ (ap (relocation_in bytes) is ∙ (there_is bytes y.index s y.is_there).is) in
             record { relocation_is = same; row_is = one_info architecture _ row other x.row_is (subst (λ z. IsRow architecture z.r_type (Some other)) (sym same) y.row_is); index_is = is }
         | inr isnt ↦ elim (cases_lt x.index y.index) [
           | inl less ↦ absurd (high_apart low at r s row other x y less)
@@ -227,8 +221,7 @@ module _ (architecture : Architecture) (addresses : Addresses) (bytes : List ℕ
   no_valueless r (Some f) _ is (no_stub some lacks) = true≢false (sym lacks ∙ is.keeps_toc)
   no_valueless r None _ is (beyond {v} some isnt) = some_none r v some (mark_none architecture addresses bytes symbols r is)
   no_valueless r (Some f) _ is (beyond {v} some isnt) =
-      let same = ap (first_of v) (ap (of_ok None) (one_value r (Ok (Some (f.1))) (Ok (Some v)) (value_of_has r (f.0) (f.1) is) some)) in
-      isnt (subst (IsInReach architecture bytes r) same is.in_reach)
+      isnt (subst (IsInReach architecture bytes r) (ap (first_of v) (ap (of_ok None) (one_value r (Ok (Some (f.1))) (Ok (Some v)) (value_of_has r (f.0) (f.1) is) some))) is.in_reach)
 
   same_found : (r : Rela) (x y : Option (RowInfo × ℤ)) → IsRowValue architecture addresses bytes symbols r (Ok x)
       → IsRowValue architecture addresses bytes symbols r (Ok y) → x ≡ y
@@ -271,9 +264,7 @@ fits_no_cause xs number old rest TooLarge u fits cause =
     let ends = u.ends in let ten = u.within_ten in
     elim (cases_eq u.last 9) [
       | inl is ↦
-          let small = u.tenth is in
-          let large = subst (λ k. 1 < slice_index xs k) (sym is) cause.tenth in
-          omega (arith, small, large)
+          omega (arith, (u.tenth is), (subst (λ k. 1 < slice_index xs k) (sym is) cause.tenth))
       | inr isnt ↦ let on = cause.continue u.last (omega (arith, isnt, ten)) in omega (arith, on, ends)
     ]
 fits_no_cause xs number old rest DoesNotFit u fits cause =
@@ -333,9 +324,8 @@ module _ (architecture : Architecture) (addresses : Addresses) (bytes : List ℕ
       unique.same first (fault.found first) (Some (pair.row, pair.value)) (fault.are_found first (omega (arith, next))) has in
       let paired = or_left (begins_pair pair.row.size pair.row.kind) (ends_pair pair.row.size pair.row.kind) pair.begins in
       let of = (fault.accepted first pair.row pair.value (omega (arith, next)) is).1 paired in
-      let below = of.1 in
       elim (of.2) [
-        | inl at ↦ omega (arith, at, below, next)
+        | inl at ↦ omega (arith, at, of.1, next)
         | inr at ↦
             let other = (of.3).pair in
             let same = one_found (fault.found first) pair.row other.other pair.value other.subtracted is (ap fault.found at ∙ other.is_second) in
@@ -346,8 +336,7 @@ module _ (architecture : Architecture) (addresses : Addresses) (bytes : List ℕ
       → IsNotAccepted architecture addresses bytes values i section why → ⊥
   no_write i why within next not =
       let row = not.row in
-      let is = found_at i row not.value within not.has_value.is_value in
-      let accepts = can.accepted i row not.value within is in
+      let accepts = can.accepted i row not.value within (found_at i row not.value within not.has_value.is_value) in
       elim (cases_Bool (is_of_pair row)) [
         | inr alone ↦
             let here = accepts.0 alone in
@@ -378,10 +367,8 @@ module _ (architecture : Architecture) (addresses : Addresses) (bytes : List ℕ
       → IsOtherLength architecture addresses bytes values i section → ⊥
   no_other_length i within not =
       let row = not.row in
-      let is = found_at i row not.value within not.has_value.is_value in
-      let accepts = can.accepted i row not.value within is in
       elim (cases_Bool (is_of_pair row)) [
-        | inr alone ↦ true≢false (sym ((accepts.0 alone).length_shown not.inside not.long) ∙ not.other)
+        | inr alone ↦ true≢false (sym (((can.accepted i row not.value within (found_at i row not.value within not.has_value.is_value)).0 alone).length_shown not.inside not.long) ∙ not.other)
         | inl paired ↦ true≢false (sym (pair_shows row (drop (offset_at bytes i) section) paired) ∙ not.other)
       ]
 
@@ -391,29 +378,25 @@ module _ (architecture : Architecture) (addresses : Addresses) (bytes : List ℕ
       let pair = rejected.pair in
       let row = pair.row in
       let is = found_at i row pair.value within pair.has_value.is_value in
-      let paired = or_left (begins_pair row.size row.kind) (ends_pair row.size row.kind) pair.begins in
-      let of = (can.accepted i row pair.value within is).1 paired in
-      let below = of.1 in
+      let of = (can.accepted i row pair.value within is).1 (or_left (begins_pair row.size row.kind) (ends_pair row.size row.kind) pair.begins) in
       elim (of.2) [
         | inl at ↦
             let fits = subst (PairFits can.found bytes section) (sym at) (of.3) in
             let made = fits.pair in
-            let under : i + 1 < length bytes / 24 = omega (arith, below, at) in
-            let a = one_found (can.found i) row made.row pair.value made.value is made.is_first in
+            let under : i + 1 < length bytes / 24 = omega (arith, of.1, at) in
             let b = one_found (can.found (i + 1)) pair.other made.other pair.subtracted made.subtracted
             (found_at (i + 1) pair.other pair.subtracted under pair.has_subtracted.is_value) made.is_second in
             let there = drop (offset_at bytes i) section in
             let mine : IsNumberOfPair made.other.kind there made.value made.subtracted rejected.number =
             subst (λ x. IsNumberOfPair made.other.kind there made.value x rejected.number) b.value_is
-            (subst (λ x. IsNumberOfPair made.other.kind there x pair.subtracted rejected.number) a.value_is
+            (subst (λ x. IsNumberOfPair made.other.kind there x pair.subtracted rejected.number) (one_found (can.found i) row made.row pair.value made.value is made.is_first).value_is
             (subst (λ x. IsNumberOfPair x.kind there pair.value pair.subtracted rejected.number) b.row_is pair.is_number)) in
             let same : rejected.number ≡ fits.number =
             one_pair_number made.other.kind there made.value made.subtracted rejected.number fits.number fits.old fits.rest fits.there mine made.is_number in
             fits_no_cause there rejected.number fits.old fits.rest why fits.there (subst (λ n. n < 128 ^ (fits.there.last + 1)) (sym same) fits.fits) rejected.cause
         | inr at ↦
             let made = (of.3).pair in
-            let a = one_found (can.found i) row made.other pair.value made.subtracted is (ap can.found at ∙ made.is_second) in
-            begins_no_end row made.other a.row_is pair.begins made.ends
+            begins_no_end row made.other (one_found (can.found i) row made.other pair.value made.subtracted is (ap can.found at ∙ made.is_second)).row_is pair.begins made.ends
       ]
 
   no_cause : (i : ℕ) (why : RelocationError) → i < length bytes / 24
@@ -427,9 +410,7 @@ module _ (architecture : Architecture) (addresses : Addresses) (bytes : List ℕ
       elim (cause.1) [
         | inl not ↦ no_write i why within is not
         | inr left ↦
-            let isnt = unique.same i (can.found i) None (can.are_found i within) left.no_value in
-            let inside = can.inside i within isnt left.row left.is_field in
-            let past = left.past in omega (arith, inside, past)
+            let past = left.past in omega (arith, (can.inside i within (unique.same i (can.found i) None (can.are_found i within) left.no_value) left.row left.is_field), past)
       ]
   no_cause i (Write why) within (inr is) cause = is.2
   no_cause i (Uleb128 why) within (inl is) cause = no_number i why within (cause.1)

@@ -84,21 +84,18 @@ cause_of_number xs ys number Ended same len cause =
     let whole : ys ≡ xs = sym (take_all (length xs) ys (omega (arith, len))) ∙ (subst (λ k. take k ys ≡ take k xs) all same ∙ take_all (length xs) xs (omega arith)) in
     subst (λ l. IsUlebCause l number Ended) (sym whole) cause
 cause_of_number xs ys number TooLarge same len cause =
-    let all : uleb_len (take 10 xs) ≡ 10 = continues_to 9 xs cause.long cause.continue in
     let byte : (j : ℕ) → j < 10 → slice_index xs j ≡ slice_index ys j =
     λ j below. sym (get_or-take 10 xs j 0 below)
-    ∙ (ap (λ l. slice_index l j) (sym (subst (λ k. take k ys ≡ take k xs) all same)) ∙ get_or-take 10 ys j 0 below) in
-    let long = cause.long in
+    ∙ (ap (λ l. slice_index l j) (sym (subst (λ k. take k ys ≡ take k xs) (continues_to 9 xs cause.long cause.continue) same)) ∙ get_or-take 10 ys j 0 below) in
     record {
-      long = omega (arith, long, len);
+      long = omega (arith, cause.long, len);
       continue = λ j below. subst (λ b. 0x80 ≤ b) (byte j (omega (arith, below))) (cause.continue j below);
       tenth = subst (λ b. 1 < b) (byte 9 (omega arith)) cause.tenth;
     }
 cause_of_number xs ys number DoesNotFit same len cause =
     let u = cause.there in
-    let inside = u.there in
     let there = uleb_same xs ys cause.old cause.rest u
-    (subst (λ k. take k ys ≡ take k xs) (uleb_len_is xs cause.old cause.rest u) same) (omega (arith, inside, len)) in
+    (subst (λ k. take k ys ≡ take k xs) (uleb_len_is xs cause.old cause.rest u) same) (omega (arith, u.there, len)) in
     record {
       old = cause.old;
       rest = drop (u.last + 1) ys;
@@ -163,9 +160,8 @@ module _ (architecture : Architecture) (addresses : Addresses) (bytes : List ℕ
       let row = pair.row in
       let d = length-drop o before in let dn = length-drop o now in let len = so_far.0 in
       let lengths : length (drop o before) ≡ length (drop o now) = omega (arith, d, dn, len) in
-      let paired = or_left (begins_pair row.size row.kind) (ends_pair row.size row.kind) pair.begins in
       let width : field_len row (drop o before) ≡ uleb_len (take 10 (drop o before)) =
-      len_paired row (drop o before) (begun_has_value row.size row.kind pair.begins) paired in
+      len_paired row (drop o before) (begun_has_value row.size row.kind pair.begins) (or_left (begins_pair row.size row.kind) (ends_pair row.size row.kind) pair.begins) in
       let w = uleb_len (take 10 (drop o before)) in
       let same : take w (drop o now) ≡ take w (drop o before) = elim (cases_eq (length (drop o before)) 0) [
         | inl empty ↦
@@ -241,7 +237,6 @@ pub first_fault : (architecture : Architecture) (addresses : Addresses) (bytes :
     → IsFirstFaultBy architecture addresses bytes values before error
 first_fault architecture addresses bytes values before error rejected =
     let found = found_of rejected.relocated in
-    let most = next_most error.index rejected.written rejected.is_next in
     let used = uses architecture addresses bytes values before error.index rejected.apart found rejected.relocated (λ i below. refl) in
     record {
       within = rejected.within;
@@ -250,7 +245,7 @@ first_fault architecture addresses bytes values before error rejected =
       found = found;
       are_found = found_are architecture addresses bytes values before error.index rejected.apart found rejected.relocated used;
       apart = rejected.apart;
-      accepted = are_accepted architecture addresses bytes values before error.index rejected.apart found rejected.relocated most used;
+      accepted = are_accepted architecture addresses bytes values before error.index rejected.apart found rejected.relocated (next_most error.index rejected.written rejected.is_next) used;
       inside = are_inside architecture addresses bytes values before error.index rejected.apart found rejected.relocated used;
       cause = by_before architecture addresses bytes values before rejected.now rejected.written error.index error.error rejected.is_next rejected.relocated rejected.cause;
     }

@@ -152,8 +152,7 @@ small_field bytes before i row small j =
       | inl under ↦
           subst (λ b. b < 256) (sym (get_or-take w (drop o before) j 0 under ∙ get_or-drop o before j 0)) (small (o + j))
       | inr past ↦
-          let l = length-take w (drop o before) in
-          subst (λ b. b < 256) (sym (get_or_past (take w (drop o before)) j 0 (omega (arith, past, l)))) (omega arith)
+          subst (λ b. b < 256) (sym (get_or_past (take w (drop o before)) j 0 (omega (arith, past, (length-take w (drop o before)))))) (omega arith)
     ]
 
 of_pair_more : {Said : ℕ → Type 0} {i : ℕ} (n m : ℕ) → n ≤ m → OfPair Said n i → OfPair Said m i
@@ -320,19 +319,16 @@ module _ (architecture : Architecture) (addresses : Addresses) (bytes : List ℕ
   held_number none most used i row k below is_field alone valued size small =
       holds_first row.kind (suc k) (field_bytes bytes before i row before) small
   held_number (mark {n} {middle} relocated value inside) most used i row k below is_field alone valued size small =
-      let o = offset_at bytes i in
       let old = field_bytes bytes before i row before in
       subst (λ c. HoldsNumber row.kind (suc k) c old (field_bytes bytes before i row middle))
-      (sym (composed_mark found bytes before o (pos (number_of_bytes (suc k) old)) n (used.0)))
+      (sym (composed_mark found bytes before (offset_at bytes i) (pos (number_of_bytes (suc k) old)) n (used.0)))
       (held_number relocated (omega (arith, most)) (used.1) i row k below is_field alone valued size small)
   held_number (one {n} {middle} {after} {row = other} {v} relocated has written) most used i row k below is_field alone valued size small =
       let o = offset_at bytes i in
       let old = field_bytes bytes before i row before in
       let so_far = held_number relocated (omega (arith, most)) (used.1) i row k below is_field alone valued size small in
       let other_alone = written_alone other v (offset_at bytes n) middle after written in
-      let other_valued = has.valued in
       let len = len_alone row (drop o before) valued alone in
-      let other_len = len_alone other (drop (offset_at bytes n) before) other_valued other_alone in
       elim (step architecture addresses bytes values before total i row n other v middle after apart below (omega (arith, most)) is_field has written) [
         | is_kept same far ↦
             subst (λ c. HoldsNumber row.kind (suc k) c old (field_bytes bytes before i row after))
@@ -344,17 +340,14 @@ module _ (architecture : Architecture) (addresses : Addresses) (bytes : List ℕ
             (ap (λ j. field_len other (drop (offset_at bytes j) before)) (sym is) ∙ ap (λ x. field_len x (drop o before)) same_row)
             (ap (λ x. is_word6 x.kind) same_row) (used.0) some writes small so_far
         | is_joined joins writes some ↦
-            let width : window_len row ≡ suc k = ap size_len size in
             joined_holds i row k n other v middle after size
-            (whole_bytes architecture _ other (suc k) has.is_row joins.other_composes (joins.len ∙ width))
-            joins.offset (other_len ∙ (joins.len ∙ sym len)) joins.alike (used.0) some writes small so_far
+            (whole_bytes architecture _ other (suc k) has.is_row joins.other_composes (joins.len ∙ (ap size_len size)))
+            joins.offset ((len_alone other (drop (offset_at bytes n) before) has.valued other_alone) ∙ (joins.len ∙ sym len)) joins.alike (used.0) some writes small so_far
       ]
   held_number (pair {n} {middle} {after} relocated written) most used i row k below is_field alone valued size small =
       let o = offset_at bytes i in
-      let p = offset_at bytes n in
       let old = field_bytes bytes before i row before in
       let number = pos (number_of_bytes (suc k) old) in
-      let so_far = held_number relocated (omega (arith, most)) (used.2) i row k below is_field alone valued size small in
       let first = written.pair.row in
       let apart_here : AreApart architecture bytes before (n + 2) = λ a b x y less under. apart a b x y less (omega (arith, under, most)) in
       let place = pair_place architecture addresses bytes before middle after values n apart_here
@@ -362,15 +355,14 @@ module _ (architecture : Architecture) (addresses : Addresses) (bytes : List ℕ
       let width = is_field.some in let first_width = place.is_field.some in
       let far = pair_far i row n first (meet architecture bytes before total i row n first apart below (omega (arith, most)) is_field place.is_field) alone written.pair.begins
       (λ is. one_info architecture _ row first (subst (λ j. IsField architecture bytes before j row) is is_field).is_row place.is_field.is_row) in
-      let apart_from : p ≡ o → ⊥ = λ at. elim far [ inl x ↦ omega (arith, x, at, width) | inr x ↦ omega (arith, x, at, first_width) ] in
-      let same_offset = written.pair.same_offset in
+      let apart_from : (offset_at bytes n) ≡ o → ⊥ = λ at. elim far [ inl x ↦ omega (arith, x, at, width) | inr x ↦ omega (arith, x, at, first_width) ] in
       let next : n + 2 ≡ n + 1 + 1 = omega arith in
       subst (λ m. HoldsNumber row.kind (suc k) (composed found bytes before o number m) old (field_bytes bytes before i row after)) (sym next)
       (subst (λ c. HoldsNumber row.kind (suc k) c old (field_bytes bytes before i row after))
-      (sym (composed_far found bytes before o number (n + 1) written.pair.other written.pair.subtracted (used.1) (λ _ at. apart_from (sym same_offset ∙ at))
+      (sym (composed_far found bytes before o number (n + 1) written.pair.other written.pair.subtracted (used.1) (λ _ at. apart_from (sym written.pair.same_offset ∙ at))
       ∙ composed_far found bytes before o number n first written.pair.value (used.0) (λ _ at. apart_from at)))
       (subst (λ x. HoldsNumber row.kind (suc k) (composed found bytes before o number n) old x)
-      (sym (pair_kept bytes before i row n first middle after place.local far)) so_far))
+      (sym (pair_kept bytes before i row n first middle after place.local far)) (held_number relocated (omega (arith, most)) (used.2) i row k below is_field alone valued size small)))
 
   -- ---- instructions
 
@@ -408,24 +400,21 @@ module _ (architecture : Architecture) (addresses : Addresses) (bytes : List ℕ
             let here : WritesRow row v (field_bytes bytes before n row middle) (field_bytes bytes before n row after) =
             subst (λ x. WritesRow row x (field_bytes bytes before n row middle) (field_bytes bytes before n row after)) (sym same_row.value_is)
             (subst (λ x. WritesRow x w (field_bytes bytes before n x middle) (field_bytes bytes before n x after)) (sym same_row.row_is) writes) in
-            let is_field_here : IsField architecture bytes before n row = subst (λ j. IsField architecture bytes before j row) at is_field in
             subst (λ j. WritesRow row v (field_bytes bytes before j row before) (field_bytes bytes before j row after)) (sym at)
             (subst (λ x. WritesRow row v x (field_bytes bytes before n row after))
             (field_untouched architecture bytes before n row middle (untouched_at (omega (arith, most)) relocated)
-            (alone_first architecture bytes before n row (fewer_apart n (n + 1) most) is_field_here alone)) here)
+            (alone_first architecture bytes before n row (fewer_apart n (n + 1) most) (subst (λ j. IsField architecture bytes before j row) at is_field) alone)) here)
         | is_joined joins writes some ↦ alone_joins_none joins (alone.0)
       ]
   held_alone (pair {n} {middle} {after} relocated written) most used i row v below is is_field alone =
       elim (cases_eq i n) [
         | inl at ↦
-            let same_row = one_found (found n) row written.pair.row v written.pair.value (ap found (sym at) ∙ is) (used.0) in
             absurd (true≢false (sym (or_left (begins_pair written.pair.row.size written.pair.row.kind) (ends_pair written.pair.row.size written.pair.row.kind) written.pair.begins)
-            ∙ (ap is_of_pair (sym same_row.row_is) ∙ alone.1)))
+            ∙ (ap is_of_pair (sym (one_found (found n) row written.pair.row v written.pair.value (ap found (sym at) ∙ is) (used.0)).row_is) ∙ alone.1)))
         | inr isnt ↦ elim (cases_eq i (n + 1)) [
           | inl at ↦
-              let same_row = one_found (found (n + 1)) row written.pair.other v written.pair.subtracted (ap found (sym at) ∙ is) (used.1) in
               absurd (true≢false (sym (or_right (begins_pair written.pair.other.size written.pair.other.kind) (ends_pair written.pair.other.size written.pair.other.kind) written.pair.ends)
-              ∙ (ap is_of_pair (sym same_row.row_is) ∙ alone.1)))
+              ∙ (ap is_of_pair (sym (one_found (found (n + 1)) row written.pair.other v written.pair.subtracted (ap found (sym at) ∙ is) (used.1)).row_is) ∙ alone.1)))
           | inr far ↦
               let first = written.pair.row in
               let place = pair_place architecture addresses bytes before middle after values n (fewer_apart n (n + 2) most) (untouched_at (omega (arith, most)) relocated) written in
@@ -454,23 +443,19 @@ module _ (architecture : Architecture) (addresses : Addresses) (bytes : List ℕ
       let pair = written.pair in
       let first = pair.row in
       let so_far = untouched_at (omega (arith, most)) relocated in
-      let apart_here = fewer_apart n (n + 2) most in
-      let place = pair_place architecture addresses bytes before middle after values n apart_here so_far written in
+      let place = pair_place architecture addresses bytes before middle after values n (fewer_apart n (n + 2) most) so_far written in
       let w = field_len first (drop p before) in
       let was = written.written.was in
       let whole : w ≡ was.last + 1 = place.len_is ∙ uleb_len_is (drop p middle) written.written.old written.written.rest was in
       let same : take w (drop p middle) ≡ take w (drop p before) =
       field_untouched architecture bytes before n first middle so_far (pair_first architecture bytes before n first (fewer_apart n (n + 1) (omega (arith, most))) place.is_field pair.begins) in
       let rest : drop p after ≡ written.rest = ap (drop p) written.around ∙ drop_at (take p middle) written.rest p (length-take-le p middle written.inside) in
-      let front = written_front (drop p middle) written.number written.rest written.written w whole in
       let old : Uleb (take w (drop p before)) written.written.old [] =
       subst (λ x. Uleb x written.written.old []) same (uleb_front (drop p middle) written.written.old written.written.rest was w whole) in
       let d = length-drop p before in let dm = length-drop p middle in let len = so_far.0 in
-      let was_there = was.there in
       let there = uleb_same (drop p middle) (drop p before) written.written.old written.written.rest was
-      (subst (λ k. take k (drop p before) ≡ take k (drop p middle)) whole (sym same)) (omega (arith, d, dm, len, was_there)) in
+      (subst (λ k. take k (drop p before) ≡ take k (drop p middle)) whole (sym same)) (omega (arith, d, dm, len, was.there)) in
       let last = same_last (drop p middle) written.number written.rest written.written in
-      let below = uleb_below written.rest written.number written.written.rest written.written.is in
       let make : (xs : List ℕ) (xs_rest : List ℕ) → Uleb xs written.written.old xs_rest → MakePair found bytes n xs written.number =
       λ xs xs_rest u. record {
         row = first;
@@ -487,14 +472,14 @@ module _ (architecture : Architecture) (addresses : Addresses) (bytes : List ℕ
       record {
         held = make (take w (drop p before)) [] old;
         written = subst (λ x. IsUlebWritten (take w (drop p before)) written.number (take w x)) (sym rest)
-            (subst (λ x. IsUlebWritten x written.number (take w written.rest)) same front);
+            (subst (λ x. IsUlebWritten x written.number (take w written.rest)) same (written_front (drop p middle) written.number written.rest written.written w whole));
         fits = record {
           number = written.number;
           pair = make (drop p before) _ (there.0);
           old = written.written.old;
           rest = drop (was.last + 1) (drop p before);
           there = there.0;
-          fits = subst (λ k. written.number < 128 ^ (k + 1)) (sym last ∙ sym (there.1)) below;
+          fits = subst (λ k. written.number < 128 ^ (k + 1)) (sym last ∙ sym (there.1)) (uleb_below written.rest written.number written.written.rest written.written.is);
         };
       }
 
@@ -506,8 +491,7 @@ module _ (architecture : Architecture) (addresses : Addresses) (bytes : List ℕ
   second_bytes {n} {middle} after relocated most written section =
       let pair = written.pair in
       let some = begun_has_value pair.row.size pair.row.kind pair.begins in
-      let place = same_place architecture bytes before n pair.row pair.other pair.same_offset some pair.begins pair.ends in
-      ap (λ w. take w (drop (offset_at bytes n) section)) (sym place.len_is)
+      ap (λ w. take w (drop (offset_at bytes n) section)) (sym (same_place architecture bytes before n pair.row pair.other pair.same_offset some pair.begins pair.ends).len_is)
       ∙ ap (λ p. take (field_len pair.other (drop (offset_at bytes (n + 1)) before)) (drop p section)) (sym pair.same_offset)
 
   held_pair : {n : ℕ} {now : List ℕ} (relocated : AreRelocated architecture addresses bytes values before n now)
@@ -524,8 +508,7 @@ module _ (architecture : Architecture) (addresses : Addresses) (bytes : List ℕ
       let alone = written_alone other w (offset_at bytes n) middle after written in
       elim (cases_eq i n) [
         | inl at ↦
-            let same_row = one_found (found n) row other v w (ap found (sym at) ∙ is) (used.0) in
-            absurd (true≢false (sym paired ∙ (ap is_of_pair same_row.row_is ∙ alone)))
+            absurd (true≢false (sym paired ∙ (ap is_of_pair (one_found (found n) row other v w (ap found (sym at) ∙ is) (used.0)).row_is ∙ alone)))
         | inr isnt ↦ elim (step architecture addresses bytes values before total i row n other w middle after apart (omega (arith, below, most)) (omega (arith, most)) is_field has written) [
           | is_kept same far ↦
               subst (λ x. OfPair (HoldsPair found bytes (field_bytes bytes before i row before) x) (n + 1) i) (sym same)
@@ -590,13 +573,10 @@ module _ (architecture : Architecture) (addresses : Addresses) (bytes : List ℕ
   front_at {n} {middle} other v (BitMasking bits insn) is most relocated has =
       let p = offset_at bytes n in
       let alone : is_of_pair other ≡ false = ap (λ x. begins_pair x other.kind || ends_pair x other.kind) is in
-      let some = has.valued in
-      let len : field_len other (drop p before) ≡ size_len (BitMasking bits insn) = len_alone other (drop p before) some alone ∙ ap size_len is in
-      let width = some_window insn in
-      let is_field : IsField architecture bytes before n other = record { is_row = has.is_row; some = subst (λ k. 0 < k) (sym len) width } in
+      let len : field_len other (drop p before) ≡ size_len (BitMasking bits insn) = len_alone other (drop p before) has.valued alone ∙ ap size_len is in
       subst (λ k. take k (drop p middle) ≡ take k (drop p before)) len
       (field_untouched architecture bytes before n other middle (untouched_at (omega (arith, most)) relocated)
-      (alone_first architecture bytes before n other (fewer_apart n (n + 1) most) is_field
+      (alone_first architecture bytes before n other (fewer_apart n (n + 1) most) (record { is_row = has.is_row; some = subst (λ k. 0 < k) (sym len) (some_window insn) })
       (instruction_alone architecture _ other bits insn has.is_row is, alone)))
 
   pub same_at : {n : ℕ} {middle : List ℕ} (other : RowInfo) (v : ℤ) (size : RowSize)
@@ -628,12 +608,9 @@ module _ (architecture : Architecture) (addresses : Addresses) (bytes : List ℕ
       elim (cases_eq i n) [
         | inl at ↦
             let p = offset_at bytes n in
-            let alone = written_alone other w p middle after written in
             let same_row = one_found (found n) row other v w (ap found (sym at) ∙ is) (used.0) in
-            let so_far = untouched_at (omega (arith, most)) relocated in
-            let len = so_far.0 in let inside = written.inside in
+            let len = (untouched_at (omega (arith, most)) relocated).0 in let inside = written.inside in
             let d = length-drop p before in let dm = length-drop p middle in
-            let long = written.written.accepted.long in
             let here : IsAcceptedAt other w p before =
             record {
               inside = omega (arith, inside, len);
@@ -642,12 +619,12 @@ module _ (architecture : Architecture) (addresses : Addresses) (bytes : List ℕ
               holds = offset_same other w (drop p before) (drop p middle) (window_back other.size (drop p middle) (drop p before)
                   (same_at other w other.size refl (omega (arith, most)) relocated has)) ∙ written.holds;
               accepted = accepted_same other w (drop p middle) (drop p before)
-                  (same_at other w other.size refl (omega (arith, most)) relocated has) (omega (arith, long, d, dm, len)) written.written.accepted;
+                  (same_at other w other.size refl (omega (arith, most)) relocated has) (omega (arith, written.written.accepted.long, d, dm, len)) written.written.accepted;
             } in (
               (λ _. subst (λ j. IsAcceptedAt row v (offset_at bytes j) before) (sym at)
                   (subst (λ x. IsAcceptedAt row x p before) (sym same_row.value_is)
                   (subst (λ x. IsAcceptedAt x w p before) (sym same_row.row_is) here))),
-              (λ paired. absurd (true≢false (sym paired ∙ (ap is_of_pair same_row.row_is ∙ alone)))),
+              (λ paired. absurd (true≢false (sym paired ∙ (ap is_of_pair same_row.row_is ∙ (written_alone other w p middle after written))))),
             )
         | inr isnt ↦ accepted_more n (n + 1) i row (omega arith) (are_accepted relocated (omega (arith, most)) (used.1) i row v (omega (arith, below, isnt)) is)
       ]
@@ -681,11 +658,10 @@ module _ (architecture : Architecture) (addresses : Addresses) (bytes : List ℕ
       stays relocated (omega (arith, most)) (used.1) p (λ i row v below. outside i row v (omega (arith, below)))
   stays (one {n} {middle} {after} {row} {v} relocated has written) most used p outside =
       let o = offset_at bytes n in
-      let len : field_len row (drop o before) ≡ window_len row = len_alone row (drop o before) has.valued (written_alone row v o middle after written) in
       local_byte o (window_len row) p middle after (one_local row v o middle after written)
       (elim (outside n row v (omega arith) (used.0)) [
         | inl below ↦ inl below
-        | inr following ↦ inr (omega (arith, following, len))
+        | inr following ↦ inr (omega (arith, following, (len_alone row (drop o before) has.valued (written_alone row v o middle after written))))
       ])
       ∙ stays relocated (omega (arith, most)) (used.1) p (λ i row v below. outside i row v (omega (arith, below)))
   stays (pair {n} {middle} {after} relocated written) most used p outside =
@@ -709,9 +685,7 @@ module _ (architecture : Architecture) (addresses : Addresses) (bytes : List ℕ
       held_alone relocated (omega arith) used i row v below is is_field
       (instruction_alone architecture _ row bits insn is_field.is_row size, alone)
   value_held relocated used small i row v below is is_field valued alone supported_size (ByteSize zero) size =
-      let len : field_len row (drop (offset_at bytes i) before) ≡ 0 = len_alone row (drop (offset_at bytes i) before) valued alone ∙ ap size_len size in
-      let some = is_field.some in
-      absurd (omega (arith, len, some))
+      absurd (omega (arith, (len_alone row (drop (offset_at bytes i) before) valued alone ∙ ap size_len size), is_field.some))
   value_held relocated used small i row v below is is_field valued alone supported_size (ByteSize (suc k)) size =
       let most = small_bytes row.kind (suc k) (subst (λ x. takes_size row.kind x ≡ true) size supported_size) in
       held_number relocated (omega arith) used i row k below is_field alone valued size

@@ -69,10 +69,7 @@ units_same : (size : RowSize) (v : ℤ) (xs ys : List ℕ) → HaveSameWindow si
 units_same (ByteSize n) v xs ys same is = tt
 units_same (BitMasking bits (Ppc64 Ds)) v xs ys same is =
     subst (λ x. is_dq_form x ≡ true → IsAligned 16 v) same is
-units_same (BitMasking bits (Ppc64 _)) v xs ys same is = tt
-units_same (BitMasking bits (AArch64 f)) v xs ys same is = tt
-units_same (BitMasking bits (RiscV f)) v xs ys same is = tt
-units_same (BitMasking bits (LoongArch64 f)) v xs ys same is = tt
+units_same (BitMasking bits _) v xs ys same is = tt
 
 words_same : (size : RowSize) (kind : RelocationKind) (v : ℤ) (xs ys : List ℕ)
     → HaveSameWindow size xs ys → IsInWords size kind v xs → IsInWords size kind v ys

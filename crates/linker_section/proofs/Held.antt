@@ -65,8 +65,7 @@ field_untouched architecture bytes before n row now so_far first =
     let w = field_len row (drop o before) in
     let d = length-drop o before in let dn = length-drop o now in
     let t = length-take w (drop o before) in let tn = length-take w (drop o now) in
-    let len = so_far.0 in
-    ext_get_or 0 (take w (drop o now)) (take w (drop o before)) (omega (arith, d, dn, t, tn, len))
+    ext_get_or 0 (take w (drop o now)) (take w (drop o before)) (omega (arith, d, dn, t, tn, so_far.0))
     (λ i below.
     let inside : i < w = omega (arith, below, tn) in
     get_or-take w (drop o now) i 0 inside
@@ -79,9 +78,8 @@ pub own_write : (row : RowInfo) (v : ℤ) (o : ℕ) (now after : List ℕ)
     → IsWritten row v o now after
     → WritesRow row v (take (window_len row) (drop o now)) (take (window_len row) (drop o after))
 own_write row v o now after w =
-    let n = length-take-le o now w.inside in
     subst (λ rest. WritesRow row v (take (window_len row) (drop o now)) (take (window_len row) rest))
-    (sym (ap (drop o) w.around ∙ drop_at (take o now) w.rest o n))
+    (sym (ap (drop o) w.around ∙ drop_at (take o now) w.rest o (length-take-le o now w.inside)))
     (writes_front row v (drop o now) w.rest w.written)
 
 -- ---- one more write
@@ -158,11 +156,9 @@ step architecture addresses bytes values before total i row n other v now after 
     let o = offset_at bytes i in
     let w = field_len row (drop o before) in
     let p = offset_at bytes n in
-    let some = has.valued in
     let alone = written_alone other v p now after written in
-    let len : field_len other (drop p before) ≡ window_len other = len_alone other (drop p before) some alone in
+    let len : field_len other (drop p before) ≡ window_len other = len_alone other (drop p before) has.valued alone in
     let local = one_local other v p now after written in
-    let width = is_field.some in
     let writes : WritesRow other v (field_bytes bytes before n other now) (field_bytes bytes before n other after) =
     subst (λ k. WritesRow other v (take k (drop p now)) (take k (drop p after))) (sym len) (own_write other v p now after written) in
     elim (cases_eq (window_len other) 0) [
@@ -171,7 +167,7 @@ step architecture addresses bytes values before total i row n other v now after 
       | inr wide ↦
           let is_other : IsField architecture bytes before n other = record { is_row = has.is_row; some = omega (arith, wide, len) } in
           elim (meet architecture bytes before total i row n other apart i_below n_below is_field is_other) [
-            | is_ahead x ↦ is_kept (kept_ahead o w p (window_len other) now after local x) (λ _ at. omega (arith, x, at, width))
+            | is_ahead x ↦ is_kept (kept_ahead o w p (window_len other) now after local x) (λ _ at. omega (arith, x, at, is_field.some))
             | is_after x ↦
                 is_kept (kept_after o w p (window_len other) now after local (inl (omega (arith, x, len))))
                 (λ is at. omega (arith, x, at, is))

@@ -37,8 +37,7 @@ small_window (LoongArch64 f) = small_loongarch f
 
 pub small_bytes : (kind : RelocationKind) (n : ℕ) → takes_size kind (ByteSize n) ≡ true → n ≤ 8
 small_bytes kind n supported_size =
-    let parts = and_parts (nat_lt n 9) (not (is_of_uleb128 kind n)) supported_size in
-    let l = ltb-true n 9 (parts.0) in omega (arith, l)
+    let l = ltb-true n 9 ((and_parts (nat_lt n 9) (not (is_of_uleb128 kind n)) supported_size).0) in omega (arith, l)
 
 pub small_size : (size : RowSize) (kind : RelocationKind) → takes_size kind size ≡ true
     → size_len size ≤ 8
@@ -83,20 +82,16 @@ pair_local architecture addresses bytes values first before after w =
     let offset = offset_at bytes first in
     let there = drop offset before in
     let n = length-take-le offset before w.inside in
-    let same = w.written.same_length in
     let is = uleb_len_is there w.written.old w.written.rest w.written.was in
     let was = w.written.was in
-    let now = w.written.is in
     let d = length-drop offset before in
     let i = w.inside in
-    let was_there = was.there in
-    let last = same_last there w.number w.rest w.written in
     record {
-      inside = omega (arith, is, d, i, was_there);
+      inside = omega (arith, is, d, i, was.there);
       kept = ap (take offset) w.around ∙ take_at (take offset before) w.rest offset n;
       following = sym (drop-drop (uleb_len (take 10 there)) offset after)
           ∙ (ap (drop (uleb_len (take 10 there))) (ap (drop offset) w.around ∙ drop_at (take offset before) w.rest offset n)
-          ∙ (ap (λ k. drop k w.rest) (is ∙ ap (λ k. k + 1) last)
-          ∙ (sym now.rest_is ∙ (was.rest_is ∙ (ap (λ k. drop k there) (sym is) ∙ drop-drop (uleb_len (take 10 there)) offset before)))));
-      same_length = ap length w.around ∙ (length-append (take offset before) w.rest ∙ (omega (arith, n, same, d, i)));
+          ∙ (ap (λ k. drop k w.rest) (is ∙ ap (λ k. k + 1) (same_last there w.number w.rest w.written))
+          ∙ (sym w.written.is.rest_is ∙ (was.rest_is ∙ (ap (λ k. drop k there) (sym is) ∙ drop-drop (uleb_len (take 10 there)) offset before)))));
+      same_length = ap length w.around ∙ (length-append (take offset before) w.rest ∙ (omega (arith, n, w.written.same_length, d, i)));
     }

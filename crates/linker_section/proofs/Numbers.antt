@@ -15,13 +15,10 @@ record IsRest (z : ℤ) (m : ℕ) : Type 0 where
 
 rest_of : (z : ℤ) (m : ℕ) → 0 < m → IsRest z m
 rest_of (pos a) m some =
-    let e = div-add-mod' a m in
-    record { up = 0; down = a / m; rest = a % m; is = omega (arith, ints, e); rest_is = refl }
+    record { up = 0; down = a / m; rest = a % m; is = omega (arith, ints, (div-add-mod' a m)); rest_is = refl }
 rest_of (negsuc a) m some =
-    let e = div-add-mod' a m in
-    let l = mod_below a m some in
     let more : (a / m + 1) * m ≡ a / m * m + m = omega arith in
-    record { up = a / m + 1; down = 0; rest = m - 1 - a % m; is = omega (arith, ints, e, l, more); rest_is = refl }
+    record { up = a / m + 1; down = 0; rest = m - 1 - a % m; is = omega (arith, ints, (div-add-mod' a m), (mod_below a m some), more); rest_is = refl }
 
 left_distrib : (a b m : ℕ) → (a + b) * m ≡ a * m + b * m
 left_distrib a b m = omega arith
@@ -30,10 +27,8 @@ sum_rest : (a b : ℤ) (m : ℕ) (some : 0 < m) (x : IsRest a m) (y : IsRest b m
     → int_rem_euclid (a +ℤ b) (pos m) ≡ pos ((x.rest + y.rest) % m)
 sum_rest a b m some x y =
     let p = x.is in let q = y.is in
-    let up = left_distrib x.up y.up m in
-    let down = left_distrib x.down y.down m in
     int_rem_euclid_is (a +ℤ b) (pos m) m (x.up + y.up) (x.rest + y.rest + (x.down + y.down) * m) some refl
-    (omega (arith, ints, p, q, up, down))
+    (omega (arith, ints, p, q, (left_distrib x.up y.up m), (left_distrib x.down y.down m)))
     ∙ ap pos (add-mul-mod_self_right (x.rest + y.rest) (x.down + y.down) m)
 
 pub same_sum : (a b v : ℤ) (m : ℕ) → 0 < m → int_rem_euclid a (pos m) ≡ int_rem_euclid b (pos m)
@@ -42,8 +37,7 @@ same_sum a b v m some same =
     let x = rest_of a m some in
     let y = rest_of b m some in
     let z = rest_of v m some in
-    let rest : x.rest ≡ y.rest = ap unsigned_abs (sym x.rest_is ∙ (same ∙ y.rest_is)) in
-    sum_rest a v m some x z ∙ (ap (λ n. pos ((n + z.rest) % m)) rest ∙ sym (sum_rest b v m some y z))
+    sum_rest a v m some x z ∙ (ap (λ n. pos ((n + z.rest) % m)) (ap unsigned_abs (sym x.rest_is ∙ (same ∙ y.rest_is))) ∙ sym (sum_rest b v m some y z))
 
 pub same_difference : (a b v : ℤ) (m : ℕ) → 0 < m
     → int_rem_euclid a (pos m) ≡ int_rem_euclid b (pos m)
@@ -64,22 +58,16 @@ low_sum : (s : ℕ → ℕ) (k : ℕ) → ((i : ℕ) → s i < 256)
     → sum_through (λ i. byte_worth i (s i)) k < 256 ^ (k + 1)
 low_sum s zero small = let l = small 0 in omega (arith, l)
 low_sum s (suc k) small =
-    let below = low_sum s k small in
-    let l = small (suc k) in
-    let most : s (suc k) * 256 ^ suc k ≤ 255 * 256 ^ suc k = mul-le (s (suc k)) (256 ^ suc k) 255 (256 ^ suc k) (omega (arith, l)) (omega arith) in
-    let next : 256 ^ suc (suc k) ≡ 256 ^ suc k * 256 = pow-suc 256 (suc k) in
     let same : 256 ^ (suc k + 1) ≡ 256 ^ suc (suc k) = ap (λ n. 256 ^ n) (let e : suc k + 1 ≡ suc (suc k) = omega arith in e) in
     let here : 256 ^ (k + 1) ≡ 256 ^ suc k = ap (λ n. 256 ^ n) (let e : k + 1 ≡ suc k = omega arith in e) in
-    omega (arith, below, most, next, same, here)
+    omega (arith, (low_sum s k small), (mul-le (s (suc k)) (256 ^ suc k) 255 (256 ^ suc k) (omega (arith, (small (suc k)))) (omega arith)), (pow-suc 256 (suc k)), same, here)
 
 zero_sum : (s : ℕ → ℕ) (k j : ℕ) → ((i : ℕ) → k < i → s i ≡ 0)
     → sum_through (λ i. byte_worth i (s i)) (k + j) ≡ sum_through (λ i. byte_worth i (s i)) k
 zero_sum s k zero none = ap (sum_through (λ i. byte_worth i (s i))) (let e : k + 0 ≡ k = omega arith in e)
 zero_sum s k (suc j) none =
-    let rest = zero_sum s k j none in
-    let last : s (suc (k + j)) ≡ 0 = none (suc (k + j)) (omega arith) in
     ap (sum_through (λ i. byte_worth i (s i))) (let e : k + suc j ≡ suc (k + j) = omega arith in e)
-    ∙ (ap (λ x. sum_through (λ i. byte_worth i (s i)) (k + j) + x * 256 ^ suc (k + j)) last ∙ omega (arith, rest))
+    ∙ (ap (λ x. sum_through (λ i. byte_worth i (s i)) (k + j) + x * 256 ^ suc (k + j)) (none (suc (k + j)) (omega arith)) ∙ omega (arith, (zero_sum s k j none)))
 
 pow_256 : (i : ℕ) → 256 ^ i ≡ 2 ^ (8 * i)
 pow_256 zero = refl
@@ -105,11 +93,9 @@ byte_below : (xs : List ℕ) (n z i : ℕ) → ((j : ℕ) → slice_index xs j <
 byte_below xs n z i small =
     elim (cases_lt i (length (take n xs))) [
       | inl under ↦
-          let l = length-take n xs in
-          let s = small i in
           let e : slice_index (take n xs ++ replicate z 0) i ≡ slice_index xs i =
-          get_or_append_left (take n xs) (replicate z 0) 0 i under ∙ get_or-take n xs i 0 (omega (arith, under, l)) in
-          omega (arith, e, s)
+          get_or_append_left (take n xs) (replicate z 0) 0 i under ∙ get_or-take n xs i 0 (omega (arith, under, (length-take n xs))) in
+          omega (arith, e, (small i))
       | inr past ↦ let e = zero_byte xs n z i past in omega (arith, e)
     ]
 
@@ -120,8 +106,7 @@ pub number_small : (xs : List ℕ) (k : ℕ) → ((j : ℕ) → slice_index xs j
     → number_of_bytes (suc k) xs < 2 ^ (8 * suc k)
 number_small xs k small most =
     let s : ℕ → ℕ = λ i. slice_index (take (suc k) xs ++ replicate (8 - suc k) 0) i in
-    let l = length-take (suc k) xs in
-    let none : (i : ℕ) → k < i → s i ≡ 0 = λ i above. zero_byte xs (suc k) (8 - suc k) i (omega (arith, above, l)) in
+    let none : (i : ℕ) → k < i → s i ≡ 0 = λ i above. zero_byte xs (suc k) (8 - suc k) i (omega (arith, above, (length-take (suc k) xs))) in
     let sum : number_of_bytes (suc k) xs ≡ sum_through (λ i. byte_worth i (s i)) k =
     ap (λ n. sum_through (λ i. byte_worth i (s i)) n) (sym (last_of k most)) ∙ zero_sum s k (7 - k) none in
     let below = low_sum s k (λ i. byte_below xs (suc k) (8 - suc k) i small) in
@@ -164,8 +149,7 @@ above_6 a k small =
 below_whole : (a k : ℕ) → a / 64 < 2 ^ (8 * k + 2) → a < 2 ^ (8 * suc k)
 below_whole a k above =
     let e : 8 * suc k ≡ 8 * k + 2 + 6 = omega arith in
-    let p = pow-add 2 (8 * k + 2) 6 in
-    subst (λ n. a < 2 ^ n) (sym e) (omega (arith, p, above))
+    subst (λ n. a < 2 ^ n) (sym e) (omega (arith, (pow-add 2 (8 * k + 2) 6), above))
 
 word6_step : (kind : RelocationKind) (v c : ℤ) (k a b : ℕ) → is_word6 kind ≡ true
     → a < 2 ^ (8 * suc k) → pos (a % 64) ≡ int_rem_euclid c (pos 64)
@@ -178,10 +162,8 @@ word6_step kind v c k a b is small low written =
     let below : x < 2 ^ 6 = rem_below z x 6 (sym r.rest_is) in
     let whole : whole_number kind v a ≡ pos (a - a % 64 + x) =
     word6_whole kind v a is ∙ ap (λ y. pos (a - a % 64) +ℤ y) r.rest_is in
-    let above = above_6 a k small in
-    let t : a - a % 64 + x < 2 ^ (8 * suc k) = below_whole (a - a % 64 + x) k (omega (arith, above, below)) in
     let same : b ≡ a - a % 64 + x =
-    ap unsigned_abs (written ∙ ap (λ y. int_rem_euclid y (pos (2 ^ (8 * suc k)))) whole) ∙ mod-eq_of_lt t in (
+    ap unsigned_abs (written ∙ ap (λ y. int_rem_euclid y (pos (2 ^ (8 * suc k)))) whole) ∙ mod-eq_of_lt (below_whole (a - a % 64 + x) k (omega (arith, (above_6 a k small), below))) in (
       ap pos (omega (arith, same, below)) ∙ (sym r.rest_is ∙ word6_with kind v c a is low),
       omega (arith, same, below),
     )
@@ -240,12 +222,9 @@ holds_next kind other k v c old now next alike small holds written =
       | inl word ↦
           let so_far = word6_from kind n c old now word holds in
           let high = so_far.high in
-          let above = above_6 (number_of_bytes n old) k small in
-          let below : a < 2 ^ (8 * suc k) = below_whole a k (omega (arith, high, above)) in
-          let step = word6_step other v c k a (number_of_bytes n next) (alike ∙ word) below so_far.low written in
+          let step = word6_step other v c k a (number_of_bytes n next) (alike ∙ word) (below_whole a k (omega (arith, high, (above_6 (number_of_bytes n old) k small)))) so_far.low written in
           word6_to kind n _ old next word (record { low = step.0; high = step.1 ∙ high })
       | inr plain ↦
           let so_far = plain_from kind n c old now plain holds in
-          let rest = rem_rem c a (8 * n) (8 * n) (omega arith) so_far in
-          plain_to kind n _ old next plain (written ∙ plain_with other v c a (2 ^ (8 * n)) (pow_pos (8 * n)) (alike ∙ plain) rest)
+          plain_to kind n _ old next plain (written ∙ plain_with other v c a (2 ^ (8 * n)) (pow_pos (8 * n)) (alike ∙ plain) (rem_rem c a (8 * n) (8 * n) (omega arith) so_far))
     ]

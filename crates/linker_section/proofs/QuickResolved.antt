@@ -41,13 +41,11 @@ module _ (architecture : Architecture) (addresses : Addresses) (bytes : List ℕ
   plain_resolved plain origin value =
       let r = relocation_in bytes i in
       let quick : is_quick row ≡ true = or_left (is_plain row) (is_low row) plain in
-      let valued = when_true (is_quick row) (has_value row.kind) true way.has_value quick in
       let label = when_true (is_plain row) (names_label row.size row.kind) false way.unlabelled plain in
-      let offset = when_true (is_quick row) (is_offset row.kind) _ way.offset quick in
       let defined = is_defined_in (Some known) in
       let none : (is_offset row.kind && (not addresses.has_tls && defined)) ≡ false =
-      ap (λ b. b && (not addresses.has_tls && defined)) offset ∙ and_false _ _ defined origin in
-      let own = sym (cond-true (has_value row.kind) _ (Ok None) valued
+      ap (λ b. b && (not addresses.has_tls && defined)) (when_true (is_quick row) (is_offset row.kind) _ way.offset quick) ∙ and_false _ _ defined origin in
+      let own = sym (cond-true (has_value row.kind) _ (Ok None) (when_true (is_quick row) (has_value row.kind) true way.has_value quick)
       ∙ (ap (λ b. value_by b row (resolved_operands architecture addresses row r (Some known))) none
       ∙ (ap (value_by false row) value.found ∙ ap Ok value.value_is))) in
       record {
@@ -77,13 +75,10 @@ module _ (architecture : Architecture) (addresses : Addresses) (bytes : List ℕ
       → IsValueAt (difference_64 known.address addresses.section) high v
       → IsQuickResolved architecture addresses bytes lookup i row v
   low_resolved low high highs value =
-      let r = relocation_in bytes i in
       let quick : is_quick row ≡ true = or_right (is_plain row) (is_low row) low in
       let part = subst (λ x. IfSome x (IsResolvedHigh architecture addresses bytes lookup)) (value.1) highs in
       let kind = when_true (is_low row) row.kind kinds.RelativeRiscVLow12 way.labelled low in
-      let label : names_label row.size row.kind ≡ true = ap (names_label row.size) kind in
-      let at = difference_64 known.address addresses.section in
-      let here : IsHighPart architecture bytes row.kind at part.r part.row = record {
+      let here : IsHighPart architecture bytes row.kind (difference_64 known.address addresses.section) part.r part.row = record {
         index = part.part.index;
         is_there = part.part.is_there;
         offset_is = part.part.offset_is ∙ sym (value.2);
@@ -94,7 +89,7 @@ module _ (architecture : Architecture) (addresses : Addresses) (bytes : List ℕ
       ∙ ap Ok (when_true (is_low row) _ _ (way.low_value (low_operands part.row part.operands)) low
       ∙ (part.low ∙ ap Some (sym (value.3))))) in
       record {
-        at = at_once quick (subst (λ b. IsResolvedBy b architecture addresses bytes lookup row r (Some known) (Ok (Some v))) (sym label)
+        at = at_once quick (subst (λ b. IsResolvedBy b architecture addresses bytes lookup row (relocation_in bytes i) (Some known) (Ok (Some v))) (sym (ap (names_label row.size) kind))
             (IsLowResolved.by_high here is));
         high = λ is_high. absurd (low_isnt_high (way_of row.size row.kind) low is_high);
       }

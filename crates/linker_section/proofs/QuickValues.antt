@@ -44,10 +44,9 @@ plain_quick architecture addresses bytes symbols r row v is_row way plain origin
     let quick : is_quick row ≡ true = or_left (is_plain row) (is_low row) plain in
     let valued = when_true (is_quick row) (has_value row.kind) true way.has_value quick in
     let label = when_true (is_plain row) (names_label row.size row.kind) false way.unlabelled plain in
-    let offset = when_true (is_quick row) (is_offset row.kind) _ way.offset quick in
     let defined = is_defined (slice_get symbols r.symbol) in
     let there : lacks_origin addresses symbols row r ≡ false =
-    ap (λ b. b && (not addresses.has_tls && defined)) offset ∙ and_false _ _ defined origin in
+    ap (λ b. b && (not addresses.has_tls && defined)) (when_true (is_quick row) (is_offset row.kind) _ way.offset quick) ∙ and_false _ _ defined origin in
     let own : Ok (Some v) ≡ own_value architecture addresses symbols row r =
     sym (cond-true (has_value row.kind) _ (Ok None) valued
     ∙ (ap (λ b. value_by b row (operands_of architecture addresses symbols row r)) there
@@ -78,7 +77,6 @@ low_quick architecture addresses bytes symbols r row v high is_row way low keeps
     let quick : is_quick row ≡ true = or_right (is_plain row) (is_low row) low in
     let part = subst (λ x. IfSome x (IsHighValue architecture addresses bytes symbols)) value.is_part highs in
     let kind = when_true (is_low row) row.kind kinds.RelativeRiscVLow12 way.labelled low in
-    let label : names_label row.size row.kind ≡ true = ap (names_label row.size) kind in
     let found : Option (Rela × RowInfo) = Some (part.r, part.row) in
     let distance = difference_64 value.label.address addresses.section in
     let at : IsHighPartAt architecture bytes row.kind distance found =
@@ -91,7 +89,7 @@ low_quick architecture addresses bytes symbols r row v high is_row way low keeps
     record {
       has = record {
         is_row = is_row;
-        is_value = subst (λ b. IsValueBy b architecture addresses bytes symbols row r (Ok (Some v))) (sym label)
+        is_value = subst (λ b. IsValueBy b architecture addresses bytes symbols row r (Ok (Some v))) (sym (ap (names_label row.size) kind))
             (subst (λ l. IsLowValue architecture addresses bytes symbols row l (Ok (Some v))) (sym value.is_label) (found, at, is));
         keeps_toc = keeps;
         in_reach = λ needs. absurd (true≢false (sym needs ∙ reached));
@@ -146,8 +144,7 @@ pub high_is : (architecture : Architecture) (addresses : Addresses) (bytes : Lis
     → IsHighValue architecture addresses bytes symbols (record { offset = offset; value = v })
 high_is architecture addresses bytes symbols i row offset v there same way high value =
     let r = relocation_in bytes i in
-    let plain : is_plain row ≡ true = plain_high (way_of row.size row.kind) high in
-    let label = when_true (is_plain row) (names_label row.size row.kind) false way.unlabelled plain in
+    let label = when_true (is_plain row) (names_label row.size row.kind) false way.unlabelled (plain_high (way_of row.size row.kind) high) in
     let own : Ok (Some v) ≡ own_value architecture addresses symbols row r =
     subst (λ b. IsValueBy b architecture addresses bytes symbols row r (Ok (Some v))) label value.has.is_value in
     let found = operands_found (lacks_origin addresses symbols row r) row v (operands_of architecture addresses symbols row r)

@@ -35,8 +35,7 @@ pub all_written : (architecture : Architecture) (addresses : Addresses) (bytes :
     → AreApart architecture bytes before i → length bytes / 24 ≤ i
     → AreAllRelocatedBy architecture addresses bytes values before now
 all_written architecture addresses bytes values before now memory i below apart following =
-    let within = below.within in
-    let all : i ≡ length bytes / 24 = omega (arith, following, within) in
+    let all : i ≡ length bytes / 24 = omega (arith, following, below.within) in
     all_relocated architecture addresses bytes before now values
     (subst (AreApart architecture bytes before) all apart)
     (subst (λ n. AreRelocated architecture addresses bytes values before n now) all below.relocated)
@@ -120,20 +119,17 @@ front_quickly architecture addresses bytes values before now after memory other 
     let last = front.last in
     let value = quick.value in
     let field : Field = record { offset = o; len = window_len row; kind = row.kind } in
-    let some = value.some in
     let following = quick.following in
     let within = front.within in
     let same : field_of_row row o now ≡ field =
     ap (λ n. record { offset = o; len = n; kind = row.kind }) (len_alone row (drop o now) value.has.valued value.single) in
     let next_is : next_field (field_of_row row o now) last ≡ field =
     ap (λ f. next_field f last) same
-    ∙ cond-false (eqb (window_len row) 0) last field (ne_eqb (window_len row) 0 (λ e. omega (arith, e, some))) in
+    ∙ cond-false (eqb (window_len row) 0) last field (ne_eqb (window_len row) 0 (λ e. omega (arith, e, value.some))) in
     let far : leb last.len (o - last.offset) ≡ true = le-leb last.len (o - last.offset) (omega (arith, following, within)) in
-    let clear : is_clear_of field last ≡ true = or_left (leb last.len (o - last.offset)) _ far in
     let below : last.offset ≤ o = omega (arith, following, within) in
     let clear_now : clear_in None i (field_of_row row o now) last ≡ true =
-    ap (λ f. clear_in None i f last) same ∙ or_right (eqb (window_len row) 0) (is_clear_of field last) clear in
-    let end_is = quick.end_is in
+    ap (λ f. clear_in None i f last) same ∙ or_right (eqb (window_len row) 0) (is_clear_of field last) (or_left (leb last.len (o - last.offset)) _ far) in
     record {
       last = field;
       order = subst (Ascends architecture bytes before after (i + 1)) next_is
@@ -143,7 +139,7 @@ front_quickly architecture addresses bytes values before now after memory other 
         own = λ differs k here. subst (λ x. IsOwnField architecture bytes x field) (omega (arith, here))
             (record { row = row; is_row = value.has.is_row; is_field = refl });
       };
-      within = omega (arith, end_is);
+      within = omega (arith, quick.end_is);
     }
 
 -- after a step
@@ -169,8 +165,7 @@ pub runs_written : (architecture : Architecture) (addresses : Addresses) (bytes 
     → AreApart architecture bytes section (length bytes / 24))
     → AreAllRelocatedBy architecture addresses bytes values before now
 runs_written architecture addresses bytes values before now memory i below end apart =
-    let within = below.within in
-    let all : length bytes / 24 ≡ i = omega (arith, within, end) in
+    let all : length bytes / 24 ≡ i = omega (arith, below.within, end) in
     all_written architecture addresses bytes values before now memory i below
     (subst (AreApart architecture bytes before) all
     (apart before (fields_small architecture bytes before))) end

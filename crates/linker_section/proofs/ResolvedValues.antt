@@ -125,8 +125,7 @@ pub lookup_outcome : (architecture : Architecture) (addresses : Addresses) (byte
     → IsOutcome architecture addresses bytes (by_lookup lookup)
     (λ k. is_left_out (lookup k (relocation_in bytes k))) i outcome
 lookup_outcome architecture addresses bytes lookup i (Ok (Some found)) is =
-    let known = lookup i (relocation_in bytes i) in
-    let some = some_unless (is_skipped (is.0) known) architecture addresses bytes lookup i (is.0) found (is.2) in
+    let some = some_unless (is_skipped (is.0) (lookup i (relocation_in bytes i))) architecture addresses bytes lookup i (is.0) found (is.2) in
     record {
       is_row = subst (IsRow architecture (relocation_in bytes i).r_type) (some.0) (is.1);
       valued = some.1;

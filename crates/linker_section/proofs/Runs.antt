@@ -30,9 +30,7 @@ fields_small architecture bytes section i row below is_field =
     elim (cases_Bool (is_of_pair row)) [
       | inl paired ↦ pair_within row there paired
       | inr alone ↦
-          let within = len_within row there alone in
-          let narrow = ltb-true (window_len row) 11 (says_way architecture _ row is_field.is_row).narrow in
-          omega (arith, within, narrow)
+          omega (arith, (len_within row there alone), (ltb-true (window_len row) 11 (says_way architecture _ row is_field.is_row).narrow))
     ]
 
 -- ---- one more field
@@ -49,10 +47,9 @@ past_more architecture bytes section IsSeen IsSeenNow k last more within small n
     λ i row seen is_field. elim (past.before i row seen is_field) [
       | inl before ↦ let o = next.0 in omega (arith, before, o)
       | inr same ↦
-          let o = ap (λ r. r.offset) same in
           let e = next.1 row (drop (offset_at bytes i) section)
           (subst (λ r. IsRow architecture r.r_type (Some row)) same is_field.is_row) (small i row (within i seen) is_field) in
-          omega (arith, o, e)
+          omega (arith, (ap (λ r. r.offset) same), e)
     ] in
     record {
       apart = λ i j row other seen_i seen_j below is_field is_other overlap.

@@ -45,8 +45,7 @@ both_undone place word next before after kept following same saved saved_next =
           (drop_all (place + 8) after (omega (arith, past)) ∙ sym (drop_all (place + 8) before (omega (arith, past, same)))) same saved
       | inr within ↦
           let n = length-take-le (place + 8) after within in
-          let first = put_back (place + 8) next before after (ap (λ k. drop k after) (plus place) ∙ (following ∙ ap (λ k. drop k before) (sym (plus place)))) same saved_next in
-          ap (with_word place word) first
+          ap (with_word place word) (put_back (place + 8) next before after (ap (λ k. drop k after) (plus place) ∙ (following ∙ ap (λ k. drop k before) (sym (plus place)))) same saved_next)
           ∙ undone place word before (take (place + 8) after ++ drop (place + 8) before)
           (take-append-le place (take (place + 8) after) _ (omega (arith, n)) ∙ (take-take place (place + 8) after (omega arith) ∙ kept))
           (drop_at (take (place + 8) after) (drop (place + 8) before) (place + 8) n)
@@ -145,10 +144,9 @@ AreBytes bytes = (i : ℕ) → get_or bytes i 0 < 256
 
 zero_at : (i : ℕ) → get_or {A = ℕ} (replicate 8 0) i 0 ≡ 0
 zero_at i =
-    let zeros : List ℕ = replicate 8 0 in
     elim (cases_lt i 8) [
       | inl below ↦ get_or-replicate {A = ℕ} 8 i 0 0 below
-      | inr past ↦ get_or_past zeros i 0 (let r = length-replicate {A = ℕ} 8 0 in omega (arith, r, past))
+      | inr past ↦ get_or_past (replicate 8 0) i 0 (let r = length-replicate {A = ℕ} 8 0 in omega (arith, r, past))
     ]
 
 small_or_zero : (rest : List ℕ) (k : ℕ) → AreBytes rest → AreBytes (rest ++ drop k (replicate 8 0))
@@ -157,8 +155,7 @@ small_or_zero rest k small i =
       | inl below ↦ let s = small i in let e = get_or_append_left rest (drop k (replicate 8 0)) 0 i below in omega (arith, s, e)
       | inr past ↦
           let e = get_or-append_right rest (drop k (replicate 8 0)) (length rest) i 0 refl past ∙ get_or-drop k (replicate 8 0) (i - length rest) 0 in
-          let z = zero_at (k + (i - length rest)) in
-          omega (arith, e, z)
+          omega (arith, e, (zero_at (k + (i - length rest))))
     ]
 
 pub saved_last : (offset word : ℕ) (section : List ℕ) (k : ℕ) → AreBytes section
@@ -170,9 +167,7 @@ saved_last offset word section k small inside short len is =
     let zeros : List ℕ = replicate 8 0 in
     let d = length-drop offset section in
     let bytes = rest ++ drop k zeros in
-    let z = length-drop k zeros in
-    let r = length-replicate {A = ℕ} 8 0 in
-    let l : length bytes ≡ 8 = length-append rest (drop k zeros) ∙ omega (arith, d, z, r, inside, short, len) in
+    let l : length bytes ≡ 8 = length-append rest (drop k zeros) ∙ omega (arith, d, (length-drop k zeros), (length-replicate {A = ℕ} 8 0), inside, short, len) in
     ap (take (length section - offset)) (le_bytes_8 bytes word l (λ i. small_or_zero rest k (λ j. let s = small (offset + j) in let e = get_or-drop offset section j 0 in omega (arith, s, e)) i) is)
     ∙ (take_at rest (drop k zeros) (length section - offset) d ∙ sym (take_all 8 rest (omega (arith, d, short))))
 

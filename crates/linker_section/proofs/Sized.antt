@@ -186,10 +186,9 @@ short X86_64 r_type row is = test_of x86_64_name x86_64_row r_type row is_short_
 uleb_short : (bytes : List ℕ) → uleb_len bytes ≤ length bytes
 uleb_short [] = omega arith
 uleb_short (byte ∷ rest) =
-    let e = uleb_short rest in
     elim (cases_Bool (nat_lt byte 0x80)) [
       | inl is ↦ rw is (omega arith)
-      | inr is ↦ rw is (omega (arith, e))
+      | inr is ↦ rw is (omega (arith, (uleb_short rest)))
     ]
 
 -- a field has at most ten bytes
@@ -198,14 +197,11 @@ pub field_short : (architecture : Architecture) (bytes section : List ℕ) (i : 
     → field_len row (drop (offset_at bytes i) section) ≤ 10
 field_short architecture bytes section i row is_field =
     let here = drop (offset_at bytes i) section in
-    let s = leb-true (window_len row) 8 (short architecture _ (Some row) is_field.is_row) in
-    let u = uleb_short (take 10 here) in
-    let t = length-take 10 here in
     elim (cases_Bool (has_value row.kind)) [
       | inr isnt ↦ rw isnt (omega arith)
       | inl is ↦ elim (cases_Bool (is_of_pair row)) [
-        | inl pair ↦ rw (is, pair) (omega (arith, u, t))
-        | inr alone ↦ rw (is, alone) (omega (arith, s))
+        | inl pair ↦ rw (is, pair) (omega (arith, (uleb_short (take 10 here)), (length-take 10 here)))
+        | inr alone ↦ rw (is, alone) (omega (arith, (leb-true (window_len row) 8 (short architecture _ (Some row) is_field.is_row))))
       ]
     ]
 

@@ -59,9 +59,8 @@ once_swapped order a b under_a under_b once =
                   ∙ (ap (other_of a b) (once.is a under_a)
                   ∙ (cond-true (eqb a a) b _ (eq-eqb a a refl) ∙ sym is)))
               | inr neither ↦
-                  let long = length-swap order a b in
                   ap (λ x. other_of a b (once.place x)) (swapped.2 p isnt neither)
-                  ∙ (ap (other_of a b) (once.is p (omega (arith, under, long)))
+                  ∙ (ap (other_of a b) (once.is p (omega (arith, under, (length-swap order a b))))
                   ∙ (cond-false (eqb p a) b (cond (eqb p b) a p) (ne_eqb p a isnt)
                   ∙ cond-false (eqb p b) a p (ne_eqb p b neither)))
             ]
@@ -90,12 +89,9 @@ order_sorted bytes indexes order len short are moved rises =
       ascends = λ p q below under.
           let i = slice_index order p in let j = slice_index order q in
           let first = all p 0 (omega (arith, below, under)) in let second = all q 0 under in
-          let rise = rises p q 0 (omega (arith, below)) under in
-          let one = place_below bytes i (omega (arith, first, len)) in
-          let two = place_below bytes j (omega (arith, second, len)) in
           before_of (offset_at bytes i) (offset_at bytes j) i j (omega (arith, first, short)) (omega (arith, second, short))
           (λ same. let p_is = once.is p (omega (arith, below, under)) in let q_is = once.is q under in let e = ap once.place same in omega (arith, p_is, q_is, e, below))
-          (omega (arith, rise, one, two));
+          (omega (arith, (rises p q 0 (omega (arith, below)) under), (place_below bytes i (omega (arith, first, len))), (place_below bytes j (omega (arith, second, len)))));
     }
 
 -- ---- one more place
@@ -126,8 +122,7 @@ swept_without architecture bytes section order count p index last none swept =
     λ i seen. elim (cases_eq (seen.1) p) [
       | inl at ↦
           let is : slice_index order p ≡ i = ap (slice_index order) (sym at) ∙ seen.3 in
-          let under = seen.0 in
-          inr (λ row is_field. none (omega (arith, is, under)) row (subst (λ x. IsField architecture bytes section x row) (sym is) is_field))
+          inr (λ row is_field. none (omega (arith, is, seen.0)) row (subst (λ x. IsField architecture bytes section x row) (sym is) is_field))
       | inr isnt ↦ let below = seen.2 in inl (seen.0, seen.1, (omega (arith, below, isnt)), seen.3)
     ] in
     record {
@@ -169,8 +164,7 @@ pub last_is : (architecture : Architecture) (bytes section order : List ℕ)
     → is_clear_of field last ≡ false → AreSwept architecture bytes section order count p index last
     → IsLastAt architecture bytes section (IsSeen order count p) index last
 last_is architecture bytes section order count p index last field after clear swept =
-    let near = (not_clear field last after clear).0 in
-    swept.is_last (omega (arith, near, after))
+    swept.is_last (omega (arith, ((not_clear field last after clear).0), after))
 
 -- the relocation there is the second of a pair whose first has the last field
 pub swept_pair : (architecture : Architecture) (bytes section order : List ℕ)
@@ -184,11 +178,9 @@ pub swept_pair : (architecture : Architecture) (bytes section order : List ℕ)
 swept_pair architecture bytes section order count p index last other next under pair is_other at swept =
     let more = seen_more order count p (index + 1) next (omega (arith, next, under)) in
     let h = at.field in
-    let one : pair.row ≡ at.row = one_info architecture _ pair.row at.row pair.is_row h.is_field.is_row in
     let here : IsField architecture bytes section (index + 1) other = subst (λ x. IsField architecture bytes section x other) next is_other in
-    let two : pair.other ≡ other = one_info architecture _ pair.other other pair.is_other here.is_row in
-    let begins = subst (λ x. begins_pair x.size x.kind ≡ true) one pair.begins in
-    let ends = subst (λ x. ends_pair x.size x.kind ≡ true) two pair.ends in
+    let begins = subst (λ x. begins_pair x.size x.kind ≡ true) (one_info architecture _ pair.row at.row pair.is_row h.is_field.is_row) pair.begins in
+    let ends = subst (λ x. ends_pair x.size x.kind ≡ true) (one_info architecture _ pair.other other pair.is_other here.is_row) pair.ends in
     let place = same_place architecture bytes section index at.row other pair.same_offset (begun_has_value at.row.size at.row.kind begins) begins ends in
     record {
       apart = apart_pair architecture bytes section (IsSeen order count p) (IsSeen order count (p + 1)) index at.row other more at.seen swept.apart h.is_field begins here pair.same_offset place.end_is ends;

@@ -52,11 +52,10 @@ same_len architecture bytes before now k last row order same has after clear =
     elim (cases_Bool (is_of_pair row)) [
       | inr alone ↦ len_alone row (drop o now) has alone ∙ sym (len_alone row (drop o before) has alone)
       | inl paired ↦
-          let len = len_paired row (drop o now) has paired in
           elim (cases_eq field.len 0) [
             | inl none ↦
                 none ∙ sym (len_paired row (drop o before) has paired
-                ∙ no_bytes (drop o now) (drop o before) (sym len ∙ none) lengths)
+                ∙ no_bytes (drop o now) (drop o before) (sym (len_paired row (drop o now) has paired) ∙ none) lengths)
             | inr some ↦ elim (or_cases (eqb field.len 0) (is_clear_of field last) clear) [
               | inl is ↦ absurd (some (eqb-true field.len 0 is))
               | inr is ↦ elim (clear_cases field last after is) [
@@ -88,9 +87,7 @@ clear_field architecture bytes before now k last row order same is_row has after
     let len = same_len architecture bytes before now k last row order same has after clear in
     elim (cases_eq field.len 0) [
       | inl none ↦ without none (λ other is_field.
-          let s = is_field.some in
-          let e = ap (λ x. field_len x (drop o before)) (one_info architecture _ row other is_row is_field.is_row) in
-          omega (arith, s, e, len, none))
+          omega (arith, is_field.some, (ap (λ x. field_len x (drop o before)) (one_info architecture _ row other is_row is_field.is_row)), len, none))
       | inr some ↦ elim (or_cases (eqb field.len 0) (is_clear_of field last) clear) [
         | inl is ↦ absurd (some (eqb-true field.len 0 is))
         | inr is ↦ having (omega (arith, some)) (record {
@@ -123,10 +120,7 @@ pub alone_field : (architecture : Architecture) (bytes section other : List ℕ)
 alone_field architecture bytes section other k row alone is_field =
     let has = field_valued architecture bytes section k row is_field in
     let o = offset_at bytes k in
-    let s = is_field.some in
-    let a = len_alone row (drop o section) has alone in
-    let b = len_alone row (drop o other) has alone in
-    record { is_row = is_field.is_row; some = omega (arith, s, a, b) }
+    record { is_row = is_field.is_row; some = omega (arith, is_field.some, (len_alone row (drop o section) has alone), (len_alone row (drop o other) has alone)) }
 
 pub next_some : (field last : Field) → 0 < field.len → next_field field last ≡ field
 next_some field last some =
@@ -255,7 +249,6 @@ ascends_one architecture bytes before now after k last row v order below same is
     let local = one_local row v o now after written in
     let len : field.len ≡ window_len row = len_alone row (drop o now) has alone in
     let following = next_is architecture bytes before k last field row below is in
-    let inside = local.inside in
     record {
       apart = apart_after architecture bytes before now k last field row order below refl is;
       claimed = claimed_after architecture bytes before now k last field row order below refl is;
@@ -266,15 +259,14 @@ ascends_one architecture bytes before now after k last row v order below same is
       inside = λ some. elim following.is_one [
         | inl is_last ↦ let a = order.inside (let l = ap (λ f. f.len) is_last in omega (arith, some, l)) in
             let e = ap (λ f. f.offset) is_last in let l = ap (λ f. f.len) is_last in omega (arith, a, e, l)
-        | inr is_field ↦ let e = ap (λ f. f.offset) (is_field.0) in let l = ap (λ f. f.len) (is_field.0) in omega (arith, inside, len, e, l, same)
+        | inr is_field ↦ let e = ap (λ f. f.offset) (is_field.0) in let l = ap (λ f. f.len) (is_field.0) in omega (arith, local.inside, len, e, l, same)
       ];
       following = λ offset from.
-          let end = following.end in
           let window : o + window_len row ≤ offset ⊎ (window_len row ≡ 0) = elim following.own [
             | inl own ↦ inl (omega (arith, own, from, len))
             | inr none ↦ inr (sym len ∙ none)
           ] in
-          drop_after o (window_len row) offset now after local window ∙ order.following offset (omega (arith, end, from));
+          drop_after o (window_len row) offset now after local window ∙ order.following offset (omega (arith, following.end, from));
     }
 
 -- ---- a relocation without a value
@@ -316,7 +308,6 @@ ascends_left architecture bytes before now k last row order below same is_row ha
     let o = offset_at bytes k in
     let field = field_of_row row o now in
     let is = clear_field architecture bytes before now k last row order same is_row has below clear in
-    let len : field.len ≡ window_len row = len_alone row (drop o now) has alone in
     let following = next_is architecture bytes before k last field row below is in
     record {
       apart = apart_after architecture bytes before now k last field row order below refl is;
@@ -328,7 +319,7 @@ ascends_left architecture bytes before now k last row order below same is_row ha
       inside = λ some. elim following.is_one [
         | inl is_last ↦ let a = order.inside (let l = ap (λ f. f.len) is_last in omega (arith, some, l)) in
             let e = ap (λ f. f.offset) is_last in let l = ap (λ f. f.len) is_last in omega (arith, a, e, l)
-        | inr is_field ↦ let e = ap (λ f. f.offset) (is_field.0) in let l = ap (λ f. f.len) (is_field.0) in omega (arith, inside, len, e, l, same)
+        | inr is_field ↦ let e = ap (λ f. f.offset) (is_field.0) in let l = ap (λ f. f.len) (is_field.0) in omega (arith, inside, (len_alone row (drop o now) has alone), e, l, same)
       ];
       following = λ offset from. let end = following.end in order.following offset (omega (arith, end, from));
     }
@@ -393,8 +384,7 @@ apart_next None architecture bytes before now k last row is_limit order there be
     apart_after architecture bytes before now k last (field_of_row row (offset_at bytes k) now) row order below refl
     (clear_field architecture bytes before now k last row order same is_row has below clear)
 apart_next (Some limit) architecture bytes before now k last row is_limit order there below same is_row has clear =
-    let isnt = not_limit k limit clear in
-    fewer_apart architecture bytes before (k + 1) limit (omega (arith, order, isnt)) (is_limit.0)
+    fewer_apart architecture bytes before (k + 1) limit (omega (arith, order, (not_limit k limit clear))) (is_limit.0)
 
 pub one_order : (limit : Option ℕ) (architecture : Architecture) (bytes before now after : List ℕ)
     (k : ℕ) (last : Field) (row : RowInfo) (v : ℤ)
@@ -457,9 +447,8 @@ overlap_now None architecture bytes before now k last row is_limit order there b
     let o = offset_at bytes k in
     let field = field_of_row row o now in
     let parts = or_parts (eqb field.len 0) (is_clear_of field last) clear in
-    let some = eqb-false field.len 0 (parts.0) in
     let is_field : IsField architecture bytes before k row =
-    record { is_row = is_row; some = some_before architecture bytes before now k row same has some } in
+    record { is_row = is_row; some = some_before architecture bytes before now k row same has (eqb-false field.len 0 (parts.0)) } in
     let found = overlapped architecture bytes before (λ i. i < k) last k row field order.claimed is_field refl refl
     (λ alone. sym (len_alone row (drop o now) has alone)) below (parts.1) in
     let at = found.0 in
@@ -510,10 +499,9 @@ pub one_restores : (architecture : Architecture) (bytes memory before now after 
 one_restores architecture bytes memory before now after k word row v room is_row written saved restores =
     let o = offset_at bytes k in
     let local = one_local row v o now after written in
-    let small = small_row row v (drop o now) written.rest written.written in
     restores_local architecture bytes memory k word now after before row room is_row
     (or_parts (begins_pair row.size row.kind) (ends_pair row.size row.kind) (written_alone row v o now after written)).1
-    local.kept (drop_after o (window_len row) (o + 8) now after local (inl (omega (arith, small)))) local.same_length saved restores
+    local.kept (drop_after o (window_len row) (o + 8) now after local (inl (omega (arith, (small_row row v (drop o now) written.rest written.written))))) local.same_length saved restores
 
 -- what is kept of relocations below an index stays
 pub stop : (architecture : Architecture) (addresses : Addresses) (bytes before now memory other : List ℕ)
@@ -590,19 +578,15 @@ ascends_pair : (architecture : Architecture) (addresses : Addresses) (bytes befo
 ascends_pair architecture addresses bytes before now after values k last row order below same is_row has clear pair written =
     let o = offset_at bytes k in
     let field = field_of_row row o now in
-    let is = clear_field architecture bytes before now k last row order same is_row has below clear in
     let begins = subst (λ x. begins_pair x.size x.kind ≡ true) (one_info architecture _ pair.row row pair.is_row is_row) pair.begins in
     let local = pair_local architecture addresses bytes values k now after written in
     let len : field.len ≡ uleb_len (take 10 (drop o now)) = len_paired row (drop o now) has (or_left (begins_pair row.size row.kind) (ends_pair row.size row.kind) begins) in
-    let number = uleb_len_is (drop o now) written.written.old written.written.rest written.written.was in
-    let inside = local.inside in
-    elim is [
-      | without none not_one ↦ absurd (omega (arith, none, len, number))
+    elim (clear_field architecture bytes before now k last row order same is_row has below clear) [
+      | without none not_one ↦ absurd (omega (arith, none, len, (uleb_len_is (drop o now) written.written.old written.written.rest written.written.was)))
       | having some h clear ↦
           let place = same_place architecture bytes before k row pair.other pair.same_offset has begins pair.ends in
-          let own = h.is_field.some in
           let second : IsField architecture bytes before (k + 1) pair.other =
-          let l = place.len_is in record { is_row = pair.is_other; some = omega (arith, own, l) } in
+          let l = place.len_is in record { is_row = pair.is_other; some = omega (arith, h.is_field.some, l) } in
           let apart = apart_more architecture bytes before (λ i. i < k) (λ i. i < k + 1) last k row field (one_below k)
           (λ i below same. omega (arith, below)) (to_in architecture bytes before k order.apart) order.claimed h below clear in
           let claimed = claimed_more architecture bytes before (λ i. i < k) (λ i. i < k + 1) last k row field (one_below k) order.claimed h below clear in
@@ -615,7 +599,7 @@ ascends_pair architecture addresses bytes before now after values k last row ord
                 let at : i ≡ k + 1 = omega (arith, here) in
                 let one : pair.other ≡ other = one_info architecture _ pair.other other pair.is_other (subst (λ x. IsRow architecture (relocation_in bytes x).r_type (Some other)) at is_other) in
                 subst (λ x. begins_pair x.size x.kind ≡ false) one (ended_begins_none pair.other.size pair.other.kind pair.ends);
-            inside = λ some. omega (arith, inside, len, same);
+            inside = λ some. omega (arith, local.inside, len, same);
             following = λ offset from. drop_after o (uleb_len (take 10 (drop o now))) offset now after local (inl (omega (arith, from, len)))
                 ∙ order.following offset (elim (clear_cases field last below clear) [
                   | inl far ↦ omega (arith, far, from)
@@ -631,20 +615,17 @@ limit_pair : (architecture : Architecture) (bytes before : List ℕ) (k : ℕ)
     → BeginsPair architecture bytes k → IsOverlapped architecture bytes before (k + 1) → ⊥
 limit_pair architecture bytes before k row is_row has apart pair at =
     let begins = subst (λ x. begins_pair x.size x.kind ≡ true) (one_info architecture _ pair.row row pair.is_row is_row) pair.begins in
-    let same : pair.other ≡ at.other = one_info architecture _ pair.other at.other pair.is_other at.is_other.is_row in
-    let ends = subst (λ x. ends_pair x.size x.kind ≡ true) same pair.ends in
+    let ends = subst (λ x. ends_pair x.size x.kind ≡ true) (one_info architecture _ pair.other at.other pair.is_other at.is_other.is_row) pair.ends in
     let place = same_place architecture bytes before k row at.other pair.same_offset has begins ends in
-    let order = at.order in
-    let some = at.is_other.some in
     let l = place.len_is in let e = place.end_is in let s = pair.same_offset in
     let overlap_0 = at.overlap.0 in let overlap_1 = at.overlap.1 in
-    let first : IsField architecture bytes before k row = record { is_row = is_row; some = omega (arith, some, l) } in
+    let first : IsField architecture bytes before k row = record { is_row = is_row; some = omega (arith, at.is_other.some, l) } in
     elim (cases_eq at.earlier k) [
       | inl is ↦
           let one : row ≡ at.row = one_info architecture _ row at.row is_row (subst (λ x. IsField architecture bytes before x at.row) is at.is_field).is_row in
           at.apart (of_pair (ap (offset_at bytes) is ∙ sym pair.same_offset) (ap (λ x. x + 1) (sym is))
           (subst (λ x. begins_pair x.size x.kind ≡ true) one begins) ends)
-      | inr isnt ↦ elim (apart at.earlier k at.row row (omega (arith, order, isnt)) (omega arith) at.is_field first
+      | inr isnt ↦ elim (apart at.earlier k at.row row (omega (arith, at.order, isnt)) (omega arith) at.is_field first
           ((omega (arith, overlap_0, e)), (omega (arith, overlap_1, s)))) [
             | of_number offset window on ↦ true≢false (sym on ∙ begun_is_continued_none row.size row.kind at.row.kind begins)
             | of_pair offset after begun ended ↦ true≢false (sym ended ∙ begun_ends_none row.size row.kind begins)
@@ -665,13 +646,11 @@ pub pair_order : (limit : Option ℕ) (architecture : Architecture) (addresses :
 pair_order None architecture addresses bytes before now after values k last row is_limit order there below same is_row has clear pair written =
     ascends_pair architecture addresses bytes before now after values k last row order below same is_row has clear pair written
 pair_order (Some limit) architecture addresses bytes before now after values k last row is_limit order there below same is_row has clear pair written =
-    let isnt = not_limit k limit clear in
     elim (cases_eq limit (k + 1)) [
       | inl is ↦
-          let under = pair.within in
           absurd (limit_pair architecture bytes before k row is_row has (subst (AreApart architecture bytes before) is (is_limit.0)) pair
-          (subst (IsOverlapped architecture bytes before) is (is_limit.1 (omega (arith, is, under)))))
-      | inr far ↦ omega (arith, order, isnt, far)
+          (subst (IsOverlapped architecture bytes before) is (is_limit.1 (omega (arith, is, pair.within)))))
+      | inr far ↦ omega (arith, order, (not_limit k limit clear), far)
     ]
 
 pub pair_restores : (architecture : Architecture) (addresses : Addresses)
@@ -685,14 +664,12 @@ pub pair_restores : (architecture : Architecture) (addresses : Addresses)
     → Restores architecture bytes (set (set memory k word) (k + 1) next) (k + 2) after before
 pair_restores architecture addresses bytes memory before now after values k word next row room short is_row pair written saved saved_next restores =
     let o = offset_at bytes k in
-    let inside = written.inside in
-    let small : sum_64 o 8 ≡ o + 8 = mod-eq_of_lt (omega (arith, inside, short)) in
+    let small : sum_64 o 8 ≡ o + 8 = mod-eq_of_lt (omega (arith, written.inside, short)) in
     let begins = subst (λ x. begins_pair x.size x.kind ≡ true) (one_info architecture _ pair.row row pair.is_row is_row) pair.begins in
     let local = pair_local architecture addresses bytes values k now after written in
-    let most = uleb_len_most 10 (drop o now) in
     restores_pair architecture bytes memory k word next now after before row pair.other room is_row
     (begun_ends_none row.size row.kind begins) pair.is_other pair.ends pair.same_offset small local.kept
-    (drop_after o (uleb_len (take 10 (drop o now))) (o + 16) now after local (inl (omega (arith, most))))
+    (drop_after o (uleb_len (take 10 (drop o now))) (o + 16) now after local (inl (omega (arith, (uleb_len_most 10 (drop o now))))))
     local.same_length saved (subst (λ p. IsSavedAt p now next) small saved_next) restores
 
 -- ---- a relocation that is left out

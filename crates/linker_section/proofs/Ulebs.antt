@@ -97,38 +97,28 @@ uleb_same xs ys n rest u same there =
 pub uleb_front : (xs : List ℕ) (n : ℕ) (rest : List ℕ) (u : Uleb xs n rest) (w : ℕ)
     → w ≡ u.last + 1 → Uleb (take w xs) n []
 uleb_front xs n rest u w whole =
-    let there = u.there in
-    let same : take (u.last + 1) (take w xs) ≡ take (u.last + 1) xs = take-take (u.last + 1) w xs (omega (arith, whole)) in
-    let long = length-take-le w xs (omega (arith, there, whole)) in
     subst (Uleb (take w xs) n) (ap (λ k. drop k (take w xs)) (sym whole) ∙ no_rest w xs)
-    (uleb_same xs (take w xs) n rest u same (omega (arith, long, whole))).0
+    (uleb_same xs (take w xs) n rest u (take-take (u.last + 1) w xs (omega (arith, whole))) (omega (arith, (length-take-le w xs (omega (arith, u.there, whole))), whole))).0
 
 -- a number in place of another has as many bytes
 pub same_last : (before : List ℕ) (n : ℕ) (after : List ℕ) (w : IsUlebWritten before n after)
     → w.was.last ≡ w.is.last
 same_last before n after w =
-    let same = w.same_length in
     let was = w.was in
     let is = w.is in
-    let was_there = was.there in
-    let is_there = is.there in
-    let was_rest : length w.rest ≡ length before - (was.last + 1) = ap length was.rest_is ∙ length-drop (was.last + 1) before in
-    let is_rest : length w.rest ≡ length after - (is.last + 1) = ap length is.rest_is ∙ length-drop (is.last + 1) after in
-    omega (arith, was_rest, is_rest, same, was_there, is_there)
+    omega (arith, (ap length was.rest_is ∙ length-drop (was.last + 1) before), (ap length is.rest_is ∙ length-drop (is.last + 1) after), w.same_length, was.there, is.there)
 
 pub written_front : (before : List ℕ) (n : ℕ) (after : List ℕ) (written : IsUlebWritten before n after)
     (w : ℕ) → w ≡ written.was.last + 1 → IsUlebWritten (take w before) n (take w after)
 written_front before n after written w whole =
     let last = same_last before n after written in
-    let was_there = written.was.there in
-    let is_there = written.is.there in
     record {
       old = written.old;
       rest = [];
       was = uleb_front before written.old written.rest written.was w whole;
       is = uleb_front after n written.rest written.is w (whole ∙ ap (λ k. k + 1) last);
-      same_length = length-take-le w after (omega (arith, is_there, last, whole))
-          ∙ sym (length-take-le w before (omega (arith, was_there, whole)));
+      same_length = length-take-le w after (omega (arith, written.is.there, last, whole))
+          ∙ sym (length-take-le w before (omega (arith, written.was.there, whole)));
     }
 
 -- a number is below 128 to the count of its bytes
@@ -136,12 +126,9 @@ groups_below : (bytes : List ℕ) (last : ℕ) → uleb_number bytes last < 128 
 groups_below bytes zero =
     let group = mod_below (slice_index bytes 0) 128 (omega arith) in omega (arith, group)
 groups_below bytes (suc last) =
-    let below = groups_below bytes last in
     let b = slice_index bytes (suc last) % 128 in
     let group : b < 128 = mod_below (slice_index bytes (suc last)) 128 (omega arith) in
-    let most : b * 128 ^ suc last ≤ 127 * 128 ^ suc last = mul-le b (128 ^ suc last) 127 (128 ^ suc last) (omega (arith, group)) (omega arith) in
-    let next : 128 ^ suc (suc last) ≡ 128 ^ suc last * 128 = pow-suc 128 (suc last) in
-    omega (arith, below, most, next)
+    omega (arith, (groups_below bytes last), (mul-le b (128 ^ suc last) 127 (128 ^ suc last) (omega (arith, group)) (omega arith)), (pow-suc 128 (suc last)))
 
 pub uleb_below : (bytes : List ℕ) (n : ℕ) (rest : List ℕ) (u : Uleb bytes n rest)
     → n < 128 ^ (u.last + 1)

@@ -19,14 +19,8 @@ split {start} {len} {bytes} {before} r =
 pub bytes_len : {start len : ℕ} {bytes before after : List ℕ}
     → IsReplaced start len bytes before after → length bytes ≡ len
 bytes_len {start} {len} {bytes} {before} {after} r =
-    let l = ap length (split r) in
     let a = length-append (take start before) (bytes ++ drop (start + len) before) in
-    let b = length-append bytes (drop (start + len) before) in
-    let d = length-drop (start + len) before in
-    let f = front r in
-    let i = r.inside in
-    let s = r.same_len in
-    omega arith
+    omega (arith, ap length (split r), length-append bytes (drop (start + len) before), length-drop (start + len) before, front r, r.inside, r.same_len)
 
 pub after_start : {start len : ℕ} {bytes before after : List ℕ}
     → IsReplaced start len bytes before after
@@ -60,11 +54,10 @@ pub above_window : {start len : ℕ} {bytes before after : List ℕ}
     → IsReplaced start len bytes before after → (t : ℕ) → start + len ≤ t
     → drop t after ≡ drop t before
 above_window {start} {len} {bytes} {before} {after} r t le =
-    let b = bytes_len r in
     let whole : (start + len) + (t - (start + len)) ≡ t = omega arith in
     let end : drop (start + len) after ≡ drop (start + len) before =
     sym (drop-drop len start after)
-    ∙ (ap (drop len) (after_start r) ∙ drop_at bytes (drop (start + len) before) len b) in
+    ∙ (ap (drop len) (after_start r) ∙ drop_at bytes (drop (start + len) before) len (bytes_len r)) in
     ap (λ n. drop n after) (sym whole)
     ∙ (sym (drop-drop (t - (start + len)) (start + len) after)
     ∙ (ap (drop (t - (start + len))) end
@@ -74,16 +67,14 @@ pub outside_window : {start len : ℕ} {bytes before after : List ℕ}
     → IsReplaced start len bytes before after → (at : ℕ) → (at < start) ⊎ (start + len ≤ at)
     → get_or after at 0 ≡ get_or before at 0
 outside_window {start} {len} {bytes} {before} {after} r at (inl below) =
-    let f = front r in
     ap (λ xs. get_or xs at 0) (split r)
-    ∙ (get_or_append_left (take start before) (bytes ++ drop (start + len) before) 0 at (omega arith)
+    ∙ (get_or_append_left (take start before) (bytes ++ drop (start + len) before) 0 at (omega (arith, front r))
     ∙ get_or-take start before at 0 below)
 outside_window {start} {len} {bytes} {before} {after} r at (inr above) =
-    let d = above_window r at above in
     let zero : at + 0 ≡ at = omega arith in
     ap (λ n. get_or after n 0) (sym zero)
     ∙ (sym (get_or-drop at after 0 0)
-    ∙ (ap (λ xs. get_or xs 0 0) d ∙ (get_or-drop at before 0 0 ∙ ap (λ n. get_or before n 0) zero)))
+    ∙ (ap (λ xs. get_or xs 0 0) (above_window r at above) ∙ (get_or-drop at before 0 0 ∙ ap (λ n. get_or before n 0) zero)))
 
 no_bytes : (bytes : List ℕ) → length bytes ≡ 0 → bytes ≡ []
 no_bytes [] none = refl
@@ -97,11 +88,9 @@ zero_or_more (suc n) = inr (omega arith)
 pub none_replaced : {start len : ℕ} {bytes before after : List ℕ}
     → IsReplaced start len bytes before after → len ≡ 0 → after ≡ before
 none_replaced {start} {len} {bytes} {before} {after} r none =
-    let b : length bytes ≡ 0 = bytes_len r ∙ none in
     let rest : drop (start + len) before ≡ drop start before =
     ap (λ n. drop n before) (omega arith) in
-    let empty : bytes ≡ [] = no_bytes bytes b in
-    split r ∙ (ap (λ xs. take start before ++ (xs ++ drop (start + len) before)) empty
+    split r ∙ (ap (λ xs. take start before ++ (xs ++ drop (start + len) before)) (no_bytes bytes (bytes_len r ∙ none))
     ∙ (ap (λ xs. take start before ++ xs) rest ∙ take-append-drop start before))
 
 -- what one rewrite does to a section: nothing, or one window has other bytes

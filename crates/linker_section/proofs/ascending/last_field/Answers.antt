@@ -7,8 +7,7 @@ returns-in-Some c field is =
     let a = c.args in
     let k = a.index - 1 in
     let other = c.if-step-index.false in
-    let following = c.requires.following in
-    let own = is.own other k (omega (arith, other, following)) in
+    let own = is.own other k (omega (arith, other, c.requires.following)) in
     let same = c.relocation_in-relocation.ensures in
     let row : IsRow a.architecture (relocation_in a.relocations.now k).r_type (Some c.in-Some.row) =
     subst (λ r. IsRow a.architecture r.r_type (Some c.in-Some.row)) same
@@ -24,8 +23,7 @@ returns-in-None c field is =
     let a = c.args in
     let k = a.index - 1 in
     let other = c.if-step-index.false in
-    let following = c.requires.following in
-    let own = is.own other k (omega (arith, other, following)) in
+    let own = is.own other k (omega (arith, other, c.requires.following)) in
     let row : IsRow a.architecture (relocation_in a.relocations.now k).r_type None =
     subst (λ r. IsRow a.architecture r.r_type None) c.relocation_in-relocation.ensures
     (subst (IsRow a.architecture c.relocation_in-relocation.result.r_type) c.in-None.is c.row.ensures) in

@@ -28,8 +28,7 @@ loop-entry-preserved-in-Some-write_quickly g c =
     let l = c.loop-entry in
     let inv = l.invariant in
     let cases = c.in-Some.ensures.cases in
-    let len = cases.2 in
-    let there = there_is bytes l.rest.now l.index inv.rest (omega (arith, len)) in
+    let there = there_is bytes l.rest.now l.index inv.rest (omega (arith, cases.2)) in
     let following = inv.following in
     let memory = inv.room in
     let room = c.requires in
@@ -82,9 +81,7 @@ pub loop-entry-smaller : goal.loop-entry-smaller
 loop-entry-smaller g c =
     let l = c.loop-entry in
     let len = c.in-Some.ensures.cases.2 in
-    let there = there_is c.args.relocations.now l.rest.now l.index l.invariant.rest (omega (arith, len)) in
-    let more = (next_step g (goal.at.loop-entry-smaller g c).In-Ok-Some).0 in
-    omega (arith, more, there)
+    omega (arith, ((next_step g (goal.at.loop-entry-smaller g c).In-Ok-Some).0), (there_is c.args.relocations.now l.rest.now l.index l.invariant.rest (omega (arith, len))))
 
 pub loop-entry-preserved : goal.loop-entry-preserved
 loop-entry-preserved g c =
@@ -106,9 +103,8 @@ returns-in-Ok-None-clause-ok g c =
     let a = c.args in
     let bytes = a.relocations.now in
     let l = c.loop-entry in
-    let len = c.in-Some.ensures.cases.2 in
     first_run a.architecture a.addresses.now bytes (g.S.Symbols.values a.symbols) a.section.now c.write_slowly.new.section c.write_slowly.new.memory l.index
-    (there_is bytes l.rest.now l.index l.invariant.rest (omega (arith, len)))
+    (there_is bytes l.rest.now l.index l.invariant.rest (omega (arith, c.in-Some.ensures.cases.2)))
     (subst (IsSlowStep a.architecture a.addresses.now bytes (g.S.Symbols.values a.symbols) a.section.now l.index c.write_slowly.new.section c.write_slowly.new.memory)
     (c.in-Ok-None.is ∙ ap Ok c.in-Ok-None.field-0-is) (step g (goal.at.returns-in-Ok-None-clause-ok g c).After-write_slowly))
 
@@ -130,18 +126,14 @@ returns-clause-ok g c =
 pub write_quickly-requires-clause-within : goal.write_quickly-requires-clause-within
 write_quickly-requires-clause-within g c =
     let l = c.loop-entry in
-    let len = c.in-Some.ensures.cases.2 in
-    there_is c.args.relocations.now l.rest.now l.index l.invariant.rest (omega (arith, len))
+    there_is c.args.relocations.now l.rest.now l.index l.invariant.rest (omega (arith, c.in-Some.ensures.cases.2))
 
 pub write_slowly-requires-clause-within : goal.write_slowly-requires-clause-within
 write_slowly-requires-clause-within g c =
     let l = c.loop-entry in
-    let len = c.in-Some.ensures.cases.2 in
-    there_is c.args.relocations.now l.rest.now l.index l.invariant.rest (omega (arith, len))
+    there_is c.args.relocations.now l.rest.now l.index l.invariant.rest (omega (arith, c.in-Some.ensures.cases.2))
 
 pub loop-entry-smaller-in-Some-write_quickly : goal.loop-entry-smaller-in-Some-write_quickly
 loop-entry-smaller-in-Some-write_quickly g c =
     let l = c.loop-entry in
-    let len = c.in-Some.ensures.cases.2 in
-    let there = there_is c.args.relocations.now l.rest.now l.index l.invariant.rest (omega (arith, len)) in
-    omega (arith, there)
+    omega (arith, (there_is c.args.relocations.now l.rest.now l.index l.invariant.rest (omega (arith, c.in-Some.ensures.cases.2))))

@@ -18,12 +18,10 @@ write_held_at-requires-clause-length g c inside long =
     let small : (i : ℕ) → slice_index section i < 256 = λ i. search rules in
     let way = says_way c.args.architecture c.args.relocation.now.r_type row
     (subst (IsRow c.args.architecture c.args.relocation.now.r_type) c.in-Some.is c.row.ensures) in
-    let word = subst (λ x. IfSome x (λ word. word ≡ from_le_bytes w64 (drop o section))) c.in-Some-whole_word_at.is c.whole_word_at.ensures.word in
-    let several = shows_lengths c.args.architecture in
-    elim (cases_Bool several) [
+    elim (cases_Bool (shows_lengths c.args.architecture)) [
       | inl is ↦
           sym (word_says (length_of row.size) (drop o section) (λ i. subst (λ b. b < 256) (sym (get_or-drop o section i 0)) (small (o + i))))
-          ∙ (ap (word_shows (length_of row.size)) (sym word)
+          ∙ (ap (word_shows (length_of row.size)) (sym (subst (λ x. IfSome x (λ word. word ≡ from_le_bytes w64 (drop o section))) c.in-Some-whole_word_at.is c.whole_word_at.ensures.word))
           ∙ (ap (λ b. not b || word_shows (length_of row.size) c.in-Some-whole_word_at.word) (sym is) ∙ (sym c.begins_with.ensures ∙ c.if-not-begins_with.false)))
       | inr isnt ↦ way.shown isnt (drop o section)
     ]
@@ -39,11 +37,8 @@ overflow_add-result g c =
     let row = c.in-Some.row in
     let written = is_written row _ a.relocation.now.offset section c.write_held_at.new.section c.write_held_at.result
     (sym c.is_err.ensures.value ∙ c.if-is_err.false) c.write_held_at.ensures in
-    let local = one_local row _ a.relocation.now.offset section c.write_held_at.new.section written in
-    let inside = local.inside in
     let long : length section < 2 ^ 63 = search rules in
-    let window = c.window.ensures in
-    omega (arith, inside, long, window)
+    omega (arith, (one_local row _ a.relocation.now.offset section c.write_held_at.new.section written).inside, long, c.window.ensures)
 
 pub returns-clause-some : goal.returns-clause-some
 returns-clause-some g c =
@@ -56,8 +51,6 @@ returns-clause-some g c =
     let o = offset_at a.relocations.now a.index in
     let same = c.requires.is in
     let offset = ap (λ r. r.offset) same in
-    let front = c.if-offset-end.false in
-    let window = c.window.ensures in
     let fits : FitsSigned w64 v = search rules in
     record {
       row = row;
@@ -69,8 +62,8 @@ returns-clause-some g c =
       written = is_written row v o section after c.write_held_at.result (sym c.is_err.ensures.value ∙ c.if-is_err.false)
           (subst (λ x. IsWrittenAt row x o section after c.write_held_at.result) (to_z-of_z w64 v fits)
           (subst (λ r. IsWrittenAt row (to_z w64 (of_z w64 v)) r.offset section after c.write_held_at.result) same c.write_held_at.ensures));
-      following = omega (arith, front, offset);
-      end_is = omega (arith, offset, window);
+      following = omega (arith, c.if-offset-end.false, offset);
+      end_is = omega (arith, offset, c.window.ensures);
     }
 
 pub returns-clause-high : goal.returns-clause-high

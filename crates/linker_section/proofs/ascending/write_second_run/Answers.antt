@@ -17,9 +17,7 @@ loop-index-preserved g c =
     let bytes = a.relocations.now in
     let l = c.loop-index in
     let inv = l.invariant in
-    let under = c.loop-index-test.true in
-    let len = c.relocations_len-len.ensures in
-    let there : l.index < length bytes / 24 = omega (arith, under, len) in
+    let there : l.index < length bytes / 24 = omega (arith, c.loop-index-test.true, c.relocations_len-len.ensures) in
     let memory = inv.room in
     let room = c.requires.memory in
     let end = c.in-Some.own_end in
@@ -45,10 +43,8 @@ pub returns-then-are_runs_apart-clause-written : goal.returns-then-are_runs_apar
 returns-then-are_runs_apart-clause-written g c before start =
     let a = c.args in
     let l = c.loop-index in
-    let end = c.loop-index-test.false in
-    let len = c.relocations_len-len.ensures in
     runs_written a.architecture a.addresses.now a.relocations.now (g.S.Symbols.values a.symbols) before l.section l.memory l.index (l.invariant.below before start)
-    (omega (arith, end, len)) (c.are_runs_apart.ensures c.if-are_runs_apart.true)
+    (omega (arith, c.loop-index-test.false, c.relocations_len-len.ensures)) (c.are_runs_apart.ensures c.if-are_runs_apart.true)
 
 pub returns-else-are_runs_apart-clause-written : goal.returns-else-are_runs_apart-clause-written
 returns-else-are_runs_apart-clause-written g c before start =

@@ -3,5 +3,4 @@ use Rattle.linker_section.proofs.conditions.has_offset.Goals as goal
 
 pub returns-then-there-window : goal.returns-then-there-window
 returns-then-there-window c =
-    let short = rw (take_rest c.args.section.now c.args.offset) at c.if-there-window.true in
-    (λ _ _ fits. absurd (omega (arith, short, fits)), λ _. grind (arith, nat_tests, c.if-there-window.true))
+    (λ _ _ fits. absurd (omega (arith, (rw (take_rest c.args.section.now c.args.offset) at c.if-there-window.true), fits)), λ _. grind (arith, nat_tests, c.if-there-window.true))

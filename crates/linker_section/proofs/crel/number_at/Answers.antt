@@ -6,8 +6,7 @@ use Rattle.linker_section.proofs.crel.number_at.Goals.{then-is_signed+then-byte-
 pub returns-then-i-bytes-clause-is : goal.returns-then-i-bytes-clause-is
 returns-then-i-bytes-clause-is c =
     let s = c.args.section.now in
-    let bytes = take (length s - c.args.at) (drop c.args.at s) in
-    sym (cut_off c.args.is_signed bytes c.args.at c.loop-i.i c.loop-i.invariant.continue (omega arith) (omega arith))
+    sym (cut_off c.args.is_signed (take (length s - c.args.at) (drop c.args.at s)) c.args.at c.loop-i.i c.loop-i.invariant.continue (omega arith) (omega arith))
     ∙ whole c.args.is_signed s c.args.at
 
 pub returns-then-byte-lt128-clause-is : goal.returns-then-byte-lt128-clause-is
@@ -42,8 +41,7 @@ loop-i-preserved c =
 pub returns-then-bytes-lt10-clause-is : goal.returns-then-bytes-lt10-clause-is
 returns-then-bytes-lt10-clause-is c =
     let s = c.args.section.now in
-    let bytes = take (length s - c.args.at) (drop c.args.at s) in
-    sym (cut_off c.args.is_signed bytes c.args.at 9 (λ j below. c.loop-i.invariant.continue j (omega arith)) (omega arith) (omega arith))
+    sym (cut_off c.args.is_signed (take (length s - c.args.at) (drop c.args.at s)) c.args.at 9 (λ j below. c.loop-i.invariant.continue j (omega arith)) (omega arith) (omega arith))
     ∙ whole c.args.is_signed s c.args.at
 
 pub returns-then-last-most-clause-is : goal.returns-then-last-most-clause-is

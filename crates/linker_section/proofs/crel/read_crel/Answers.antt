@@ -25,8 +25,7 @@ returns-clause-ok c =
     let n = c.in_ok-header.header.count * 24 in
     let old = c.args.relocations.now in
     let part = c.decode-2.new.relocations in
-    let t = length-take-le n old (omega arith) in
-    let len : length part ≡ n = c.decode-2.ensures.same_length ∙ t in
+    let len : length part ≡ n = c.decode-2.ensures.same_length ∙ (length-take-le n old (omega arith)) in
     let a = length-append part (drop n old) in
     let d = length-drop n old in
     record {

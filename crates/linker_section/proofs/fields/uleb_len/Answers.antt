@@ -10,12 +10,9 @@ returns-then-bytes-len-lt128 c =
 
 pub loop-len-preserved : goal.loop-len-preserved
 loop-len-preserved c =
-    let i = c.loop-len.len in
     let t = c.loop-len-test.true in let w = c.if-len-lt10.true in
-    let so_far = c.loop-len.invariant.so_far in
-    let on = uleb_goes_on c.args.bytes.now i t w c.if-bytes-len-lt128.false in
     record {
       within = omega (arith, w);
       inside = omega (arith, t);
-      so_far = omega (arith, so_far, on);
+      so_far = omega (arith, c.loop-len.invariant.so_far, (uleb_goes_on c.args.bytes.now c.loop-len.len t w c.if-bytes-len-lt128.false));
     }

@@ -6,9 +6,8 @@ use Rattle.linker_section.proofs.order.are_apart.Goals.{then-is_clear_of, else-i
 pub loop-place-preserved-then-index-count : goal.loop-place-preserved-then-index-count
 loop-place-preserved-then-index-count c =
     let a = c.args in
-    let far = c.if-index-count.true in
     swept_without a.architecture a.relocations.now a.section.now a.order.now a.count c.loop-place.place
-    c.loop-place.last_index c.loop-place.last (λ under row is_field. omega (arith, under, far)) c.loop-place.invariant
+    c.loop-place.last_index c.loop-place.last (λ under row is_field. omega (arith, under, c.if-index-count.true)) c.loop-place.invariant
 
 pub loop-place-preserved-in_default : goal.loop-place-preserved-in_default
 loop-place-preserved-in_default c =

@@ -36,15 +36,13 @@ loop-second-preserved c =
       within = l.invariant.within;
       past = λ section small. elim c.if-second-len-2.branch [
         | then-second-len-2+else-not-is_past-2 w ↦
-            let there = w.if-second-len-2.true in
             let next = w.relocation_in-next-then-second-len-2.ensures in
             subst (ArePast a.architecture bytes section (IsOfRuns bytes a.start l.first (second + 1))) (sym (w.last-is ∙ next))
-            (past_second a.architecture bytes section a.start l.first second l.last c.loop-second.auto.second (omega (arith, there, len)) small
+            (past_second a.architecture bytes section a.start l.first second l.last c.loop-second.auto.second (omega (arith, w.if-second-len-2.true, len)) small
             (subst (IsPast a.architecture l.last) next (w.is_past-then-second-len-2.ensures w.if-not-is_past-2.false)) (l.invariant.past section small))
         | else-second-len-2 w ↦
-            let end = w.if-second-len-2.false in
             subst (ArePast a.architecture bytes section (IsOfRuns bytes a.start l.first (second + 1))) (sym w.last-is)
-            (past_end a.architecture bytes section a.start l.first second l.last (omega (arith, end, len)) (l.invariant.past section small))
+            (past_end a.architecture bytes section a.start l.first second l.last (omega (arith, w.if-second-len-2.false, len)) (l.invariant.past section small))
       ];
     }
 
@@ -53,6 +51,5 @@ returns c is section small =
     let a = c.args in
     let l = c.loop-second in
     let all = eqb-true l.first a.start is in
-    let end = c.loop-second-test.false in
     let len = c.relocations_len-len.ensures in
-    past_all a.architecture a.relocations.now section a.start l.first l.second l.last (omega (arith, all)) (omega (arith, end, len)) (l.invariant.past section small)
+    past_all a.architecture a.relocations.now section a.start l.first l.second l.last (omega (arith, all)) (omega (arith, c.loop-second-test.false, len)) (l.invariant.past section small)

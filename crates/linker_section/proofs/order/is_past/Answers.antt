@@ -7,13 +7,11 @@ pub returns-then-not-is_of_pair : goal.returns-then-not-is_of_pair
 returns-then-not-is_of_pair c fits =
     let a = c.args in
     let later = c.if-next-last.false in
-    let near = leb-true c.window.result (a.next.now.offset - a.last.now.offset) fits in
     let window = c.window.ensures in (
       (omega (arith, later)),
       (λ row there is_row small.
           let same : c.in-Some.row ≡ row = one_info a.architecture _ c.in-Some.row row
           (subst (IsRow a.architecture a.last.now.r_type) c.in-Some.is c.row.ensures) is_row in
           let within = len_within row there (subst (λ x. is_of_pair x ≡ false) (c.info.ensures.row ∙ same) (sym c.is_of_pair.ensures ∙ c.if-not-is_of_pair.true)) in
-          let e = ap window_len same in
-          omega (arith, later, near, window, within, e)),
+          omega (arith, later, (leb-true c.window.result (a.next.now.offset - a.last.now.offset) fits), window, within, (ap window_len same))),
     )

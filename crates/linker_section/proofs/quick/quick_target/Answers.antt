@@ -8,10 +8,8 @@ returns-else-symbol c =
     let a = c.args in
     elim c.if-symbol-ne0.branch [
       | then-symbol-ne0 w ↦
-          let none = eqb-true a.symbol.now.stub 0 (not-false _ (sym w.value-is ∙ c.if-symbol.false)) in
-          absurd (omega arith)
+          absurd (omega (arith, eqb-true a.symbol.now.stub 0 (not-false _ (sym w.value-is ∙ c.if-symbol.false))))
       | else-symbol-ne0 w ↦
           let none : a.symbol.now.stub ≡ 0 = omega arith in
-          let strong : a.symbol.now.is_undefined_weak ≡ false = sym w.value-is ∙ c.if-symbol.false in
-          c.own_address.ensures ∙ sym (own_target a.architecture a.addresses.now a.row.now a.symbol.now a.place none strong)
+          c.own_address.ensures ∙ sym (own_target a.architecture a.addresses.now a.row.now a.symbol.now a.place none (sym w.value-is ∙ c.if-symbol.false))
     ]

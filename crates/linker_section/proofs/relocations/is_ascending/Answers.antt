@@ -9,12 +9,9 @@ returns-then-offset-least c = (
       let test = c.if-offset-least.true in
       let e = c.offset_at-offset.ensures in
       let n = c.relocations_len-index-end.ensures in
-      let t = c.loop-index-test.true in
       elim (cases_eq k 0) [
         | inl first ↦ let z = c.loop-index.invariant.first first in absurd (omega (arith, test, z))
         | inr some ↦
-            let reached = c.loop-index.invariant.reached (k - 1) (omega (arith, some)) in
-            let a = ascending (k - 1) k (omega arith) (omega (arith, t, n)) in
-            absurd (omega (arith, test, e, reached, a))
+            absurd (omega (arith, test, e, (c.loop-index.invariant.reached (k - 1) (omega (arith, some))), (ascending (k - 1) k (omega arith) (omega (arith, c.loop-index-test.true, n)))))
       ]),
 )

@@ -12,11 +12,7 @@ replaced at k xs ys is inside len =
       inside = inside;
       same_len =
           let a = length-append (take at xs) (ys ++ drop k (drop at xs)) in
-          let b = length-append ys (drop k (drop at xs)) in
-          let d = ap length tail in
-          let e = length-drop (at + 24) xs in
-          let f = length-take-le at xs (omega arith) in
-          omega arith;
+          omega (arith, length-append ys (drop k (drop at xs)), ap length tail, length-drop (at + 24) xs, length-take-le at xs (omega arith));
       made = ap (λ rest. take at xs ++ (ys ++ rest)) tail
           ∙ sym (append_assoc (take at xs) ys (drop (at + 24) xs));
     }

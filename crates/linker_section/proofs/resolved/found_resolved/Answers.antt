@@ -1,4 +1,4 @@
-use Rattle.linker_section.proofs.Imports.{◌≡◌, ◌∙◌, sym, ap, subst, true, Some, ◌&&◌, not, IsRow, is_plain_way, is_offset_way, is_low_way, is_plain, is_low, needs_upper, IsPlainResolved, lacks_resolved_stub}
+use Rattle.linker_section.proofs.Imports.{◌∙◌, sym, ap, subst, true, Some, ◌&&◌, not, IsRow, is_plain_way, is_offset_way, is_low_way, needs_upper, IsPlainResolved, lacks_resolved_stub}
 use Rattle.linker_section.proofs.QuickResolved.{plain_resolved, low_resolved}
 use Rattle.linker_section.proofs.QuickValues.{if_some}
 use Rattle.linker_section.proofs.RowFacts.{says, says_way}
@@ -20,36 +20,32 @@ plain_value-requires-clause-way g c =
 pub returns-then-has_plain_way : goal.returns-then-has_plain_way
 returns-then-has_plain_way g c =
     let a = c.args in
-    let bytes = a._relocations.now in
     let row = a.row.now in
     let known = a.known.now in
     let lookup = g.L.Lookup.resolved a._lookup in
     let is = c.requires.is in
     let way = says_way a.architecture a.relocation.now.r_type row c.requires.row in
     let said = sym (ap (λ f. f.way) c.facts.ensures) in
-    let plain : is_plain row ≡ true = ap is_plain_way said ∙ c.has_plain_way.ensures.plain c.if-has_plain_way.true in
     let origin = ap (λ w. is_offset_way w && not a.addresses.now.has_tls) said ∙ c.has_plain_way.ensures.origin c.if-has_plain_way.true in
     let keeps = ap (λ r. lacks_resolved_stub a.architecture r (Some known)) (sym is) ∙ (sym c.lacks_known_stub.ensures ∙ c.if-lacks_known_stub.false) in
     if_some c.plain_value.result
-    (λ v value reached. plain_resolved a.architecture a.addresses.now bytes lookup a._index row v known c.requires.within
+    (λ v value reached. plain_resolved a.architecture a.addresses.now a._relocations.now lookup a._index row v known c.requires.within
     (subst (λ r. IsRow a.architecture r.r_type (Some row)) is c.requires.row) way (ap (lookup a._index) (sym is) ∙ c.requires.known)
-    c.if-known.false keeps (ap (λ r. needs_upper a.architecture r v) (sym is) ∙ reached) plain origin
+    c.if-known.false keeps (ap (λ r. needs_upper a.architecture r v) (sym is) ∙ reached) (ap is_plain_way said ∙ c.has_plain_way.ensures.plain c.if-has_plain_way.true) origin
     (subst (λ r. IsPlainResolved a.architecture a.addresses.now row r known v) is value))
     c.plain_value.ensures
 
 pub returns-in-Low : goal.returns-in-Low
 returns-in-Low g c =
     let a = c.args in
-    let bytes = a._relocations.now in
     let row = a.row.now in
     let known = a.known.now in
     let lookup = g.L.Lookup.resolved a._lookup in
     let is = c.requires.is in
     let way = says_way a.architecture a.relocation.now.r_type row c.requires.row in
-    let low : is_low row ≡ true = ap is_low_way (sym (ap (λ f. f.way) c.facts.ensures) ∙ c.in-Low.is) in
     let keeps = ap (λ r. lacks_resolved_stub a.architecture r (Some known)) (sym is) ∙ (sym c.lacks_known_stub.ensures ∙ c.if-lacks_known_stub.false) in
     if_some c.value_at.result
-    (λ v value reached. low_resolved a.architecture a.addresses.now bytes lookup a._index row v known c.requires.within
+    (λ v value reached. low_resolved a.architecture a.addresses.now a._relocations.now lookup a._index row v known c.requires.within
     (subst (λ r. IsRow a.architecture r.r_type (Some row)) is c.requires.row) way (ap (lookup a._index) (sym is) ∙ c.requires.known)
-    c.if-known.false keeps (ap (λ r. needs_upper a.architecture r v) (sym is) ∙ reached) low a.high c.requires.high value)
+    c.if-known.false keeps (ap (λ r. needs_upper a.architecture r v) (sym is) ∙ reached) (ap is_low_way (sym (ap (λ f. f.way) c.facts.ensures) ∙ c.in-Low.is)) a.high c.requires.high value)
     c.value_at.ensures

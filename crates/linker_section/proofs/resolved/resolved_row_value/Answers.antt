@@ -15,14 +15,12 @@ pub returns-then-is_skipped : goal.returns-then-is_skipped
 returns-then-is_skipped g c =
     let a = c.args in
     let bytes = a.relocations.now in
-    let r = relocation_in bytes a.index in
     let row = c.in-Some.row in
     let lookup = g.L.Lookup.resolved a.lookup in
     let is_row = subst (λ x. IsRow a.architecture x.r_type (Some row)) c.requires.is
     (subst (IsRow a.architecture a.relocation.now.r_type) c.in-Some.is c.row.ensures) in
-    let known = c.resolved-known.ensures ∙ ap (lookup a.index) c.requires.is in
-    let skipped : is_skipped (Some row) (lookup a.index r) ≡ true =
-    ap (is_skipped (Some row)) (sym known) ∙ (sym c.is_skipped.ensures ∙ c.if-is_skipped.true) in (
+    let skipped : is_skipped (Some row) (lookup a.index (relocation_in bytes a.index)) ≡ true =
+    ap (is_skipped (Some row)) (sym (c.resolved-known.ensures ∙ ap (lookup a.index) c.requires.is)) ∙ (sym c.is_skipped.ensures ∙ c.if-is_skipped.true) in (
       Some row,
       is_row,
       subst (λ b. IsResolvedUnless b a.architecture a.addresses.now bytes lookup a.index (Some row) (Ok None)) (sym skipped) refl,
@@ -142,6 +140,5 @@ pub returns-in-Err : goal.returns-in-Err
 returns-in-Err g c =
     let here = (goal.at.returns-in-Err g c).After-value_by in
     let a = c.args in
-    let lookup = g.L.Lookup.resolved a.lookup in
     unless g here (Err c.in-Err.error) (IsUnresolved.valueless
-    (subst (IsResolvedIn a.architecture a.addresses.now a.relocations.now lookup a.index (Some c.in-Some.row)) c.in-Err.is (known g here).value))
+    (subst (IsResolvedIn a.architecture a.addresses.now a.relocations.now (g.L.Lookup.resolved a.lookup) a.index (Some c.in-Some.row)) c.in-Err.is (known g here).value))

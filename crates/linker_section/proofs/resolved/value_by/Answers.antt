@@ -49,10 +49,9 @@ returns-in-Ok g c =
     let here = (goal.at.returns-in-Ok g c).In-Some-indexed_high_part in
     let given = ap (λ n. of (lookup n high)) c.in-Some-indexed_high_part.ensures.found.1
     ∙ (ap of (sym c.resolved-resolved.ensures) ∙ (sym c.resolved_operands.ensures ∙ c.in-Ok.is)) in
-    let is = ap Ok (c.formula_value.ensures ∙ ap (value_of row) c.low_operands.ensures) ∙ sym (ap (low_by row high_row) given) in
     subst (λ b. IsResolvedBy b a.architecture a.addresses.now bytes lookup row a.relocation.now a.resolved (Ok c.formula_value.result)) (sym (labelled g (goal.at.returns-in-Ok g c).In-Some))
     (subst (λ x. IsResolvedBy true a.architecture a.addresses.now bytes lookup row a.relocation.now x (Ok c.formula_value.result)) (sym c.in-Some.is)
-    (IsLowResolved.by_high (part g here) is))
+    (IsLowResolved.by_high (part g here) (ap Ok (c.formula_value.ensures ∙ ap (value_of row) c.low_operands.ensures) ∙ sym (ap (low_by row high_row) given))))
 
 pub returns-in-Err : goal.returns-in-Err
 returns-in-Err g c =
@@ -63,9 +62,8 @@ returns-in-Err g c =
     let high = c.in-Some-indexed_high_part.high in
     let high_row = c.in-Some-indexed_high_part.high_row in
     let of = resolved_operands a.architecture a.addresses.now high_row high in
-    let here = (goal.at.returns-in-Err g c).In-Some-indexed_high_part in
     let given = ap (λ n. of (lookup n high)) c.in-Some-indexed_high_part.ensures.found.1
     ∙ (ap of (sym c.resolved-resolved.ensures) ∙ (sym c.resolved_operands.ensures ∙ c.in-Err.is)) in
     subst (λ b. IsResolvedBy b a.architecture a.addresses.now bytes lookup row a.relocation.now a.resolved (Err c.in-Err.error)) (sym (labelled g (goal.at.returns-in-Err g c).In-Some))
     (subst (λ x. IsResolvedBy true a.architecture a.addresses.now bytes lookup row a.relocation.now x (Err c.in-Err.error)) (sym c.in-Some.is)
-    (IsLowResolved.by_high (part g here) (sym (ap (low_by row high_row) given))))
+    (IsLowResolved.by_high (part g ((goal.at.returns-in-Err g c).In-Some-indexed_high_part)) (sym (ap (low_by row high_row) given))))

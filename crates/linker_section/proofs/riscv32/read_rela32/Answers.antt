@@ -4,13 +4,10 @@ use Rattle.linker_section.proofs.riscv32.read_rela32.Goals as goal
 
 pub loop-index-preserved : goal.loop-index-preserved
 loop-index-preserved c =
-    let count = c.relocations32_len-len.result in
     let set = c.set_relocation.ensures in
-    let new = c.set_relocation.new.relocations in
-    let len = c.loop-index.auto.copied in
-    let front = length-take-le (count * 24) c.args.relocations.now (omega (arith, c.requires, c.relocations32_len-len.ensures)) in
-    below_more (λ n. relocation_in new n ≡ relocation32_in c.args.entries.now n) c.loop-index.index
-    (λ n below. set.others n (omega (arith, len, front)) (omega arith) ∙ c.loop-index.invariant n below)
+    let front = length-take-le (c.relocations32_len-len.result * 24) c.args.relocations.now (omega (arith, c.requires, c.relocations32_len-len.ensures)) in
+    below_more (λ n. relocation_in c.set_relocation.new.relocations n ≡ relocation32_in c.args.entries.now n) c.loop-index.index
+    (λ n below. set.others n (omega (arith, c.loop-index.auto.copied, front)) (omega arith) ∙ c.loop-index.invariant n below)
     (set.set ∙ c.relocation32_in.ensures)
 
 pub returns : goal.returns

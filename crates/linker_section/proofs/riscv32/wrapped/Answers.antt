@@ -20,7 +20,6 @@ returns c =
     let least = c.args.least in
     let value = c.args.value in
     let bits = c.cast_unsigned.result in
-    let bits_are : bits ≡ cast_unsigned w64 value = c.cast_unsigned.ensures ∙ ap (cast_unsigned w64) (to_z-of_z w64 value c.ranges.value) in
     let first_is : c.cast_unsigned-2.result ≡ cast_unsigned w64 least = c.cast_unsigned-2.ensures ∙ ap (cast_unsigned w64) (to_z-of_z w64 least c.ranges.least) in
     let above : ℕ = (bits + (2 ^ 64 - c.cast_unsigned-2.result)) % 2 ^ 64 % 2 ^ 32 in
     let above_is : c.cast_signed.result ≡ pos above = c.cast_signed.ensures ∙ to_z_pos w64 above (omega arith) in
@@ -29,5 +28,5 @@ returns c =
       below = omega (arith, ints);
       same =
           same_above least bits above c.ranges.least c.cast_unsigned.type_inv (ap (λ n. (bits + (2 ^ 64 - n)) % 2 ^ 64 % 2 ^ 32) first_is)
-          ∙ (ap (λ n. pos (n % 2 ^ 32)) bits_are ∙ sym (same_bits value c.ranges.value));
+          ∙ (ap (λ n. pos (n % 2 ^ 32)) (c.cast_unsigned.ensures ∙ ap (cast_unsigned w64) (to_z-of_z w64 value c.ranges.value)) ∙ sym (same_bits value c.ranges.value));
     })

@@ -6,8 +6,7 @@ pub loop-index-preserved : goal.loop-index-preserved
 loop-index-preserved c =
     let a = c.args in
     let n = c.loop-index.index - 1 in
-    let t = c.loop-index-test.true in
-    let one : c.loop-index.index ≡ suc n = omega (arith, t) in
+    let one : c.loop-index.index ≡ suc n = omega (arith, c.loop-index-test.true) in
     let word = slice_index a.memory.now n in
     let r = relocation_in a.relocations.now n in
     record {

@@ -32,9 +32,7 @@ same_end c before row w same is_field =
     let one = one_info a.architecture _ row w.row is_field.is_row w.has.is_field.is_row in
     let offset = w.has.offset_is in
     let end = w.has.end_is in
-    let now = len_alone w.row (drop o a.section.now) w.valued w.alone in
-    let was = ap (λ x. field_len x (drop o before)) one ∙ len_alone w.row (drop o before) w.valued w.alone in
-    omega (arith, offset, end, now, was)
+    omega (arith, offset, end, (len_alone w.row (drop o a.section.now) w.valued w.alone), (ap (λ x. field_len x (drop o before)) one ∙ len_alone w.row (drop o before) w.valued w.alone))
 
 known : (c : In-Some) → Known c
 known c =
@@ -44,8 +42,7 @@ known c =
     let row = found.0 in
     let has = found.1 in
     let offset = has.offset_is in
-    let end = has.end_is in
-    let len : field_len row (drop o a.section.now) ≡ c.in-Some.field.len = omega (arith, offset, end) in
+    let len : field_len row (drop o a.section.now) ≡ c.in-Some.field.len = omega (arith, offset, has.end_is) in
     record {
       row = row;
       has = has;
@@ -69,8 +66,7 @@ returns-in_default c before is_limit order same =
 
 pub is_clear-requires : goal.is_clear-requires
 is_clear-requires c =
-    let w = known (goal.at.is_clear-requires c).In-Some in
-    subst (λ f. IfNone c.args.limit (c.args.last.offset ≤ f.offset)) (sym w.field_is) c.requires.after
+    subst (λ f. IfNone c.args.limit (c.args.last.offset ≤ f.offset)) (sym (known (goal.at.is_clear-requires c).In-Some).field_is) c.requires.after
 
 pub returns-then-not-is_clear : goal.returns-then-not-is_clear
 returns-then-not-is_clear c before is_limit order same =
@@ -84,15 +80,13 @@ returns-then-not-is_within c before is_limit order same =
     let w = known (goal.at.returns-then-not-is_within c).In-Some in
     let a = c.args in
     let clear = ap (λ f. clear_in a.limit a.index f a.last) (sym w.field_is) ∙ (sym c.is_clear.ensures ∙ c.if-not-is_clear.false) in
-    let past = c.is_within.ensures.no c.if-not-is_within.true in
     let is_field = alone_field a.architecture a.relocations.now a.section.now before a.index w.row w.alone w.has.is_field in
-    let end = same_end (goal.at.returns-then-not-is_within c).In-Some before w.row w same is_field in
     inr (
       refl,
       apart_next a.limit a.architecture a.relocations.now before a.section.now a.index a.last w.row is_limit order c.requires.within c.requires.after same w.has.is_field.is_row w.valued clear,
       w.row,
       is_field,
-      omega (arith, past, end, same),
+      omega (arith, (c.is_within.ensures.no c.if-not-is_within.true), (same_end (goal.at.returns-then-not-is_within c).In-Some before w.row w same is_field), same),
     )
 
 pub returns : goal.returns
@@ -103,17 +97,12 @@ returns c before is_limit order same =
     let o = offset_at bytes a.index in
     let clear = ap (λ f. clear_in a.limit a.index f a.last) (sym w.field_is) ∙ (sym c.is_clear.ensures ∙ c.if-not-is_clear.false) in
     let within = c.is_within.ensures.yes c.if-not-is_within.false in
-    let offset = w.has.offset_is in
-    let len = len_alone w.row (drop o a.section.now) w.valued w.alone in
-    let end = w.has.end_is in
-    let some = w.has.is_field.some in
     let next : next_field (field_of_row w.row o a.section.now) a.last ≡ c.in-Some.field =
-    next_some (field_of_row w.row o a.section.now) a.last some ∙ sym w.field_is in (
+    next_some (field_of_row w.row o a.section.now) a.last w.has.is_field.some ∙ sym w.field_is in (
       refl,
       subst (IsInOrder a.limit a.architecture bytes before a.section.now (a.index + 1)) next
           (left_order a.limit a.architecture bytes before a.section.now a.index a.last w.row is_limit order c.requires.within c.requires.after same w.has.is_field.is_row w.valued w.alone
-          (omega (arith, within, offset, len, end)) clear),
+          (omega (arith, within, w.has.offset_is, (len_alone w.row (drop o a.section.now) w.valued w.alone), w.has.end_is)) clear),
       (λ row is_field.
-          let was = same_end (goal.at.returns c).In-Some before row w same is_field in
-          omega (arith, within, was, same)),
+          omega (arith, within, (same_end (goal.at.returns c).In-Some before row w same is_field), same)),
     )

@@ -19,18 +19,16 @@ pub pair_is : (architecture : Architecture) (addresses : Addresses) (bytes : Lis
     → IsNumberOfPair other.kind there value subtracted number
     → IsPair architecture addresses bytes values i there number
 pair_is architecture addresses bytes values i there value subtracted other number pair first has_subtracted numbered =
-    let same : pair.row ≡ first.0 = one_info architecture _ pair.row (first.0) pair.is_row (first.1).is_row in
-    let same_other : pair.other ≡ other = one_info architecture _ pair.other other pair.is_other has_subtracted.is_row in
     record {
       same_offset = pair.same_offset;
       row = first.0;
       value = value;
       has_value = first.1;
-      begins = subst (λ x. begins_pair x.size x.kind ≡ true) same pair.begins;
+      begins = subst (λ x. begins_pair x.size x.kind ≡ true) (one_info architecture _ pair.row (first.0) pair.is_row (first.1).is_row) pair.begins;
       other = other;
       subtracted = subtracted;
       has_subtracted = has_subtracted;
-      ends = subst (λ x. ends_pair x.size x.kind ≡ true) same_other pair.ends;
+      ends = subst (λ x. ends_pair x.size x.kind ≡ true) (one_info architecture _ pair.other other pair.is_other has_subtracted.is_row) pair.ends;
       is_number = numbered;
     }
 
@@ -40,9 +38,8 @@ returns-in-Ok g c =
     let a = c.args in
     let n = c.number_of_pair-number.result in
     let found = c.in-Ok-Some.found in
-    let first = relocation_in a.relocations.now a.index in
     let written = subst (IsNumberWrittenAt n a.second.now.offset a.section.now c.write_number_at.new.section) c.in-Ok.is c.write_number_at.ensures in
-    let offset : a.second.now.offset ≡ first.offset = ap (λ r. r.offset) c.requires.second ∙ c.requires.pair.same_offset in
+    let offset : a.second.now.offset ≡ (relocation_in a.relocations.now a.index).offset = ap (λ r. r.offset) c.requires.second ∙ c.requires.pair.same_offset in
     let has_other = subst (IsOutcome a.architecture a.addresses.now a.relocations.now (g.S.Symbols.values a.symbols) (g.S.Symbols.left_out a.symbols a.relocations.now) (a.index + 1)) (c.in-Ok-Some.is ∙ ap Ok c.in-Ok-Some.field-0-is) c.row_value.ensures in
     let kind : IsNumberOfPair found.0.kind (drop a.second.now.offset a.section.now) (to_z w64 (of_z w64 a.value)) (to_z w64 (of_z w64 (found.1))) n =
     subst (λ k. IsNumberOfPair k (drop a.second.now.offset a.section.now) (to_z w64 (of_z w64 a.value)) (to_z w64 (of_z w64 (found.1))) n) c.kind.ensures c.number_of_pair-number.ensures in
@@ -65,9 +62,8 @@ returns-in-Err-write_number_at g c =
     let n = c.number_of_pair-number.result in
     let found = c.in-Ok-Some.found in
     let why = c.in-Err-write_number_at.error in
-    let first = relocation_in a.relocations.now a.index in
     let written = subst (IsNumberWrittenAt n a.second.now.offset a.section.now c.write_number_at.new.section) c.in-Err-write_number_at.is c.write_number_at.ensures in
-    let offset : a.second.now.offset ≡ first.offset = ap (λ r. r.offset) c.requires.second ∙ c.requires.pair.same_offset in
+    let offset : a.second.now.offset ≡ (relocation_in a.relocations.now a.index).offset = ap (λ r. r.offset) c.requires.second ∙ c.requires.pair.same_offset in
     let has_other = subst (IsOutcome a.architecture a.addresses.now a.relocations.now (g.S.Symbols.values a.symbols) (g.S.Symbols.left_out a.symbols a.relocations.now) (a.index + 1)) (c.in-Ok-Some.is ∙ ap Ok c.in-Ok-Some.field-0-is) c.row_value.ensures in
     let kind : IsNumberOfPair found.0.kind (drop a.second.now.offset a.section.now) (to_z w64 (of_z w64 a.value)) (to_z w64 (of_z w64 (found.1))) n =
     subst (λ k. IsNumberOfPair k (drop a.second.now.offset a.section.now) (to_z w64 (of_z w64 a.value)) (to_z w64 (of_z w64 (found.1))) n) c.kind.ensures c.number_of_pair-number.ensures in

@@ -21,9 +21,8 @@ loop-index-preserved g c =
 pub returns-in-Err-clause-err : goal.returns-in-Err-clause-err
 returns-in-Err-clause-err g c =
     let a = c.args in
-    let inv = c.loop-index.invariant in
     subst (IsStep a.architecture a.addresses.now a.relocations.now (g.S.Symbols.values a.symbols) (Some a.limit) a.section.now c.loop-index.index c.write_one.new.section c.write_one.new.memory) c.in-Err.is
-    (c.write_one.ensures.step a.section.now inv.reached)
+    (c.write_one.ensures.step a.section.now c.loop-index.invariant.reached)
 
 pub returns-clause-ok : goal.returns-clause-ok
 returns-clause-ok g c =

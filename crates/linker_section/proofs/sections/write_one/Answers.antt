@@ -2,7 +2,6 @@ use Rattle.linker_section.proofs.Imports.{◌≡◌, ◌+◌, ◌∙◌, sym, ap
 use Rattle.linker_section.proofs.Lengths.{length_of, other_length}
 use Rattle.linker_section.proofs.Local.{pair_local}
 use Rattle.linker_section.proofs.Stepping.{left_step, mark_order, no_field, mark_restores, one_order, one_restores, pair_order, pair_restores, apart_now, apart_next, overlap_now, stop, stop_at, set_above}
-use Rattle.linker_section.specs.declared.sections.Stopped.{Stopped}
 use Rattle.linker_section.proofs.sections.write_one.Goals.{After-field_at-field, After-or-last, In-Ok-None}
 use Rattle.linker_section.proofs.sections.write_one.Given.{Over}
 use Rattle.linker_section.proofs.sections.write_one.Goals as goal
@@ -18,16 +17,14 @@ known : (g : Over) (c : After-field_at-field g) → Known g c
 known g c =
     let a = c.args in
     let bytes = a.relocations.now in
-    let same = c.relocation_in-relocation.ensures in
     let row = c.in-Ok-Some.found.0 in
-    let value = c.in-Ok-Some.found.1 in
-    let has : IsValued a.architecture a.addresses.now bytes (g.S.Symbols.values a.symbols) a.index row value =
+    let has : IsValued a.architecture a.addresses.now bytes (g.S.Symbols.values a.symbols) a.index row c.in-Ok-Some.found.1 =
     subst (IsOutcome a.architecture a.addresses.now bytes (g.S.Symbols.values a.symbols) (g.S.Symbols.left_out a.symbols bytes) a.index) (c.in-Ok-Some.is ∙ ap Ok c.in-Ok-Some.field-0-is) c.row_value.ensures in
     record {
       has = has;
       some = has.valued;
       fits = search rules;
-      field_is = c.field_at-field.ensures ∙ ap (λ r. field_of_row row r.offset a.section.now) same;
+      field_is = c.field_at-field.ensures ∙ ap (λ r. field_of_row row r.offset a.section.now) c.relocation_in-relocation.ensures;
     }
 
 clear : (g : Over) (c : After-or-last g) → clear_in c.args.limit c.args.index (field_of_row (c.in-Ok-Some.found.0) (offset_at c.args.relocations.now c.args.index) c.args.section.now) c.args.last ≡ true
@@ -70,10 +67,8 @@ leave_out-requires-clause-alone g c = (unvalued g (goal.at.leave_out-requires-cl
 pub returns-then-is_left_out-clause-step : goal.returns-then-is_left_out-clause-step
 returns-then-is_left_out-clause-step g c before inv =
     let a = c.args in
-    let i = a.index in
-    let bytes = a.relocations.now in
     let n = (goal.at.returns-then-is_left_out-clause-step g c).In-Ok-None in
-    left_step a.limit a.architecture a.addresses.now bytes before a.section.now a.memory.now (g.S.Symbols.values a.symbols) i c.word_at.result a.last c.leave_out.result
+    left_step a.limit a.architecture a.addresses.now a.relocations.now before a.section.now a.memory.now (g.S.Symbols.values a.symbols) a.index c.word_at.result a.last c.leave_out.result
     inv (unvalued g n).is_value (λ inside. (passed g n before inv inside).below) c.requires.within
     (c.leave_out.ensures before inv.is_limit inv.order inv.below.same_length)
 
@@ -108,7 +103,6 @@ returns-clause-step g c before inv =
     let section = a.section.now in
     let after = c.write_at.new.section in
     let there = c.requires.within in
-    let room = c.requires.room in
     let same = c.relocation_in-relocation.ensures in
     let saved = subst (λ r. IsSavedAt r.offset section c.word_at.result) same c.word_at.ensures in
     let row = c.in-Ok-Some.found.0 in
@@ -122,7 +116,7 @@ returns-clause-step g c before inv =
         below = record {
           within = omega (arith, there);
           relocated = AreRelocated.one inv.below.relocated w.has written;
-          restores = one_restores a.architecture bytes a.memory.now before section after i c.word_at.result row value (omega (arith, there, room)) w.has.is_row written saved inv.below.restores;
+          restores = one_restores a.architecture bytes a.memory.now before section after i c.word_at.result row value (omega (arith, there, c.requires.room)) w.has.is_row written saved inv.below.restores;
           same_length = written.same_length ∙ inv.below.same_length;
         };
         order = subst (IsInOrder a.limit a.architecture bytes before after (i + 1)) (sym (c.or-last.ensures ∙ ap (λ f. next_field f a.last) w.field_is))
@@ -188,12 +182,10 @@ returns-in-Err-write_at-clause-step g c before inv =
     let rejected = subst (λ v. IsWrittenAt row v (offset_at bytes i) section after (Err why)) (to_z-of_z w64 value w.fits)
     (subst (λ r. IsWrittenAt row (to_z w64 (of_z w64 value)) r.offset section after (Err why)) same
     (subst (IsWrittenAt row (to_z w64 (of_z w64 value)) c.relocation_in-relocation.result.offset section after) c.in-Err-write_at.is c.write_at.ensures)) in
-    let stopped : Stopped = record { count = i; error = record { index = i; error = Write why } } in
-    let alone : BeginsPair a.architecture bytes i → ⊥ = subst (λ x. IfNone x (BeginsPair a.architecture bytes i → ⊥)) c.in_default.is c.second_of_pair.ensures.none in
-    subst (λ now. IsStopped a.architecture a.addresses.now bytes (g.S.Symbols.values a.symbols) before now (set a.memory.now i c.word_at.result) stopped) (sym (rejected.1))
+    subst (λ now. IsStopped a.architecture a.addresses.now bytes (g.S.Symbols.values a.symbols) before now (set a.memory.now i c.word_at.result) (record { count = i; error = record { index = i; error = Write why } })) (sym (rejected.1))
     (stop_at a.limit a.architecture a.addresses.now bytes before section a.memory.now (g.S.Symbols.values a.symbols) i c.word_at.result a.last (Write why) inv c.requires.within (
       apart_next a.limit a.architecture bytes before section i a.last row inv.is_limit inv.order c.requires.within c.requires.after inv.below.same_length w.has.is_row w.some (clear g (goal.at.returns-in-Err-write_at-clause-step g c).After-or-last),
-      inl (record { row = row; value = value; has_value = w.has; length_shown = shown; rejected = rejected.0; alone = alone }),
+      inl (record { row = row; value = value; has_value = w.has; length_shown = shown; rejected = rejected.0; alone = (subst (λ x. IfNone x (BeginsPair a.architecture bytes i → ⊥)) c.in_default.is c.second_of_pair.ensures.none) }),
     ))
 
 pub returns-in-Some-clause-step : goal.returns-in-Some-clause-step
@@ -204,15 +196,12 @@ returns-in-Some-clause-step g c before inv =
     let bytes = a.relocations.now in
     let section = a.section.now in
     let after = c.relocate_pair.new.section in
-    let room = c.requires.room in
     let same = c.relocation_in-relocation.ensures in
     let saved = subst (λ r. IsSavedAt r.offset section c.word_at.result) same c.word_at.ensures in
     let saved_next = subst (λ r. IsSavedAt (sum_64 r.offset 8) section c.word_at-in-Some.result) same c.word_at-in-Some.ensures in
     let row = c.in-Ok-Some.found.0 in
-    let second = subst (λ x. IfSome x (λ s. (s ≡ relocation_in bytes (i + 1)) × BeginsPair a.architecture bytes i)) c.in-Some.is c.second_of_pair.ensures.found in
-    let pair = second.1 in
+    let pair = (subst (λ x. IfSome x (λ s. (s ≡ relocation_in bytes (i + 1)) × BeginsPair a.architecture bytes i)) c.in-Some.is c.second_of_pair.ensures.found).1 in
     let written = subst (IsPairOutcome a.architecture a.addresses.now bytes (g.S.Symbols.values a.symbols) i section after) c.in_default-relocate_pair.is c.relocate_pair.ensures in
-    let local = pair_local a.architecture a.addresses.now bytes (g.S.Symbols.values a.symbols) i section after written in
     let long : length section < 2 ^ 63 = search rules in
     let under = pair.within in (
       (omega arith),
@@ -221,8 +210,8 @@ returns-in-Some-clause-step g c before inv =
         below = record {
           within = omega (arith, under);
           relocated = AreRelocated.pair inv.below.relocated written;
-          restores = pair_restores a.architecture a.addresses.now bytes a.memory.now before section after (g.S.Symbols.values a.symbols) i c.word_at.result c.word_at-in-Some.result row (omega (arith, under, room)) long w.has.is_row pair written saved saved_next inv.below.restores;
-          same_length = local.same_length ∙ inv.below.same_length;
+          restores = pair_restores a.architecture a.addresses.now bytes a.memory.now before section after (g.S.Symbols.values a.symbols) i c.word_at.result c.word_at-in-Some.result row (omega (arith, under, c.requires.room)) long w.has.is_row pair written saved saved_next inv.below.restores;
+          same_length = (pair_local a.architecture a.addresses.now bytes (g.S.Symbols.values a.symbols) i section after written).same_length ∙ inv.below.same_length;
         };
         order = subst (IsInOrder a.limit a.architecture bytes before after (i + 2)) (sym (c.or-last.ensures ∙ ap (λ f. next_field f a.last) w.field_is))
             (pair_order a.limit a.architecture a.addresses.now bytes before section after (g.S.Symbols.values a.symbols) i a.last row inv.is_limit inv.order c.requires.within c.requires.after inv.below.same_length w.has.is_row w.some (clear g (goal.at.returns-in-Some-clause-step g c).After-or-last) pair written);
@@ -238,12 +227,10 @@ returns-in-Err-relocate_pair-clause-step g c before inv =
     let section = a.section.now in
     let memory = a.memory.now in
     let kept = set memory i c.word_at.result in
-    let second = subst (λ x. IfSome x (λ s. (s ≡ relocation_in bytes (i + 1)) × BeginsPair a.architecture bytes i)) c.in-Some.is c.second_of_pair.ensures.found in
-    let pair = second.1 in
+    let pair = (subst (λ x. IfSome x (λ s. (s ≡ relocation_in bytes (i + 1)) × BeginsPair a.architecture bytes i)) c.in-Some.is c.second_of_pair.ensures.found).1 in
     let outcome = subst (IsPairOutcome a.architecture a.addresses.now bytes (g.S.Symbols.values a.symbols) i section c.relocate_pair.new.section) c.in-Err-relocate_pair.is c.relocate_pair.ensures in
-    let stopped : Stopped = record { count = i; error = c.in-Err-relocate_pair.error } in
     let next = apart_next a.limit a.architecture bytes before section i a.last (c.in-Ok-Some.found.0) inv.is_limit inv.order c.requires.within c.requires.after inv.below.same_length w.has.is_row w.some (clear g (goal.at.returns-in-Err-relocate_pair-clause-step g c).After-or-last) in
-    subst (λ now. IsStopped a.architecture a.addresses.now bytes (g.S.Symbols.values a.symbols) before now (set kept (i + 1) c.word_at-in-Some.result) stopped) (sym (outcome.0))
+    subst (λ now. IsStopped a.architecture a.addresses.now bytes (g.S.Symbols.values a.symbols) before now (set kept (i + 1) c.word_at-in-Some.result) (record { count = i; error = c.in-Err-relocate_pair.error })) (sym (outcome.0))
     (stop a.architecture a.addresses.now bytes before section memory _ (g.S.Symbols.values a.symbols) i _ inv.below.within
     (λ j below. set_above kept i (i + 1) c.word_at-in-Some.result (omega arith) j below ∙ set_above memory i i c.word_at.result (omega arith) j below) inv.below.restores
     (elim (outcome.1) [
