@@ -14,7 +14,7 @@ type Arrays = (Vec<u8>, Vec<u64>, Vec<usize>, Vec<u64>);
 /// The same items for the exports and for the erased crate.
 struct Run {
     exports: Vec<Item>,
-    erased: Vec<erased::Item>,
+    erased: Vec<erased::ItemNumbers>,
 }
 
 impl Run {
@@ -27,12 +27,14 @@ impl Run {
         let shapes = standard_shapes(ShapesName::RiscVCall);
         self.exports.push(Item::site(offset, 8, target, shapes));
         let (len, shapes) = (8, CALL);
-        self.erased.push(erased::Item::Site(erased::Site {
+        let site = erased::Site {
             offset,
             len,
             target,
             shapes,
-        }));
+        };
+        self.erased
+            .push(erased::ItemNumbers::from_item(erased::Item::Site(site)));
     }
 
     /// Nops of 14 bytes, which align to 16.
@@ -40,12 +42,14 @@ impl Run {
         let (nops, alignment, max_skip) = (14, 16, None);
         self.exports
             .push(Item::alignment(offset, nops, alignment, max_skip));
-        self.erased.push(erased::Item::Aligned(erased::Alignment {
+        let aligned = erased::Alignment {
             offset,
             nops,
             alignment,
             max_skip,
-        }));
+        };
+        self.erased
+            .push(erased::ItemNumbers::from_item(erased::Item::Aligned(aligned)));
     }
 
     fn arrays(&self) -> Arrays {

@@ -214,7 +214,7 @@ fn rewrites(report: &mut Report, input: &Input) {
     });
     let (symbols, kept) = of_crate(input);
     let architecture = Architecture::from_machine(input.machine).expect("an architecture");
-    let mut made = vec![rewriting::Decision::Kept; input.count()];
+    let mut made = vec![rewriting::DecisionNumbers::default(); input.count()];
     let erased = anew(input, move |bytes| {
         let (section, relocations) = bytes.split_at_mut(LEN);
         let link = section::Link {

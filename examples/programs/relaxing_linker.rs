@@ -15,7 +15,7 @@ struct Placed {
     is_data: bool,
     section: Section<Vec<u8>, Vec<u8>>, // its base is that before anything gets shorter
     alignment: u64,
-    items: Vec<Item>, // the first is before it, so that it may be aligned
+    items: Vec<ItemNumbers>, // the first is before it, so that it may be aligned
 }
 
 fn main() -> Result<(), Box<dyn Error>> {
@@ -61,7 +61,7 @@ fn main() -> Result<(), Box<dyn Error>> {
         }
         let nops = Alignment::before(end, it.alignment);
         it.section.base = end + u64::from(nops.nops);
-        it.items.push(Item::Aligned(nops));
+        it.items.push(ItemNumbers::from_item(Item::Aligned(nops)));
         end = it.section.base + it.section.bytes.len() as u64;
     }
 

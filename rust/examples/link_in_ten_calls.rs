@@ -4,7 +4,7 @@
 use linker_utils::aarch64::AArch64Relocation::*;
 use linker_utils::elf::Architecture;
 use linker_utils::output::{Target, entry_words, static_words};
-use linker_utils::rewriting::{Decision, UnrelaxableGroups, Phase, SymbolFacts};
+use linker_utils::rewriting::{DecisionNumbers, Deletion, Phase, SymbolFacts, UnrelaxableGroups};
 use linker_utils::rewriting::{rewrite_placed_section, rewrite_section, survey, survey_placed_section};
 use linker_utils::section::{EntryClass, Link, Object, Section, Symbol};
 use linker_utils::section::{memory_len, needs, relocate_section, relocations};
@@ -28,7 +28,7 @@ fn link(
     let object = Object { facts, ..Object::default() };
     let count = rela.len() / 24;
     let mut section = Section { address, ..Section::new(code, rela) };
-    let mut decisions = vec![Decision::Kept; count];
+    let mut decisions = vec![DecisionNumbers::default(); count];
     // 1 and 2: rewrites that need no address
     let mut kept = vec![UnrelaxableGroups::default(); facts.len()];
     survey(&link, &object, &section, &mut kept);
@@ -56,7 +56,7 @@ fn link(
     }
     // 7 and 8: rewrites by addresses
     let object = Object { values: symbols, ..object };
-    let mut deleted = vec![(0, 0); count];
+    let mut deleted = vec![Deletion::default(); count];
     for phase in [Phase::TlsLocalExec, Phase::GotToPcRel, Phase::ShortPcRel] {
         let mut kept = vec![UnrelaxableGroups::default(); facts.len()];
         survey_placed_section(&link, &object, &section, phase, &mut kept).unwrap();

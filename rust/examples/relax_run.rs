@@ -16,15 +16,15 @@
 use std::error::Error;
 use std::io::{self, BufRead};
 
-use linker_utils::runs::{Alignment, Item, Machine, Relocation, Run, first_faulty, relax};
-use linker_utils::runs::{pack_run, packed_run_len, section_items};
+use linker_utils::runs::{Alignment, Item, ItemNumbers, Machine, Relocation, Run};
+use linker_utils::runs::{first_faulty, pack_run, packed_run_len, relax, section_items};
 use linker_utils::section::Section;
 
 #[derive(Default)]
 struct Input {
     section: Section<Vec<u8>, [u8; 0]>,
     relocations: Vec<Relocation>,
-    items: Vec<Item>,
+    items: Vec<ItemNumbers>,
 }
 
 fn bytes_of(text: &str) -> Result<Vec<u8>, Box<dyn Error>> {
@@ -57,28 +57,28 @@ fn main() -> Result<(), Box<dyn Error>> {
                     may_compress,
                 })
             }
-            ["alignment", offset, nops, power] => others.push(Item::Aligned(Alignment {
+            ["alignment", offset, nops, power] => others.push(Alignment {
                 offset: offset.parse()?,
                 nops: nops.parse()?,
                 alignment: power.parse()?,
                 max_skip: None,
-            })),
+            }),
             _ => return Err(format!("not a line: {line}").into()),
         }
     }
     for input in &mut sections {
         input.items = section_items(machine, &input.section, &input.relocations)?.items;
     }
-    let mut items: Vec<Item> = sections.iter().flat_map(|input| &input.items).copied().collect();
-    items.extend(others);
-    items.sort_by_key(Item::offset);
+    let mut items: Vec<_> = sections.iter().flat_map(|input| &input.items).copied().collect();
+    items.extend(others.into_iter().map(|it| ItemNumbers::from_item(Item::Aligned(it))));
+    items.sort_by_key(|it| it.offset);
     if let Some(faulty) = first_faulty(&items, start) {
-        println!("faulty {} {:?}", items[faulty.index].offset(), faulty.fault);
+        println!("faulty {} {:?}", items[faulty.index].offset, faulty.fault);
         return Ok(());
     }
     let plan = relax(&items, start)?;
     for (item, kept) in items.iter().zip(&plan.kept) {
-        match item {
+        match item.as_item() {
             Item::Site(site) => println!("site {} {} {kept}", site.offset, site.target),
             Item::Aligned(alignment) => println!("nops {} {kept}", alignment.offset),
         }
@@ -88,7 +88,7 @@ fn main() -> Result<(), Box<dyn Error>> {
         let mut packed = vec![0; packed_run_len(section.base, section.bytes.len(), deltas)];
         let run = Run { start, items, deltas };
         if let Err(rejected) = pack_run(machine, section, &run, &mut packed) {
-            let offset = items.get(rejected.index).map(Item::offset);
+            let offset = items.get(rejected.index).map(|it| it.offset);
             println!("rejected {offset:?} {:?}", rejected.error);
             return Ok(());
         }

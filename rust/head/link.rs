@@ -5,7 +5,7 @@ use crate::elf::{Architecture, RelocateError, WriteError};
 use crate::linker_base::relaxation::{AsDeletion, DeltaSlice, RelaxDelta};
 use crate::linker_output::got::Origins;
 use crate::linker_rewriting::decisions::{
-    AsDecision, AsKeptDecision, DecisionError, FromDeletion, RewritingError,
+    DecisionError, DecisionNumbers, Deletion, RewritingError,
 };
 use crate::linker_rewriting::facts::{OutputFacts, RelaxContext, SymbolFacts};
 use crate::linker_rewriting::groups::UnrelaxableGroups;
@@ -13,7 +13,7 @@ use crate::linker_rewriting::kept::{self, FactsSnapshot};
 use crate::linker_rewriting::phases::Phase;
 use crate::linker_rewriting::{surveys, toc_indirection};
 use crate::linker_runs::items::{
-    self, AsItem, AsRelocation, ItemsError, Relocation, RewrittenItemsError, SectionItems,
+    self, AsRelocation, ItemNumbers, ItemsError, Relocation, RewrittenItemsError, SectionItems,
 };
 use crate::linker_runs::packing::{self, Machine, RejectedItem};
 use crate::linker_runs::relaxation::Alignment;
@@ -255,11 +255,11 @@ pub struct Words<'a> {
 
 /// A run of code that is relaxed, or what lies in one section of it.
 #[derive(Debug, Clone, Copy, PartialEq, Eq, Hash)]
-pub struct Run<'a, I> {
+pub struct Run<'a> {
     /// The run's address.
     pub start: u64,
     /// Its items.
-    pub items: &'a [I],
+    pub items: &'a [ItemNumbers],
     /// What the run loses.
     pub deltas: &'a [RelaxDelta],
 }
@@ -468,7 +468,7 @@ pub fn survey<B: AsRef<[u8]>, R: AsRef<[u8]>>(
 ///
 /// ```
 /// use linker_utils::elf::Architecture;
-/// use linker_utils::rewriting::{Decision, UnrelaxableGroups, SymbolFacts, rewrite_section};
+/// use linker_utils::rewriting::{DecisionNumbers, UnrelaxableGroups, SymbolFacts, rewrite_section};
 /// use linker_utils::section::{Link, Object, Section};
 ///
 /// // call *f@GOTPCREL(%rip), with R_X86_64_GOTPCRELX of symbol 1 at 2, becomes addr32 call f
@@ -486,17 +486,17 @@ pub fn survey<B: AsRef<[u8]>, R: AsRef<[u8]>>(
 ///     unrelaxable_groups: &[UnrelaxableGroups::default(); 2],
 ///     ..Object::default()
 /// };
-/// rewrite_section(&link, &object, &mut section, &mut [Decision::Kept]).unwrap();
+/// rewrite_section(&link, &object, &mut section, &mut [DecisionNumbers::default()]).unwrap();
 /// assert_eq!(section.bytes, [0x67, 0xe8, 0, 0, 0, 0]);
 /// // R_X86_64_PC32
 /// assert_eq!(section.relocations[8], 2);
 /// ```
 #[inline]
-pub fn rewrite_section<B: AsMut<[u8]>, R: AsMut<[u8]>, D: AsDecision>(
+pub fn rewrite_section<B: AsMut<[u8]>, R: AsMut<[u8]>>(
     link: &Link,
     object: &Object<'_>,
     section: &mut Section<B, R>,
-    decisions: &mut [D],
+    decisions: &mut [DecisionNumbers],
 ) -> Result<(), RewritingError> {
     crate::linker_rewriting::sections::rewrite_section(
         link.architecture,
@@ -513,7 +513,7 @@ pub fn rewrite_section<B: AsMut<[u8]>, R: AsMut<[u8]>, D: AsDecision>(
 ///
 /// ```
 /// use linker_utils::elf::Architecture;
-/// use linker_utils::rewriting::{AsDecision, Decision, DecisionError, KeptDecision};
+/// use linker_utils::rewriting::{DecisionError, DecisionNumbers};
 /// use linker_utils::rewriting::{UnrelaxableGroups, SymbolFacts, decide_rewrites, make_rewrites};
 /// use linker_utils::section::{Link, Object, Section};
 ///
@@ -532,7 +532,7 @@ pub fn rewrite_section<B: AsMut<[u8]>, R: AsMut<[u8]>, D: AsDecision>(
 ///     unrelaxable_groups: &[UnrelaxableGroups::default(); 2],
 ///     ..Object::default()
 /// };
-/// let mut decisions = [KeptDecision::from_decision(Decision::Kept)];
+/// let mut decisions = [DecisionNumbers::default()];
 /// decide_rewrites(&link, &object, &input, &mut decisions).unwrap();
 ///
 /// let mut output = Section::new(input.bytes, input.relocations);
@@ -544,11 +544,11 @@ pub fn rewrite_section<B: AsMut<[u8]>, R: AsMut<[u8]>, D: AsDecision>(
 /// assert_eq!(make_rewrites(&mut output, &decisions), Err(DecisionError::Changed(0)));
 /// ```
 #[inline]
-pub fn decide_rewrites<B: AsRef<[u8]>, R: AsRef<[u8]>, D: AsKeptDecision>(
+pub fn decide_rewrites<B: AsRef<[u8]>, R: AsRef<[u8]>>(
     link: &Link,
     object: &Object<'_>,
     section: &Section<B, R>,
-    decisions: &mut [D],
+    decisions: &mut [DecisionNumbers],
 ) -> Result<(), RewritingError> {
     crate::linker_rewriting::sections::decide_rewrites(
         link.architecture,
@@ -563,9 +563,9 @@ pub fn decide_rewrites<B: AsRef<[u8]>, R: AsRef<[u8]>, D: AsKeptDecision>(
 
 //= linker_rewriting::sections::make_rewrites
 #[inline]
-pub fn make_rewrites<B: AsMut<[u8]>, R: AsMut<[u8]>, D: AsKeptDecision>(
+pub fn make_rewrites<B: AsMut<[u8]>, R: AsMut<[u8]>>(
     section: &mut Section<B, R>,
-    decisions: &[D],
+    decisions: &[DecisionNumbers],
 ) -> Result<(), DecisionError> {
     crate::linker_rewriting::sections::make_rewrites(
         section.relocations.as_mut(),
@@ -616,7 +616,7 @@ pub fn survey_placed_section<B: AsRef<[u8]>, R: AsRef<[u8]>>(
 /// ```
 /// use linker_utils::elf::Architecture;
 /// use linker_utils::rewriting::{
-///     Decision, Phase, SymbolFacts, UnrelaxableGroups, rewrite_placed_section,
+///     DecisionNumbers, Deletion, Phase, SymbolFacts, UnrelaxableGroups, rewrite_placed_section,
 /// };
 /// use linker_utils::section::{Link, Object, Section, Symbol};
 ///
@@ -636,7 +636,7 @@ pub fn survey_placed_section<B: AsRef<[u8]>, R: AsRef<[u8]>>(
 ///     unrelaxable_groups: &[UnrelaxableGroups::default(); 2],
 ///     ..Object::default()
 /// };
-/// let (decisions, deleted) = (&mut [Decision::Kept; 2], &mut [(0, 0); 0]);
+/// let (decisions, deleted) = (&mut [DecisionNumbers::default(); 2], &mut [Deletion::default(); 0]);
 /// let phase = Phase::ShortPcRel;
 /// let count = rewrite_placed_section(&link, &object, &mut section, phase, decisions, deleted);
 /// assert_eq!(count, Ok(0));
@@ -646,13 +646,13 @@ pub fn survey_placed_section<B: AsRef<[u8]>, R: AsRef<[u8]>>(
 /// assert_eq!((section.relocations[32], section.relocations[33]), (0x12, 1));
 /// ```
 #[inline]
-pub fn rewrite_placed_section<B: AsMut<[u8]>, R: AsMut<[u8]>, D: AsDecision, L: FromDeletion>(
+pub fn rewrite_placed_section<B: AsMut<[u8]>, R: AsMut<[u8]>>(
     link: &Link,
     object: &Object<'_>,
     section: &mut Section<B, R>,
     phase: Phase,
-    decisions: &mut [D],
-    deleted: &mut [L],
+    decisions: &mut [DecisionNumbers],
+    deleted: &mut [Deletion],
 ) -> Result<usize, RewritingError> {
     crate::linker_rewriting::sections::rewrite_placed_section(
         context!(link, object, section, phase),
@@ -713,7 +713,7 @@ pub fn survey_toc_loads<B: AsRef<[u8]>, R: AsRef<[u8]>>(
 ///
 /// ```
 /// use linker_utils::elf::Architecture;
-/// use linker_utils::rewriting::{Decision, SymbolFacts, Words, rewrite_toc_loads};
+/// use linker_utils::rewriting::{DecisionNumbers, SymbolFacts, Words, rewrite_toc_loads};
 /// use linker_utils::section::{Link, Object, Section, Symbol};
 ///
 /// // addis 3,2,.toc@toc@ha and ld 3,.toc@toc@l(3), where the word at the start of `.toc` is that
@@ -733,7 +733,7 @@ pub fn survey_toc_loads<B: AsRef<[u8]>, R: AsRef<[u8]>>(
 ///     ..Object::default()
 /// };
 /// let words = Words { address: 0x1_0000, relocations: &relocation(0, 38, 2), kept: &[false] };
-/// let mut decisions = [Decision::Kept; 2];
+/// let mut decisions = [DecisionNumbers::default(); 2];
 /// rewrite_toc_loads(&link, &object, &mut section, &words, &mut decisions).unwrap();
 /// assert_eq!(section.bytes, [0, 0, 0x62, 0x3c, 0, 0, 0x63, 0x38]);
 /// // R_PPC64_TOC16_HA and R_PPC64_TOC16_LO, both of symbol 2
@@ -741,12 +741,12 @@ pub fn survey_toc_loads<B: AsRef<[u8]>, R: AsRef<[u8]>>(
 /// assert_eq!((section.relocations[32], section.relocations[36]), (48, 2));
 /// ```
 #[inline]
-pub fn rewrite_toc_loads<B: AsMut<[u8]>, R: AsMut<[u8]>, D: AsDecision>(
+pub fn rewrite_toc_loads<B: AsMut<[u8]>, R: AsMut<[u8]>>(
     link: &Link,
     object: &Object<'_>,
     section: &mut Section<B, R>,
     words: &Words<'_>,
-    decisions: &mut [D],
+    decisions: &mut [DecisionNumbers],
 ) -> Result<(), RewritingError> {
     toc_indirection::rewrite_toc_loads(
         context!(link, object, section, Phase::ShortPcRel),
@@ -801,7 +801,8 @@ pub fn survey_global_pointer<B: AsRef<[u8]>, R: AsRef<[u8]>>(
 ///
 /// ```
 /// use linker_utils::elf::Architecture;
-/// use linker_utils::rewriting::{Decision, GPREL_I, SymbolFacts, rewrite_global_pointer};
+/// use linker_utils::rewriting::{DecisionNumbers, Deletion, GPREL_I};
+/// use linker_utils::rewriting::{SymbolFacts, rewrite_global_pointer};
 /// use linker_utils::section::{Link, Object, Section, Symbol};
 ///
 /// // lui a0, %hi(x) and lw a0, %lo(x)(a0), both marked, where x is 2,047 above gp
@@ -819,20 +820,20 @@ pub fn survey_global_pointer<B: AsRef<[u8]>, R: AsRef<[u8]>>(
 ///     kept_high_parts: &[false; 2],
 ///     ..Object::default()
 /// };
-/// let (mut decisions, mut deleted) = ([Decision::Kept; 4], [(0, 0)]);
+/// let (mut decisions, mut deleted) = ([DecisionNumbers::default(); 4], [Deletion::default()]);
 /// let count =
 ///     rewrite_global_pointer(&link, &object, &mut section, &mut decisions, &mut deleted);
-/// assert_eq!((count, deleted), (Ok(1), [(0, 4)]));
+/// assert_eq!((count, deleted), (Ok(1), [Deletion { offset: 0, bytes: 4 }]));
 /// let codes = (section.relocations[8], u32::from(section.relocations[56]));
 /// assert_eq!(codes, (0, GPREL_I));
 /// ```
 #[inline]
-pub fn rewrite_global_pointer<B: AsRef<[u8]>, R: AsMut<[u8]>, D: AsDecision, L: FromDeletion>(
+pub fn rewrite_global_pointer<B: AsRef<[u8]>, R: AsMut<[u8]>>(
     link: &Link,
     object: &Object<'_>,
     section: &mut Section<B, R>,
-    decisions: &mut [D],
-    deleted: &mut [L],
+    decisions: &mut [DecisionNumbers],
+    deleted: &mut [Deletion],
 ) -> Result<usize, RewritingError> {
     crate::linker_rewriting::global_pointer::rewrite_global_pointer(
         context!(link, object, section, Phase::ShortPcRel),
@@ -978,11 +979,11 @@ pub fn section_items<B: AsRef<[u8]>, S: AsRef<[u8]>, R: AsRelocation>(
 //= linker_runs::items::section_items_into: section = section.bytes, base = section.base, out = items
 #[inline]
 #[cfg_attr(debug_assertions, track_caller)]
-pub fn section_items_into<B: AsRef<[u8]>, S: AsRef<[u8]>, R: AsRelocation, I: AsItem>(
+pub fn section_items_into<B: AsRef<[u8]>, S: AsRef<[u8]>, R: AsRelocation>(
     machine: Machine,
     section: &Section<B, S>,
     relocations: &[R],
-    items: &mut [I],
+    items: &mut [ItemNumbers],
     makers: &mut [usize],
 ) -> Result<usize, usize> {
     let (bytes, base) = (section.bytes.as_ref(), section.base);
@@ -992,18 +993,12 @@ pub fn section_items_into<B: AsRef<[u8]>, S: AsRef<[u8]>, R: AsRelocation, I: As
 //= linker_runs::items::rewritten::rewritten_items_into: section = section.bytes, base = section.base, out = items
 #[inline]
 #[cfg_attr(debug_assertions, track_caller)]
-pub fn rewritten_items_into<
-    B: AsRef<[u8]>,
-    S: AsRef<[u8]>,
-    R: AsRelocation,
-    L: AsDeletion,
-    I: AsItem,
->(
+pub fn rewritten_items_into<B: AsRef<[u8]>, S: AsRef<[u8]>, R: AsRelocation, L: AsDeletion>(
     machine: Machine,
     section: &Section<B, S>,
     relocations: &[R],
     deleted: &[L],
-    items: &mut [I],
+    items: &mut [ItemNumbers],
     makers: &mut [usize],
 ) -> Result<usize, RewrittenItemsError> {
     let (bytes, base) = (section.bytes.as_ref(), section.base);
@@ -1013,10 +1008,10 @@ pub fn rewritten_items_into<
 //= linker_runs::packing::pack_run: section = section.bytes, base = section.base, out = packed, deltas = run.deltas, items = run.items, start = run.start
 #[inline]
 #[cfg_attr(debug_assertions, track_caller)]
-pub fn pack_run<B: AsRef<[u8]>, R: AsMut<[u8]>, I: AsItem>(
+pub fn pack_run<B: AsRef<[u8]>, R: AsMut<[u8]>>(
     machine: Machine,
     section: &mut Section<B, R>,
-    run: &Run<'_, I>,
+    run: &Run<'_>,
     packed: &mut [u8],
 ) -> Result<(), RejectedItem> {
     packing::pack_run(
@@ -1031,7 +1026,7 @@ pub fn pack_run<B: AsRef<[u8]>, R: AsMut<[u8]>, I: AsItem>(
     )
 }
 
-impl<I: AsItem> Run<'_, I> {
+impl Run<'_> {
     /// [`pack_run`] of a section of the run. Returns the packed section, `packed` and the moved
     /// relocations, at the address that it then has.
     ///
@@ -1040,12 +1035,12 @@ impl<I: AsItem> Run<'_, I> {
     /// - what [`pack_run`] requires
     ///
     /// ```
-    /// use linker_utils::runs::{Item, Machine, Run, Site, relax, shapes};
+    /// use linker_utils::runs::{Item, ItemNumbers, Machine, Run, Site, relax, shapes};
     /// use linker_utils::section::Section;
     ///
     /// // a section with auipc ra, 0 and jalr ra, 0(ra), a call of the ret in the section after it
     /// let call = Site { offset: 0, len: 8, target: 8, shapes: shapes::riscv64::CALL };
-    /// let items = [Item::Site(call)];
+    /// let items = [ItemNumbers::from_item(Item::Site(call))];
     /// let plan = relax(&items, 0x1000).unwrap();
     /// let run = Run { start: 0x1000, items: &items[1..], deltas: plan.deletions.deltas() };
     /// let ret = Section { base: 8, ..Section::new([0x67, 0x80, 0, 0], []) };

@@ -115,7 +115,7 @@ pub mod runs {
         Run, pack_run, rewritten_items_into, section_items, section_items_into,
     };
     pub use crate::linker_runs::items::{
-        AsItem, AsRelocation, ItemsError, Relocation, RewrittenItemsError, SectionItems,
+        AsRelocation, ItemNumbers, ItemsError, Relocation, RewrittenItemsError, SectionItems,
         first_malformed,
     };
     pub use crate::linker_runs::packing::{
@@ -166,8 +166,7 @@ pub mod rewriting {
         survey_global_pointer, survey_placed_section,
     };
     pub use crate::linker_rewriting::decisions::{
-        AsDecision, AsKeptDecision, Decision, DecisionError, FromDeletion, KeptDecision,
-        RewritingError, Subject,
+        Decision, DecisionError, DecisionNumbers, Deletion, RewritingError, Subject,
     };
     pub use crate::linker_rewriting::facts::SymbolFacts;
     pub use crate::linker_rewriting::global_pointer::{GPREL_I, GPREL_S};

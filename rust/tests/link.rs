@@ -5,8 +5,10 @@
 use linker_utils::elf::{Architecture, LinkFacts, Operands};
 use linker_utils::output::Origins;
 use linker_utils::recognise::{self, FieldBits, Windows};
-use linker_utils::rewriting::{self, Decision, FactsSnapshot, UnrelaxableGroups, Phase, SymbolFacts, Words};
-use linker_utils::runs::{self, Alignment, Item, Machine, Relocation, Run, relax};
+use linker_utils::rewriting::{
+    self, DecisionNumbers, Deletion, FactsSnapshot, Phase, SymbolFacts, UnrelaxableGroups, Words,
+};
+use linker_utils::runs::{self, Alignment, Item, ItemNumbers, Machine, Relocation, Run, relax};
 use linker_utils::section::{self, Addresses, Link, Object, Section, Symbol, memory_len};
 use linker_utils::source;
 use linker_utils::source::rewriting::{OutputFacts, RelaxContext};
@@ -60,12 +62,12 @@ fn code_of(architecture: Architecture) -> Code {
 struct Written {
     bytes: Vec<u8>,
     relocations: Vec<u8>,
-    decisions: Vec<Decision>,
-    deleted: Vec<(u64, u32)>,
+    decisions: Vec<DecisionNumbers>,
+    deleted: Vec<Deletion>,
     groups: Vec<UnrelaxableGroups>,
     flags: Vec<bool>,
     facts: Vec<FactsSnapshot>,
-    items: Vec<Item>,
+    items: Vec<ItemNumbers>,
     makers: Vec<usize>,
     packed: Vec<u8>,
 }
@@ -188,8 +190,8 @@ fn compare(architecture: Architecture, random: &mut Random, counts: &mut [usize;
     let mut before = Written {
         bytes,
         relocations,
-        decisions: vec![Decision::Kept; room],
-        deleted: vec![(0, 0); if random.is_one_of(4) { 0 } else { count }],
+        decisions: vec![DecisionNumbers::default(); room],
+        deleted: vec![Deletion::default(); if random.is_one_of(4) { 0 } else { count }],
         groups: groups.clone(),
         flags: high_parts.clone(),
         facts: vec![FactsSnapshot::default(); facts.len()],
@@ -335,7 +337,8 @@ fn compare(architecture: Architecture, random: &mut Random, counts: &mut [usize;
         Relocation::new(it, (it.symbol != 0).then_some(target), true)
     });
     let listed: Vec<_> = listed.collect();
-    let none = Item::Aligned(Alignment { offset: 0, nops: 0, alignment: 1, max_skip: None });
+    let none = Alignment { offset: 0, nops: 0, alignment: 1, max_skip: None };
+    let none = ItemNumbers::from_item(Item::Aligned(none));
     let gone = [(random.below(20), 4)];
     let len = listed.len() + gone.len();
     (before.items, before.makers) = (vec![none; len], vec![0; len]);
@@ -399,7 +402,7 @@ fn empty_tables_are_no_error_but_of_symbols() {
         let (link, object) = (Link::new(architecture), Object::default());
         let mut none = Section::new([], []);
         rewriting::survey(&link, &object, &none, &mut []);
-        let decisions: &mut [Decision] = &mut [];
+        let decisions: &mut [DecisionNumbers] = &mut [];
         assert_eq!(rewriting::rewrite_section(&link, &object, &mut none, decisions), Ok(()));
         assert_eq!(section::relocate_section(&link, &object, &mut none, &mut []), Ok(()));
         assert_eq!(rewriting::first_changed(&link, &object, &none), None);

@@ -13,7 +13,7 @@ use linker_utils::relaxation::{
     shrink_calls, shrink_calls_into,
 };
 use linker_utils::runs::shapes::riscv64::CALL;
-use linker_utils::runs::{Alignment, Item, ItemsError, Machine, Relocation, Site};
+use linker_utils::runs::{Alignment, Item, ItemNumbers, ItemsError, Machine, Relocation, Site};
 use linker_utils::runs::{relax, section_items};
 use linker_utils::section::Section;
 use linker_utils::utils::read_string;
@@ -363,7 +363,8 @@ fn strings_are_not_read() {
 fn runs_are_not_relaxed() {
     let call = Item::Site(Site { offset: 0, len: 8, target: 22, shapes: CALL });
     let aligned = Item::Aligned(Alignment { offset: 8, nops: 14, alignment: 16, max_skip: None });
-    let (count, plan) = each_fails(|| relax(&[call, aligned], 0), |_| {});
+    let items = [call, aligned].map(ItemNumbers::from_item);
+    let (count, plan) = each_fails(|| relax(&items, 0), |_| {});
     // the four arrays, the pairs of the deletions and the deltas
     assert_eq!((count, plan.kept), (6, vec![4, 12]));
 
@@ -387,7 +388,7 @@ fn runs_are_not_relaxed() {
         |error| assert_eq!(error, ItemsError::OutOfMemory),
     );
     assert!(count > 1);
-    assert_eq!((made.items, made.makers), (vec![call, aligned], vec![0, 2]));
+    assert_eq!((made.items, made.makers), (items.to_vec(), vec![0, 2]));
 
     // R_LARCH_ALIGN at three nops
     let nops = [relocation(0, 102, 12, None)];

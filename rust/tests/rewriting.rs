@@ -6,7 +6,7 @@ use linker_utils::elf::Architecture::{self, AArch64, LoongArch64, Ppc64, RiscV, 
 use linker_utils::output::Origins;
 use linker_utils::relaxation::AsDeletion;
 use linker_utils::rewriting::{
-    AsDecision, Decision, FromDeletion, GPREL_I, GPREL_S, Group, FactsSnapshot, UnrelaxableGroups, Phase,
+    Decision, DecisionNumbers, Deletion, GPREL_I, GPREL_S, Group, FactsSnapshot, UnrelaxableGroups, Phase,
     RewritingError, Scope, SymbolFacts, Words, WritingError, first_changed, finish_gp_relaxation,
     has_rewrites, snapshot_facts, relocate_rewritten_section, rewrite_toc_loads,
     rewrite_global_pointer, rewrite_placed_section, rewrite_section, scope_in, scope_of, survey,
@@ -98,7 +98,7 @@ fn rewritten(
     architecture: Architecture,
     symbols: &[SymbolFacts],
     sections: &[&Section],
-) -> Vec<(Section, Vec<Decision>)> {
+) -> Vec<(Section, Vec<DecisionNumbers>)> {
     rewritten_in(&EXECUTABLE, architecture, symbols, sections)
 }
 
@@ -107,7 +107,7 @@ fn rewritten_in(
     architecture: Architecture,
     symbols: &[SymbolFacts],
     sections: &[&Section],
-) -> Vec<(Section, Vec<Decision>)> {
+) -> Vec<(Section, Vec<DecisionNumbers>)> {
     let mut kept = [UnrelaxableGroups::default(); 5];
     for it in sections {
         let entries = bytes_of(&it.relocations);
@@ -126,7 +126,7 @@ fn rewritten_in(
         .map(|it| {
             let mut entries = bytes_of(&it.relocations);
             let mut bytes = it.bytes.clone();
-            let mut decisions = vec![Decision::Kept; it.relocations.len()];
+            let mut decisions = vec![DecisionNumbers::default(); it.relocations.len()];
             rewrite_section(
                 &link(architecture, output, &NOWHERE),
                 &Object {
@@ -385,7 +385,7 @@ fn what_is_taken_along_is_not_rewritten() {
         made[0].0.bytes,
         words(&[0x6000_0000, 0x3c6d_0000, 0x6000_0000, 0x3863_0000])
     );
-    assert_eq!(made[0].1[3], Decision::Consumed);
+    assert_eq!(made[0].1[3].as_decision(), Decision::Consumed);
     assert_eq!(made[0].0.relocations[3].r_type, 0);
     // Where the group stays, the call of an imported function is rewritten: its nop restores the TOC
     // pointer, ld 2,24(1).
@@ -435,7 +435,7 @@ fn prefixed_general_dynamic_needs_no_call() {
         assert_eq!(made[0].0.relocations[0], rela(0, r_type, symbol, 0));
         assert_eq!(made[0].0.relocations[1].r_type, 0);
         assert_eq!(made[0].0.relocations[2].r_type, 0);
-        assert_eq!(made[0].1[2], Decision::Consumed);
+        assert_eq!(made[0].1[2].as_decision(), Decision::Consumed);
     }
 }
 
@@ -692,7 +692,7 @@ fn error_of(section: &Section, kept: &[UnrelaxableGroups], room: usize) -> Rewri
             ..Object::default()
         },
         &mut section_at(&NOWHERE, &mut bytes_after, &mut entries_after),
-        &mut vec![Decision::Kept; room],
+        &mut vec![DecisionNumbers::default(); room],
     )
     .unwrap_err();
     assert_eq!(bytes_after, section.bytes);
@@ -717,10 +717,10 @@ fn is_opcode(index: u64, offset: u64, len: u64) -> bool {
     offset < 8 * index + 3 && 8 * index + 2 < offset + len
 }
 
-fn rewritten_alone(section: &Section) -> (Result<(), RewritingError>, Vec<Decision>) {
+fn rewritten_alone(section: &Section) -> (Result<(), RewritingError>, Vec<DecisionNumbers>) {
     let mut entries = bytes_of(&section.relocations);
     let (before, mut bytes) = (entries.clone(), section.bytes.clone());
-    let mut decisions = vec![Decision::Kept; section.relocations.len()];
+    let mut decisions = vec![DecisionNumbers::default(); section.relocations.len()];
     let result = rewrite_section(
         &link(X86_64, &EXECUTABLE, &NOWHERE),
         &Object {
@@ -752,8 +752,8 @@ fn a_field_in_the_window_of_a_rewrite_is_an_error() {
                     Ok(())
                 };
                 assert_eq!(made, expected, "{section:x?}");
-                assert_eq!(decisions[at], Decision::Kept);
-                let made = decisions.iter().filter(|it| **it != Decision::Kept).count();
+                assert_eq!(decisions[at].as_decision(), Decision::Kept);
+                let made = decisions.iter().filter(|it| it.fate != 0).count();
                 assert_eq!(made, 3);
             }
         }
@@ -808,8 +808,9 @@ fn fields_among_rewrites_are_found_in_any_order() {
         );
         found[usize::from(covered.is_some())] += 1;
         for (it, decision) in section.relocations.iter().zip(&decisions) {
+            let decision = decision.as_decision();
             assert_eq!(matches!(decision, Decision::Rewritten(_)), it.r_type == 42);
-            assert_eq!(*decision == Decision::Kept, it.r_type != 42);
+            assert_eq!(decision == Decision::Kept, it.r_type != 42);
         }
     }
     assert!(found.iter().all(|it| *it > 1000), "{found:?}");
@@ -856,7 +857,7 @@ fn groups_stay_where_tables_are_too_short() {
         &section_at(&NOWHERE, &bytes, &entries),
         &mut [],
     );
-    let mut decisions = [Decision::Consumed; 2];
+    let mut decisions = [DecisionNumbers::from_decision(Decision::Consumed); 2];
     rewrite_section(
         &link(X86_64, &EXECUTABLE, &NOWHERE),
         &Object {
@@ -869,7 +870,7 @@ fn groups_stay_where_tables_are_too_short() {
     )
     .unwrap();
     assert_eq!(bytes, section.bytes);
-    assert_eq!(decisions, [Decision::Kept; 2]);
+    assert_eq!(decisions, [DecisionNumbers::default(); 2]);
     // and so does what is of a symbol that isn't there
     let made = rewritten(X86_64, &symbols()[..1], &[&local_dynamic()]);
     assert_eq!(made[0].0.bytes, section.bytes);
@@ -1034,7 +1035,7 @@ fn placed(
         .map(|it| {
             let mut entries = bytes_of(&it.relocations);
             let mut bytes = it.bytes.clone();
-            let mut deleted = [(0, 0); 9];
+            let mut deleted = [Deletion::default(); 9];
             let len = rewrite_placed_section(
                 &link(architecture, &EXECUTABLE, addresses),
                 &Object {
@@ -1045,12 +1046,13 @@ fn placed(
                 },
                 &mut section_at(addresses, &mut bytes, &mut entries),
                 phase,
-                &mut vec![Decision::Kept; it.relocations.len()],
+                &mut vec![DecisionNumbers::default(); it.relocations.len()],
                 &mut deleted,
             )
             .unwrap();
             let relocations = section::relocations(&entries).collect();
-            (Section { bytes, relocations }, deleted[..len].to_vec())
+            let deleted = deleted[..len].iter().map(|it| it.as_deletion()).collect();
+            (Section { bytes, relocations }, deleted)
         })
         .collect()
 }
@@ -1210,8 +1212,8 @@ fn a_field_in_what_is_deleted_is_an_error() {
             },
             &mut section_at(&addresses, &mut section.bytes, &mut entries),
             Phase::TlsLocalExec,
-            &mut [Decision::Kept; 9],
-            &mut [(0, 0); 9],
+            &mut [DecisionNumbers::default(); 9],
+            &mut [Deletion::default(); 9],
         );
         assert!(result.is_ok() || entries == bytes_of(&section.relocations));
         result
@@ -1484,99 +1486,12 @@ fn deletions_need_room() {
             },
             &mut section_at(&addresses, &mut bytes, &mut entries),
             Phase::TlsLocalExec,
-            &mut [Decision::Kept; 8],
-            &mut vec![(0, 0); room],
+            &mut [DecisionNumbers::default(); 8],
+            &mut vec![Deletion::default(); room],
         );
         assert_eq!(rewritten, expected);
         assert_eq!(bytes == section.bytes, expected.is_err());
     }
-}
-
-/// What a caller keeps of a decision and of a deletion.
-#[derive(Debug, Clone, Copy, PartialEq, Eq)]
-struct Made(Option<Decision>);
-
-impl AsDecision for Made {
-    fn as_decision(self) -> Decision {
-        self.0.unwrap_or(Decision::Kept)
-    }
-
-    fn from_decision(made: Decision) -> Made {
-        Made((made != Decision::Kept).then_some(made))
-    }
-}
-
-#[derive(Debug, Clone, Copy, PartialEq, Eq)]
-struct Deleted {
-    bytes: u32,
-    offset: u64,
-}
-
-impl AsDeletion for Deleted {
-    fn as_deletion(self) -> (u64, u32) {
-        (self.offset, self.bytes)
-    }
-}
-
-impl FromDeletion for Deleted {
-    fn from_deletion(offset: u64, bytes: u32) -> Deleted {
-        Deleted { bytes, offset }
-    }
-}
-
-#[test]
-fn decisions_and_deletions_may_be_the_callers_own() {
-    let section = thread_offset(1);
-    let addresses = Addresses {
-        thread_origin: 0x1000,
-        has_tls: true,
-        ..Addresses::default()
-    };
-    let mut entries = bytes_of(&section.relocations);
-    let mut bytes = section.bytes.clone();
-    let mut made = [Made(None); 8];
-    let mut deleted = [Deleted {
-        bytes: 0,
-        offset: 0,
-    }; 3];
-    let rewritten = rewrite_placed_section(
-        &link(RiscV, &EXECUTABLE, &addresses),
-        &Object {
-            facts: &symbols(),
-            values: &values(0x1008, 0),
-            unrelaxable_groups: &[UnrelaxableGroups::default(); 5],
-            ..Object::default()
-        },
-        &mut section_at(&addresses, &mut bytes, &mut entries),
-        Phase::TlsLocalExec,
-        &mut made,
-        &mut deleted,
-    );
-    assert_eq!(rewritten, Ok(2));
-    let four = |offset| Deleted { bytes: 4, offset };
-    assert_eq!(
-        deleted,
-        [
-            four(0),
-            four(4),
-            Deleted {
-                bytes: 0,
-                offset: 0
-            }
-        ]
-    );
-    let (expected, _) = &placed(
-        RiscV,
-        Phase::TlsLocalExec,
-        &addresses,
-        &values(0x1008, 0),
-        &[&section],
-    )[0];
-    assert_eq!(
-        (&bytes, entries),
-        (&expected.bytes, bytes_of(&expected.relocations))
-    );
-    assert_eq!(made.iter().filter(|it| it.0.is_some()).count(), 4);
 }
 
 #[test]
@@ -2019,7 +1934,7 @@ fn with_addresses(
     addresses: &Addresses,
     table: &[u8],
     section: &Section,
-) -> ([bool; 2], Section, Vec<Decision>) {
+) -> ([bool; 2], Section, Vec<DecisionNumbers>) {
     let mut entries = bytes_of(&section.relocations);
     let mut kept = [false; 2];
     survey_toc_loads(
@@ -2039,7 +1954,7 @@ fn with_addresses(
     )
     .unwrap();
     let mut bytes = section.bytes.clone();
-    let mut decisions = vec![Decision::Kept; section.relocations.len()];
+    let mut decisions = vec![DecisionNumbers::default(); section.relocations.len()];
     rewrite_toc_loads(
         &link(architecture, &EXECUTABLE, addresses),
         &Object {
@@ -2069,7 +1984,7 @@ fn all_loads_of_a_word_compute_its_address() {
     assert!(
         decisions
             .iter()
-            .all(|it| matches!(it, Decision::RewrittenWithSymbol(..)))
+            .all(|it| matches!(it.as_decision(), Decision::RewrittenWithSymbol(..)))
     );
     // each `ld` becomes an `addi`, and the relocations are those of the words
     let code = [
@@ -2104,7 +2019,7 @@ fn a_word_with_another_use_stays() {
         0x38e3_0000,
     ];
     assert_eq!(after.bytes, words(&code));
-    let kept = [0, 1, 4].map(|index| decisions[index] == Decision::Kept);
+    let kept = [0, 1, 4].map(|index| decisions[index].as_decision() == Decision::Kept);
     assert_eq!(kept, [true; 3]);
     assert_eq!(after.relocations[3], rela(12, TOC16_LO, 3, 0));
 }
@@ -2149,7 +2064,7 @@ fn only_powerpc64_has_words_of_addresses() {
         let (kept, after, decisions) = with_addresses(architecture, &CODE, &words_of(3), &section);
         assert_eq!(kept, [false; 2]);
         assert_eq!(after.bytes, section.bytes);
-        assert!(decisions.iter().all(|it| *it == Decision::Kept));
+        assert!(decisions.iter().all(|it| it.fate == 0));
     }
 }
 
@@ -2158,7 +2073,7 @@ fn loads_that_were_not_surveyed_are_an_error() {
     let section = loads(0x38e3_0000, TOC16_LO);
     let given = bytes_of(&section.relocations);
     let (mut entries, mut bytes) = (given.clone(), section.bytes.clone());
-    let mut rewrite = |decisions: &mut [Decision]| {
+    let mut rewrite = |decisions: &mut [DecisionNumbers]| {
         rewrite_toc_loads(
             &link(Ppc64, &EXECUTABLE, &CODE),
             &Object {
@@ -2176,11 +2091,11 @@ fn loads_that_were_not_surveyed_are_an_error() {
         )
     };
     assert_eq!(
-        rewrite(&mut [Decision::Kept; 5]),
+        rewrite(&mut [DecisionNumbers::default(); 5]),
         Err(RewritingError::NotSurveyed(4))
     );
     assert_eq!(
-        rewrite(&mut [Decision::Kept; 4]),
+        rewrite(&mut [DecisionNumbers::default(); 4]),
         Err(RewritingError::TooShort)
     );
     assert_eq!(entries, given);
@@ -2234,7 +2149,7 @@ fn near(bytes: &[u8], mut entries: Vec<u8>) -> ([bool; 4], Vec<u8>, Vec<(u64, u3
     )
     .unwrap();
     let count = entries.len() / 24;
-    let mut deleted = vec![(0, 0); count];
+    let mut deleted = vec![Deletion::default(); count];
     let len = rewrite_global_pointer(
         &Link {
             global_pointer: GLOBAL_POINTER,
@@ -2247,11 +2162,11 @@ fn near(bytes: &[u8], mut entries: Vec<u8>) -> ([bool; 4], Vec<u8>, Vec<(u64, u3
             ..Object::default()
         },
         &mut section_at(&addresses, bytes, &mut entries),
-        &mut vec![Decision::Kept; count],
+        &mut vec![DecisionNumbers::default(); count],
         &mut deleted,
     )
     .unwrap();
-    deleted.truncate(len);
+    let deleted = deleted[..len].iter().map(|it| it.as_deletion()).collect();
     (kept, entries, deleted)
 }
 
@@ -2338,8 +2253,8 @@ fn parts_near_the_global_pointer_are_apart() {
                 ..Object::default()
             },
             &mut section_at(&addresses, code, &mut entries),
-            &mut [Decision::Kept; 8],
-            &mut [(0, 0); 4],
+            &mut [DecisionNumbers::default(); 8],
+            &mut [Deletion::default(); 4],
         );
         assert!(made.is_ok() || entries == before);
         made
@@ -2371,8 +2286,8 @@ fn parts_near_the_global_pointer_are_apart() {
             ..Object::default()
         },
         &mut section_at(&addresses, &code, &mut entries),
-        &mut [Decision::Kept; 8],
-        &mut [(0, 0); 4],
+        &mut [DecisionNumbers::default(); 8],
+        &mut [Deletion::default(); 4],
     );
     assert_eq!(made, Err(RewritingError::Overlaps(2)));
 }
@@ -2447,7 +2362,7 @@ fn with_both(facts: &[SymbolFacts; 4], values: &[Symbol; 4]) -> [Option<usize>; 
     let noted = (kept, symbols_kept, words_kept);
     assert!(surveys[0].is_ok() || noted == ([UnrelaxableGroups::default(); 4], [false; 4], [false]));
     let (mut after, mut bytes) = (entries.clone(), code.clone());
-    let (mut decisions, mut deleted) = ([Decision::Kept; 4], [(0, 0); 4]);
+    let (mut decisions, mut deleted) = ([DecisionNumbers::default(); 4], [Deletion::default(); 4]);
     let placed = rewrite_placed_section(
         &link(RiscV, &EXECUTABLE, &addresses),
         &Object {

@@ -21,7 +21,7 @@ IN_OTHER_WORDS = {
         r"!DeltaSlice::new(\1).has_valid_deltas() || packed_run_len(\4, \3.len(), \1) == \2.len()",
     rf"{SPECS}\.Deletions\.AreDisjoint \({PRELUDE}\.map {SPECS}\.Deltas\.deletion_of (\w+)\.items \+\+ (\w+)\)":
         r"super::DeltaSlice::new(\1).can_merge_ascending(\2)",
-    rf"{SPECS}\.Choosing\.AreItems (\w+) \({PRELUDE}\.map I\.item (\w+)\)": r"are_items(\2, \1)",
+    rf"{SPECS}\.Choosing\.AreItems (\w+) \({SPECS}\.Relaxing\.items_in (\w+)\)": r"are_items(\2, \1)",
 }
 # Functions whose requirement is asserted in another one that they call, where the pairs are sorted.
 LATER = {"merge_additional": "insert_ascending", "merge_all": "insert_ascending"}

@@ -373,7 +373,7 @@ fn variants(source: &str, name: &str) -> Numbers {
 
 /// The number of each fate: what `IsWrittenAs` says of a decision.
 fn fates() -> Numbers {
-    let specs = repository("crates/linker_utils_c/specs/Rewriting.antt");
+    let specs = repository("crates/linker_rewriting/specs/Numbers.antt");
     let (_, equations) = specs
         .split_once("abbrev pub IsWrittenAs ")
         .expect("its declaration");

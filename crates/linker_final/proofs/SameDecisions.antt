@@ -1,13 +1,13 @@
--- What a call of a phase leaves, whose decisions and deletions are taken as they are.
-use Rattle.linker_final.proofs.Imports.{◌≡◌, ℕ, ◌^◌, ◌<◌, List, map, length, get_or, subst, Decision, RelaxContext, UnrelaxableGroups, AreWritten, HasRewritten, IsLinked, Linked, rewriting_phase, ArePhases, IsRewrittenAs, take, drop, deletions_by, count_of, AreListed, RewritingPhase, map-id}
+-- What a call of a phase leaves.
+use Rattle.linker_final.proofs.Imports.{◌≡◌, ℕ, ◌^◌, ◌<◌, List, length, get_or, Decision, RelaxContext, UnrelaxableGroups, AreWritten, HasRewritten, IsLinked, Linked, rewriting_phase, ArePhases, IsRewrittenAs, take, drop, AreListed, deletions_in, RewritingPhase}
+use Rattle.linker_final.specs.Imports.{Deletion, pairs_in}
 use Rattle.linker_final.proofs.PackedBytes.{are_bytes}
 
 pub has_rewritten : (s : RelaxContext) (kept : List UnrelaxableGroups) (before section : List ℕ) (ds : List Decision)
-    (after bytes : List ℕ) → IsRewrittenAs s kept before after section bytes (map (λ d. d) ds)
+    (after bytes : List ℕ) → IsRewrittenAs s kept before after section bytes ds
     → length after ≡ length before → length bytes ≡ length section
     → HasRewritten (rewriting_phase s kept before section ds after bytes)
-has_rewritten s kept before section ds after bytes is as_many same_length =
-    let made = subst (IsRewrittenAs s kept before after section bytes) (map-id ds) is in
+has_rewritten s kept before section ds after bytes made as_many same_length =
     record {
       made = record {
         decided = made.decided;
@@ -35,12 +35,7 @@ is_linked l first later written relocations section final =
       final_bytes = are_bytes l.final final;
     }
 
-pub listed_so : (p : RewritingPhase) (before after : List (ℕ × ℕ)) (len : ℕ)
-    → take len (map (λ d. d) after) ≡ deletions_by p.relocations (map (λ d. d) p.decisions) (count_of p)
+pub listed_so : (p : RewritingPhase) (before after : List Deletion) (len : ℕ)
+    → take len (pairs_in after) ≡ deletions_in p
     → drop len after ≡ drop len before → AreListed p before after
-listed_so p before after len listed others =
-    record {
-      len = len;
-      listed = rw (← (map-id after), ← (map-id p.decisions)) listed;
-      others = others;
-    }
+listed_so p before after len listed others = record { len = len; listed = listed; others = others }

@@ -8,6 +8,7 @@ use Rattle.linker_final.specs.Imports.{Decision, Kept, UnrelaxableGroups, reloca
 use Rattle.linker_final.specs.Imports.{AreWritten, Addresses, Symbol, Architecture, IsRejected}
 use Rattle.linker_final.specs.Imports.{IsRejectedIn, IsRejectedPlaced, AreDecidedIn, start_at}
 use Rattle.linker_final.specs.Imports.{written_end_at, deletions_by, AreRelocationsAfter, AreDone}
+use Rattle.linker_final.specs.Imports.{Deletion, pairs_in}
 use Rattle.linker_final.specs.Imports.{OthersStay, IsHeld}
 use Rattle.linker_final.specs.declared.sections.LinkError.{LinkError}
 use Rattle.linker_final.specs.declared.sections.LinkError.TheVariants.{Rewriting, Writing}
@@ -202,15 +203,15 @@ abbrev pub deletions_in : RewritingPhase → List (ℕ × ℕ)
 deletions_in p = deletions_by p.relocations p.decisions (count_of p)
 
 -- An array begins with what a phase deletes, and is as before after that.
-pub record AreListed (p : RewritingPhase) (before after : List (ℕ × ℕ)) : Type 0 where
+pub record AreListed (p : RewritingPhase) (before after : List Deletion) : Type 0 where
   pub len : ℕ
-  pub listed : take len after ≡ deletions_in p
+  pub listed : take len (pairs_in after) ≡ deletions_in p
   pub others : drop len after ≡ drop len before
 
 -- why a section isn't linked in two phases, and what is in an array for what the second one deletes
 abbrev pub IsPhaseCause : RelaxContext → List UnrelaxableGroups → RelaxContext → List UnrelaxableGroups → List FactsSnapshot
     → Addresses → List Symbol → List ℕ → List ℕ → List Decision → List Decision → List ℕ → List ℕ
-    → List (ℕ × ℕ) → List (ℕ × ℕ) → PhaseError → Type 0
+    → List Deletion → List Deletion → PhaseError → Type 0
 IsPhaseCause first groups second placed_groups kept addresses symbols relocations section
     decisions placed_decisions relocations_after bytes array deleted (phase_errors.First error) =
     IsRejectedIn first groups relocations section decisions error

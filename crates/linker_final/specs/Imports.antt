@@ -43,8 +43,10 @@ pub use Rattle.linker_output.specs.Ppc64Stubs.{Counted, lifted}
 pub use Rattle.linker_output.specs.Ppc64Vectors.{Vectored, run_vectored, step_vectored, vector_code}
 pub use Rattle.linker_rewriting.specs.Decisions.{AreDecidedIn, IsRejected, IsRejectedIn}
 pub use Rattle.linker_rewriting.specs.Decisions.{IsRejectedPlaced, decision_at, deleted_of}
-pub use Rattle.linker_rewriting.specs.Decisions.{deletions_by, start_at, written_end_at}
+pub use Rattle.linker_rewriting.specs.Decisions.{deletions_by, pairs_in, start_at, written_end_at}
+pub use Rattle.linker_rewriting.specs.declared.decisions.Deletion.{Deletion}
 pub use Rattle.linker_rewriting.specs.Facts.{RelaxContext, pre_layout}
+pub use Rattle.linker_rewriting.specs.Numbers.{decisions_in}
 pub use Rattle.linker_rewriting.specs.Groups.{loongarch_scope_in, riscv_scope_in}
 pub use Rattle.linker_rewriting.specs.Rewritten.{AreDone, AreRelocationsAfter, IsAddressRewritten}
 pub use Rattle.linker_rewriting.specs.Rewritten.{IsDescriptorRewritten, IsLoadRewritten, OthersStay}
@@ -63,7 +65,7 @@ pub use Rattle.linker_runs.specs.Moved.{AreMoved, IsMoved}
 pub use Rattle.linker_runs.specs.Packing.{IsFirstRejected, IsInside, IsNotIn, IsPackedRun, Section}
 pub use Rattle.linker_runs.specs.Packing.{address_of, is_fixed, kept_len, nops, packed_offset}
 pub use Rattle.linker_runs.specs.Packing.{section_of}
-pub use Rattle.linker_runs.specs.Relaxing.{end_of, item_at, len_of, offset_of}
+pub use Rattle.linker_runs.specs.Relaxing.{end_of, item_at, items_in, len_of, offset_of}
 pub use Rattle.linker_runs.specs.declared.packing.Machine.{Machine}
 pub use Rattle.linker_runs.specs.Machines.{RiscV64}
 pub use Rattle.linker_runs.specs.declared.packing.Machine.TheVariants.{LoongArch64}

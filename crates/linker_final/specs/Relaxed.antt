@@ -2,7 +2,8 @@
 -- final bytes.
 use Rattle.std.specs.Prelude.{◌≡◌, ◌≢◌, ◌⊎◌, ℕ, ◌+◌, ◌%◌, ◌<◌, ◌≤◌, List, length, MatchOption, None}
 use Rattle.linker_final.specs.Imports.{sum_64, IsRelaxation, deletions_of_run, address_of, kept_len}
-use Rattle.linker_final.specs.Imports.{packed_offset, section_of, item_at, Alignment, Item, Aligned}
+use Rattle.linker_final.specs.Imports.{packed_offset, section_of, item_at, items_in, Alignment}
+use Rattle.linker_final.specs.Imports.{Item, Aligned}
 use Rattle.linker_final.specs.Imports.{Addresses, Symbol, AreItems, end_of}
 use Rattle.linker_final.specs.Packed.{Packed, IsPacked, packed_as}
 use Rattle.linker_final.specs.declared.packed.RunSection.{RunSection}
@@ -101,7 +102,7 @@ SectionsAreAligned =
 abbrev pub packed_of : RunSection → List (ℕ × ℕ) → ℕ → List ℕ → List ℕ → List ℕ → Addresses
     → List Symbol → List ℕ → Packed
 packed_of s deletions start packed before after addresses symbols final =
-    packed_as s.machine (section_of s.bytes.now s.base deletions start) s.items.now packed
+    packed_as s.machine (section_of s.bytes.now s.base deletions start) (items_in s.items.now) packed
     before after addresses symbols final
 
 -- `relax` of the items, in a run that begins at an address, and then `pack_section` left the final

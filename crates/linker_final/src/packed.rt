@@ -7,19 +7,21 @@ ghost use Rattle.linker_base.specs.Deltas.{deletions_of};
 ghost use Rattle.linker_base.specs.Listed.{AreValidDeltas};
 ghost use Rattle.linker_elf.specs.Value.{sum_64};
 ghost use Rattle.linker_final.specs.Branches.{LoongArchBranchesGo, RiscVBranchesGo};
-ghost use Rattle.linker_final.specs.LoongArchPacked as loongarch_packed;
-ghost use Rattle.linker_final.specs.Packed as packed;
 ghost use Rattle.linker_final.specs.Packed.{architecture_of, packed_as, IsPackCause, IsPacked};
-ghost use Rattle.linker_final.specs.Relaxed as relaxed;
 ghost use Rattle.linker_final.specs.Relaxed.{AreRelaxedAndPacked};
-ghost use Rattle.linker_final.specs.RiscVPacked as riscv_packed;
 ghost use Rattle.linker_runs.specs.Choosing.{AreItems, IsRelaxation};
 ghost use Rattle.linker_runs.specs.Deleting.{deletions_of_run};
 ghost use Rattle.linker_runs.specs.Packing.{packed_offset, section_of};
+ghost use Rattle.linker_runs.specs.Relaxing.{items_in};
+ghost use Rattle.linker_final.specs.LoongArchPacked as loongarch_packed;
+ghost use Rattle.linker_final.specs.Packed as packed;
+ghost use Rattle.linker_final.specs.Relaxed as relaxed;
+ghost use Rattle.linker_final.specs.RiscVPacked as riscv_packed;
 
 use linker_base::relaxation::{DeltaSlice, RelaxDelta};
+use linker_runs::items::ItemNumbers;
 use linker_runs::packing::{Machine, RejectedItem, pack_run};
-use linker_runs::relaxation::{Item, Plan};
+use linker_runs::relaxation::Plan;
 use linker_section::facts::{Addresses, Symbol};
 use linker_section::sections::{SectionError, relocate_section};
 use linker_utils::elf::Architecture;
@@ -69,7 +71,7 @@ pub fn pack_section(
     machine: Machine,
     section: &[u8],
     base: u64,
-    items: &[Item],
+    items: &[ItemNumbers],
     deltas: &[RelaxDelta],
     start: u64,
     relocations: &mut [u8],
@@ -86,11 +88,11 @@ pub fn pack_section(
     requires memory { length relocations.old / 24 ≤ length memory.old }
     ensures packed { AreValidDeltas deltas.now
         → OnOk result ((packed : List ℕ) × IsPacked (packed_as machine
-        (section_of section.now base (deletions_of deltas.now) start) items.now packed
+        (section_of section.now base (deletions_of deltas.now) start) (items_in items.now) packed
         relocations.old relocations.new addresses.now symbols.now out.new)) }
     ensures cause { AreValidDeltas deltas.now
         → IfErr result (IsPackCause machine
-        (section_of section.now base (deletions_of deltas.now) start) items.now relocations.old
+        (section_of section.now base (deletions_of deltas.now) start) (items_in items.now) relocations.old
         relocations.new addresses.now symbols.now out.old out.new) }
 {
     if addresses.section != address_of(deltas, start, base) {
@@ -131,7 +133,7 @@ pub struct RunSection<'a> {
     /// The input offset of the run at which it begins.
     pub base: u64,
     /// The items of the run that lie in it.
-    pub items: &'a [Item],
+    pub items: &'a [ItemNumbers],
 }
 
 /// Packs a section of a run that `relax` relaxed, by `pack_section`, with what the run loses. It
@@ -144,7 +146,7 @@ pub struct RunSection<'a> {
 ///
 /// Those of `pack_section`.
 pub fn pack_relaxed_section(
-    items: &[Item],
+    items: &[ItemNumbers],
     start: u64,
     plan: &Plan,
     section: &RunSection<'_>,
@@ -154,21 +156,21 @@ pub fn pack_relaxed_section(
     out: &mut [u8],
     memory: &mut [u64],
 ) -> Result<(), PackError>
-    requires items { AreItems start items.now }
-    requires relaxed { IsRelaxation start items.now plan.now.shapes.items plan.now.kept.items
+    requires items { AreItems start (items_in items.now) }
+    requires relaxed { IsRelaxation start (items_in items.now) plan.now.shapes.items plan.now.kept.items
         plan.now.freed.items }
-    requires deleted { plan.now.deletions ≡ deletions_of_run items.now plan.now.kept.items }
+    requires deleted { plan.now.deletions ≡ deletions_of_run (items_in items.now) plan.now.kept.items }
     requires small { section.now.base + length section.now.bytes.now < 2 ^ 64 }
     requires room { length out.old
         ≡ packed_offset (section_of section.now.bytes.now section.now.base
-        (deletions_of_run items.now plan.now.kept.items) start)
+        (deletions_of_run (items_in items.now) plan.now.kept.items) start)
         (section.now.base + length section.now.bytes.now) }
     requires memory { length relocations.old / 24 ≤ length memory.old }
-    ensures packed { OnOk result (AreRelaxedAndPacked section.now items.now start relocations.old
+    ensures packed { OnOk result (AreRelaxedAndPacked section.now (items_in items.now) start relocations.old
         relocations.new addresses.now symbols.now out.new) }
     ensures cause { IfErr result (IsPackCause section.now.machine
         (section_of section.now.bytes.now section.now.base
-        (deletions_of_run items.now plan.now.kept.items) start) section.now.items.now
+        (deletions_of_run (items_in items.now) plan.now.kept.items) start) (items_in section.now.items.now)
         relocations.old relocations.new addresses.now symbols.now out.old out.new) }
 {
     pack_section(

@@ -4,8 +4,9 @@ ghost use Rattle.std.specs.Prelude.{◌≤◌, ◌/◌, ℕ, List, [], ◌∷◌
 ghost use Rattle.linker_final.specs.Final.{IsLinked, IsLinkCause, linked};
 ghost use Rattle.linker_final.specs.Final.{AreLinked, AreListed, IsPhaseCause, rewriting_phase};
 ghost use Rattle.linker_rewriting.specs.Facts.{pre_layout, context};
+ghost use Rattle.linker_rewriting.specs.Numbers.{decisions_in};
 
-use linker_rewriting::decisions::{Decision, RewritingError};
+use linker_rewriting::decisions::{DecisionNumbers, Deletion, RewritingError};
 use linker_rewriting::facts::{OutputFacts, RelaxContext, SymbolFacts};
 use linker_rewriting::groups::UnrelaxableGroups;
 use linker_rewriting::kept::{FactsSnapshot, WritingError, relocate_rewritten_section};
@@ -41,15 +42,15 @@ pub fn link_section(
     symbols: &[Symbol],
     relocations: &mut [u8],
     section: &mut [u8],
-    decisions: &mut [Decision],
+    decisions: &mut [DecisionNumbers],
     memory: &mut [u64],
 ) -> Result<(), LinkError>
     requires memory { length relocations.old / 24 ≤ length memory.old }
     ensures linked { OnOk result ((rewritten : List ℕ) × IsLinked (linked (pre_layout architecture
-        output.now facts.now) groups.now relocations.old section.old decisions.new
+        output.now facts.now) groups.now relocations.old section.old (decisions_in decisions.new)
         relocations.new rewritten addresses.now symbols.now section.new)) }
     ensures cause { IfErr result (IsLinkCause architecture output.now facts.now groups.now kept.now
-        addresses.now symbols.now relocations.old section.old decisions.new relocations.new
+        addresses.now symbols.now relocations.old section.old (decisions_in decisions.new) relocations.new
         section.new) }
 {
     if let Err(error) = rewrite_section(
@@ -113,27 +114,27 @@ pub fn link_section_in_two_phases(
     symbols: &[Symbol],
     relocations: &mut [u8],
     section: &mut [u8],
-    decisions: &mut [Decision],
-    placed_decisions: &mut [Decision],
-    deleted: &mut [(u64, u32)],
+    decisions: &mut [DecisionNumbers],
+    placed_decisions: &mut [DecisionNumbers],
+    deleted: &mut [Deletion],
     memory: &mut [u64],
 ) -> Result<(), PhaseError>
     requires memory { length relocations.old / 24 ≤ length memory.old }
     ensures linked { OnOk result ((relocations_between : List ℕ) × (between : List ℕ)
         × (rewritten : List ℕ) × AreLinked
         (rewriting_phase (pre_layout architecture output.now facts.now) groups.now relocations.old
-        section.old decisions.new relocations_between between
+        section.old (decisions_in decisions.new) relocations_between between
         ∷ rewriting_phase (context architecture phase output.now facts.now addresses.now
-        symbols.now) placed_groups.now relocations_between between placed_decisions.new
+        symbols.now) placed_groups.now relocations_between between (decisions_in placed_decisions.new)
         relocations.new rewritten ∷ []) relocations.old section.old relocations.new rewritten
         addresses.now symbols.now section.new
         × AreListed (rewriting_phase (context architecture phase output.now facts.now addresses.now
-        symbols.now) placed_groups.now relocations_between between placed_decisions.new
+        symbols.now) placed_groups.now relocations_between between (decisions_in placed_decisions.new)
         relocations.new rewritten) deleted.old deleted.new) }
     ensures cause { IfErr result (IsPhaseCause (pre_layout architecture output.now facts.now) groups.now
         (context architecture phase output.now facts.now addresses.now symbols.now)
         placed_groups.now kept.now addresses.now symbols.now relocations.old section.old
-        decisions.new placed_decisions.new relocations.new section.new deleted.old deleted.new) }
+        (decisions_in decisions.new) (decisions_in placed_decisions.new) relocations.new section.new deleted.old deleted.new) }
 {
     if let Err(error) = rewrite_section(
         architecture,

@@ -19,7 +19,7 @@ ghost use Rattle.linker_laws.specs.X86GroupsWorked as x86_worked;
 
 use crate::sections::link_section_in_two_phases;
 use linker_base::relaxation::{DeltaSlice, OutOfMemory};
-use linker_rewriting::decisions::Decision;
+use linker_rewriting::decisions::{Decision, DecisionNumbers, Deletion};
 use linker_rewriting::facts::{OutputFacts, RelaxContext, SymbolFacts};
 use linker_rewriting::global_pointer::{
     finish_gp_relaxation, rewrite_global_pointer, survey_global_pointer,
@@ -28,7 +28,7 @@ use linker_rewriting::groups::UnrelaxableGroups;
 use linker_rewriting::kept::{FactsSnapshot, snapshot_facts};
 use linker_rewriting::phases::Phase;
 use linker_rewriting::sections::rewrite_placed_section;
-use linker_runs::items::{Relocation, rewritten_items_into};
+use linker_runs::items::{ItemNumbers, Relocation, rewritten_items_into};
 use linker_runs::packing::{Machine, pack_run, packed_run_len};
 use linker_runs::relaxation::{Item, Site, are_items, relax};
 use linker_runs::shapes::riscv64::CALL;
@@ -132,9 +132,9 @@ fn is_linked(known: &Known<'_>, relocations: &mut [u8], section: &mut [u8], byte
         known.symbols,
         relocations,
         section,
-        &mut [Decision::Kept; MOST],
-        &mut [Decision::Kept; MOST],
-        &mut [(0, 0); 0],
+        &mut [DecisionNumbers::from_decision(Decision::Kept); MOST],
+        &mut [DecisionNumbers::from_decision(Decision::Kept); MOST],
+        &mut [],
         &mut [0; MOST],
     ) {
         Ok(()) => &*section == bytes,
@@ -161,8 +161,8 @@ fn is_rewritten(known: &Known<'_>, relocations: &mut [u8], section: &mut [u8]) -
         &[UnrelaxableGroups::default(); MOST],
         relocations,
         section,
-        &mut [Decision::Kept; MOST],
-        &mut [(0, 0); 0],
+        &mut [DecisionNumbers::from_decision(Decision::Kept); MOST],
+        &mut [],
     ) {
         Ok(_) => true,
         Err(_) => false,
@@ -423,25 +423,28 @@ pub fn riscv64(alloc: Global) -> Result<bool, OutOfMemory>
     if survey_global_pointer(&context, gp, &relocations, &section, &mut kept).is_err() {
         return Ok(false);
     }
-    let mut deleted = [(0, 0)];
+    let mut deleted = [Deletion {
+        offset: 0,
+        bytes: 0,
+    }];
     let Ok(1) = rewrite_global_pointer(
         &context,
         gp,
         &kept,
         &mut relocations,
         &section,
-        &mut [Decision::Kept; MOST],
+        &mut [DecisionNumbers::from_decision(Decision::Kept); MOST],
         &mut deleted,
     ) else {
         return Ok(false);
     };
     let taken = as_items_take_them(&relocations, 5, 0x20);
-    let site = Item::Site(Site {
+    let site = ItemNumbers::from_item(Item::Site(Site {
         offset: 0,
         len: 0,
         target: 0,
         shapes: CALL,
-    });
+    }));
     let mut items = [site; ITEMS];
     let Ok(2) = rewritten_items_into(
         Machine::RiscV { is_32: false },

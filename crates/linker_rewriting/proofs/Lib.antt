@@ -15,6 +15,7 @@ pub mod LoongArchLoads
 pub mod Makeable
 pub mod Making
 pub mod Noted
+pub mod Numbers
 pub mod Order
 pub mod PhaseTables
 pub mod Places

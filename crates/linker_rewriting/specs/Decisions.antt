@@ -1,7 +1,7 @@
 -- What becomes of a section's relocations and of their instructions.
 use Rattle.std.specs.Prelude.{◌≡◌, ℕ, zero, suc, ◌+◌, ◌-◌, ◌*◌, ◌^◌, ◌%◌, ◌<◌, ◌≤◌, ◌/◌, ◌⊎◌, ◌++◌}
 use Rattle.std.specs.Prelude.{max, Bool, true, false, IsTrue, ◌↔◌, List, [], ◌∷◌, length, get_or}
-use Rattle.std.specs.Prelude.{Option, Some, None, is_some, ◌≢◌, ◌==◌, All, take, drop}
+use Rattle.std.specs.Prelude.{map, Option, Some, None, is_some, ◌≢◌, ◌==◌, All, take, drop}
 use Rattle.linker_rewriting.specs.Imports.{Architecture, Choice, Consumed, Decision, DeletedBytes}
 use Rattle.linker_rewriting.specs.Imports.{FirstOfPair, Group, Grouped, IfGroupMatches, Independent}
 use Rattle.linker_rewriting.specs.Imports.{Kept, Labelled, NotRelaxable, NotSurveyed, OutputFacts}
@@ -22,6 +22,7 @@ use Rattle.linker_rewriting.specs.Groups.{IsScopeIn, group_stays, stays_at}
 use Rattle.linker_rewriting.specs.RiscVPcrelGroups.{IsHighIn, IsLabelCandidate, LabelStays}
 use Rattle.linker_rewriting.specs.RiscVPcrelGroups.{LabelFits}
 use Rattle.linker_rewriting.specs.declared.decisions.DecisionError.{DecisionError}
+use Rattle.linker_rewriting.specs.declared.decisions.Deletion.{Deletion}
 use Rattle.linker_rewriting.specs.declared.decisions.DecisionError.TheVariants as errors
 use Rattle.linker_rewriting.specs.declared.decisions.RewritingError.TheVariants.{TooShort, Overlaps}
 use Rattle.linker_rewriting.specs.declared.decisions.RewritingError.TheVariants.{Contradiction}
@@ -282,6 +283,13 @@ IsEndAfter start own end None = (start < own) × (start < end)
 abbrev pub deletion_by : ℕ → Option DeletedBytes → List (ℕ × ℕ)
 deletion_by offset None = []
 deletion_by offset (Some deleted) = (offset + deleted.start, deleted.count) ∷ []
+
+abbrev pub pair_of : Deletion → ℕ × ℕ
+pair_of deletion = (deletion.offset, deletion.bytes)
+
+-- deletions as pairs of an offset and a count of bytes
+abbrev pub pairs_in : List Deletion → List (ℕ × ℕ)
+pairs_in deletions = map pair_of deletions
 
 -- those of all decisions below a limit
 abbrev pub deletions_by : List ℕ → List Decision → ℕ → List (ℕ × ℕ)

@@ -9,6 +9,7 @@ pub mod Inner
 pub mod Kept
 pub mod RiscVPcrelGroups
 pub mod Notes
+pub mod Numbers
 pub mod Rewritten
 pub mod Sequences
 pub mod Surveys

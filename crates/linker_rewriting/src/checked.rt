@@ -5,6 +5,8 @@ ghost use Rattle.std.specs.Prelude.{◌≡◌, ◌↔◌, ◌≤◌, ◌<◌, �
 ghost use Rattle.std.specs.Prelude.{IfErr, OnOk, IsTrue, true, false};
 ghost use Rattle.linker_base.specs.Rewrite.{CanRewrite};
 ghost use Rattle.linker_base.specs.RewriteWindow.{window_of_rewrite};
+ghost use Rattle.linker_rewriting.specs.Numbers.{decisions_in, numbers_in, IsKeptDecision};
+ghost use Rattle.linker_rewriting.specs.Numbers.{IsWrittenDecision};
 ghost use Rattle.linker_rewriting.specs.Candidates.{deletes_within};
 ghost use Rattle.linker_rewriting.specs.Decisions as spec;
 ghost use Rattle.linker_rewriting.specs.Inner.Left.{AreKept};
@@ -12,7 +14,7 @@ ghost use Rattle.linker_utils.specs.Relaxations.{relaxation_rewrite, relaxation_
 ghost use Rattle.linker_utils.specs.Relaxations.{relaxation_matches};
 
 use crate::candidates::deletes_within;
-use crate::decisions::{AsKeptDecision, Decision, DecisionError, decision_in, end_after, span_of};
+use crate::decisions::{Decision, DecisionError, DecisionNumbers, decision_in, end_after, span_of};
 use crate::relocations::relocation_in;
 use linker_section::relocations::relocations_len;
 use linker_utils::architecture::Relaxation;
@@ -79,50 +81,53 @@ fn fits(decision: &Decision, number: u32, section: &[u8], offset: u64) -> bool
 }
 
 /// Keeps a number of the bytes that each decision rewrites, if anything changes.
-pub(crate) fn keep_bytes<D: AsKeptDecision>(
+pub(crate) fn keep_bytes(
     changes: bool,
     relocations: &[u8],
     section: &[u8],
-    decisions: &mut [D],
+    decisions: &mut [DecisionNumbers],
 )
-    requires left { changes ≡ false → AreKept (map D.decision decisions.old)
+    requires left { changes ≡ false → AreKept (decisions_in decisions.old)
         (length relocations.now / 24) }
     requires enough { length relocations.now / 24 ≤ length decisions.old }
-    requires made { spec.AllCanBeMade relocations.now section.now (map D.decision decisions.old)
+    requires made { spec.AllCanBeMade relocations.now section.now (decisions_in decisions.old)
         (length relocations.now / 24) }
-    requires form { spec.EachIs D.is_written relocations.now decisions.old }
-    ensures decisions { map D.decision decisions.new ≡ map D.decision decisions.old }
-    ensures bytes { spec.AllKeepBytes relocations.now section.now (map D.decision decisions.new)
-        (map D.bytes decisions.new) (length relocations.now / 24) }
-    ensures form { spec.EachIs D.is_kept relocations.now decisions.new }
+    requires form { spec.EachIs IsWrittenDecision relocations.now decisions.old }
+    ensures decisions { decisions_in decisions.new ≡ decisions_in decisions.old }
+    ensures bytes { spec.AllKeepBytes relocations.now section.now (decisions_in decisions.new)
+        (numbers_in decisions.new) (length relocations.now / 24) }
+    ensures form { spec.EachIs IsKeptDecision relocations.now decisions.new }
     ensures others_stay { spec.RestStays relocations.now decisions.old decisions.new }
 {
     if !changes {
         return;
     }
     for index in 0..relocations_len(relocations) {
-        let Decision::Rewritten(choice) = decisions[index].as_decision() else {
+        let Decision::Rewritten(choice) = decision_in(decisions, index) else {
             continue;
         };
         let offset = relocation_in(relocations, index).offset;
-        decisions[index] = D::from_choice(choice, window_number(choice.kind, section, offset));
+        decisions[index] = DecisionNumbers::from_choice(
+            choice,
+            window_number(choice.kind, section, offset),
+        );
     }
 }
 
 /// Tests that decisions can be made of a section as it is.
-pub(crate) fn check_decisions<D: AsKeptDecision>(
+pub(crate) fn check_decisions(
     relocations: &[u8],
     section: &[u8],
-    decisions: &[D],
+    decisions: &[DecisionNumbers],
 ) -> Result<(), DecisionError>
     ensures enough { OnOk result (length relocations.now / 24 ≤ length decisions.now) }
     ensures fit { OnOk result (spec.AllStillFit relocations.now section.now
-        (map D.decision decisions.now) (map D.bytes decisions.now)
+        (decisions_in decisions.now) (numbers_in decisions.now)
         (length relocations.now / 24)) }
-    ensures apart { OnOk result (spec.AreApart relocations.now (map D.decision decisions.now)
+    ensures apart { OnOk result (spec.AreApart relocations.now (decisions_in decisions.now)
         (length relocations.now / 24)) }
     ensures unmade { IfErr result (spec.IsUnmade relocations.now section.now
-        (map D.decision decisions.now) (map D.bytes decisions.now)) }
+        (decisions_in decisions.now) (numbers_in decisions.now)) }
 {
     let len = relocations_len(relocations);
     if decisions.len() < len {

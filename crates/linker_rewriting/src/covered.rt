@@ -1,14 +1,15 @@
 //! Relocations that no rewrite takes along, in the bytes that one writes or deletes.
 
-ghost use Rattle.std.specs.Prelude.{◌≡◌, ◌≢◌, ◌<◌, ◌≤◌, ◌/◌, length, map, true, false};
+ghost use Rattle.std.specs.Prelude.{◌≡◌, ◌≢◌, ◌<◌, ◌≤◌, ◌/◌, length, true, false};
 ghost use Rattle.linker_elf.specs.declared.elf.RowInfo.{RowInfo};
+ghost use Rattle.linker_rewriting.specs.Numbers.{decisions_in};
 ghost use Rattle.linker_rewriting.specs.Decisions.{AllCanBeMade, AreApart, IsFirstCovered};
 ghost use Rattle.linker_rewriting.specs.Decisions.{decision_at, start_at, end_at};
 ghost use Rattle.linker_rewriting.specs.Inner.Places.{IsBounded, AreBounded, AreBelow, IsPlace};
 ghost use Rattle.linker_rewriting.specs.Inner.Places.{IsPlaceBeside};
 ghost use Rattle.linker_section.specs.Fields.{IsField, field_end};
 
-use crate::decisions::{AsDecision, Decision, decision_in, span_of};
+use crate::decisions::{Decision, DecisionNumbers, decision_in, span_of};
 use crate::relocations::relocation_in;
 use linker_section::relocations::relocations_len;
 use linker_section::sections::field_len;
@@ -30,13 +31,13 @@ struct Place {
 
 /// Where the bytes begin and end that the decision with an index writes or deletes.
 #[inline(always)]
-fn span_at<D: AsDecision>(relocations: &[u8], decisions: &[D], index: usize) -> (u64, u64)
+fn span_at(relocations: &[u8], decisions: &[DecisionNumbers], index: usize) -> (u64, u64)
     requires within { index < length relocations.now / 24 }
     requires enough { length relocations.now / 24 ≤ length decisions.now }
-    requires bounded { IsBounded relocations.now (map D.decision decisions.now) index }
+    requires bounded { IsBounded relocations.now (decisions_in decisions.now) index }
     ensures { result ≡ (
-      start_at relocations.now (map D.decision decisions.now) index,
-      end_at relocations.now (map D.decision decisions.now) index,
+      start_at relocations.now (decisions_in decisions.now) index,
+      end_at relocations.now (decisions_in decisions.now) index,
     ) }
 {
     let decision = decision_in(decisions, index);
@@ -45,29 +46,29 @@ fn span_at<D: AsDecision>(relocations: &[u8], decisions: &[D], index: usize) -> 
 
 /// Whether the relocation with an index stays as it is, and so does its instruction.
 #[inline(always)]
-fn is_kept<D: AsDecision>(decisions: &[D], index: usize) -> bool
+fn is_kept(decisions: &[DecisionNumbers], index: usize) -> bool
     requires { index < length decisions.now }
     ensures { result ≡ true
-        → decision_at (map D.decision decisions.now) index ≡ Decision.Kept }
+        → decision_at (decisions_in decisions.now) index ≡ Decision.Kept }
 {
     matches!(decision_in(decisions, index), Decision::Kept)
 }
 
 /// An index that is no more than another, below which all bytes end at or below an offset.
-fn place_before<D: AsDecision>(
+fn place_before(
     relocations: &[u8],
-    decisions: &[D],
+    decisions: &[DecisionNumbers],
     offset: u64,
     from: usize,
 ) -> usize
     requires within { from ≤ length relocations.now / 24 }
     requires enough { length relocations.now / 24 ≤ length decisions.now }
-    requires bounded { AreBounded relocations.now (map D.decision decisions.now)
+    requires bounded { AreBounded relocations.now (decisions_in decisions.now)
         (length relocations.now / 24) }
-    requires apart { AreApart relocations.now (map D.decision decisions.now)
+    requires apart { AreApart relocations.now (decisions_in decisions.now)
         (length relocations.now / 24) }
     ensures within { result ≤ from }
-    ensures below { AreBelow relocations.now (map D.decision decisions.now) result offset }
+    ensures below { AreBelow relocations.now (decisions_in decisions.now) result offset }
 {
     let mut at = from;
     while at > 0 {
@@ -82,9 +83,9 @@ fn place_before<D: AsDecision>(
 
 /// The place, from an index on, before the first bytes that end after an offset, beside those of
 /// the decision with another index. Those before it end at or below that offset, and `below`.
-fn place_from<D: AsDecision>(
+fn place_from(
     relocations: &[u8],
-    decisions: &[D],
+    decisions: &[DecisionNumbers],
     index: usize,
     offset: u64,
     from: usize,
@@ -92,13 +93,13 @@ fn place_from<D: AsDecision>(
 ) -> Place
     requires within { from ≤ length relocations.now / 24 }
     requires enough { length relocations.now / 24 ≤ length decisions.now }
-    requires bounded { AreBounded relocations.now (map D.decision decisions.now)
+    requires bounded { AreBounded relocations.now (decisions_in decisions.now)
         (length relocations.now / 24) }
-    requires apart { AreApart relocations.now (map D.decision decisions.now)
+    requires apart { AreApart relocations.now (decisions_in decisions.now)
         (length relocations.now / 24) }
-    requires below { AreBelow relocations.now (map D.decision decisions.now) from below }
+    requires below { AreBelow relocations.now (decisions_in decisions.now) from below }
     requires low { below ≤ offset }
-    ensures { IsPlaceBeside relocations.now (map D.decision decisions.now)
+    ensures { IsPlaceBeside relocations.now (decisions_in decisions.now)
         (length relocations.now / 24) index offset result }
 {
     let len = relocations_len(relocations);
@@ -134,21 +135,21 @@ fn place_from<D: AsDecision>(
 /// The same, from any place on. What is before it is passed again only where it ends after the
 /// offset.
 #[inline(always)]
-fn place_beside<D: AsDecision>(
+fn place_beside(
     relocations: &[u8],
-    decisions: &[D],
+    decisions: &[DecisionNumbers],
     index: usize,
     offset: u64,
     place: Place,
 ) -> Place
     requires enough { length relocations.now / 24 ≤ length decisions.now }
-    requires bounded { AreBounded relocations.now (map D.decision decisions.now)
+    requires bounded { AreBounded relocations.now (decisions_in decisions.now)
         (length relocations.now / 24) }
-    requires apart { AreApart relocations.now (map D.decision decisions.now)
+    requires apart { AreApart relocations.now (decisions_in decisions.now)
         (length relocations.now / 24) }
-    requires place { IsPlace relocations.now (map D.decision decisions.now)
+    requires place { IsPlace relocations.now (decisions_in decisions.now)
         (length relocations.now / 24) place }
-    ensures { IsPlaceBeside relocations.now (map D.decision decisions.now)
+    ensures { IsPlaceBeside relocations.now (decisions_in decisions.now)
         (length relocations.now / 24) index offset result }
 {
     if place.below <= offset {
@@ -184,12 +185,12 @@ fn reaches(
 
 /// Whether a rewrite takes along the relocation with an index.
 #[inline(always)]
-fn is_taken<D: AsDecision>(decisions: &[D], index: usize) -> bool
+fn is_taken(decisions: &[DecisionNumbers], index: usize) -> bool
     requires { index < length decisions.now }
     ensures yes { result ≡ true
-        → decision_at (map D.decision decisions.now) index ≡ Decision.Consumed }
+        → decision_at (decisions_in decisions.now) index ≡ Decision.Consumed }
     ensures no { result ≡ false
-        → decision_at (map D.decision decisions.now) index ≢ Decision.Consumed }
+        → decision_at (decisions_in decisions.now) index ≢ Decision.Consumed }
 {
     matches!(decision_in(decisions, index), Decision::Consumed)
 }
@@ -198,19 +199,19 @@ fn is_taken<D: AsDecision>(decisions: &[D], index: usize) -> bool
 /// another one writes or deletes. The bytes of decisions ascend, and where relocations do too each
 /// decision is passed once. Else those are passed again that are between the place of a relocation
 /// and the place of the one before it.
-pub(crate) fn first_covered<D: AsDecision>(
+pub(crate) fn first_covered(
     architecture: Architecture,
     relocations: &[u8],
     section: &[u8],
-    decisions: &[D],
+    decisions: &[DecisionNumbers],
 ) -> Option<usize>
     requires enough { length relocations.now / 24 ≤ length decisions.now }
-    requires made { AllCanBeMade relocations.now section.now (map D.decision decisions.now)
+    requires made { AllCanBeMade relocations.now section.now (decisions_in decisions.now)
         (length relocations.now / 24) }
-    requires apart { AreApart relocations.now (map D.decision decisions.now)
+    requires apart { AreApart relocations.now (decisions_in decisions.now)
         (length relocations.now / 24) }
     ensures { IsFirstCovered architecture relocations.now section.now
-        (map D.decision decisions.now) (length relocations.now / 24) result }
+        (decisions_in decisions.now) (length relocations.now / 24) result }
 {
     let count = relocations_len(relocations);
     let first = place_from(relocations, decisions, count, 0, 0, 0);

@@ -3,6 +3,7 @@
 ghost use Rattle.std.specs.Prelude.{◌≡◌, ◌<◌, ◌≤◌, ◌+◌, ◌-◌, ◌/◌, length, map, IfSome, IfErr, ℕ};
 ghost use Rattle.std.specs.Prelude.{OnOk, IfOk, true, false};
 ghost use Rattle.linker_rewriting.specs.declared.decisions.Decision.{Decision as decisions};
+ghost use Rattle.linker_rewriting.specs.Numbers.{decisions_in, IsWrittenDecision};
 ghost use Rattle.linker_section.specs.Relocations.{relocation_in, relocation_at};
 ghost use Rattle.linker_rewriting.specs.Decisions as spec;
 ghost use Rattle.linker_rewriting.specs.Facts.{context_of};
@@ -28,6 +29,10 @@ use linker_utils::elf::{Architecture, Choice, InstructionRewrite, RewriteWindow}
 use linker_utils::relaxation::AsDeletion;
 use linker_utils::riscv64::RiscVRelocation;
 
+mod numbers;
+
+pub use numbers::DecisionNumbers;
+
 /// What a relocation is of once its instruction is rewritten.
 #[derive(Clone, Copy)]
 pub struct Subject {
@@ -52,140 +57,33 @@ pub enum Decision {
     Consumed,
 }
 
-/// What becomes of a relocation: a `Decision`, or an element of the caller's own array that says as
-/// much.
-pub trait AsDecision: Copy {
-    /// The decision, in a contract.
-    ghost decision: { Self → decisions };
-
-    /// Whether it is one of the forms that are written, in a contract.
-    ghost is_written: { Self → Type 0 };
-
-    /// The decision.
-    fn as_decision(self) -> Decision
-        ensures { result ≡ decision self };
-
-    /// The form that a decision is written in.
-    fn from_decision(made: Decision) -> Self
-        ensures decision { decision result ≡ made }
-        ensures form { is_written result };
-}
-
 /// The decision with an index.
 #[inline(always)]
-pub(crate) fn decision_in<D: AsDecision>(decisions: &[D], index: usize) -> Decision
+pub(crate) fn decision_in(decisions: &[DecisionNumbers], index: usize) -> Decision
     requires { index < length decisions.now }
-    ensures { result ≡ spec.decision_at (map D.decision decisions.now) index }
+    ensures { result ≡ spec.decision_at (decisions_in decisions.now) index }
 {
     decisions[index].as_decision()
 }
 
-impl AsDecision for Decision {
-    ghost use Rattle.std.specs.Prelude.{⊤};
-
-    ghost decision = { λ d. d };
-
-    ghost is_written = { λ _. ⊤ };
-
-    #[inline(always)]
-    fn as_decision(self) -> Decision {
-        self
-    }
-
-    #[inline(always)]
-    fn from_decision(made: Decision) -> Decision {
-        made
-    }
-}
-
-/// A decision that is made later, and a number of the bytes that it was made on.
+/// Some bytes of a section that are deleted, as C has them.
+#[repr(C)]
 #[derive(Clone, Copy)]
-pub struct KeptDecision {
-    /// The decision.
-    pub decision: Decision,
-    /// What stands for the bytes that it rewrites. 0 of one that rewrites none.
+pub struct Deletion {
+    /// The offset in the section of the first deleted byte.
+    pub offset: u64,
+    /// How many bytes are deleted.
     pub bytes: u32,
 }
 
-impl AsDecision for KeptDecision {
-    ghost use Rattle.std.specs.Prelude.{⊤};
+impl AsDeletion for Deletion {
+    ghost use Rattle.linker_rewriting.specs.Decisions.{pair_of};
 
-    ghost decision = { λ d. d.decision };
-
-    ghost is_written = { λ _. ⊤ };
+    ghost deletion = { pair_of };
 
     #[inline(always)]
-    fn as_decision(self) -> Decision {
-        self.decision
-    }
-
-    #[inline(always)]
-    fn from_decision(made: Decision) -> KeptDecision {
-        KeptDecision {
-            decision: made,
-            bytes: 0,
-        }
-    }
-}
-
-/// What becomes of a relocation later: a `KeptDecision`, or an element of the caller's own array
-/// that says as much.
-pub trait AsKeptDecision: AsDecision {
-    /// The number of the bytes that it rewrites, in a contract.
-    ghost bytes: { Self → ℕ };
-
-    /// Whether it is one of the forms that are kept, in a contract.
-    ghost is_kept: { Self → Type 0 };
-
-    /// The number of the bytes that it rewrites.
-    fn bytes(self) -> u32
-        ensures { result ≡ bytes self };
-
-    /// The form that a rewrite of bytes with a number is kept in.
-    fn from_choice(choice: Choice<Relaxation, u32>, number: u32) -> Self
-        ensures decision { Self.decision result ≡ decisions.Rewritten choice }
-        ensures bytes { bytes result ≡ number }
-        ensures form { is_kept result };
-
-    /// A form that is written is kept as it is.
-    ghost keeps_written: { (d : Self) → Self.is_written d → is_kept d };
-}
-
-impl AsKeptDecision for KeptDecision {
-    ghost use Rattle.std.specs.Prelude.{⊤};
-
-    ghost bytes = { λ d. d.bytes };
-
-    ghost is_kept = { λ _. ⊤ };
-
-    #[inline(always)]
-    fn bytes(self) -> u32 {
-        self.bytes
-    }
-
-    #[inline(always)]
-    fn from_choice(choice: Choice<Relaxation, u32>, bytes: u32) -> KeptDecision {
-        KeptDecision {
-            decision: Decision::Rewritten(choice),
-            bytes,
-        }
-    }
-
-    ghost keeps_written = { λ d is. tt };
-}
-
-/// What deletions are listed in: pairs of an offset and how many bytes, or the caller's own
-/// structs.
-pub trait FromDeletion: AsDeletion {
-    /// The element that records a deletion by the offset of its first byte and how many it has.
-    fn from_deletion(offset: u64, bytes: u32) -> Self
-        ensures { Self.deletion result ≡ (offset, bytes) };
-}
-
-impl FromDeletion for (u64, u32) {
-    #[inline(always)]
-    fn from_deletion(offset: u64, bytes: u32) -> (u64, u32) {
-        (offset, bytes)
+    fn as_deletion(self) -> (u64, u32) {
+        (self.offset, self.bytes)
     }
 }
 
@@ -500,27 +398,27 @@ impl Rule for Groups<'_> {
 
 /// The same as `decide_section`, for an architecture and a phase.
 #[inline(always)]
-fn decide_all<D: AsDecision>(
+fn decide_all(
     architecture: Architecture,
     phase: Phase,
     context: &RelaxContext<'_>,
     kept: &[UnrelaxableGroups],
     relocations: &[u8],
     section: &[u8],
-    decisions: &mut [D],
+    decisions: &mut [DecisionNumbers],
 ) -> Result<bool, RewritingError>
     requires architecture { architecture ≡ context.now.architecture }
     requires phase { phase ≡ context.now.phase }
     ensures enough { OnOk result (length relocations.now / 24 ≤ length decisions.old) }
     ensures decided { OnOk result (spec.AreAllDecided (spec.IsDecidedAfter (context_of context.now)
         kept.now relocations.now section.now) spec.start_by spec.end_by context.now.architecture
-        relocations.now section.now (map D.decision decisions.new)) }
+        relocations.now section.now (decisions_in decisions.new)) }
     ensures left { IfOk result (λ changes. changes ≡ false
-        → AreKept (map D.decision decisions.new) (length relocations.now / 24)) }
-    ensures form { OnOk result (spec.EachIs D.is_written relocations.now decisions.new) }
+        → AreKept (decisions_in decisions.new) (length relocations.now / 24)) }
+    ensures form { OnOk result (spec.EachIs IsWrittenDecision relocations.now decisions.new) }
     ensures others_stay { spec.RestStays relocations.now decisions.old decisions.new }
     ensures rejected { IfErr result (spec.IsRejectedIn (context_of context.now) kept.now
-        relocations.now section.now (map D.decision decisions.new)) }
+        relocations.now section.now (decisions_in decisions.new)) }
 {
     if decisions.len() < relocations_len(relocations) {
         return Err(RewritingError::TooShort);
@@ -543,23 +441,23 @@ fn decide_all<D: AsDecision>(
 /// Decides what becomes of each relocation of a section and of its instruction, in the caller's
 /// memory. Nothing is rewritten. False if all stay as they are by their types. It is compiled for
 /// each architecture and phase.
-pub(crate) fn decide_section<D: AsDecision>(
+pub(crate) fn decide_section(
     context: &RelaxContext<'_>,
     kept: &[UnrelaxableGroups],
     relocations: &[u8],
     section: &[u8],
-    decisions: &mut [D],
+    decisions: &mut [DecisionNumbers],
 ) -> Result<bool, RewritingError>
     ensures enough { OnOk result (length relocations.now / 24 ≤ length decisions.old) }
     ensures decided { OnOk result (spec.AreAllDecided (spec.IsDecidedAfter (context_of context.now)
         kept.now relocations.now section.now) spec.start_by spec.end_by context.now.architecture
-        relocations.now section.now (map D.decision decisions.new)) }
+        relocations.now section.now (decisions_in decisions.new)) }
     ensures left { IfOk result (λ changes. changes ≡ false
-        → AreKept (map D.decision decisions.new) (length relocations.now / 24)) }
-    ensures form { OnOk result (spec.EachIs D.is_written relocations.now decisions.new) }
+        → AreKept (decisions_in decisions.new) (length relocations.now / 24)) }
+    ensures form { OnOk result (spec.EachIs IsWrittenDecision relocations.now decisions.new) }
     ensures others_stay { spec.RestStays relocations.now decisions.old decisions.new }
     ensures rejected { IfErr result (spec.IsRejectedIn (context_of context.now) kept.now
-        relocations.now section.now (map D.decision decisions.new)) }
+        relocations.now section.now (decisions_in decisions.new)) }
 {
     of_each!(
         context.architecture,

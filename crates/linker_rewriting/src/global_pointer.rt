@@ -5,6 +5,7 @@ ghost use Rattle.std.specs.Prelude.{◌≡◌, ◌↔◌, ◌+◌, ◌<◌, ◌�
 ghost use Rattle.std.specs.Prelude.{IfSome, IfErr, IfOk, OnOk, OnErr, IsTrue, ◌&&◌};
 ghost use Rattle.std.specs.Prelude.{◌==◌, true, MatchOption, None, ⊤};
 ghost use Rattle.std.specs.Int.{w32, from_le_bytes};
+ghost use Rattle.linker_rewriting.specs.Numbers.{decisions_in, IsWrittenDecision};
 ghost use Rattle.linker_rewriting.specs.Agreement.{Agree, IsContradiction};
 ghost use Rattle.linker_rewriting.specs.Decisions.{AllCanBeMade, IsThere, IsWithin, EachIs};
 ghost use Rattle.linker_rewriting.specs.Decisions.{RestStays, deletions_by, IsRejectedFirst};
@@ -18,7 +19,7 @@ ghost use Rattle.linker_section.specs.Values.{IsAscending};
 
 use crate::agreement::contradiction;
 use crate::decisions::{
-    AsDecision, Decision, FromDeletion, RewritingError, decision_in, subject_of,
+    Decision, DecisionNumbers, Deletion, RewritingError, decision_in, subject_of,
 };
 use crate::facts::{OutputFacts, RelaxContext, SymbolFacts, address_in};
 use crate::phases::Phase;
@@ -463,9 +464,9 @@ fn relocation_by(decision: &Decision, relocation: &Rela) -> Rela
 
 /// Turns the relocations of a section into those after what became of them, where no bytes are
 /// rewritten.
-fn turn_all<D: AsDecision>(decisions: &[D], relocations: &mut [u8])
+fn turn_all(decisions: &[DecisionNumbers], relocations: &mut [u8])
     requires { length relocations.old / 24 ≤ length decisions.now }
-    ensures { spec.AreRelocationsBy (map D.decision decisions.now) relocations.old relocations.new
+    ensures { spec.AreRelocationsBy (decisions_in decisions.now) relocations.old relocations.new
         (length relocations.old / 24) }
 {
     for index in 0..relocations_len(relocations) {
@@ -497,7 +498,7 @@ fn turn_all<D: AsDecision>(decisions: &[D], relocations: &mut [u8])
 /// bytes that are rewritten, too.
 ///
 /// ```
-/// use linker_rewriting::decisions::Decision;
+/// use linker_rewriting::decisions::{Decision, DecisionNumbers, Deletion};
 /// use linker_rewriting::facts::{OutputFacts, RelaxContext, SymbolFacts};
 /// use linker_rewriting::global_pointer::{GPREL_I, rewrite_global_pointer};
 /// use linker_rewriting::phases::Phase;
@@ -510,7 +511,7 @@ fn turn_all<D: AsDecision>(decisions: &[D], relocations: &mut [u8])
 ///     (relocations[at], relocations[at + 8]) = (offset, r_type);
 ///     relocations[at + 12] = u8::from(r_type < 51);
 /// }
-/// let mut deleted = [(0, 0)];
+/// let mut deleted = [Deletion { offset: 0, bytes: 0 }];
 /// let context = RelaxContext {
 ///     architecture: Architecture::RiscV,
 ///     phase: Phase::ShortPcRel,
@@ -525,36 +526,36 @@ fn turn_all<D: AsDecision>(decisions: &[D], relocations: &mut [u8])
 ///     &[false; 2],
 ///     &mut relocations,
 ///     &[0x37, 0x05, 0, 0, 0x03, 0x25, 0x05, 0],
-///     &mut [Decision::Kept; 4],
+///     &mut [DecisionNumbers::from_decision(Decision::Kept); 4],
 ///     &mut deleted,
 /// );
-/// assert_eq!((rewritten, deleted), (Ok(1), [(0, 4)]));
+/// assert_eq!((rewritten, deleted[0].bytes), (Ok(1), 4));
 /// assert_eq!((relocations[8], u32::from(relocations[56])), (0, GPREL_I));
 /// ```
-pub fn rewrite_global_pointer<D: AsDecision, L: FromDeletion>(
+pub fn rewrite_global_pointer(
     context: &RelaxContext<'_>,
     gp: u64,
     kept: &[bool],
     relocations: &mut [u8],
     section: &[u8],
-    decisions: &mut [D],
-    deleted: &mut [L],
+    decisions: &mut [DecisionNumbers],
+    deleted: &mut [Deletion],
 ) -> Result<usize, RewritingError>
     ensures agree { OnOk result (Agree context.now.symbols.now context.now.values.now
         relocations.old) }
     ensures rewritten { OnOk result (spec.ArePartsRewrittenAs (context_of context.now) gp kept.now
-        relocations.old relocations.new section.now (map D.decision decisions.new)) }
+        relocations.old relocations.new section.now (decisions_in decisions.new)) }
     ensures within { OnOk result (AllCanBeMade relocations.old section.now
-        (map D.decision decisions.new) (length relocations.old / 24)) }
-    ensures listed { IfOk result (λ len. take len (map L.deletion deleted.new)
-        ≡ deletions_by relocations.old (map D.decision decisions.new)
+        (decisions_in decisions.new) (length relocations.old / 24)) }
+    ensures listed { IfOk result (λ len. take len (pairs_in deleted.new)
+        ≡ deletions_by relocations.old (decisions_in decisions.new)
         (length relocations.old / 24)) }
-    ensures form { OnOk result (EachIs D.is_written relocations.old decisions.new) }
+    ensures form { OnOk result (EachIs IsWrittenDecision relocations.old decisions.new) }
     ensures others_stay { RestStays relocations.old decisions.old decisions.new }
     ensures deletions_stay { IfOk result (λ len. drop len deleted.new ≡ drop len deleted.old) }
     ensures rejected { IfErr result (IsRejectedFirst context.now.symbols.now context.now.values.now
         relocations.old (spec.ArePartsRejected (context_of context.now) gp kept.now relocations.old
-        section.now (map D.decision decisions.new) (length deleted.old))) }
+        section.now (decisions_in decisions.new) (length deleted.old))) }
     ensures surveyed { IfErr result (spec.MeansSymbolsUnsurveyed (context_of context.now) gp
         relocations.old section.now kept.now) }
     ensures entries { OnErr result (relocations.new ≡ relocations.old) }

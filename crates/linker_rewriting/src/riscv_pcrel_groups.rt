@@ -5,12 +5,13 @@ ghost use Rattle.std.specs.Prelude.{slice_get};
 ghost use Rattle.linker_section.specs.Relocations.{relocation_in};
 ghost use Rattle.linker_section.specs.Values.{IsAscending};
 ghost use Rattle.linker_rewriting.specs.Decisions.{IsThere, decision_at, EachIs, RestStays};
+ghost use Rattle.linker_rewriting.specs.Numbers.{decisions_in, IsWrittenDecision};
 ghost use Rattle.linker_rewriting.specs.Facts.{context_of};
 ghost use Rattle.linker_rewriting.specs.RiscVPcrelGroups as spec;
 ghost use Rattle.linker_rewriting.specs.Notes.{is_note, AreHighsNoted, IsNoteOf, AreLabelsNoted};
 
 use crate::candidates::candidate_by;
-use crate::decisions::{AsDecision, Decision, decision_in};
+use crate::decisions::{Decision, DecisionNumbers, decision_in};
 use crate::facts::{OutputFacts, RelaxContext, SymbolFacts, link_facts};
 use crate::groups::{Scope, scope_in};
 use crate::phases::Phase;
@@ -209,31 +210,31 @@ pub(crate) fn is_note(decision: &Decision) -> bool
 }
 
 /// Sets all decisions of a section to one.
-pub(crate) fn set_all<D: AsDecision>(relocations: &[u8], decision: Decision, decisions: &mut [D])
+pub(crate) fn set_all(relocations: &[u8], decision: Decision, decisions: &mut [DecisionNumbers])
     requires { length relocations.now / 24 ≤ length decisions.old }
     ensures set { (n : ℕ) → n < length relocations.now / 24
-        → decision_at (map D.decision decisions.new) n ≡ decision }
-    ensures form { EachIs D.is_written relocations.now decisions.new }
+        → decision_at (decisions_in decisions.new) n ≡ decision }
+    ensures form { EachIs IsWrittenDecision relocations.now decisions.new }
     ensures others { RestStays relocations.now decisions.old decisions.new }
 {
+    let made = DecisionNumbers::from_decision(decision);
     for index in 0..relocations_len(relocations) {
-        decisions[index] = D::from_decision(decision);
+        decisions[index] = made;
     }
 }
 
 /// Notes at each high part of a section whether its group stays.
-fn note_highs<D: AsDecision>(
+fn note_highs(
     context: &RelaxContext<'_>,
     relocations: &[u8],
     section: &[u8],
-    decisions: &mut [D],
+    decisions: &mut [DecisionNumbers],
 )
     requires ascending { IsAscending relocations.now }
     requires enough { length relocations.now / 24 ≤ length decisions.old }
     requires clear { (n : ℕ) → n < length relocations.now / 24
-        → decision_at (map D.decision decisions.old) n ≡ Decision.Kept }
-    ensures noted { AreHighsNoted (context_of context.now) relocations.now section.now (map
-        D.decision decisions.new) (length relocations.now / 24) }
+        → decision_at (decisions_in decisions.old) n ≡ Decision.Kept }
+    ensures noted { AreHighsNoted (context_of context.now) relocations.now section.now (decisions_in decisions.new) (length relocations.now / 24) }
     ensures others { RestStays relocations.now decisions.old decisions.new }
 {
     for index in 0..relocations_len(relocations) {
@@ -246,22 +247,22 @@ fn note_highs<D: AsDecision>(
         let Some(high) = lacking(context, &site) else {
             continue;
         };
-        decisions[high] = D::from_decision(Decision::Consumed);
+        decisions[high] = DecisionNumbers::from_decision(Decision::Consumed);
     }
 }
 
 /// What is noted of the group of a relocation: at its high part; it stays where there is none.
 #[inline(always)]
-fn note_of<D: AsDecision>(
+fn note_of(
     context: &RelaxContext<'_>,
     relocations: &[u8],
-    decisions: &[D],
+    decisions: &[DecisionNumbers],
     relocation: &Rela,
 ) -> Decision
     requires ascending { IsAscending relocations.now }
     requires enough { length relocations.now / 24 ≤ length decisions.now }
     ensures { IsNoteOf context.now.phase context.now.addresses.now context.now.values.now
-        relocations.now (map D.decision decisions.now) relocation.now result }
+        relocations.now (decisions_in decisions.now) relocation.now result }
 {
     match high_of(context, relocations, relocation) {
         Some(high) => decision_in(decisions, high),
@@ -270,18 +271,16 @@ fn note_of<D: AsDecision>(
 }
 
 /// Notes at each relocation of a label what is noted at its high part.
-fn copy_notes<D: AsDecision>(
+fn copy_notes(
     context: &RelaxContext<'_>,
     relocations: &[u8],
     section: &[u8],
-    decisions: &mut [D],
+    decisions: &mut [DecisionNumbers],
 )
     requires ascending { IsAscending relocations.now }
     requires enough { length relocations.now / 24 ≤ length decisions.old }
-    requires noted { AreHighsNoted (context_of context.now) relocations.now section.now (map
-        D.decision decisions.old) (length relocations.now / 24) }
-    ensures noted { AreLabelsNoted (context_of context.now) relocations.now section.now (map
-        D.decision decisions.new) 0 }
+    requires noted { AreHighsNoted (context_of context.now) relocations.now section.now (decisions_in decisions.old) (length relocations.now / 24) }
+    ensures noted { AreLabelsNoted (context_of context.now) relocations.now section.now (decisions_in decisions.new) 0 }
     ensures others { RestStays relocations.now decisions.old decisions.new }
 {
     for index in 0..relocations_len(relocations) {
@@ -290,7 +289,7 @@ fn copy_notes<D: AsDecision>(
             continue;
         }
         let note = note_of(context, relocations, decisions, &relocation);
-        decisions[index] = D::from_decision(note);
+        decisions[index] = DecisionNumbers::from_decision(note);
     }
 }
 
@@ -306,15 +305,14 @@ fn has_labels(architecture: Architecture, phase: Phase) -> bool
 }
 
 /// Notes at each relocation of a label of RISC-V whether its group stays, in place of its decision.
-pub(crate) fn note_labels<D: AsDecision>(
+pub(crate) fn note_labels(
     context: &RelaxContext<'_>,
     relocations: &[u8],
     section: &[u8],
-    decisions: &mut [D],
+    decisions: &mut [DecisionNumbers],
 )
     requires enough { length relocations.now / 24 ≤ length decisions.old }
-    ensures noted { AreLabelsNoted (context_of context.now) relocations.now section.now (map
-        D.decision decisions.new) 0 }
+    ensures noted { AreLabelsNoted (context_of context.now) relocations.now section.now (decisions_in decisions.new) 0 }
     ensures others { RestStays relocations.now decisions.old decisions.new }
 {
     if !has_labels(context.architecture, context.phase) {

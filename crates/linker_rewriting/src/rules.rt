@@ -3,6 +3,7 @@
 
 ghost use Rattle.std.specs.Prelude.{◌≡◌, ◌<◌, ◌≤◌, ◌+◌, ◌/◌, ℕ, List, Bool, length, map};
 ghost use Rattle.std.specs.Prelude.{IfErr, IfNone, IfSome, OnOk, true, false};
+ghost use Rattle.linker_rewriting.specs.Numbers.{decisions_in, IsWrittenDecision};
 ghost use Rattle.linker_rewriting.specs.declared.decisions.Decision.{Decision as decisions};
 ghost use Rattle.linker_rewriting.specs.Decisions.{AreAllDecided, Bound, IsMadeBy, IsRejectedBy};
 ghost use Rattle.linker_rewriting.specs.Decisions.{EachIs, RestStays, decision_at};
@@ -10,7 +11,7 @@ ghost use Rattle.linker_rewriting.specs.Notes.{is_note};
 ghost use Rattle.linker_section.specs.Relocations.{relocation_in};
 
 use crate::covered::first_covered;
-use crate::decisions::{AsDecision, Decision, RewritingError, decision_in, end_after};
+use crate::decisions::{Decision, DecisionNumbers, RewritingError, decision_in, end_after};
 use crate::relocations::{Site, relocation_in};
 use crate::riscv_pcrel_groups::is_note;
 use linker_section::relocations::relocations_len;
@@ -81,31 +82,31 @@ pub(crate) trait Rule {
 /// Decides what becomes of each relocation of a section and of its instruction by a rule, in the
 /// caller's memory. Nothing is rewritten.
 #[inline(always)]
-pub(crate) fn decide_by<R: Rule, D: AsDecision>(
+pub(crate) fn decide_by<R: Rule>(
     rule: &R,
     architecture: Architecture,
     relocations: &[u8],
     section: &[u8],
-    decisions: &mut [D],
+    decisions: &mut [DecisionNumbers],
 ) -> Result<(), RewritingError>
     requires enough { length relocations.now / 24 ≤ length decisions.old }
     requires valid { R.is_valid rule.now relocations.now }
     requires noted { (n : ℕ) → n < length relocations.now / 24
         → R.is_noted rule.now relocations.now section.now n
-        (is_note (decision_at (map D.decision decisions.old) n)) }
+        (is_note (decision_at (decisions_in decisions.old) n)) }
     ensures decided { OnOk result (AreAllDecided (R.decides rule.now relocations.now section.now)
-        R.start R.end architecture relocations.now section.now (map D.decision decisions.new)) }
-    ensures form { OnOk result (EachIs D.is_written relocations.now decisions.new) }
+        R.start R.end architecture relocations.now section.now (decisions_in decisions.new)) }
+    ensures form { OnOk result (EachIs IsWrittenDecision relocations.now decisions.new) }
     ensures others_stay { RestStays relocations.now decisions.old decisions.new }
     ensures rejected { IfErr result (IsRejectedBy (R.decides rule.now relocations.now section.now)
         (R.lacks rule.now relocations.now section.now) R.start R.end architecture relocations.now
-        section.now (map D.decision decisions.new)) }
+        section.now (decisions_in decisions.new)) }
 {
     let mut end = 0;
     let mut is_taken = false;
     for index in 0..relocations_len(relocations) {
         if rule.leaves(is_taken, relocations, index) {
-            decisions[index] = D::from_decision(Decision::Kept);
+            decisions[index] = DecisionNumbers::from_decision(Decision::Kept);
             continue;
         }
         let relocation = relocation_in(relocations, index);
@@ -125,7 +126,7 @@ pub(crate) fn decide_by<R: Rule, D: AsDecision>(
         };
         end = new_end;
         is_taken = decision.takes_next();
-        decisions[index] = D::from_decision(decision);
+        decisions[index] = DecisionNumbers::from_decision(decision);
     }
     match first_covered(architecture, relocations, section, decisions) {
         Some(index) => Err(RewritingError::Overlaps(index)),

@@ -3,6 +3,8 @@
 ghost use Rattle.std.specs.Prelude.{◌≡◌, ◌<◌, ◌≤◌, ◌/◌, ℕ, length, take, IfErr, IfOk, IfSome};
 ghost use Rattle.std.specs.Prelude.{IfNone, OnOk, OnErr, map, drop, false};
 ghost use Rattle.linker_section.specs.Relocations.{relocation_in};
+ghost use Rattle.linker_rewriting.specs.Numbers.{decisions_in, numbers_in, IsKeptDecision};
+ghost use Rattle.linker_rewriting.specs.Numbers.{IsWrittenDecision};
 ghost use Rattle.linker_rewriting.specs.Agreement.{Agree};
 ghost use Rattle.linker_rewriting.specs.Decisions as spec;
 ghost use Rattle.linker_rewriting.specs.Facts.{pre_layout, context_of};
@@ -15,8 +17,7 @@ ghost use Rattle.linker_rewriting.specs.Surveys.{MeansUnsurveyed};
 use crate::agreement::contradiction;
 use crate::checked::{check_decisions, keep_bytes};
 use crate::decisions::{
-    AsDecision, AsKeptDecision, Decision, DecisionError, FromDeletion, RewritingError,
-    decide_section, decision_in,
+    Decision, DecisionError, DecisionNumbers, Deletion, RewritingError, decide_section, decision_in,
 };
 use crate::facts::{NO_ADDRESSES, OutputFacts, RelaxContext, SymbolFacts};
 use crate::groups::UnrelaxableGroups;
@@ -52,24 +53,24 @@ fn make(decision: Decision, relocation: &mut Rela, section: &mut [u8])
 }
 
 /// Makes what was decided, if anything changes.
-pub(crate) fn make_all<D: AsDecision>(
+pub(crate) fn make_all(
     changes: bool,
-    decisions: &[D],
+    decisions: &[DecisionNumbers],
     relocations: &mut [u8],
     section: &mut [u8],
 )
-    requires left { changes ≡ false → AreKept (map D.decision decisions.now)
+    requires left { changes ≡ false → AreKept (decisions_in decisions.now)
         (length relocations.old / 24) }
-    requires made { spec.AllCanBeMade relocations.old section.old (map D.decision decisions.now)
+    requires made { spec.AllCanBeMade relocations.old section.old (decisions_in decisions.now)
         (length relocations.old / 24) }
-    requires apart { spec.AreApart relocations.old (map D.decision decisions.now)
+    requires apart { spec.AreApart relocations.old (decisions_in decisions.now)
         (length relocations.old / 24) }
     requires enough { length relocations.old / 24 ≤ length decisions.now }
-    ensures relocations { AreRelocationsAfter (map D.decision decisions.now) relocations.old
+    ensures relocations { AreRelocationsAfter (decisions_in decisions.now) relocations.old
         relocations.new (length relocations.old / 24) }
-    ensures done { AreDone relocations.old (map D.decision decisions.now) section.old section.new
+    ensures done { AreDone relocations.old (decisions_in decisions.now) section.old section.new
         (length relocations.old / 24) }
-    ensures others { OthersStay relocations.old (map D.decision decisions.now) section.old
+    ensures others { OthersStay relocations.old (decisions_in decisions.now) section.old
         section.new (length relocations.old / 24) }
 {
     if !changes {
@@ -112,22 +113,22 @@ pub(crate) fn make_all<D: AsDecision>(
 ///
 /// The section and its relocations are as before. Relocations of instructions that can be rewritten
 /// have to ascend by offset (`Overlaps`). All others may be in any order.
-pub fn rewrite_section<D: AsDecision>(
+pub fn rewrite_section(
     architecture: Architecture,
     output: &OutputFacts,
     symbols: &[SymbolFacts],
     kept: &[UnrelaxableGroups],
     relocations: &mut [u8],
     section: &mut [u8],
-    decisions: &mut [D],
+    decisions: &mut [DecisionNumbers],
 ) -> Result<(), RewritingError>
     ensures rewritten { OnOk result (IsRewrittenAs (pre_layout architecture output.now symbols.now)
         kept.now relocations.old relocations.new section.old section.new
-        (map D.decision decisions.new)) }
-    ensures form { OnOk result (spec.EachIs D.is_written relocations.old decisions.new) }
+        (decisions_in decisions.new)) }
+    ensures form { OnOk result (spec.EachIs IsWrittenDecision relocations.old decisions.new) }
     ensures others_stay { spec.RestStays relocations.old decisions.old decisions.new }
     ensures rejected { IfErr result (spec.IsRejected architecture output.now symbols.now kept.now
-        relocations.old section.old (map D.decision decisions.new)) }
+        relocations.old section.old (decisions_in decisions.new)) }
     ensures surveyed { IfErr result (MeansUnsurveyed (pre_layout architecture output.now
         symbols.now) relocations.old section.old kept.now) }
     ensures section { OnErr result (section.new ≡ section.old) }
@@ -164,7 +165,7 @@ pub fn rewrite_section<D: AsDecision>(
 /// Those of `rewrite_section`.
 ///
 /// ```
-/// use linker_rewriting::decisions::{AsDecision, Decision, DecisionError, KeptDecision};
+/// use linker_rewriting::decisions::{Decision, DecisionError, DecisionNumbers};
 /// use linker_rewriting::facts::{OutputFacts, SymbolFacts};
 /// use linker_rewriting::groups::UnrelaxableGroups;
 /// use linker_rewriting::sections::{decide_rewrites, make_rewrites};
@@ -175,7 +176,7 @@ pub fn rewrite_section<D: AsDecision>(
 /// let mut relocations = [0; 24];
 /// (relocations[0], relocations[8], relocations[12]) = (2, 41, 1);
 /// relocations[16..].copy_from_slice(&(-4i64).to_le_bytes());
-/// let mut decisions = [KeptDecision::from_decision(Decision::Kept)];
+/// let mut decisions = [DecisionNumbers::from_decision(Decision::Kept)];
 /// decide_rewrites(
 ///     Architecture::X86_64,
 ///     &OutputFacts { is_executable: true, is_fixed: false, has_near_symbols: true },
@@ -194,22 +195,22 @@ pub fn rewrite_section<D: AsDecision>(
 /// let again = make_rewrites(&mut relocations, &mut section, &decisions);
 /// assert_eq!(again, Err(DecisionError::Changed(0)));
 /// ```
-pub fn decide_rewrites<D: AsKeptDecision>(
+pub fn decide_rewrites(
     architecture: Architecture,
     output: &OutputFacts,
     symbols: &[SymbolFacts],
     kept: &[UnrelaxableGroups],
     relocations: &[u8],
     section: &[u8],
-    decisions: &mut [D],
+    decisions: &mut [DecisionNumbers],
 ) -> Result<(), RewritingError>
     ensures decided { OnOk result (AreDecidedAs (pre_layout architecture output.now symbols.now)
-        kept.now relocations.now section.now (map D.decision decisions.new)
-        (map D.bytes decisions.new)) }
-    ensures form { OnOk result (spec.EachIs D.is_kept relocations.now decisions.new) }
+        kept.now relocations.now section.now (decisions_in decisions.new)
+        (numbers_in decisions.new)) }
+    ensures form { OnOk result (spec.EachIs IsKeptDecision relocations.now decisions.new) }
     ensures others_stay { spec.RestStays relocations.now decisions.old decisions.new }
     ensures rejected { IfErr result (spec.IsRejected architecture output.now symbols.now kept.now
-        relocations.now section.now (map D.decision decisions.new)) }
+        relocations.now section.now (decisions_in decisions.new)) }
     ensures surveyed { IfErr result (MeansUnsurveyed (pre_layout architecture output.now
         symbols.now) relocations.now section.now kept.now) }
 {
@@ -245,15 +246,15 @@ pub fn decide_rewrites<D: AsKeptDecision>(
 ///
 /// The section and its relocations are as before. `TooShort`, or else the error of the first
 /// relocation that has one.
-pub fn make_rewrites<D: AsKeptDecision>(
+pub fn make_rewrites(
     relocations: &mut [u8],
     section: &mut [u8],
-    decisions: &[D],
+    decisions: &[DecisionNumbers],
 ) -> Result<(), DecisionError>
     ensures made { OnOk result (AreMadeAs relocations.old relocations.new section.old section.new
-        (map D.decision decisions.now) (map D.bytes decisions.now)) }
+        (decisions_in decisions.now) (numbers_in decisions.now)) }
     ensures unmade { IfErr result (spec.IsUnmade relocations.old section.old
-        (map D.decision decisions.now) (map D.bytes decisions.now)) }
+        (decisions_in decisions.now) (numbers_in decisions.now)) }
     ensures section { OnErr result (section.new ≡ section.old) }
     ensures entries { OnErr result (relocations.new ≡ relocations.old) }
 {
@@ -264,24 +265,24 @@ pub fn make_rewrites<D: AsKeptDecision>(
 
 /// Lists what decisions delete, if anything changes, in the caller's memory. Returns how many there
 /// are; none where there is less room.
-pub(crate) fn list_deletions<D: AsDecision, L: FromDeletion>(
+pub(crate) fn list_deletions(
     changes: bool,
     relocations: &[u8],
-    decisions: &[D],
-    deleted: &mut [L],
+    decisions: &[DecisionNumbers],
+    deleted: &mut [Deletion],
 ) -> Option<usize>
-    requires left { changes ≡ false → AreKept (map D.decision decisions.now)
+    requires left { changes ≡ false → AreKept (decisions_in decisions.now)
         (length relocations.now / 24) }
     requires enough { length relocations.now / 24 ≤ length decisions.now }
     requires fit { (n : ℕ) → n < length relocations.now / 24
         → spec.deleted_end (relocation_in relocations.now n).offset
-        (spec.deleted_of (spec.decision_at (map D.decision decisions.now) n)) ≤ u64.MAX }
-    ensures listed { IfSome result (λ len. take len (map L.deletion deleted.new)
-        ≡ spec.deletions_by relocations.now (map D.decision decisions.now)
+        (spec.deleted_of (spec.decision_at (decisions_in decisions.now) n)) ≤ u64.MAX }
+    ensures listed { IfSome result (λ len. take len (pairs_in deleted.new)
+        ≡ spec.deletions_by relocations.now (decisions_in decisions.now)
         (length relocations.now / 24)) }
     ensures others_stay { IfSome result (λ len. drop len deleted.new ≡ drop len deleted.old) }
     ensures short { IfNone result (length deleted.old
-        < length (spec.deletions_by relocations.now (map D.decision decisions.now)
+        < length (spec.deletions_by relocations.now (decisions_in decisions.now)
         (length relocations.now / 24))) }
 {
     if !changes {
@@ -296,7 +297,10 @@ pub(crate) fn list_deletions<D: AsDecision, L: FromDeletion>(
             return None;
         }
         let relocation = relocation_in(relocations, index);
-        deleted[len] = L::from_deletion(relocation.offset + bytes.start, bytes.count);
+        deleted[len] = Deletion {
+            offset: relocation.offset + bytes.start,
+            bytes: bytes.count,
+        };
         len += 1;
     }
     Some(len)
@@ -312,9 +316,9 @@ pub(crate) fn list_deletions<D: AsDecision, L: FromDeletion>(
 /// the reach that is left: a linker that deletes bytes afterwards makes distances shorter, never
 /// longer.
 ///
-/// Bytes that are to be deleted are listed in `deleted` by their offset in the section and how many
-/// they are, ascending, as `SectionRelaxDeltas::new` of `linker_base::relaxation` takes them. They
-/// are in the section, apart from each other and from all that is rewritten, and still there.
+/// Bytes that are to be deleted are listed in `deleted`, ascending, as `SectionRelaxDeltas::new` of
+/// `linker_base::relaxation` takes their pairs. They are in the section, apart from each other and
+/// from all that is rewritten, and still there.
 /// `Phase::TlsLocalExec` alone has any. Returns how many there are. A relocation that goes, with
 /// its instruction or without, gets the type 0.
 ///
@@ -338,30 +342,30 @@ pub(crate) fn list_deletions<D: AsDecision, L: FromDeletion>(
 /// The section and its relocations are as before. Those of `rewrite_section`, and before them
 /// `Contradiction`, of the first such symbol; an undefined weak symbol that the dynamic linker may
 /// define is none.
-pub fn rewrite_placed_section<D: AsDecision, L: FromDeletion>(
+pub fn rewrite_placed_section(
     context: &RelaxContext<'_>,
     kept: &[UnrelaxableGroups],
     relocations: &mut [u8],
     section: &mut [u8],
-    decisions: &mut [D],
-    deleted: &mut [L],
+    decisions: &mut [DecisionNumbers],
+    deleted: &mut [Deletion],
 ) -> Result<usize, RewritingError>
     ensures agree { OnOk result (Agree context.now.symbols.now context.now.values.now
         relocations.old) }
     ensures rewritten { OnOk result (IsRewrittenAs (context_of context.now) kept.now relocations.old
-        relocations.new section.old section.new (map D.decision decisions.new)) }
+        relocations.new section.old section.new (decisions_in decisions.new)) }
     ensures within { OnOk result (spec.AllCanBeMade relocations.old section.old
-        (map D.decision decisions.new) (length relocations.old / 24)) }
-    ensures listed { IfOk result (λ len. take len (map L.deletion deleted.new)
-        ≡ spec.deletions_by relocations.old (map D.decision decisions.new)
+        (decisions_in decisions.new) (length relocations.old / 24)) }
+    ensures listed { IfOk result (λ len. take len (pairs_in deleted.new)
+        ≡ spec.deletions_by relocations.old (decisions_in decisions.new)
         (length relocations.old / 24)) }
     ensures labels { OnOk result (LabelsAreWhole (context_of context.now) relocations.old
-        (map D.decision decisions.new) (length relocations.old / 24)) }
-    ensures form { OnOk result (spec.EachIs D.is_written relocations.old decisions.new) }
+        (decisions_in decisions.new) (length relocations.old / 24)) }
+    ensures form { OnOk result (spec.EachIs IsWrittenDecision relocations.old decisions.new) }
     ensures others_stay { spec.RestStays relocations.old decisions.old decisions.new }
     ensures deletions_stay { IfOk result (λ len. drop len deleted.new ≡ drop len deleted.old) }
     ensures rejected { IfErr result (spec.IsRejectedPlaced (context_of context.now) kept.now
-        relocations.old section.old (map D.decision decisions.new) (length deleted.old)) }
+        relocations.old section.old (decisions_in decisions.new) (length deleted.old)) }
     ensures surveyed { IfErr result (MeansUnsurveyed (context_of context.now) relocations.old
         section.old kept.now) }
     ensures section { OnErr result (section.new ≡ section.old) }

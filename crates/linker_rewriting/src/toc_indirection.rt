@@ -4,6 +4,7 @@
 
 ghost use Rattle.std.specs.Prelude.{◌≡◌, ◌⊎◌, ◌↔◌, ◌+◌, ◌<◌, ◌≤◌, ◌/◌, ℕ, length, map};
 ghost use Rattle.std.specs.Prelude.{IfSome, IfErr, OnOk, OnErr, true, ⊤};
+ghost use Rattle.linker_rewriting.specs.Numbers.{decisions_in, IsWrittenDecision};
 ghost use Rattle.linker_rewriting.specs.Agreement.{Agree, IsContradiction};
 ghost use Rattle.linker_rewriting.specs.Decisions.{IsThere, start_by, end_by, EachIs, RestStays};
 ghost use Rattle.linker_rewriting.specs.Facts.{context_of};
@@ -13,7 +14,7 @@ ghost use Rattle.linker_section.specs.Relocations.{relocation_in};
 
 use crate::agreement::contradiction;
 use crate::candidates::candidate_by;
-use crate::decisions::{AsDecision, Decision, RewritingError, span_of, subject_of};
+use crate::decisions::{Decision, DecisionNumbers, RewritingError, span_of, subject_of};
 use crate::facts::{OutputFacts, RelaxContext, SymbolFacts, address_in, link_facts};
 use crate::phases::Phase;
 use crate::relocations::{Site, relocation_in};
@@ -294,7 +295,7 @@ impl Rule for Loads<'_, '_> {
 /// The section and its relocations are as before. `Contradiction` comes first.
 ///
 /// ```
-/// use linker_rewriting::decisions::Decision;
+/// use linker_rewriting::decisions::{Decision, DecisionNumbers};
 /// use linker_rewriting::facts::{OutputFacts, RelaxContext, SymbolFacts};
 /// use linker_rewriting::phases::Phase;
 /// use linker_rewriting::toc_indirection::rewrite_toc_loads;
@@ -325,7 +326,7 @@ impl Rule for Loads<'_, '_> {
 ///     &[false],
 ///     &mut relocations,
 ///     &mut section,
-///     &mut [Decision::Kept; 2],
+///     &mut [DecisionNumbers::from_decision(Decision::Kept); 2],
 /// )
 /// .unwrap();
 /// assert_eq!(section, [0, 0, 0x62, 0x3c, 0, 0, 0x63, 0x38]);
@@ -333,24 +334,24 @@ impl Rule for Loads<'_, '_> {
 /// assert_eq!((relocations[8], relocations[12]), (50, 2));
 /// assert_eq!((relocations[32], relocations[36]), (48, 2));
 /// ```
-pub fn rewrite_toc_loads<D: AsDecision>(
+pub fn rewrite_toc_loads(
     context: &RelaxContext<'_>,
     words_start: u64,
     words: &[u8],
     kept: &[bool],
     relocations: &mut [u8],
     section: &mut [u8],
-    decisions: &mut [D],
+    decisions: &mut [DecisionNumbers],
 ) -> Result<(), RewritingError>
     ensures agree { OnOk result (Agree context.now.symbols.now context.now.values.now
         relocations.old) }
     ensures rewritten { OnOk result (spec.AreLoadsRewrittenAs (context_of context.now) words_start
         words.now kept.now relocations.old relocations.new section.old section.new
-        (map D.decision decisions.new)) }
-    ensures form { OnOk result (EachIs D.is_written relocations.old decisions.new) }
+        (decisions_in decisions.new)) }
+    ensures form { OnOk result (EachIs IsWrittenDecision relocations.old decisions.new) }
     ensures others_stay { RestStays relocations.old decisions.old decisions.new }
     ensures rejected { IfErr result (spec.AreLoadsRejectedFirst (context_of context.now) words_start
-        words.now kept.now relocations.old section.old (map D.decision decisions.new)) }
+        words.now kept.now relocations.old section.old (decisions_in decisions.new)) }
     ensures surveyed { IfErr result (spec.MeansWordsUnsurveyed (context_of context.now) words_start
         words.now relocations.old section.old kept.now) }
     ensures section { OnErr result (section.new ≡ section.old) }

@@ -3,12 +3,37 @@
 -- alignment the index means nothing.
 use Rattle.std.specs.Prelude.{◌≡◌, ℕ, zero, suc, ◌+◌, ◌-◌, ◌%◌, ◌^◌, ◌<◌, ◌≤◌, List, [], length}
 use Rattle.std.specs.Prelude.{Bool, true, ◌&&◌, if◌then◌else◌, nat_le, nat_lt, nat_eq}
-use Rattle.std.specs.Prelude.{Option, None, Some, count_by, min, slice_index_or}
+use Rattle.std.specs.Prelude.{Option, None, Some, count_by, min, slice_index_or, map, ◌==◌}
+use Rattle.linker_runs.specs.declared.items.numbers.ItemNumbers.{ItemNumbers}
 use Rattle.linker_runs.specs.declared.relaxation.Shape.{Shape}
 use Rattle.linker_runs.specs.declared.relaxation.Shapes.{Shapes}
 use Rattle.linker_runs.specs.declared.relaxation.Alignment.{Alignment}
 use Rattle.linker_runs.specs.declared.relaxation.Item.{Item}
 use Rattle.linker_runs.specs.declared.relaxation.Item.TheVariants.{Site, Aligned}
+
+-- the item that numbers are, by its kind: 0 a site, 1 an alignment without limit, any other one
+-- with a limit
+abbrev pub item_of : ItemNumbers → Item
+item_of item = if item.kind == 0
+    then Site (record {
+      offset = item.offset;
+      len = item.len;
+      target = item.target;
+      shapes = item.shapes;
+    })
+    else Aligned (record {
+      offset = item.offset;
+      nops = item.len;
+      alignment = item.alignment;
+      max_skip = if item.kind == 1 then None else Some item.max_skip;
+    })
+
+-- its kind is one of those that `item_of` names: 0, 1 and, with a limit, 2
+abbrev pub HasKind : ItemNumbers → Type 0
+HasKind item = item.kind ≤ 2
+
+abbrev pub items_in : List ItemNumbers → List Item
+items_in items = map item_of items
 
 -- the input offset of an item, how many bytes it has there, and the offset after them
 abbrev pub offset_of : Item → ℕ

@@ -5,18 +5,21 @@ ghost use Rattle.std.specs.Prelude.{IfSome, IfNone, IfOk, IfErr, OnOk, OnErr};
 ghost use Rattle.std.specs.Prelude.{MatchOption, pos, map, take, drop, All};
 ghost use Rattle.linker_runs.specs.declared.items.Relocation.{Relocation as relocations};
 ghost use Rattle.linker_runs.specs.declared.relaxation.Item.{Item as items};
+ghost use Rattle.linker_runs.specs.Relaxing.{items_in, HasKind};
 ghost use Rattle.linker_runs.specs.Relocations.{relocation_at, IsMarked, AreMade, AreWellFormed};
 ghost use Rattle.linker_runs.specs.Relocations.{IsItemsCause, IsFirstMalformed};
 ghost use Rattle.linker_runs.specs.SectionItems.{Makes, IsFormed};
 ghost use Rattle.linker_runs.specs.Inner.Ahead.{IsAhead, MayBeAhead};
 
 mod list;
+mod numbers;
 mod rewritten;
 
 use crate::packing::Machine;
 use crate::relaxation::Item;
 use crate::{loongarch64, riscv64};
 pub(crate) use list::ItemList;
+pub use numbers::ItemNumbers;
 pub use rewritten::{RewrittenItemsError, rewritten_items_into};
 use std::alloc::{AllocError, AllocFailed, Global};
 
@@ -57,42 +60,6 @@ impl AsRelocation for Relocation {
     #[inline(always)]
     fn as_relocation(self) -> Relocation {
         self
-    }
-}
-
-/// An item of a run: an `Item`, or an element of the caller's own array that says as much.
-pub trait AsItem: Copy {
-    /// The item, in a contract.
-    ghost item: { Self → items };
-
-    /// Whether it is one of the forms that are written, in a contract.
-    ghost is_written: { Self → Type 0 };
-
-    /// The item.
-    fn as_item(self) -> Item
-        ensures { result ≡ item self };
-
-    /// The form that an item is written in.
-    fn from_item(written: Item) -> Self
-        ensures item { item result ≡ written }
-        ensures form { is_written result };
-}
-
-impl AsItem for Item {
-    ghost use Rattle.std.specs.Prelude.{⊤};
-
-    ghost item = { λ i. i };
-
-    ghost is_written = { λ _. ⊤ };
-
-    #[inline(always)]
-    fn as_item(self) -> Item {
-        self
-    }
-
-    #[inline(always)]
-    fn from_item(written: Item) -> Item {
-        written
     }
 }
 
@@ -258,7 +225,7 @@ fn item_at<R: AsRelocation>(
 #[derive(Drop)]
 pub struct SectionItems {
     /// The items, in the order of the relocations.
-    pub items: Vec<Item>,
+    pub items: Vec<ItemNumbers>,
     /// The index of the relocation that makes each.
     pub makers: Vec<usize>,
 }
@@ -303,7 +270,7 @@ pub fn section_items<R: AsRelocation>(
     requires { base + length section.now < 2 ^ 64 }
     ensures made { IfOk result (λ made.
         AreMade (Makes machine section.now base (map R.relocation relocations.now))
-        (length relocations.now) made.items.items made.makers.items) }
+        (length relocations.now) (items_in made.items.items) made.makers.items) }
     ensures formed { OnOk result (AreWellFormed (IsFormed machine section.now)
         (map R.relocation relocations.now) (length relocations.now)) }
     ensures cause { IfErr result
@@ -318,7 +285,7 @@ pub fn section_items<R: AsRelocation>(
     for index in 0..relocations.len() {
         next = ahead(machine, relocations, index, next);
         if let Some(item) = item_at(machine, section, base, relocations, index, next) {
-            items.push(item)?;
+            items.push(ItemNumbers::from_item(item))?;
             makers.push(index)?;
         }
     }
@@ -331,12 +298,12 @@ pub fn section_items<R: AsRelocation>(
 ///
 /// The error is the index that `first_malformed` returns, and nothing is written then. It doesn't
 /// allocate.
-pub fn section_items_into<R: AsRelocation, I: AsItem>(
+pub fn section_items_into<R: AsRelocation>(
     machine: Machine,
     section: &[u8],
     base: u64,
     relocations: &[R],
-    out: &mut [I],
+    out: &mut [ItemNumbers],
     makers: &mut [usize],
 ) -> Result<usize, usize>
     requires base { base + length section.now < 2 ^ 64 }
@@ -344,8 +311,8 @@ pub fn section_items_into<R: AsRelocation, I: AsItem>(
     requires makers { length makers.old ≡ length relocations.now }
     ensures made { IfOk result (λ count.
         AreMade (Makes machine section.now base (map R.relocation relocations.now))
-        (length relocations.now) (map I.item (take count out.new)) (take count makers.new)) }
-    ensures form { IfOk result (λ count. All I.is_written (take count out.new)) }
+        (length relocations.now) (items_in (take count out.new)) (take count makers.new)) }
+    ensures form { IfOk result (λ count. All HasKind (take count out.new)) }
     ensures others_stay { IfOk result (λ count. (drop count out.new ≡ drop count out.old)
         × (drop count makers.new ≡ drop count makers.old)) }
     ensures formed { OnOk result (AreWellFormed (IsFormed machine section.now)
@@ -362,7 +329,7 @@ pub fn section_items_into<R: AsRelocation, I: AsItem>(
     for index in 0..relocations.len() {
         next = ahead(machine, relocations, index, next);
         if let Some(item) = item_at(machine, section, base, relocations, index, next) {
-            out[count] = I::from_item(item);
+            out[count] = ItemNumbers::from_item(item);
             makers[count] = index;
             count += 1;
         }

@@ -1,7 +1,7 @@
 //! A section of a relaxed run, packed.
 
 ghost use Rattle.std.specs.Prelude.{◌≡◌, ◌+◌, ◌-◌, ◌≤◌, ◌<◌, ◌^◌, ◌++◌, ◌↔◌, ◌*◌};
-ghost use Rattle.std.specs.Prelude.{◌%◌, ℕ, length, map, take, drop, true, false};
+ghost use Rattle.std.specs.Prelude.{◌%◌, ℕ, length, take, drop, true, false};
 ghost use Rattle.std.specs.Prelude.{List, IsTrue, IfOk, IfErr, OnOk, OnErr, IfSome, IfNone};
 ghost use Rattle.linker_base.specs.Deletions.{rank};
 ghost use Rattle.linker_base.specs.Deltas.{deletions_of};
@@ -14,6 +14,7 @@ ghost use Rattle.linker_runs.specs.Packing.{IsPackedRun, SiteBecomes, SiteAccept
 ghost use Rattle.linker_runs.specs.Packing.{section_of, nops, KeepsFirst, ItemAccepts, IsWritable};
 ghost use Rattle.linker_runs.specs.Packing.{is_fixed, IsInside, StayWhole, SiteCause, ItemCause};
 ghost use Rattle.linker_runs.specs.Packing.{KeepsEnd, nop_len, repeated};
+ghost use Rattle.linker_runs.specs.Relaxing.{items_in};
 ghost use Rattle.linker_runs.specs.Origins.{HasItsInstructions};
 ghost use Rattle.linker_runs.specs.Inner.Pieces.{code_bytes, piece_bytes, IsWhole, IsPieceOf};
 ghost use Rattle.linker_base.specs.Inner.Packing.{IsFilled, IsPosition};
@@ -24,7 +25,7 @@ mod loongarch64;
 mod moved;
 mod riscv64;
 
-use crate::items::{AsItem, ItemList, has_bytes};
+use crate::items::{ItemList, ItemNumbers, has_bytes};
 use crate::packing::code::Code;
 use crate::packing::moved::move_relocations;
 use crate::relaxation::{Item, Site};
@@ -305,11 +306,11 @@ fn piece_of(
 }
 
 /// Whether each item can be written; the error is that of the first that can't.
-fn test_items<I: AsItem>(
+fn test_items(
     machine: Machine,
     section: &[u8],
     base: u64,
-    items: &ItemList<'_, I>,
+    items: &ItemList<'_>,
     deltas: &[RelaxDelta],
     start: u64,
     begin: &Position,
@@ -429,11 +430,11 @@ fn put_piece(machine: Machine, packed: &mut [u8], at: u64, piece: Piece)
 }
 
 /// Puts what is written of each item, where it can be written.
-fn put_items<I: AsItem>(
+fn put_items(
     machine: Machine,
     section: &[u8],
     base: u64,
-    items: &ItemList<'_, I>,
+    items: &ItemList<'_>,
     deltas: &[RelaxDelta],
     start: u64,
     begin: &Position,
@@ -545,11 +546,11 @@ pub fn has_its_instructions(machine: Machine, section: &[u8], base: u64, item: &
 ///
 /// It doesn't allocate. It takes O(section + deltas + items log deltas), and O(log deltas +
 /// log items) for each relocation.
-pub fn pack_run<I: AsItem>(
+pub fn pack_run(
     machine: Machine,
     section: &[u8],
     base: u64,
-    items: &[I],
+    items: &[ItemNumbers],
     deltas: &[RelaxDelta],
     start: u64,
     relocations: &mut [u8],
@@ -563,15 +564,15 @@ pub fn pack_run<I: AsItem>(
     ensures packed { AreValidDeltas deltas.now
         → OnOk result
         (IsPackedRun machine (section_of section.now base (deletions_of deltas.now) start)
-        (map I.item items.now) out.new) }
+        (items_in items.now) out.new) }
     ensures moved { AreValidDeltas deltas.now
         → OnOk result
         (AreMoved machine (section_of section.now base (deletions_of deltas.now) start)
-        (map I.item items.now) relocations.old relocations.new) }
+        (items_in items.now) relocations.old relocations.new) }
     ensures rejected { AreValidDeltas deltas.now
         → IfErr result
         (IsFirstRejected machine (section_of section.now base (deletions_of deltas.now) start)
-        (map I.item items.now)) }
+        (items_in items.now)) }
     ensures unchanged { OnErr result
         ((out.new ≡ out.old) × (relocations.new ≡ relocations.old)) }
 {

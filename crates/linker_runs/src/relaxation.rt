@@ -2,14 +2,15 @@
 //! shape for each site.
 
 ghost use Rattle.std.specs.Prelude.{◌≡◌, ◌+◌, ◌-◌, ◌%◌, ◌<◌, ◌≤◌, ◌^◌, ℕ};
-ghost use Rattle.std.specs.Prelude.{length, map, true, false, nat_le, IfOk};
+ghost use Rattle.std.specs.Prelude.{length, true, false, nat_le, IfOk};
 ghost use Rattle.linker_runs.specs.Relaxing.{padding_at, short_shape, shape_reaches, item_reaches};
 ghost use Rattle.linker_runs.specs.Relaxing.{offset_of, target_of, is_reached, kept_by, AreInOrder};
 ghost use Rattle.linker_runs.specs.Relaxing.{len_of, end_of, needed, shape_len, IsSound};
+ghost use Rattle.linker_runs.specs.Relaxing.{items_in};
 ghost use Rattle.linker_runs.specs.Choosing.{AreItems, IsRelaxation};
 ghost use Rattle.linker_runs.specs.Deleting.{deletions_of_run, TranslationsAreExact};
 
-use crate::items::{AsItem, ItemList};
+use crate::items::{ItemList, ItemNumbers};
 use linker_base::relaxation::{OutOfMemory, SectionRelaxDeltas};
 use std::alloc::Global;
 
@@ -244,10 +245,12 @@ impl Shapes {
         requires { self.now.count ≤ 2 }
         ensures { result ≡ shape_len self.now shape }
     {
-        if shape < self.count {
-            u64::from(self.short[usize::from(shape)].kept)
-        } else {
+        if shape >= self.count {
             u64::from(self.longest)
+        } else if shape == 0 {
+            u64::from(self.short[0].kept)
+        } else {
+            u64::from(self.short[1].kept)
         }
     }
 
@@ -283,20 +286,20 @@ impl Shapes {
 /// and so does a sweep, of which there are only after 64 rounds: one in each direction
 /// finds all sites that become long one because of another in one direction. The places of
 /// targets take O(n log n) once.
-pub fn relax_into<I: AsItem>(
-    items: &[I],
+pub fn relax_into(
+    items: &[ItemNumbers],
     start: u64,
     shapes: &mut [u8],
     kept: &mut [u64],
     places: &mut [usize],
     freed: &mut [u64],
 )
-    requires items { AreItems start (map I.item items.now) }
+    requires items { AreItems start (items_in items.now) }
     requires shapes { length shapes.old ≡ length items.now }
     requires kept { length kept.old ≡ length items.now }
     requires places { length places.old ≡ length items.now }
     requires freed { length freed.old ≡ length items.now + 1 }
-    ensures { IsRelaxation start (map I.item items.now) shapes.new kept.new freed.new }
+    ensures { IsRelaxation start (items_in items.now) shapes.new kept.new freed.new }
 {
     let list = ItemList::new(items);
     find_places(&list, start, places);
@@ -322,16 +325,16 @@ pub struct Plan {
 
 /// What a run loses, where n bytes of each item stay from its first one on: a deletion for
 /// each item that loses some. It allocates two times, and once more for more than 1,024 deletions.
-pub fn deletions<I: AsItem>(
+pub fn deletions(
     alloc: Global,
-    items: &[I],
+    items: &[ItemNumbers],
     start: u64,
     kept: &[u64],
 ) -> Result<SectionRelaxDeltas, OutOfMemory>
-    requires items { AreInOrder start (map I.item items.now) }
+    requires items { AreInOrder start (items_in items.now) }
     requires one_each { length kept.now ≡ length items.now }
     ensures { IfOk result
-        (λ deltas. deltas ≡ deletions_of_run (map I.item items.now) kept.now) }
+        (λ deltas. deltas ≡ deletions_of_run (items_in items.now) kept.now) }
 {
     let list = ItemList::new(items);
     let mut raw = Vec::with_capacity(alloc, list.len())?;
@@ -346,13 +349,13 @@ pub fn deletions<I: AsItem>(
 
 /// `relax_into` in memory of its own, with the deletions. It allocates six times, once for each
 /// array and as `deletions` does.
-pub fn relax<I: AsItem>(alloc: Global, items: &[I], start: u64) -> Result<Plan, OutOfMemory>
-    requires { AreItems start (map I.item items.now) }
+pub fn relax(alloc: Global, items: &[ItemNumbers], start: u64) -> Result<Plan, OutOfMemory>
+    requires { AreItems start (items_in items.now) }
     ensures relaxed { IfOk result (λ plan.
-        IsRelaxation start (map I.item items.now) plan.shapes.items plan.kept.items
+        IsRelaxation start (items_in items.now) plan.shapes.items plan.kept.items
         plan.freed.items) }
     ensures deleted { IfOk result
-        (λ plan. plan.deletions ≡ deletions_of_run (map I.item items.now) plan.kept.items) }
+        (λ plan. plan.deletions ≡ deletions_of_run (items_in items.now) plan.kept.items) }
 {
     let mut shapes = vec![in alloc; 0; items.len()]?;
     let mut kept = vec![in alloc; 0; items.len()]?;

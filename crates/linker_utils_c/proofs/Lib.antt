@@ -1,4 +1,3 @@
-pub mod Decisions
 pub mod DeltaLists
 pub mod Found
 pub mod Named

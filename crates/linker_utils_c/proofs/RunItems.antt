@@ -12,8 +12,8 @@ use Rattle.linker_runs.specs.declared.relaxation.Item.{Item}
 use Rattle.linker_runs.specs.Relaxing.{offset_of, len_of, item_at, no_item, AreInOrder}
 use Rattle.linker_runs.specs.Deleting.{deletions_before}
 use Rattle.linker_runs.proofs.Deletions.{deletions_none, deletions_next, deletion_some, deletion_none, deletions_valid}
-use Rattle.linker_utils_c.specs.declared.relaxing.ItemNumbers.{ItemNumbers}
-use Rattle.linker_utils_c.specs.Relaxing.{item_of, items_in}
+use Rattle.linker_runs.specs.declared.items.numbers.ItemNumbers.{ItemNumbers}
+use Rattle.linker_runs.specs.Relaxing.{item_of, items_in}
 
 -- what a read past the end gives
 abbrev pub no_numbers : ItemNumbers

@@ -3,9 +3,10 @@ use Rattle.std.specs.Prelude.{◌≡◌, ◌⊎◌, ℕ, ◌/◌, Bool, List, le
 use Rattle.linker_rewriting.specs.Agreement.{Agree}
 use Rattle.linker_rewriting.specs.Facts.{RelaxContext}
 use Rattle.linker_rewriting.specs.TocIndirection.{AreLoadsRewrittenAs, AreLoadsRejectedFirst}
-use Rattle.linker_utils_c.specs.Rewriting.{decisions_in, IsWrittenDecision, IsErrorReturned}
+use Rattle.linker_rewriting.specs.Numbers.{decisions_in, IsWrittenDecision}
+use Rattle.linker_utils_c.specs.Rewriting.{IsErrorReturned}
+use Rattle.linker_rewriting.specs.declared.decisions.numbers.DecisionNumbers.{DecisionNumbers}
 use Rattle.linker_utils_c.specs.Status.{code}
-use Rattle.linker_utils_c.specs.declared.rewriting.DecisionNumbers.{DecisionNumbers}
 use Rattle.linker_utils_c.specs.declared.status.Status.TheVariants.{Success}
 
 abbrev pub AreLoadsReturned : RelaxContext → ℕ → List ℕ → List Bool → List ℕ → List ℕ → List ℕ → List ℕ

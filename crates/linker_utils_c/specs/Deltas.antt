@@ -1,11 +1,11 @@
 -- The deletions and deltas that C passes.
-use Rattle.std.specs.Prelude.{◌≡◌, ℕ, ◌+◌, ◌/◌, ◌%◌, ◌^◌, ◌++◌, ◌<◌, ◌⊎◌, List, length, map, take}
+use Rattle.std.specs.Prelude.{◌≡◌, ℕ, ◌+◌, ◌/◌, ◌%◌, ◌^◌, ◌++◌, ◌<◌, ◌⊎◌, List, length, take}
 use Rattle.std.specs.List.Sorted.{IsNonDecreasing}
 use Rattle.linker_base.specs.declared.relaxation.RelaxDelta.{RelaxDelta}
 use Rattle.linker_base.specs.Deletions.{AreDisjoint, IsValid, IsSortedUnion}
 use Rattle.linker_base.specs.Deltas.{deletions_of}
 use Rattle.linker_base.specs.Listed.{AreValidDeltas, IsFirstInvalid, IsFirstOverlapping}
-use Rattle.linker_utils_c.specs.declared.deltas.Deletion.{Deletion}
+pub use Rattle.linker_rewriting.specs.Decisions.{pair_of, pairs_in}
 use Rattle.linker_utils_c.specs.declared.merges.MergeError.{MergeError}
 use Rattle.linker_utils_c.specs.declared.merges.MergeError.TheVariants.{OutOfMemory, Invalid}
 use Rattle.linker_utils_c.specs.declared.merges.MergeError.TheVariants.{Overlapping}
@@ -15,16 +15,9 @@ use Rattle.linker_utils_c.specs.declared.status.Status.TheVariants.{NotMergeable
 use Rattle.linker_utils_c.specs.declared.status.Status.TheVariants as statuses
 use Rattle.linker_utils_c.specs.Status.{code}
 
-abbrev pub pair_of : Deletion → ℕ × ℕ
-pair_of deletion = (deletion.offset, deletion.bytes)
-
 -- the pair that a key stands for
 abbrev pub pair_of_key : Key → ℕ × ℕ
 pair_of_key key = (key.bits / 2 ^ 24, key.bits % 2 ^ 24)
-
--- the deletions as pairs of an offset and a count of bytes
-abbrev pub pairs_in : List Deletion → List (ℕ × ℕ)
-pairs_in deletions = map pair_of deletions
 
 -- the deltas list these deletions, which are valid
 pub record AreDeltasOf (deletions : List (ℕ × ℕ)) (deltas : List RelaxDelta) : Type 0 where

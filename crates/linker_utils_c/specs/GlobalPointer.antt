@@ -8,11 +8,12 @@ use Rattle.linker_rewriting.specs.GlobalPointer.{section_based, is_placed, IsFir
 use Rattle.linker_section.specs.Relocations.{relocation_in}
 use Rattle.linker_section.specs.declared.facts.Addresses.{Addresses}
 use Rattle.linker_section.specs.declared.facts.Symbol.{Symbol}
-use Rattle.linker_utils_c.specs.Rewriting.{decisions_in, IsWrittenDecision, IsErrorReturned}
+use Rattle.linker_rewriting.specs.Numbers.{decisions_in, IsWrittenDecision}
+use Rattle.linker_utils_c.specs.Rewriting.{IsErrorReturned}
 use Rattle.linker_utils_c.specs.Rewriting.{AreDeletionsTo}
+use Rattle.linker_rewriting.specs.declared.decisions.numbers.DecisionNumbers.{DecisionNumbers}
 use Rattle.linker_utils_c.specs.Status.{code}
-use Rattle.linker_utils_c.specs.declared.deltas.Deletion.{Deletion}
-use Rattle.linker_utils_c.specs.declared.rewriting.DecisionNumbers.{DecisionNumbers}
+use Rattle.linker_rewriting.specs.declared.decisions.Deletion.{Deletion}
 use Rattle.linker_utils_c.specs.declared.status.Status.TheVariants.{Success, OutOfReach}
 
 abbrev pub ArePartsReturned : RelaxContext → ℕ → List Bool → List ℕ → List ℕ → List ℕ

@@ -1,15 +1,13 @@
--- The items of a run, and their faults, in the numbers that C sees.
-use Rattle.std.specs.Prelude.{◌≡◌, ◌≤◌, ℕ, ◌+◌, ◌==◌, if◌then◌else◌, List, map}
+-- Shapes, and the faults of a run, in the numbers that C sees.
+use Rattle.std.specs.Prelude.{◌≡◌, ℕ, ◌+◌, ◌==◌, if◌then◌else◌, List}
 use Rattle.std.specs.Prelude.{Option, None, Some}
 use Rattle.linker_runs.specs.declared.relaxation.Shapes.{Shapes}
 use Rattle.linker_runs.specs.declared.relaxation.Item.{Item}
-use Rattle.linker_runs.specs.declared.relaxation.Item.TheVariants.{Site, Aligned}
 use Rattle.linker_runs.specs.declared.relaxation.faults.Fault.{Fault}
 use Rattle.linker_runs.specs.declared.relaxation.faults.Fault.TheVariants as faults
 use Rattle.linker_runs.specs.declared.shapes.riscv64.TheConstants as riscv
 use Rattle.linker_runs.specs.declared.shapes.loongarch64.TheConstants as loongarch
 use Rattle.linker_runs.specs.Faults.{IsFirstFault}
-use Rattle.linker_utils_c.specs.declared.relaxing.ItemNumbers.{ItemNumbers}
 use Rattle.linker_utils_c.specs.declared.status.Status.{Status}
 use Rattle.linker_utils_c.specs.declared.status.Status.TheVariants.{ItemsOverlap, EndsTooHigh}
 use Rattle.linker_utils_c.specs.declared.status.Status.TheVariants.{TooManyShapes, ShapeTooLong}
@@ -23,30 +21,6 @@ use Rattle.linker_utils_c.specs.declared.status.Status.TheVariants.{TooFewNops, 
 use Rattle.linker_utils_c.specs.declared.status.Status.TheVariants.{TargetInside}
 use Rattle.linker_utils_c.specs.declared.status.Status.TheVariants.{MayBeMisaligned}
 use Rattle.linker_utils_c.specs.Status.{code}
-
--- the item that C's struct is, by its kind: 0 a site, 1 an alignment without limit, any other one
--- with a limit
-abbrev pub item_of : ItemNumbers → Item
-item_of item = if item.kind == 0
-    then Site (record {
-      offset = item.offset;
-      len = item.len;
-      target = item.target;
-      shapes = item.shapes;
-    })
-    else Aligned (record {
-      offset = item.offset;
-      nops = item.len;
-      alignment = item.alignment;
-      max_skip = if item.kind == 1 then None else Some item.max_skip;
-    })
-
--- its kind is one of those that `item_of` names: 0, 1 and, with a limit, 2
-abbrev pub HasKind : ItemNumbers → Type 0
-HasKind item = item.kind ≤ 2
-
-abbrev pub items_in : List ItemNumbers → List Item
-items_in items = map item_of items
 
 -- the shapes that a number names
 abbrev pub standard_shapes : ℕ → Option Shapes

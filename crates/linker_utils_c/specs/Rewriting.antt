@@ -1,35 +1,27 @@
 -- A section rewritten in one call, in the numbers that C sees.
-use Rattle.std.specs.Prelude.{◌≡◌, ◌⊎◌, ℕ, ◌/◌, ◌==◌, if◌then◌else◌, List, length, map}
-use Rattle.std.specs.Prelude.{take, drop, pos}
+use Rattle.std.specs.Prelude.{◌≡◌, ◌⊎◌, ℕ, ◌/◌, ◌==◌, if◌then◌else◌, List, length}
+use Rattle.std.specs.Prelude.{take, drop}
 use Rattle.std.specs.Prelude.{All, Option, Some, None}
-use Rattle.std.proofs.Common.{ap}
-use Rattle.linker_elf.specs.declared.elf.choice.Choice.{Choice}
 use Rattle.linker_rewriting.specs.Agreement.{Agree}
 use Rattle.linker_rewriting.specs.Decisions.{AllCanBeMade, IsUnmade, deletions_by}
 use Rattle.linker_rewriting.specs.Decisions.{IsRejectedIn, IsRejectedPlaced}
 use Rattle.linker_rewriting.specs.Facts.{RelaxContext}
 use Rattle.linker_rewriting.specs.Rewritten.{IsRewrittenAs, AreDecidedAs, AreMadeAs}
 use Rattle.linker_rewriting.specs.declared.decisions.Decision.{Decision}
-use Rattle.linker_rewriting.specs.declared.decisions.Decision.TheVariants.{Kept, Rewritten}
-use Rattle.linker_rewriting.specs.declared.decisions.Decision.TheVariants.{Consumed}
-use Rattle.linker_rewriting.specs.declared.decisions.Decision.TheVariants.{RewrittenWithSymbol}
 use Rattle.linker_rewriting.specs.declared.decisions.DecisionError.{DecisionError}
 use Rattle.linker_rewriting.specs.declared.decisions.DecisionError.TheVariants as making
-use Rattle.linker_rewriting.specs.declared.decisions.Subject.{Subject}
 use Rattle.linker_rewriting.specs.declared.decisions.RewritingError.{RewritingError}
 use Rattle.linker_rewriting.specs.declared.decisions.RewritingError.TheVariants as errors
 use Rattle.linker_rewriting.specs.declared.groups.UnrelaxableGroups.{UnrelaxableGroups}
 use Rattle.linker_rewriting.specs.declared.phases.Phase.{Phase}
 use Rattle.linker_rewriting.specs.declared.phases.Phase.TheVariants.{PreLayout, TlsLocalExec}
 use Rattle.linker_rewriting.specs.declared.phases.Phase.TheVariants.{GotToPcRel, ShortPcRel}
-use Rattle.linker_utils.specs.Relaxations.{rewrite_of_number}
-use Rattle.linker_elf.specs.Machines.{architecture_of}
-use Rattle.linker_utils.specs.declared.architecture.Relaxation.{Relaxation}
-use Rattle.linker_elf.specs.declared.elf.architecture.Architecture.{Architecture}
 use Rattle.linker_utils_c.specs.Deltas.{pairs_in}
+use Rattle.linker_rewriting.specs.declared.decisions.numbers.DecisionNumbers.{DecisionNumbers}
+use Rattle.linker_rewriting.specs.Numbers.{decisions_in, numbers_in}
+use Rattle.linker_rewriting.specs.Numbers.{IsKeptDecision, IsWrittenDecision}
 use Rattle.linker_utils_c.specs.Status.{code}
-use Rattle.linker_utils_c.specs.declared.deltas.Deletion.{Deletion}
-use Rattle.linker_utils_c.specs.declared.rewriting.DecisionNumbers.{DecisionNumbers}
+use Rattle.linker_rewriting.specs.declared.decisions.Deletion.{Deletion}
 use Rattle.linker_utils_c.specs.declared.status.Status.{Status}
 use Rattle.linker_utils_c.specs.declared.status.Status.TheVariants.{Success, ShortMemory}
 use Rattle.linker_utils_c.specs.declared.status.Status.TheVariants.{NotSurveyed, Overlaps}
@@ -51,85 +43,6 @@ phase_of number =
     else (if number == phase_number GotToPcRel then Some GotToPcRel
     else (if number == phase_number ShortPcRel then Some ShortPcRel
     else None)))
-
--- ---- decisions
-
--- one that rewrites nothing
-abbrev pub of_fate : ℕ → DecisionNumbers
-of_fate fate = record {
-  addend = pos 0;
-  symbol = 0;
-  rewrite = 0;
-  relocation = 0;
-  machine = 0;
-  fate = fate;
-  opcode_len = 0;
-}
-
-abbrev pub rewrite_in : DecisionNumbers → Option Architecture → Option Relaxation
-rewrite_in numbers None = None
-rewrite_in numbers (Some architecture) =
-    rewrite_of_number architecture numbers.rewrite numbers.opcode_len
-
-abbrev pub choice_of : DecisionNumbers → Option Relaxation → Option (Choice Relaxation ℕ)
-choice_of numbers None = None
-choice_of numbers (Some kind) = Some (record { kind = kind; relocation = numbers.relocation })
-
--- the rewrite and the relocation after it; none where the machine has no rewrite of these numbers
-abbrev pub choice_in : DecisionNumbers → Option (Choice Relaxation ℕ)
-choice_in numbers = choice_of numbers (rewrite_in numbers (architecture_of numbers.machine))
-
-abbrev pub subject_in : DecisionNumbers → Subject
-subject_in numbers = record { symbol = numbers.symbol; addend = numbers.addend }
-
-abbrev pub rewritten_by : ℕ → Subject → Option (Choice Relaxation ℕ) → Decision
-rewritten_by fate subject None = Kept
-rewritten_by fate subject (Some chosen) =
-    if fate == 1 then Rewritten chosen else RewrittenWithSymbol chosen subject
-
-abbrev pub decision_by : ℕ → Subject → Option (Choice Relaxation ℕ) → Decision
-decision_by fate subject choice =
-    if fate == 0 then Kept
-    else (if fate == 2 then Consumed else rewritten_by fate subject choice)
-
--- the decision that C's struct is
-abbrev pub decision_in : DecisionNumbers → Decision
-decision_in numbers = decision_by numbers.fate (subject_in numbers) (choice_in numbers)
-
-abbrev pub decisions_in : List DecisionNumbers → List Decision
-decisions_in decisions = map decision_in decisions
-
--- how one is written: one that rewrites nothing has no other number than its fate
-abbrev pub IsWrittenAs : Decision → DecisionNumbers → Type 0
-IsWrittenAs (Rewritten chosen) numbers =
-    (numbers.fate ≡ 1) × (subject_in numbers ≡ record { symbol = 0; addend = pos 0 })
-IsWrittenAs (RewrittenWithSymbol chosen subject) numbers = numbers.fate ≡ 3
-IsWrittenAs Kept numbers = numbers ≡ of_fate 0
-IsWrittenAs Consumed numbers = numbers ≡ of_fate 2
-
-abbrev pub IsWrittenDecision : DecisionNumbers → Type 0
-IsWrittenDecision numbers = IsWrittenAs (decision_in numbers) numbers
-
--- How one is kept: the symbol is then a number of the bytes that are rewritten.
-abbrev pub IsKeptAs : Decision → DecisionNumbers → Type 0
-IsKeptAs (Rewritten chosen) numbers = (numbers.fate ≡ 1) × (numbers.addend ≡ pos 0)
-IsKeptAs decision numbers = IsWrittenAs decision numbers
-
-abbrev pub IsKeptDecision : DecisionNumbers → Type 0
-IsKeptDecision numbers = IsKeptAs (decision_in numbers) numbers
-
-abbrev pub numbers_in : List DecisionNumbers → List ℕ
-numbers_in decisions = map (λ numbers. numbers.symbol) decisions
-
-kept_as : (decision : Decision) (numbers : DecisionNumbers) → IsWrittenAs decision numbers
-    → IsKeptAs decision numbers
-kept_as (Rewritten chosen) numbers is = (is.0, ap (λ (s : Subject). s.addend) (is.1))
-kept_as (RewrittenWithSymbol chosen subject) numbers is = is
-kept_as Kept numbers is = is
-kept_as Consumed numbers is = is
-
-pub is_kept : (numbers : DecisionNumbers) → IsWrittenDecision numbers → IsKeptDecision numbers
-is_kept numbers is = kept_as (decision_in numbers) numbers is
 
 -- ---- a section
 

@@ -10,29 +10,11 @@ ghost use Rattle.linker_base.specs.Deletions.{IsValid, IsSelected, HasInput, byt
 ghost use Rattle.linker_base.specs.Deltas.{RecordsDeletions, deletions_of};
 ghost use Rattle.linker_base.specs.Listed.{AreValidDeltas, IsFirstInvalid};
 ghost use Rattle.linker_utils_c.specs.Status.{code};
-ghost use Rattle.linker_utils_c.specs.Deltas.{pair_of, pairs_in, AreDeltasOf, IsFirstDecrease};
+ghost use Rattle.linker_utils_c.specs.Deltas.{pairs_in, AreDeltasOf, IsFirstDecrease};
 
 use crate::status::Status;
-use linker_utils::relaxation::{AsDeletion, DeltaSlice, RelaxDelta, first_invalid};
-
-/// Some bytes of an input section that are deleted.
-#[repr(C)]
-#[derive(Clone, Copy)]
-pub struct Deletion {
-    /// The offset in the input section of the first deleted byte.
-    pub offset: u64,
-    /// How many bytes are deleted.
-    pub bytes: u32,
-}
-
-impl AsDeletion for Deletion {
-    ghost deletion = { pair_of };
-
-    #[inline(always)]
-    fn as_deletion(self) -> (u64, u32) {
-        (self.offset, self.bytes)
-    }
-}
+use linker_rewriting::decisions::Deletion;
+use linker_utils::relaxation::{DeltaSlice, RelaxDelta, first_invalid};
 
 /// Whether `linker_utils_deltas_create` accepts the deletions. The error is `InvalidDeletions`, and
 /// `faulty` the index of the first that ends above 2^64 - 1 or does not lie past the one before it.

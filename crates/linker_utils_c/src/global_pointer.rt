@@ -9,9 +9,9 @@ ghost use Rattle.linker_utils_c.specs.GlobalPointer.{ArePartsReturned, AreBasesR
 ghost use Rattle.linker_utils_c.specs.Rewriting.{IsSurveyReturned};
 ghost use Rattle.linker_utils_c.specs.Status.{code};
 
-use crate::deltas::Deletion;
-use crate::rewriting::{DecisionNumbers, put_error, survey_status};
+use crate::rewriting::{put_error, survey_status};
 use crate::status::Status;
+use linker_rewriting::decisions::{DecisionNumbers, Deletion};
 use linker_rewriting::facts::{OutputFacts, RelaxContext, SymbolFacts};
 use linker_rewriting::global_pointer::{
     finish_gp_relaxation, rewrite_global_pointer, survey_global_pointer,

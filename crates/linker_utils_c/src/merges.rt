@@ -10,8 +10,8 @@ ghost use Rattle.linker_utils_c.specs.Status.{code};
 ghost use Rattle.linker_utils_c.specs.Deltas.{pair_of, pair_of_key, pairs_in, AreMerged};
 ghost use Rattle.linker_utils_c.specs.Deltas.{IsMergeError, AreMergedOrFaulty};
 
-use crate::deltas::Deletion;
 use crate::status::Status;
+use linker_rewriting::decisions::Deletion;
 use linker_utils::relaxation::{AsDeletion, DeltaSlice, OutOfMemory, RelaxDelta, first_invalid};
 use std::alloc::Global;
 

@@ -4,14 +4,13 @@ ghost use Rattle.std.specs.Prelude.{◌≡◌, ◌+◌, ◌-◌, ◌^◌, ◌<�
 ghost use Rattle.linker_base.specs.Deletions.{rank};
 ghost use Rattle.linker_base.specs.Deltas.{deletions_of};
 ghost use Rattle.linker_base.specs.Listed.{AreValidDeltas};
+ghost use Rattle.linker_runs.specs.Relaxing.{item_of, items_in};
 ghost use Rattle.linker_utils_c.specs.PackRuns.{packing_machine, item_status, IsRunReturned};
 ghost use Rattle.linker_utils_c.specs.PackRuns.{SaysOfInstructions};
-ghost use Rattle.linker_utils_c.specs.Relaxing.{item_of, items_in};
 ghost use Rattle.linker_utils_c.specs.Status.{code};
 
-use crate::relaxing::ItemNumbers;
 use crate::status::Status;
-use linker_runs::items::AsItem;
+use linker_runs::items::ItemNumbers;
 use linker_runs::packing::{ItemError, Machine, has_its_instructions, pack_run, packed_run_len};
 use linker_utils::elf::Architecture;
 use linker_utils::relaxation::RelaxDelta;

@@ -2,104 +2,20 @@
 
 ghost use Rattle.std.specs.Prelude.{◌≡◌, ◌≢◌, ◌+◌, ◌-◌, ◌^◌, ◌<◌, ◌≤◌, ◌↔◌, ◌⊎◌, ℕ, IsTrue};
 ghost use Rattle.std.specs.Prelude.{MatchOption, length, take, slice_index_or};
-ghost use Rattle.linker_runs.specs.Relaxing.{AreInOrder};
+ghost use Rattle.linker_runs.specs.Relaxing.{items_in, AreInOrder};
 ghost use Rattle.linker_runs.specs.Choosing.{AreItems, IsRelaxation};
 ghost use Rattle.linker_runs.specs.Deleting.{deletions_of_run};
 ghost use Rattle.linker_utils_c.specs.Deltas.{AreDeltasOf};
-ghost use Rattle.linker_utils_c.specs.Relaxing.{item_of, items_in, standard_shapes, fault_status};
+ghost use Rattle.linker_utils_c.specs.Relaxing.{standard_shapes, fault_status};
 ghost use Rattle.linker_utils_c.specs.Relaxing.{IsRunFault, HaveLengths};
 ghost use Rattle.linker_utils_c.specs.Status.{code};
 
 use crate::status::Status;
-use linker_runs::items::AsItem;
-use linker_runs::relaxation::{Alignment, Fault, Item, Shapes, Site, first_faulty, relax_into};
-use linker_runs::shapes::fixed;
+use linker_runs::items::ItemNumbers;
+use linker_runs::relaxation::{Fault, Shapes, first_faulty, relax_into};
 use linker_runs::shapes::loongarch64::{CALL36, PCALA};
 use linker_runs::shapes::riscv64::{CALL, CALL_WITHOUT_C, TAIL_C};
 use linker_utils::relaxation::RelaxDelta;
-
-/// A part of a run that relaxation may shorten.
-#[repr(C)]
-#[derive(Clone, Copy)]
-pub struct ItemNumbers {
-    /// The input offset of its first byte.
-    pub offset: u64,
-    /// The input offset that a site has to reach. Of an alignment it means nothing.
-    pub target: u64,
-    /// What the output address after an alignment is a multiple of: a power of two. Of a site it
-    /// means nothing.
-    pub alignment: u64,
-    /// How many bytes of nops of an alignment with a limit may stay. Where more are needed, none
-    /// stay.
-    pub max_skip: u64,
-    /// How many bytes it has.
-    pub len: u32,
-    /// 0 is a site, 1 an alignment without limit, any other number an alignment with a limit.
-    pub kind: u32,
-    /// What a site can become. Of an alignment they mean nothing.
-    pub shapes: Shapes,
-}
-
-impl AsItem for ItemNumbers {
-    ghost use Rattle.linker_utils_c.specs.Relaxing.{item_of, HasKind};
-
-    ghost item = { item_of };
-
-    ghost is_written = { HasKind };
-
-    #[inline(always)]
-    fn as_item(self) -> Item {
-        if self.kind == 0 {
-            Item::Site(Site {
-                offset: self.offset,
-                len: self.len,
-                target: self.target,
-                shapes: self.shapes,
-            })
-        } else {
-            Item::Aligned(Alignment {
-                offset: self.offset,
-                nops: self.len,
-                alignment: self.alignment,
-                max_skip: if self.kind == 1 {
-                    None
-                } else {
-                    Some(self.max_skip)
-                },
-            })
-        }
-    }
-
-    #[inline(always)]
-    fn from_item(written: Item) -> ItemNumbers {
-        match written {
-            Item::Site(site) => ItemNumbers {
-                offset: site.offset,
-                target: site.target,
-                alignment: 0,
-                max_skip: 0,
-                len: site.len,
-                kind: 0,
-                shapes: site.shapes,
-            },
-            Item::Aligned(alignment) => ItemNumbers {
-                offset: alignment.offset,
-                target: 0,
-                alignment: alignment.alignment,
-                max_skip: match alignment.max_skip {
-                    None => 0,
-                    Some(most) => most,
-                },
-                len: alignment.nops,
-                kind: match alignment.max_skip {
-                    None => 1,
-                    Some(_) => 2,
-                },
-                shapes: fixed(0),
-            },
-        }
-    }
-}
 
 #[inline]
 fn status_of(fault: Fault) -> u32

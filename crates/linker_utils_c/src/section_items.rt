@@ -8,12 +8,12 @@ ghost use Rattle.linker_utils_c.specs.SectionItems.{relocations_in, AreListedBy}
 ghost use Rattle.linker_utils_c.specs.SectionItems.{AreItemsOrMalformed, AreRewrittenOrFaulty};
 ghost use Rattle.linker_utils_c.specs.Status.{code};
 
-use crate::deltas::Deletion;
 use crate::pack_runs::packing_machine;
-use crate::relaxing::ItemNumbers;
 use crate::status::Status;
+use linker_rewriting::decisions::Deletion;
 use linker_runs::items::{
-    AsRelocation, Relocation, RewrittenItemsError, rewritten_items_into, section_items_into,
+    AsRelocation, ItemNumbers, Relocation, RewrittenItemsError, rewritten_items_into,
+    section_items_into,
 };
 
 /// A relocation of a section, and what it refers to in a run.

@@ -5,7 +5,7 @@
 use compare::elf::{self, Home, Linked, Object, Section};
 use linker_utils::elf::Architecture;
 use linker_utils::rewriting::{
-    Decision, UnrelaxableGroups, Scope, SymbolFacts, rewrite_section, scope_of, survey,
+    Decision, DecisionNumbers, UnrelaxableGroups, Scope, SymbolFacts, rewrite_section, scope_of, survey,
 };
 use linker_utils::section::{self, Link, Rela, relocation_at};
 use std::collections::HashSet;
@@ -96,7 +96,7 @@ fn compare_way(way: &str, counts: &mut [usize; 2]) {
         for (index, section) in sections() {
             let mut entries = entries_of(section);
             let mut bytes = section.bytes.to_vec();
-            let mut decisions = vec![Decision::Kept; section.relocations.len()];
+            let mut decisions = vec![DecisionNumbers::default(); section.relocations.len()];
             let known = section::Object { unrelaxable_groups: &kept, ..known };
             let mut made = section::Section::new(&mut bytes, &mut entries);
             rewrite_section(&link, &known, &mut made, &mut decisions).unwrap();
@@ -104,7 +104,7 @@ fn compare_way(way: &str, counts: &mut [usize; 2]) {
                 continue;
             };
             let theirs = &linked.bytes_at(address).unwrap()[..bytes.len()];
-            for (n, decision) in decisions.iter().enumerate() {
+            for (n, decision) in decisions.iter().map(|it| it.as_decision()).enumerate() {
                 let before = &section.relocations[n];
                 let after = relocation_at(&entries, n).unwrap();
                 // ld.lld leaves AArch64's calls of an undefined weak function, which choose erases
@@ -123,7 +123,7 @@ fn compare_way(way: &str, counts: &mut [usize; 2]) {
                     around(&bytes, before.offset, window).to_vec()
                 });
                 assert_eq!(mine, linked, "{way}: {} at {:#x}", section.name, before.offset);
-                counts[usize::from(*decision == Decision::Kept)] += 1;
+                counts[usize::from(decision == Decision::Kept)] += 1;
             }
         }
     }

@@ -7,12 +7,18 @@ use linker_utils::output::{DynamicEntry, DynamicFacts, LandingProperty, LazyEntr
 use linker_utils::placement::{Branch, StubShape};
 use linker_utils::recognise::FieldBits;
 use linker_utils::relaxation::{BlockHead, Call, RelaxDelta};
-use linker_utils::rewriting::{FactsSnapshot, UnrelaxableGroups, SymbolFacts};
+use linker_utils::rewriting::{DecisionNumbers, Deletion, FactsSnapshot, UnrelaxableGroups, SymbolFacts};
 use linker_utils::source::rewriting::OutputFacts;
+use linker_utils::runs::ItemNumbers;
 use linker_utils::section::{Addresses, Resolved, Symbol};
 
 fields! { RelaxDelta: input_offset, bytes_deleted, cumulative_deleted, }
 fields! { BlockHead: input_offset, output_offset, }
+fields! {
+    DecisionNumbers: addend, symbol, rewrite, relocation, machine, fate, opcode_len,
+}
+fields! { Deletion: offset, bytes, }
+fields! { ItemNumbers: offset, target, alignment, max_skip, len, kind, shapes, }
 fields! { Call: site, target, }
 fields! { FieldBits: offset, bits, }
 fields! { RewriteWindow: back, len, }

@@ -6,7 +6,7 @@ use crate::objects::{Head, LE, each_member};
 use linker_utils::architecture::Relaxation;
 use linker_utils::elf::Architecture;
 use linker_utils::rewriting::{
-    AsDecision, Decision, DecisionError, KeptDecision, Phase, RewritingError, SymbolFacts,
+    Decision, DecisionError, DecisionNumbers, Phase, RewritingError, SymbolFacts,
     UnrelaxableGroups, decide_rewrites, has_rewrites, make_rewrites, rewrite_section, survey,
 };
 use linker_utils::section::{Link, Object, Section, relocation_at, relocations_len};
@@ -101,7 +101,7 @@ fn read(data: &'static [u8], is_static: bool) -> Result<Option<Input>, Box<dyn E
 struct Decided {
     input: usize,
     section: usize,
-    decisions: Vec<KeptDecision>,
+    decisions: Vec<DecisionNumbers>,
     result: Result<(), RewritingError>,
 }
 
@@ -115,8 +115,7 @@ fn decide(inputs: &[Input]) -> Vec<Decided> {
         let &(input, section) = all.get(next.fetch_add(1, Ordering::Relaxed))?;
         let of = &inputs[input];
         let code = &of.code[section];
-        let kept = KeptDecision::from_decision(Decision::Kept);
-        let mut decisions = vec![kept; relocations_len(code.relocations)];
+        let mut decisions = vec![DecisionNumbers::default(); relocations_len(code.relocations)];
         let result = decide_rewrites(&of.link, &of.object(), code, &mut decisions);
         Some(Decided { input, section, decisions, result })
     };
@@ -128,8 +127,8 @@ fn decide(inputs: &[Input]) -> Vec<Decided> {
 }
 
 /// What a decision rewrites, if anything.
-fn rewrite(decision: &Decision) -> Option<Relaxation> {
-    match decision {
+fn rewrite(decision: &DecisionNumbers) -> Option<Relaxation> {
+    match decision.as_decision() {
         Decision::Rewritten(choice) | Decision::RewrittenWithSymbol(choice, _) => Some(choice.kind),
         Decision::Kept | Decision::Consumed => None,
     }
@@ -149,7 +148,7 @@ fn make(input: &Input, decided: &Decided, count: &mut Count) -> Result<(), Strin
     let decisions = &decided.decisions;
     let copy = || Section::new(code.bytes.to_vec(), code.relocations.to_vec());
     let mut expected = copy();
-    let mut others = vec![Decision::Kept; decisions.len()];
+    let mut others = vec![DecisionNumbers::default(); decisions.len()];
     let result = rewrite_section(&input.link, &input.object(), &mut expected, &mut others);
     if result != decided.result {
         return Err(format!("{:?} in place of {result:?}", decided.result));
@@ -158,7 +157,7 @@ fn make(input: &Input, decided: &Decided, count: &mut Count) -> Result<(), Strin
     if result.is_err() {
         return Ok(());
     }
-    if !others.iter().eq(decisions.iter().map(|kept| &kept.decision)) {
+    if !others.iter().map(|it| it.as_decision()).eq(decisions.iter().map(|it| it.as_decision())) {
         return Err("other decisions".into());
     }
     let mut made = copy();
@@ -168,12 +167,12 @@ fn make(input: &Input, decided: &Decided, count: &mut Count) -> Result<(), Strin
     }
     let offset = |index| relocation_at(code.relocations, index).map_or(0, |it| it.offset);
     let all: Vec<(usize, Relaxation)> = (0..decisions.len())
-        .filter_map(|index| Some((index, rewrite(&decisions[index].decision)?)))
+        .filter_map(|index| Some((index, rewrite(&decisions[index])?)))
         .collect();
     let mut changed = copy();
     for &(index, _) in &all {
         count.rewritten += 1;
-        let window = decisions[index].decision.window();
+        let window = decisions[index].as_decision().window();
         let start = (offset(index) - window.back) as usize;
         for at in start..start + window.len as usize {
             changed.bytes[at] ^= 0xff;

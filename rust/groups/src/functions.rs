@@ -138,13 +138,13 @@ fn add_units(
         units.insert(last.start, unit);
     }
     for item in &program.items[index] {
-        let (start, end) = (MEMORY + item.offset(), MEMORY + item.offset() + item.len());
-        if program.moves.at(end) - program.moves.at(start) == item.len() {
+        let (start, end) = (MEMORY + item.offset, MEMORY + item.offset + u64::from(item.len));
+        if program.moves.at(end) - program.moves.at(start) == u64::from(item.len) {
             continue;
         }
         let at = start - address;
         let first = word(&linked.before, at);
-        match item {
+        match item.as_item() {
             Item::Site(site) if site.shapes.count > 0 => {
                 let may_differ = scratch(architecture, first, word(&linked.before, at + 4));
                 let counts = r_types.get(&at).copied();

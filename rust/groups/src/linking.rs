@@ -4,13 +4,13 @@
 use crate::layout::{CODE, Layout, MEMORY};
 use crate::objects::Object;
 use linker_utils::elf::{Architecture, RewriteWindow};
-use linker_utils::relaxation::{DeltaSlice, SectionRelaxDeltas};
+use linker_utils::relaxation::{AsDeletion, DeltaSlice, SectionRelaxDeltas};
 use linker_utils::rewriting::{
-    Decision, Phase, UnrelaxableGroups, rewrite_placed_section, rewrite_section, survey,
+    Decision, DecisionNumbers, Deletion, Phase, UnrelaxableGroups, rewrite_placed_section, rewrite_section, survey,
     survey_placed_section,
 };
 use linker_utils::runs::{
-    Alignment, Item, Machine, Relocation, Run, first_faulty, pack_run, packed_run_len, relax,
+    Alignment, Item, ItemNumbers, Machine, Relocation, Run, first_faulty, pack_run, packed_run_len, relax,
     rewritten_items_into,
 };
 use linker_utils::section::{
@@ -59,7 +59,7 @@ pub struct Program {
     pub sections: Vec<Result<Linked, Box<dyn Error>>>,
     pub moves: Moves,
     /// What lost bytes of each section, or could have.
-    pub items: Vec<Vec<Item>>,
+    pub items: Vec<Vec<ItemNumbers>>,
 }
 
 const LATER: [Phase; 3] = [Phase::TlsLocalExec, Phase::GotToPcRel, Phase::ShortPcRel];
@@ -109,10 +109,10 @@ fn relocated(
 }
 
 /// Notes what a phase made of relocations.
-fn note(decisions: &[Decision], relocations: &[u8], windows: &mut [Option<(u64, u64)>]) {
+fn note(decisions: &[DecisionNumbers], relocations: &[u8], windows: &mut [Option<(u64, u64)>]) {
     for (index, window) in windows.iter_mut().enumerate() {
         let Some(relocation) = relocation_at(relocations, index) else { continue };
-        let decision = decisions[index];
+        let decision = decisions[index].as_decision();
         if decision == Decision::Kept {
             continue;
         }
@@ -136,7 +136,7 @@ fn pack(
     may_compress: bool,
     section: &mut Section<&mut Vec<u8>, &mut Vec<u8>>,
     deleted: &[(u64, u32)],
-) -> Result<(SectionRelaxDeltas, Vec<Item>), String> {
+) -> Result<(SectionRelaxDeltas, Vec<ItemNumbers>), String> {
     let (base, len) = (section.base, section.bytes.len());
     let relocations: Vec<Relocation> = section::relocations(section.relocations)
         .map(|it| {
@@ -160,7 +160,8 @@ fn pack(
             }
         })
         .collect();
-    let none = Item::Aligned(Alignment { offset: 0, nops: 0, alignment: 1, max_skip: None });
+    let none = Alignment { offset: 0, nops: 0, alignment: 1, max_skip: None };
+    let none = ItemNumbers::from_item(Item::Aligned(none));
     let mut items = vec![none; relocations.len() + deleted.len()];
     let mut makers = vec![0; items.len()];
     let made =
@@ -199,7 +200,7 @@ pub fn link(object: &Object, layout: &Layout, packs: bool) -> Program {
         survey(&layout.link, &known, &Section::new(&bytes[index], &tables[index]), &mut kept);
     }
     for &index in &code {
-        let mut decisions = vec![Decision::Kept; relocations_len(&tables[index])];
+        let mut decisions = vec![DecisionNumbers::default(); relocations_len(&tables[index])];
         let before = tables[index].clone();
         let known = section::Object { unrelaxable_groups: &kept, ..known };
         let mut section = Section::new(&mut bytes[index], &mut tables[index]);
@@ -217,8 +218,8 @@ pub fn link(object: &Object, layout: &Layout, packs: bool) -> Program {
                 .expect("tables that agree");
         }
         for &index in &code {
-            let mut decisions = vec![Decision::Kept; relocations_len(&tables[index])];
-            let mut deleted = vec![(0, 0); decisions.len()];
+            let mut decisions = vec![DecisionNumbers::default(); relocations_len(&tables[index])];
+            let mut deleted = vec![Deletion::default(); decisions.len()];
             let before = tables[index].clone();
             let known = section::Object { unrelaxable_groups: &kept, ..known };
             let section = Section::new(&mut bytes[index], &mut tables[index]);
@@ -227,9 +228,9 @@ pub fn link(object: &Object, layout: &Layout, packs: bool) -> Program {
             match rewrite_placed_section(&layout.link, &known, &mut section, phase, made, listed) {
                 Ok(len) => {
                     note(&decisions, &before, &mut windows[index]);
-                    gone[index].extend(&deleted[..len]);
-                    for &(start, count) in &deleted[..len] {
-                        let gap = &mut bytes[index][start as usize..][..count as usize];
+                    gone[index].extend(deleted[..len].iter().map(|it| it.as_deletion()));
+                    for it in &deleted[..len] {
+                        let gap = &mut bytes[index][it.offset as usize..][..it.bytes as usize];
                         let filler = no_operation(architecture).iter().cycle();
                         gap.iter_mut().zip(filler).for_each(|(byte, &with)| *byte = with);
                     }

@@ -1,32 +1,33 @@
 //! The items of a run, in an array of the caller's.
 
-ghost use Rattle.std.specs.Prelude.{◌≡◌, ◌<◌, ◌≤◌, length, map};
-ghost use Rattle.linker_runs.specs.Relaxing.{item_at, place_of, AreApart};
+ghost use Rattle.std.specs.Prelude.{◌≡◌, ◌<◌, ◌≤◌, length};
+ghost use Rattle.linker_runs.specs.Relaxing.{item_at, items_in, place_of, AreApart};
 
-use crate::items::AsItem;
+use crate::items::ItemNumbers;
 use crate::relaxation::Item;
 use std::marker::Model;
 
-/// The items of a run. Contracts see the list of items that the array's elements say.
+/// The items of a run. Contracts see the list of items that the numbers say.
 #[derive(Drop)]
-pub(crate) struct ItemList<'a, I: AsItem> {
-    elements: &'a [I],
+pub(crate) struct ItemList<'a> {
+    elements: &'a [ItemNumbers],
 }
 
-impl<'a, I: AsItem> Model for ItemList<'a, I> {
-    ghost use Rattle.std.specs.Prelude.{List, map};
+impl<'a> Model for ItemList<'a> {
+    ghost use Rattle.std.specs.Prelude.{List};
+    ghost use Rattle.linker_runs.specs.Relaxing.{items_in};
     ghost use Rattle.linker_runs.specs.declared.relaxation.Item.{Item as items};
 
     ghost Value = { List items };
 
-    ghost view = { λ list. map I.item list.elements.now };
+    ghost view = { λ list. items_in list.elements.now };
 }
 
-impl<'a, I: AsItem> ItemList<'a, I> {
+impl<'a> ItemList<'a> {
     /// The items of an array.
     #[inline(always)]
-    pub(crate) fn new(elements: &'a [I]) -> ItemList<'a, I>
-        ensures { result ≡ map I.item elements.now }
+    pub(crate) fn new(elements: &'a [ItemNumbers]) -> ItemList<'a>
+        ensures { result ≡ items_in elements.now }
     {
         ItemList { elements }
     }

@@ -6,7 +6,7 @@ ghost use Rattle.std.specs.Prelude.{take, drop};
 ghost use Rattle.linker_runs.specs.declared.items.Relocation.{Relocation as relocations};
 ghost use Rattle.linker_runs.specs.declared.packing.Machine.{Machine as machines};
 ghost use Rattle.linker_runs.specs.declared.items.rewritten.RewrittenItemsError.TheVariants as why;
-ghost use Rattle.linker_runs.specs.Relaxing.{offset_of, end_of};
+ghost use Rattle.linker_runs.specs.Relaxing.{end_of, item_of, items_in, offset_of, HasKind};
 ghost use Rattle.linker_runs.specs.Relocations.{AreWellFormed};
 ghost use Rattle.linker_runs.specs.RewrittenItems.{deleted_at, deleted_end, ArePlaced};
 ghost use Rattle.linker_runs.specs.RewrittenItems.{IsFirstMisplaced, IsDeleted, AreRewrittenItems};
@@ -14,7 +14,7 @@ ghost use Rattle.linker_runs.specs.RewrittenItems.{IsOverlapping, IsRewrittenCau
 ghost use Rattle.linker_runs.specs.SectionItems.{Makes, IsFormed};
 ghost use Rattle.linker_runs.specs.Inner.Listed.{AreListedIn, rewritten_of};
 
-use super::{AsItem, AsRelocation, ahead, first_malformed, has_bytes, item_at};
+use super::{AsRelocation, ItemNumbers, ahead, first_malformed, has_bytes, item_at};
 use crate::packing::Machine;
 use crate::relaxation::{Item, Site};
 use crate::shapes::fixed;
@@ -86,13 +86,13 @@ fn deletion(base: u64, offset: u64, bytes: u32) -> Item
 
 /// Lists the deletions that begin at or below an offset of the run, of those
 /// that aren't listed yet.
-fn list_deletions<L: AsDeletion, I: AsItem>(
+fn list_deletions<L: AsDeletion>(
     base: u64,
     relocations_len: usize,
     deleted: &[L],
     offset: u64,
     listed: Listed,
-    out: &mut [I],
+    out: &mut [ItemNumbers],
     makers: &mut [usize],
 ) -> Listed
     requires gone { listed.gone ≤ length deleted.now }
@@ -113,10 +113,10 @@ fn list_deletions<L: AsDeletion, I: AsItem>(
         × (result.end ≡ base + deleted_end (map L.deletion deleted.now) g)) }
     ensures listed { (machine : machines) (section : List ℕ) (rs : List relocations) (i : ℕ)
         → length rs ≡ relocations_len → i ≤ relocations_len
-        → AreListedIn I.item I.is_written
+        → AreListedIn item_of HasKind
         (rewritten_of machine section base rs (map L.deletion deleted.now)) i
         listed.gone listed.count listed.end out.old makers.old
-        → AreListedIn I.item I.is_written
+        → AreListedIn item_of HasKind
         (rewritten_of machine section base rs (map L.deletion deleted.now)) i
         result.gone result.count result.end out.new makers.new }
     ensures others_stay { (drop result.count out.new ≡ drop result.count out.old)
@@ -129,7 +129,7 @@ fn list_deletions<L: AsDeletion, I: AsItem>(
         if base + start > offset {
             return Listed { count, gone, end };
         }
-        out[count] = I::from_item(deletion(base, start, bytes));
+        out[count] = ItemNumbers::from_item(deletion(base, start, bytes));
         makers[count] = relocations_len + gone;
         count += 1;
         end = base + (start + u64::from(bytes));
@@ -160,14 +160,14 @@ fn is_cut<L: AsDeletion>(base: u64, deleted: &[L], index: usize, item: &Item) ->
 /// Lists the item of the relocation at an index after the deletions that begin at or below it.
 /// None where it overlaps one of them or of the items before it.
 #[inline]
-fn list_item<L: AsDeletion, I: AsItem>(
+fn list_item<L: AsDeletion>(
     base: u64,
     relocations_len: usize,
     deleted: &[L],
     index: usize,
     item: &Item,
     listed: Listed,
-    out: &mut [I],
+    out: &mut [ItemNumbers],
     makers: &mut [usize],
 ) -> Option<Listed>
     requires index { index < relocations_len }
@@ -187,10 +187,10 @@ fn list_item<L: AsDeletion, I: AsItem>(
     ensures listed { IfSome result (λ more. (machine : machines) (section : List ℕ)
         (rs : List relocations) → length rs ≡ relocations_len
         → Makes machine section base rs index item.now
-        → AreListedIn I.item I.is_written
+        → AreListedIn item_of HasKind
         (rewritten_of machine section base rs (map L.deletion deleted.now)) index
         listed.gone listed.count listed.end out.old makers.old
-        → AreListedIn I.item I.is_written
+        → AreListedIn item_of HasKind
         (rewritten_of machine section base rs (map L.deletion deleted.now)) (index + 1)
         more.gone more.count more.end out.new makers.new) }
     ensures others_stay { IfSome result (λ more.
@@ -216,7 +216,7 @@ fn list_item<L: AsDeletion, I: AsItem>(
     if item.offset() < all.end || is_cut(base, deleted, all.gone, item) {
         return None;
     }
-    out[all.count] = I::from_item(*item);
+    out[all.count] = ItemNumbers::from_item(*item);
     makers[all.count] = index;
     Some(Listed {
         count: all.count + 1,
@@ -228,13 +228,13 @@ fn list_item<L: AsDeletion, I: AsItem>(
 /// Lists the items of a section whose relocations and deletions are tested, and returns how many
 /// they are. The error is the index of a relocation that overlaps.
 #[inline]
-fn list_items<R: AsRelocation, L: AsDeletion, I: AsItem>(
+fn list_items<R: AsRelocation, L: AsDeletion>(
     machine: Machine,
     section: &[u8],
     base: u64,
     relocations: &[R],
     deleted: &[L],
-    out: &mut [I],
+    out: &mut [ItemNumbers],
     makers: &mut [usize],
 ) -> Result<usize, usize>
     requires base { base + length section.now < 2 ^ 64 }
@@ -246,8 +246,8 @@ fn list_items<R: AsRelocation, L: AsDeletion, I: AsItem>(
     requires makers { length makers.old ≡ length relocations.now + length deleted.now }
     ensures listed { IfOk result (λ count. AreRewrittenItems machine section.now base
         (map R.relocation relocations.now) (map L.deletion deleted.now)
-        (map I.item (take count out.new)) (take count makers.new)) }
-    ensures form { IfOk result (λ count. All I.is_written (take count out.new)) }
+        (items_in (take count out.new)) (take count makers.new)) }
+    ensures form { IfOk result (λ count. All HasKind (take count out.new)) }
     ensures others_stay { IfOk result (λ count. (drop count out.new ≡ drop count out.old)
         × (drop count makers.new ≡ drop count makers.old)) }
     ensures overlaps { IfErr result (λ at. (at < length relocations.now)
@@ -301,13 +301,13 @@ fn list_items<R: AsRelocation, L: AsDeletion, I: AsItem>(
 ///
 /// A target inside deleted bytes is no error here, since it may be another section's: `relax` says
 /// `TargetInside` of the item. It doesn't allocate.
-pub fn rewritten_items_into<R: AsRelocation, L: AsDeletion, I: AsItem>(
+pub fn rewritten_items_into<R: AsRelocation, L: AsDeletion>(
     machine: Machine,
     section: &[u8],
     base: u64,
     relocations: &[R],
     deleted: &[L],
-    out: &mut [I],
+    out: &mut [ItemNumbers],
     makers: &mut [usize],
 ) -> Result<usize, RewrittenItemsError>
     requires base { base + length section.now < 2 ^ 64 }
@@ -315,8 +315,8 @@ pub fn rewritten_items_into<R: AsRelocation, L: AsDeletion, I: AsItem>(
     requires makers { length makers.old ≡ length relocations.now + length deleted.now }
     ensures listed { IfOk result (λ count. AreRewrittenItems machine section.now base
         (map R.relocation relocations.now) (map L.deletion deleted.now)
-        (map I.item (take count out.new)) (take count makers.new)) }
-    ensures form { IfOk result (λ count. All I.is_written (take count out.new)) }
+        (items_in (take count out.new)) (take count makers.new)) }
+    ensures form { IfOk result (λ count. All HasKind (take count out.new)) }
     ensures others_stay { IfOk result (λ count. (drop count out.new ≡ drop count out.old)
         × (drop count makers.new ≡ drop count makers.old)) }
     ensures cause { IfErr result (IsRewrittenCause machine section.now base

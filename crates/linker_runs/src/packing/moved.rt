@@ -10,7 +10,7 @@ ghost use Rattle.linker_runs.specs.Inner.Packing.{AreReady};
 ghost use Rattle.linker_runs.specs.Packing.{section_of};
 ghost use Rattle.linker_runs.specs.Relaxing.{item_at, AreApart};
 
-use crate::items::{AsItem, ItemList};
+use crate::items::ItemList;
 use crate::packing::Machine;
 use crate::relaxation::Item;
 use linker_base::packing::{Position, position_from, position_of};
@@ -85,7 +85,7 @@ fn r_type_at_item(machine: Machine, item: &Item, kept: u64, r_type: u32) -> u32
 
 /// The item that begins at an offset.
 #[inline]
-fn item_from<I: AsItem>(items: &ItemList<'_, I>, offset: u64) -> Option<Item>
+fn item_from(items: &ItemList<'_>, offset: u64) -> Option<Item>
     ensures { AreApart items.now → MatchOption result
         ((i : ℕ) → i < length items.now → ¬ BeginsAt (item_at items.now i) offset)
         (λ item. (i : ℕ) × (i < length items.now) × (item_at items.now i ≡ item)
@@ -105,9 +105,9 @@ fn item_from<I: AsItem>(items: &ItemList<'_, I>, offset: u64) -> Option<Item>
 
 /// The type of a relocation at a position.
 #[inline]
-fn r_type_of<I: AsItem>(
+fn r_type_of(
     machine: Machine,
-    items: &ItemList<'_, I>,
+    items: &ItemList<'_>,
     deltas: &[RelaxDelta],
     here: &Position,
     r_type: u32,
@@ -136,11 +136,11 @@ fn r_type_of<I: AsItem>(
 
 /// What a relocation of a section becomes once that is packed.
 #[inline]
-fn moved<I: AsItem>(
+fn moved(
     machine: Machine,
     section: &[u8],
     base: u64,
-    items: &ItemList<'_, I>,
+    items: &ItemList<'_>,
     deltas: &[RelaxDelta],
     begin: &Position,
     relocation: &Rela,
@@ -170,11 +170,11 @@ fn moved<I: AsItem>(
 }
 
 /// Moves the relocations of a section to where they are once that is packed.
-pub(crate) fn move_relocations<I: AsItem>(
+pub(crate) fn move_relocations(
     machine: Machine,
     section: &[u8],
     base: u64,
-    items: &ItemList<'_, I>,
+    items: &ItemList<'_>,
     deltas: &[RelaxDelta],
     begin: &Position,
     relocations: &mut [u8],

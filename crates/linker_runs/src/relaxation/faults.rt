@@ -1,7 +1,7 @@
 //! Which runs can be relaxed, and what is wrong with the others.
 
-ghost use Rattle.std.specs.Prelude.{◌+◌, ◌<◌, ◌^◌, ◌↔◌, ℕ, length, map, IsTrue, MatchOption};
-ghost use Rattle.linker_runs.specs.Relaxing.{end_of, AreInOrder};
+ghost use Rattle.std.specs.Prelude.{◌+◌, ◌<◌, ◌^◌, ◌↔◌, ℕ, length, IsTrue, MatchOption};
+ghost use Rattle.linker_runs.specs.Relaxing.{end_of, items_in, AreInOrder};
 ghost use Rattle.linker_runs.specs.Choosing.{run_granularity, AreItems, IsInWords};
 ghost use Rattle.linker_runs.specs.Faults.{ShapesMeet, ItemMeets, OwnMeets, AlignmentMeets};
 ghost use Rattle.linker_runs.specs.Faults.{UnitMeets, RunMeets, AreSound, IsFirstIn, IsFirstAt};
@@ -9,7 +9,7 @@ ghost use Rattle.linker_runs.specs.Faults.{IsFirstFault};
 
 use super::validity::{has_its_nops, is_clear, run_granularity};
 use super::{Alignment, Item, Shapes, Site};
-use crate::items::{AsItem, ItemList};
+use crate::items::{ItemList, ItemNumbers};
 use crate::shapes::loongarch64::CALL36;
 
 /// Why a run can't be relaxed: what is wrong with one of its items. Of an item that has several
@@ -169,7 +169,7 @@ impl Item {
 }
 
 /// What is wrong with the item at an index by itself or by its place.
-fn own_fault<I: AsItem>(items: &ItemList<'_, I>, start: u64, index: usize) -> Option<Fault>
+fn own_fault(items: &ItemList<'_>, start: u64, index: usize) -> Option<Fault>
     requires { index < length items.now }
     ensures { IsFirstIn (OwnMeets start items.now index) result }
 {
@@ -184,12 +184,7 @@ fn own_fault<I: AsItem>(items: &ItemList<'_, I>, start: u64, index: usize) -> Op
 }
 
 /// What is wrong with the item at an index among the others, in a run of a granularity.
-fn run_fault<I: AsItem>(
-    items: &ItemList<'_, I>,
-    start: u64,
-    granularity: u64,
-    index: usize,
-) -> Option<Fault>
+fn run_fault(items: &ItemList<'_>, start: u64, granularity: u64, index: usize) -> Option<Fault>
     requires in_order { AreInOrder start items.now }
     requires sound { AreSound start items.now }
     requires within { index < length items.now }
@@ -210,7 +205,7 @@ fn run_fault<I: AsItem>(
 }
 
 /// The first item with a fault by itself or by its place.
-fn first_own_fault<I: AsItem>(items: &ItemList<'_, I>, start: u64) -> Option<ItemFault>
+fn first_own_fault(items: &ItemList<'_>, start: u64) -> Option<ItemFault>
     ensures { MatchOption result (AreSound start items.now)
         (IsFirstAt (OwnMeets start items.now) (length items.now)) }
 {
@@ -223,7 +218,7 @@ fn first_own_fault<I: AsItem>(items: &ItemList<'_, I>, start: u64) -> Option<Ite
 }
 
 /// The first item with a fault among the others.
-fn first_run_fault<I: AsItem>(items: &ItemList<'_, I>, start: u64) -> Option<ItemFault>
+fn first_run_fault(items: &ItemList<'_>, start: u64) -> Option<ItemFault>
     requires in_order { AreInOrder start items.now }
     requires sound { AreSound start items.now }
     ensures { MatchOption result ((i : ℕ) → i < length items.now → (fault : Fault)
@@ -246,14 +241,14 @@ fn first_run_fault<I: AsItem>(items: &ItemList<'_, I>, start: u64) -> Option<Ite
 /// item has one of those before.
 ///
 /// It doesn't allocate, and takes O(n log n) for n items.
-pub fn first_faulty<I: AsItem>(items: &[I], start: u64) -> Option<ItemFault>
-    ensures { MatchOption result (AreItems start (map I.item items.now))
-        (IsFirstFault start (map I.item items.now)) }
+pub fn first_faulty(items: &[ItemNumbers], start: u64) -> Option<ItemFault>
+    ensures { MatchOption result (AreItems start (items_in items.now))
+        (IsFirstFault start (items_in items.now)) }
 {
     first_fault(&ItemList::new(items), start)
 }
 
-fn first_fault<I: AsItem>(items: &ItemList<'_, I>, start: u64) -> Option<ItemFault>
+fn first_fault(items: &ItemList<'_>, start: u64) -> Option<ItemFault>
     ensures { MatchOption result (AreItems start items.now) (IsFirstFault start items.now) }
 {
     if let Some(found) = first_own_fault(items, start) {
@@ -283,8 +278,8 @@ fn first_fault<I: AsItem>(items: &ItemList<'_, I>, start: u64) -> Option<ItemFau
 /// w divides the alignment, its nops and the bytes from there.
 ///
 /// It doesn't allocate, and takes O(n log n) for n items. `first_faulty` says what is wrong.
-pub fn are_items<I: AsItem>(items: &[I], start: u64) -> bool
-    ensures { IsTrue result ↔ AreItems start (map I.item items.now) }
+pub fn are_items(items: &[ItemNumbers], start: u64) -> bool
+    ensures { IsTrue result ↔ AreItems start (items_in items.now) }
 {
     first_faulty(items, start).is_none()
 }

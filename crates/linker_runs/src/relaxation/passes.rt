@@ -6,11 +6,11 @@ ghost use Rattle.linker_runs.specs.Relaxing.{choice_of, AreFreed, kept_by, AreRe
 ghost use Rattle.linker_runs.specs.Choosing.{AreItems, IsInReachExactly, AreTooFewRounds};
 ghost use Rattle.linker_runs.specs.Inner.Relaxing.{ArePlaces, AreForced};
 
-use crate::items::{AsItem, ItemList};
+use crate::items::ItemList;
 
 /// For each item the place of its target, or `usize::MAX` where its shortest shape reaches that
 /// while nothing is freed: then it is always in reach.
-pub(super) fn find_places<I: AsItem>(items: &ItemList<'_, I>, start: u64, places: &mut [usize])
+pub(super) fn find_places(items: &ItemList<'_>, start: u64, places: &mut [usize])
     requires items { AreItems start items.now }
     requires fewer { length items.now + 1 < 2 ^ 64 }
     requires one_each { length places.old ≡ length items.now }
@@ -36,12 +36,7 @@ pub(super) fn shorten(shapes: &mut [u8])
 }
 
 /// For each item how many bytes those before it free, and at the end how many all do.
-pub(super) fn lay_out<I: AsItem>(
-    items: &ItemList<'_, I>,
-    start: u64,
-    shapes: &[u8],
-    freed: &mut [u64],
-)
+pub(super) fn lay_out(items: &ItemList<'_>, start: u64, shapes: &[u8], freed: &mut [u64])
     requires in_order { AreInOrder start items.now }
     requires one_each { length shapes.now ≡ length items.now }
     requires one_more { length freed.old ≡ length items.now + 1 }
@@ -57,13 +52,7 @@ pub(super) fn lay_out<I: AsItem>(
 }
 
 /// For each item how many of its bytes stay.
-pub(super) fn keep<I: AsItem>(
-    items: &ItemList<'_, I>,
-    start: u64,
-    shapes: &[u8],
-    freed: &[u64],
-    kept: &mut [u64],
-)
+pub(super) fn keep(items: &ItemList<'_>, start: u64, shapes: &[u8], freed: &[u64], kept: &mut [u64])
     requires in_order { AreInOrder start items.now }
     requires shapes { length shapes.now ≡ length items.now }
     requires kept { length kept.old ≡ length items.now }
@@ -79,8 +68,8 @@ pub(super) fn keep<I: AsItem>(
 
 /// Whether the item at an index, which has a shape, is in reach of its target by a layout.
 #[inline(always)]
-fn is_in_reach<I: AsItem>(
-    items: &ItemList<'_, I>,
+fn is_in_reach(
+    items: &ItemList<'_>,
     start: u64,
     places: &[usize],
     freed: &[u64],
@@ -103,8 +92,8 @@ fn is_in_reach<I: AsItem>(
 }
 
 /// Gives each site that is out of reach its next shape. Whether there is one.
-pub(super) fn lengthen<I: AsItem>(
-    items: &ItemList<'_, I>,
+pub(super) fn lengthen(
+    items: &ItemList<'_>,
     start: u64,
     places: &[usize],
     freed: &[u64],
@@ -143,8 +132,8 @@ pub(super) fn lengthen<I: AsItem>(
 const MOST_ROUNDS: u32 = 64;
 
 /// Rounds until no site is out of reach. Whether there are few enough.
-pub(super) fn settle<I: AsItem>(
-    items: &ItemList<'_, I>,
+pub(super) fn settle(
+    items: &ItemList<'_>,
     start: u64,
     places: &[usize],
     freed: &mut [u64],

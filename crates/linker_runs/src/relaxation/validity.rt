@@ -18,7 +18,7 @@ ghost use Rattle.linker_runs.specs.Faults.{ShapesMeet, AlignmentMeets};
 ghost use Rattle.linker_runs.specs.Inner.Validity.{IsClearRun};
 
 use super::{Alignment, Item, Shapes, remainder};
-use crate::items::{AsItem, ItemList};
+use crate::items::ItemList;
 
 /// Whether a number is a power of two.
 #[inline]
@@ -258,7 +258,7 @@ impl Item {
 }
 
 /// The greatest granularity of a run.
-pub(super) fn run_granularity<I: AsItem>(items: &ItemList<'_, I>, start: u64) -> u64
+pub(super) fn run_granularity(items: &ItemList<'_>, start: u64) -> u64
     requires { AreInOrder start items.now }
     ensures granularity { result ≡ run_granularity items.now }
     ensures some { 0 < result }
@@ -272,7 +272,7 @@ pub(super) fn run_granularity<I: AsItem>(items: &ItemList<'_, I>, start: u64) ->
 }
 
 /// Whether an offset is not inside what an item may lose.
-pub(super) fn is_clear<I: AsItem>(items: &ItemList<'_, I>, start: u64, offset: u64) -> bool
+pub(super) fn is_clear(items: &ItemList<'_>, start: u64, offset: u64) -> bool
     requires { AreInOrder start items.now }
     ensures { IsTrue result ↔ IsClearRun items.now offset }
 {
@@ -285,12 +285,7 @@ pub(super) fn is_clear<I: AsItem>(items: &ItemList<'_, I>, start: u64, offset: u
 }
 
 /// Whether a number divides the output address of the item at an index in every layout.
-fn is_always_multiple<I: AsItem>(
-    items: &ItemList<'_, I>,
-    start: u64,
-    number: u64,
-    index: usize,
-) -> bool
+fn is_always_multiple(items: &ItemList<'_>, start: u64, number: u64, index: usize) -> bool
     requires number { 0 < number }
     requires in_order { AreInOrder start items.now }
     requires within { index < length items.now }
@@ -313,8 +308,8 @@ fn is_always_multiple<I: AsItem>(
 
 /// Whether an alignment, the item at an index, has as many nops as it needs in every layout of a
 /// run of a granularity.
-fn are_always_enough<I: AsItem>(
-    items: &ItemList<'_, I>,
+fn are_always_enough(
+    items: &ItemList<'_>,
     start: u64,
     granularity: u64,
     index: usize,
@@ -334,12 +329,7 @@ fn are_always_enough<I: AsItem>(
 
 /// Whether the item at an index has as many nops as it needs in every layout of a run of a
 /// granularity, if it is an alignment without a limit.
-pub(super) fn has_its_nops<I: AsItem>(
-    items: &ItemList<'_, I>,
-    start: u64,
-    granularity: u64,
-    index: usize,
-) -> bool
+pub(super) fn has_its_nops(items: &ItemList<'_>, start: u64, granularity: u64, index: usize) -> bool
     requires in_order { AreInOrder start items.now }
     requires within { index < length items.now }
     requires formed { IsFormed (item_at items.now index) }

@@ -16,11 +16,11 @@ use linker_utils::relaxation::{
     pack_section, shrink_calls,
 };
 use linker_utils::rewriting::{
-    Decision, Phase, SymbolFacts, UnrelaxableGroups, rewrite_global_pointer,
+    DecisionNumbers, Deletion, Phase, SymbolFacts, UnrelaxableGroups, rewrite_global_pointer,
     rewrite_placed_section, rewrite_section, survey, survey_global_pointer,
 };
 use linker_utils::runs::shapes::riscv64::CALL;
-use linker_utils::runs::{Item, Machine, Relocation, Run, are_items, deletions, first_faulty};
+use linker_utils::runs::{ItemNumbers, Machine, Relocation, Run, are_items, deletions, first_faulty};
 use linker_utils::runs::{first_malformed, pack_run, packed_run_len, relax, section_items};
 use linker_utils::section::{
     Link, Object, Rela, RelocationError, Section, SectionError, Symbol, memory_len,
@@ -281,8 +281,8 @@ fn expect_shrinking(count: usize) {
 
 /// Runs of calls that reach their targets only where others are shortened, in both directions, also
 /// with alignments between them; of calls to one target; and of alignments inside of one another's nops.
-fn runs() -> [Named<Item>; 6] {
-    fn nested(count: usize, powers: u32) -> Vec<Item> {
+fn runs() -> [Named<ItemNumbers>; 6] {
+    fn nested(count: usize, powers: u32) -> Vec<ItemNumbers> {
         let mut items = Vec::new();
         let mut offset = 0;
         for index in 0..count / 2 {
@@ -512,9 +512,9 @@ fn expect_rewritten(count: usize) {
                 let mut section = Section::new(bytes, &mut relocations);
                 survey(&link, &object, &section, &mut kept);
                 let object = Object { unrelaxable_groups: &kept, ..object };
-                let mut decisions = vec![Decision::Kept; count];
+                let mut decisions = vec![DecisionNumbers::default(); count];
                 rewrite_section(&link, &object, &mut section, &mut decisions).expect("rewrites");
-                assert!(!decisions.contains(&Decision::Kept), "{name}");
+                assert!(decisions.iter().all(|it| it.fate != 0), "{name}");
             });
         }
     }
@@ -550,7 +550,8 @@ fn expect_labels(count: usize) {
             let object = Object { facts: &facts, values: &values, ..Object::default() };
             let mut section = Section { address: AT, ..Section::new(bytes, &mut relocations) };
             let mut kept = [false; 4];
-            let (mut decisions, mut deleted) = (vec![Decision::Kept; len], vec![(0, 0); len]);
+            let mut decisions = vec![DecisionNumbers::default(); len];
+            let mut deleted = vec![Deletion::default(); len];
             if phase == Phase::ShortPcRel {
                 survey_global_pointer(&link, &object, &section, &mut kept)
                     .expect("tables that agree");

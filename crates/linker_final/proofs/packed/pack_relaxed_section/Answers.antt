@@ -1,10 +1,12 @@
-use Rattle.linker_final.proofs.Imports.{on_ok_weaker, ◌≡◌, ◌∙◌, ◌+◌, length, refl, subst, sym, deletions_of, deletions_of_run, packed_offset, section_of, IfErr, IsPackCause}
+use Rattle.std.proofs.lemmas.Result.{on_ok_weaker}
+use Rattle.linker_final.proofs.Imports.{◌≡◌, ◌∙◌, ◌+◌, length, refl, subst, sym, deletions_of, deletions_of_run, packed_offset, section_of, IfErr, IsPackCause}
+use Rattle.linker_final.specs.Imports.{items_in}
 use Rattle.linker_final.proofs.Relaxed.{listed_deltas, packed_run}
 use Rattle.linker_final.proofs.packed.pack_relaxed_section.Goals as goal
 
 pub pack_section-requires-clause-room : goal.pack_section-requires-clause-room
 pack_section-requires-clause-room c valid =
-    let lost : deletions_of c.deltas.result.now ≡ deletions_of_run c.args.items.now c.args.plan.now.kept.items = c.deltas.ensures.listing.same ∙ c.requires.deleted in
+    let lost : deletions_of c.deltas.result.now ≡ deletions_of_run (items_in c.args.items.now) c.args.plan.now.kept.items = c.deltas.ensures.listing.same ∙ c.requires.deleted in
     let s = c.args.section.now in
     c.requires.room ∙ sym (subst (λ d. packed_offset (section_of s.bytes.now s.base (deletions_of c.deltas.result.now) c.args.start) (s.base + length s.bytes.now) ≡ packed_offset (section_of s.bytes.now s.base d c.args.start) (s.base + length s.bytes.now)) lost refl)
 
@@ -13,7 +15,7 @@ returns-clause-packed c =
     let plan = c.args.plan.now in
     let listed = c.deltas.ensures in
     let valid = listed_deltas plan.deletions c.deltas.result.now listed.valid listed.listing in
-    on_ok_weaker _ (packed_run c.args.section.now c.args.items.now c.args.start c.args.relocations.now c.pack_section.new.relocations c.args.addresses.now c.args.symbols.now
+    on_ok_weaker _ (packed_run c.args.section.now (items_in c.args.items.now) c.args.start c.args.relocations.now c.pack_section.new.relocations c.args.addresses.now c.args.symbols.now
     plan.shapes.items plan.kept.items plan.freed.items (deletions_of c.deltas.result.now) c.requires.items
     c.requires.relaxed (listed.listing.same ∙ c.requires.deleted) c.pack_section.new.out) (c.pack_section.ensures.packed valid)
 
@@ -22,7 +24,7 @@ returns-clause-cause c =
     let plan = c.args.plan.now in
     let listed = c.deltas.ensures in
     let valid = listed_deltas plan.deletions c.deltas.result.now listed.valid listed.listing in
-    let lost : deletions_of c.deltas.result.now ≡ deletions_of_run c.args.items.now plan.kept.items = listed.listing.same ∙ c.requires.deleted in
+    let lost : deletions_of c.deltas.result.now ≡ deletions_of_run (items_in c.args.items.now) plan.kept.items = listed.listing.same ∙ c.requires.deleted in
     let s = c.args.section.now in
-    subst (λ d. IfErr c.pack_section.result (IsPackCause s.machine (section_of s.bytes.now s.base d c.args.start) s.items.now c.args.relocations.now c.pack_section.new.relocations
+    subst (λ d. IfErr c.pack_section.result (IsPackCause s.machine (section_of s.bytes.now s.base d c.args.start) (items_in s.items.now) c.args.relocations.now c.pack_section.new.relocations
     c.args.addresses.now c.args.symbols.now c.args.out.now c.pack_section.new.out)) lost (c.pack_section.ensures.cause valid)

@@ -1,4 +1,5 @@
-use Rattle.linker_final.proofs.Imports.{◌≡◌, ℕ, ◌^◌, ◌/◌, ◌<◌, get_or, subst, sym, rules, deletions_of, AreMoved, IsPackedRun, section_of, AreWritten, architecture_of, IsFirstRejected, IsFirstFault, map-id}
+use Rattle.linker_final.proofs.Imports.{◌≡◌, ℕ, ◌^◌, ◌/◌, ◌<◌, get_or, subst, sym, rules, deletions_of, IsPackedRun, section_of, AreWritten, architecture_of, IsFirstFault}
+use Rattle.linker_final.specs.Imports.{items_in}
 use Rattle.linker_final.proofs.PackedBytes.{are_bytes}
 use Rattle.linker_final.proofs.packed.pack_section.Goals as goal
 
@@ -6,12 +7,12 @@ pub returns-in-Ok-clause-packed : goal.returns-in-Ok-clause-packed
 returns-in-Ok-clause-packed c valid =
     let s = section_of c.args.section.now c.args.base (deletions_of c.args.deltas.now) c.args.start in
     let packed = c.pack_run.new.out in
-    let moves = subst (λ items. AreMoved c.args.machine s items c.args.relocations.now c.pack_run.new.relocations) (map-id c.args.items.now) (c.in_default.ensures.moved valid) in
+    let moves = c.in_default.ensures.moved valid in
     let before : (i : ℕ) → get_or c.args.section.now i 0 < 2 ^ 8 = λ i. search rules in
     let final : (i : ℕ) → get_or c.relocate_section.new.section i 0 < 2 ^ 8 = λ i. search rules in (
       packed,
       record {
-        run = subst (λ items. IsPackedRun c.args.machine s items packed) (map-id c.args.items.now) (c.in_default.ensures.packed valid);
+        run = c.in_default.ensures.packed valid;
         moved = λ i below. moves.each i (subst (λ n. i < n / 24) moves.as_many below);
         address = search (rules, valid);
         written = subst (λ a. AreWritten a c.args.addresses.now c.pack_run.new.relocations c.args.symbols.now packed c.relocate_section.new.section) c.architecture_of.ensures c.in-Ok.ensures.fields;
@@ -26,12 +27,12 @@ returns-in-Err-relocate_section-clause-cause c valid =
     let s = section_of c.args.section.now c.args.base (deletions_of c.args.deltas.now) c.args.start in
     let packed = c.pack_run.new.out in
     let same : c.relocate_section.new.section ≡ packed = c.in-Err-relocate_section.ensures.unchanged in
-    let run : IsPackedRun c.args.machine s c.args.items.now packed = subst (λ items. IsPackedRun c.args.machine s items packed) (map-id c.args.items.now) (c.in_default.ensures.packed valid) in
-    let moves = subst (λ items. AreMoved c.args.machine s items c.args.relocations.now c.pack_run.new.relocations) (map-id c.args.items.now) (c.in_default.ensures.moved valid) in
+    let run : IsPackedRun c.args.machine s (items_in c.args.items.now) packed = c.in_default.ensures.packed valid in
+    let moves = c.in_default.ensures.moved valid in
     let fault : IsFirstFault (architecture_of c.args.machine) c.args.addresses.now c.pack_run.new.relocations c.args.symbols.now packed c.in-Err-relocate_section.error =
     subst (λ a. IsFirstFault a c.args.addresses.now c.pack_run.new.relocations c.args.symbols.now packed c.in-Err-relocate_section.error) c.architecture_of.ensures c.in-Err-relocate_section.ensures.fault in (
       search (rules, valid),
-      subst (IsPackedRun c.args.machine s c.args.items.now) (sym same) run,
+      subst (IsPackedRun c.args.machine s (items_in c.args.items.now)) (sym same) run,
       moves,
       subst (λ bytes. IsFirstFault (architecture_of c.args.machine) c.args.addresses.now c.pack_run.new.relocations c.args.symbols.now bytes c.in-Err-relocate_section.error) (sym same) fault,
     )
@@ -40,7 +41,7 @@ pub returns-in-Err-clause-cause : goal.returns-in-Err-clause-cause
 returns-in-Err-clause-cause c valid =
     let s = section_of c.args.section.now c.args.base (deletions_of c.args.deltas.now) c.args.start in (
       search (rules, valid),
-      subst (λ items. IsFirstRejected c.args.machine s items c.in-Err.rejected) (map-id c.args.items.now) (c.in-Err.ensures.rejected valid),
+      c.in-Err.ensures.rejected valid,
       c.in-Err.ensures.unchanged.0,
       c.in-Err.ensures.unchanged.1,
     )

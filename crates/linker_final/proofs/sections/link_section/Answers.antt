@@ -1,11 +1,11 @@
 use Rattle.linker_final.proofs.SameDecisions.{has_rewritten, is_linked}
-use Rattle.linker_final.proofs.Imports.{refl, subst, sym, rules, IsRejected, pre_layout, IsWritingCause, HasRewritten, rewriting_phase, linked, map-id}
+use Rattle.linker_final.proofs.Imports.{refl, subst, sym, rules, pre_layout, IsWritingCause, HasRewritten, rewriting_phase, linked}
+use Rattle.linker_final.specs.Imports.{decisions_in}
 use Rattle.linker_final.proofs.sections.link_section.Goals as goal
 
 pub returns-in-Err-clause-cause : goal.returns-in-Err-clause-cause
 returns-in-Err-clause-cause c = (
-  subst (λ ds. IsRejected c.args.architecture c.args.output.now c.args.facts.now c.args.groups.now c.args.relocations.now c.args.section.now ds c.in-Err.error)
-      (map-id c.rewrite_section.new.decisions) c.in-Err.ensures.rejected,
+  c.in-Err.ensures.rejected,
   c.in-Err.ensures.entries,
   c.in-Err.ensures.section,
 )
@@ -15,7 +15,7 @@ returns-in-Ok-clause-linked c =
     let s = pre_layout c.args.architecture c.args.output.now c.args.facts.now in
     let before = c.args.relocations.now in
     let section = c.args.section.now in
-    let ds = c.rewrite_section.new.decisions in
+    let ds = decisions_in c.rewrite_section.new.decisions in
     let after = c.rewrite_section.new.relocations in
     let bytes = c.rewrite_section.new.section in
     let final = c.relocate_rewritten_section.new.section in (
@@ -30,7 +30,7 @@ returns-in-Err-relocate_rewritten_section-clause-cause c =
     let s = pre_layout c.args.architecture c.args.output.now c.args.facts.now in
     let before = c.args.relocations.now in
     let section = c.args.section.now in
-    let ds = c.rewrite_section.new.decisions in
+    let ds = decisions_in c.rewrite_section.new.decisions in
     let after = c.rewrite_section.new.relocations in
     let stopped = c.in-Err-relocate_rewritten_section in
     let rewritten = has_rewritten s c.args.groups.now before section ds after c.rewrite_section.new.section c.in_default.ensures.rewritten (search rules) (search rules) in (

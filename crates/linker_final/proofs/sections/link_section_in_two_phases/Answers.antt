@@ -1,11 +1,11 @@
 use Rattle.linker_final.proofs.SameDecisions.{has_rewritten, is_linked, listed_so}
-use Rattle.linker_final.proofs.Imports.{List, length, refl, sym, subst, rules, IsRejected, pre_layout, context, IsWritingCause, AreListed, HasRewritten, RewritingPhase, rewriting_phase, IsRejectedPlaced, ◌∷◌, [], linked_by, Takes, ℕ, map-id}
+use Rattle.linker_final.proofs.Imports.{List, length, refl, sym, subst, rules, pre_layout, context, IsWritingCause, AreListed, HasRewritten, RewritingPhase, rewriting_phase, IsRejectedPlaced, ◌∷◌, [], linked_by, Takes, ℕ}
+use Rattle.linker_final.specs.Imports.{decisions_in}
 use Rattle.linker_final.proofs.sections.link_section_in_two_phases.Goals as goal
 
 pub returns-in-Err-clause-cause : goal.returns-in-Err-clause-cause
 returns-in-Err-clause-cause c = (
-  subst (λ ds. IsRejected c.args.architecture c.args.output.now c.args.facts.now c.args.groups.now c.args.relocations.now c.args.section.now ds c.in-Err.error)
-      (map-id c.rewrite_section.new.decisions) c.in-Err.ensures.rejected,
+  c.in-Err.ensures.rejected,
   c.in-Err.ensures.entries,
   c.in-Err.ensures.section,
   refl,
@@ -18,18 +18,16 @@ returns-in-Err-rewrite_placed_section-clause-cause c =
     let second = context c.args.architecture c.args.phase c.args.output.now c.args.facts.now c.args.addresses.now c.args.symbols.now in
     let before = c.args.relocations.now in
     let section = c.args.section.now in
-    let ds = c.rewrite_section.new.decisions in
+    let ds = decisions_in c.rewrite_section.new.decisions in
     let between = c.rewrite_section.new.relocations in
     let bytes = c.rewrite_section.new.section in
     let stopped = c.in-Err-rewrite_placed_section in
     let made = has_rewritten first c.args.groups.now before section ds between bytes c.in_default.ensures.rewritten (search rules) (search rules) in
-    let rejected : IsRejectedPlaced second c.args.placed_groups.now between bytes c.rewrite_placed_section.new.decisions (length c.args.deleted.now) stopped.error =
-    subst (λ ds. IsRejectedPlaced second c.args.placed_groups.now between bytes ds (length c.args.deleted.now) stopped.error)
-    (map-id c.rewrite_placed_section.new.decisions) stopped.ensures.rejected in (
+    let rejected : IsRejectedPlaced second c.args.placed_groups.now between bytes (decisions_in c.rewrite_placed_section.new.decisions) (length c.args.deleted.now) stopped.error = stopped.ensures.rejected in (
       subst (λ xs. HasRewritten (rewriting_phase first c.args.groups.now before section ds c.rewrite_placed_section.new.relocations xs)) (sym stopped.ensures.section)
           (subst (λ xs. HasRewritten (rewriting_phase first c.args.groups.now before section ds xs bytes)) (sym stopped.ensures.entries) made),
-      subst (λ xs. IsRejectedPlaced second c.args.placed_groups.now c.rewrite_placed_section.new.relocations xs c.rewrite_placed_section.new.decisions (length c.args.deleted.now) stopped.error) (sym stopped.ensures.section)
-          (subst (λ xs. IsRejectedPlaced second c.args.placed_groups.now xs bytes c.rewrite_placed_section.new.decisions (length c.args.deleted.now) stopped.error) (sym stopped.ensures.entries) rejected),
+      subst (λ xs. IsRejectedPlaced second c.args.placed_groups.now c.rewrite_placed_section.new.relocations xs (decisions_in c.rewrite_placed_section.new.decisions) (length c.args.deleted.now) stopped.error) (sym stopped.ensures.section)
+          (subst (λ xs. IsRejectedPlaced second c.args.placed_groups.now xs bytes (decisions_in c.rewrite_placed_section.new.decisions) (length c.args.deleted.now) stopped.error) (sym stopped.ensures.entries) rejected),
     )
 
 pub returns-in-Ok-clause-linked : goal.returns-in-Ok-clause-linked
@@ -38,10 +36,10 @@ returns-in-Ok-clause-linked c =
     let second = context c.args.architecture c.args.phase c.args.output.now c.args.facts.now c.args.addresses.now c.args.symbols.now in
     let before = c.args.relocations.now in
     let section = c.args.section.now in
-    let ds = c.rewrite_section.new.decisions in
+    let ds = decisions_in c.rewrite_section.new.decisions in
     let between = c.rewrite_section.new.relocations in
     let bytes = c.rewrite_section.new.section in
-    let placed_ds = c.rewrite_placed_section.new.decisions in
+    let placed_ds = decisions_in c.rewrite_placed_section.new.decisions in
     let last = c.rewrite_placed_section.new.relocations in
     let rewritten = c.rewrite_placed_section.new.section in
     let placed = c.in_default-rewrite_placed_section.ensures in
@@ -76,10 +74,10 @@ returns-in-Err-relocate_rewritten_section-clause-cause c =
     let second = context c.args.architecture c.args.phase c.args.output.now c.args.facts.now c.args.addresses.now c.args.symbols.now in
     let before = c.args.relocations.now in
     let section = c.args.section.now in
-    let ds = c.rewrite_section.new.decisions in
+    let ds = decisions_in c.rewrite_section.new.decisions in
     let between = c.rewrite_section.new.relocations in
     let bytes = c.rewrite_section.new.section in
-    let placed_ds = c.rewrite_placed_section.new.decisions in
+    let placed_ds = decisions_in c.rewrite_placed_section.new.decisions in
     let last = c.rewrite_placed_section.new.relocations in
     let rewritten = c.rewrite_placed_section.new.section in
     let placed = c.in_default-rewrite_placed_section.ensures in

@@ -1,5 +1,6 @@
 use Rattle.linker_final.proofs.Imports.{refl, rules, replicate, context, OUTPUT}
 use Rattle.linker_final.proofs.SameDecisions.{has_rewritten}
+use Rattle.linker_final.specs.Imports.{decisions_in}
 use Rattle.linker_final.proofs.worked.is_rewritten.Goals as goal
 
 pub returns-in-Ok : goal.returns-in-Ok
@@ -7,7 +8,7 @@ returns-in-Ok c so =
     let known = c.args.known.now in
     let s = context known.architecture known.phase OUTPUT c.facts-facts.result known.addresses known.symbols.now in
     let kept = replicate 12 c.default.result in
-    let ds = c.rewrite_placed_section.new.decisions in
+    let ds = decisions_in c.rewrite_placed_section.new.decisions in
     let before = c.args.relocations.now in
     let section = c.args.section.now in
     let after = c.rewrite_placed_section.new.relocations in

@@ -1,6 +1,7 @@
-use Rattle.linker_final.proofs.Imports.{map-id, length, refl, subst, ◌∙◌, ◌/◌, AreRelocationsBy}
+use Rattle.std.proofs.Common.{refl, ◌∙◌}
 use Rattle.linker_final.proofs.OfCalls.{moved_with, packed_with, written_over}
 use Rattle.linker_final.proofs.Relaxed.{listed_deltas}
+use Rattle.linker_final.specs.Imports.{decisions_in}
 use Rattle.linker_final.proofs.worked.riscv64.Goals as goal
 
 pub returns : goal.returns
@@ -18,9 +19,9 @@ returns c so =
       relocations_after = before;
       rewritten = c.is_rewritten.new.section;
       is_rewritten = c.is_rewritten.ensures c.if-not-is_rewritten.false;
-      decisions = c.rewrite_global_pointer.new.decisions;
+      decisions = decisions_in c.rewrite_global_pointer.new.decisions;
       without_base = named;
-      by_pointer = subst (λ ds. AreRelocationsBy ds before named (length before / 24)) (map-id c.rewrite_global_pointer.new.decisions) c.in-Ok-eq1.ensures.rewritten.relocations;
+      by_pointer = c.in-Ok-eq1.ensures.rewritten.relocations;
       items = _;
       shapes = plan.shapes.items;
       kept = plan.kept.items;

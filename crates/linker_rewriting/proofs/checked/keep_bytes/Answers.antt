@@ -1,65 +1,73 @@
+use Rattle.linker_rewriting.specs.Numbers.{decision_in, number_of, is_kept, of_fate, IsKeptDecision, IsWrittenDecision}
 use Rattle.linker_rewriting.proofs.Imports.{CanRewrite, Kept, Rewritten, get_or, get_or-map, relaxation_rewrite, relocation_in, window_of_rewrite}
-use Rattle.std.proofs.Common.{◌≡◌, ◌<◌, ◌/◌, ◌∙◌, length, map, ap, sym, subst, arith}
+use Rattle.std.proofs.Common.{◌≡◌, ◌<◌, ◌/◌, ◌∙◌, length, map, take, ap, sym, subst, arith}
+use Rattle.std.specs.Prelude.{All}
 use Rattle.linker_rewriting.proofs.KeptBytes.{keeps_none, written_at, replaced, passed, unchanged_at}
 use Rattle.linker_rewriting.specs.Decisions.{CanBeMade, KeepsBytes, decision_at, window_number}
 use Rattle.linker_rewriting.proofs.checked.keep_bytes.Goals as goal
 
 pub loop-index-preserved : goal.loop-index-preserved
-loop-index-preserved g c =
+loop-index-preserved c =
     let a = c.args in
-    let f = g.D.AsDecision.decision in
-    let h = g.D.AsKeptDecision.bytes in
+    let f = decision_in in
+    let h = number_of in
     let k = c.loop-index.index in
     let now = c.loop-index.decisions in
-    let d = c.index-decisions-index.result in
+    let d = of_fate 0 in
     let x = c.from_choice.result in
     let choice = c.in-Rewritten.choice in
     let less : k < length a.relocations.now / 24 =
     (let t = c.loop-index-test.true in let e = c.relocations_len-index-end.ensures in omega arith) in
     let within : k < length now = (let n = c.requires.enough in let l = c.loop-index.auto.decisions in omega (arith, n, l, less)) in
-    let held : f (get_or now k d) ≡ c.as_decision.result = rw (← c.index-decisions-index.is) (sym c.as_decision.ensures) in
+    let held : f (get_or now k d) ≡ c.decision_in.result = sym (c.decision_in.ensures ∙ get_or-map f now k d Kept within) in
     let keeps : KeepsBytes (Rewritten choice) (h x) a.section.now (relocation_in a.relocations.now k).offset =
     c.from_choice.ensures.bytes ∙ (c.window_number.ensures
     ∙ ap (λ r. window_number (window_of_rewrite (relaxation_rewrite choice.kind)) a.section.now r.offset) c.relocation_in-offset.ensures) in
-    replaced f h g.D.AsKeptDecision.is_kept a.relocations.now a.section.now a.decisions.now now k x d c.loop-index.invariant within
+    replaced f h IsKeptDecision a.relocations.now a.section.now a.decisions.now now k x d c.loop-index.invariant within
     (c.from_choice.ensures.decision ∙ sym (held ∙ c.in-Rewritten.is))
     (subst (λ y. KeepsBytes y (h x) a.section.now (relocation_in a.relocations.now k).offset) (sym c.from_choice.ensures.decision) keeps)
     c.from_choice.ensures.form
 
 pub loop-index-preserved-in_default : goal.loop-index-preserved-in_default
-loop-index-preserved-in_default g c =
+loop-index-preserved-in_default c =
     let a = c.args in
-    let f = g.D.AsDecision.decision in
-    let h = g.D.AsKeptDecision.bytes in
-    let IsKept = g.D.AsKeptDecision.is_kept in
+    let f = decision_in in
+    let h = number_of in
+    let IsKept = IsKeptDecision in
     let k = c.loop-index.index in
     let now = c.loop-index.decisions in
-    let d = c.index-decisions-index.result in
+    let d = of_fate 0 in
     let less : k < length a.relocations.now / 24 =
     (let t = c.loop-index-test.true in let e = c.relocations_len-index-end.ensures in omega arith) in
     let within : k < length now = (let n = c.requires.enough in let l = c.loop-index.auto.decisions in omega (arith, n, l, less)) in
-    let held : f (get_or now k d) ≡ c.as_decision.result = rw (← c.index-decisions-index.is) (sym c.as_decision.ensures) in
+    let held : f (get_or now k d) ≡ c.decision_in.result = sym (c.decision_in.ensures ∙ get_or-map f now k d Kept within) in
     passed f h IsKept a.relocations.now a.section.now a.decisions.now now k d c.loop-index.invariant within
     (keeps_none (f (get_or now k d)) (h (get_or now k d)) a.section.now (relocation_in a.relocations.now k).offset
     (λ chosen e. c.in_default.not-Rewritten chosen (sym held ∙ e)))
-    (g.met.D.AsKeptDecision.keeps_written (get_or now k d)
-    (subst g.D.AsDecision.is_written (sym (unchanged_at f h IsKept a.relocations.now a.section.now a.decisions.now now k d c.loop-index.invariant))
-    (written_at g.D.AsDecision.is_written a.decisions.now (length a.relocations.now / 24) k d c.requires.form less c.requires.enough)))
+    (is_kept (get_or now k d)
+    (subst IsWrittenDecision (sym (unchanged_at f h IsKept a.relocations.now a.section.now a.decisions.now now k d c.loop-index.invariant))
+    (written_at IsWrittenDecision a.decisions.now (length a.relocations.now / 24) k d c.requires.form less c.requires.enough)))
 
 pub window_number-requires : goal.window_number-requires
-window_number-requires g c =
+window_number-requires c =
     let a = c.args in
-    let f = g.D.AsDecision.decision in
+    let f = decision_in in
     let k = c.loop-index.index in
     let now = c.loop-index.decisions in
-    let d = c.index-decisions-index.result in
+    let d = of_fate 0 in
     let choice = c.in-Rewritten.choice in
     let less : k < length a.relocations.now / 24 =
     (let t = c.loop-index-test.true in let e = c.relocations_len-index-end.ensures in omega arith) in
     let within : k < length now = (let n = c.requires.enough in let l = c.loop-index.auto.decisions in omega (arith, n, l, less)) in
-    let held : f (get_or now k d) ≡ c.as_decision.result = rw (← c.index-decisions-index.is) (sym c.as_decision.ensures) in
+    let held : f (get_or now k d) ≡ c.decision_in.result = sym (c.decision_in.ensures ∙ get_or-map f now k d Kept within) in
     let is : decision_at (map f a.decisions.now) k ≡ Rewritten choice =
     ap (λ ds. decision_at ds k) (sym c.loop-index.invariant.decisions)
     ∙ (get_or-map f now k d Kept within ∙ (held ∙ c.in-Rewritten.is)) in
     let can = subst (λ y. CanBeMade y a.section.now (relocation_in a.relocations.now k).offset) is (c.requires.made k less) in
     subst (λ r. CanRewrite (relaxation_rewrite choice.kind) a.section.now r.offset) (sym c.relocation_in-offset.ensures) (can.0)
+
+pub returns-clause-form : goal.returns-clause-form
+returns-clause-form c =
+    let end : c.loop-index.index ≡ length c.args.relocations.now / 24 =
+    (let t = c.loop-index-test.false in let e = c.relocations_len-index-end.ensures in let n = c.loop-index.auto.index-end in omega arith) in
+    subst (λ n. All IsKeptDecision (take n c.loop-index.decisions)) end c.loop-index.invariant.form

@@ -1,5 +1,6 @@
+use Rattle.linker_rewriting.specs.Numbers.{decision_in, number_of, IsKeptDecision}
 use Rattle.linker_rewriting.proofs.KeptBytes.{AreKeptTo}
 use Rattle.linker_rewriting.proofs.checked.keep_bytes.Given as goal
 
 abbrev pub invariant-loop-index : goal.invariant-loop-index
-invariant-loop-index g l = AreKeptTo g.D.AsDecision.decision g.D.AsKeptDecision.bytes g.D.AsKeptDecision.is_kept l.relocations l.section l.fn.decisions l.decisions l.index
+invariant-loop-index l = AreKeptTo decision_in number_of IsKeptDecision l.relocations l.section l.fn.decisions l.decisions l.index

@@ -1,4 +1,5 @@
 use Rattle.std.proofs.Common.{ℕ, ◌<◌, ◌≤◌, ◌/◌, length, map, ap, subst, arith}
+use Rattle.linker_rewriting.specs.Numbers.{decision_in}
 use Rattle.linker_rewriting.proofs.Places.{are_bounded, at_most, clear_at, covered_at}
 use Rattle.linker_rewriting.specs.Decisions.{IsCovered, start_at, end_at}
 use Rattle.linker_rewriting.specs.Inner.Places.{IsPlaceBeside}
@@ -10,15 +11,15 @@ no_end : (start end : ℕ) → start < end → end ≤ 0 → ⊥
 no_end start end some none = omega arith
 
 pub place_from-first-requires-clause-bounded : goal.place_from-first-requires-clause-bounded
-place_from-first-requires-clause-bounded g c =
+place_from-first-requires-clause-bounded c =
     let a = c.args in
-    are_bounded a.relocations.now a.section.now (map g.D.AsDecision.decision a.decisions.now)
+    are_bounded a.relocations.now a.section.now (map decision_in a.decisions.now)
     (length a.relocations.now / 24) (omega arith) c.requires.made
 
 pub returns-then-first-count : goal.returns-then-first-count
-returns-then-first-count g c n less covered =
+returns-then-first-count c n less covered =
     let a = c.args in
-    let ds = map g.D.AsDecision.decision a.decisions.now in
+    let ds = map decision_in a.decisions.now in
     let e = c.relocations_len-count.ensures in
     let end = c.if-first-count.true in
     let within = covered.within in
@@ -28,11 +29,11 @@ returns-then-first-count g c n less covered =
     no_end (start_at a.relocations.now ds covered.by) (end_at a.relocations.now ds covered.by) writes last
 
 pub loop-index-preserved-then-not-reaches : goal.loop-index-preserved-then-not-reaches
-loop-index-preserved-then-not-reaches g c =
+loop-index-preserved-then-not-reaches c =
     let a = c.args in
     let k = c.loop-index.index in
     let bytes = a.relocations.now in
-    let ds = map g.D.AsDecision.decision a.decisions.now in
+    let ds = map decision_in a.decisions.now in
     let limit = length bytes / 24 in
     let place = c.loop-index.place in
     let is = c.loop-index.invariant.place in
@@ -47,9 +48,9 @@ loop-index-preserved-then-not-reaches g c =
     }
 
 pub loop-index-preserved-then-is_taken : goal.loop-index-preserved-then-is_taken
-loop-index-preserved-then-is_taken g c =
+loop-index-preserved-then-is_taken c =
     let a = c.args in
-    let ds = map g.D.AsDecision.decision a.decisions.now in
+    let ds = map decision_in a.decisions.now in
     record {
       clear = below_more (λ n. IsCovered a.architecture a.relocations.now a.section.now ds (length a.relocations.now / 24) n → ⊥) c.loop-index.index
           c.loop-index.invariant.clear (λ covered. covered.untaken (c.is_taken.ensures.yes c.if-is_taken.true));
@@ -57,17 +58,17 @@ loop-index-preserved-then-is_taken g c =
     }
 
 pub place_beside-place-requires-clause-bounded : goal.place_beside-place-requires-clause-bounded
-place_beside-place-requires-clause-bounded g c =
+place_beside-place-requires-clause-bounded c =
     let a = c.args in
-    are_bounded a.relocations.now a.section.now (map g.D.AsDecision.decision a.decisions.now)
+    are_bounded a.relocations.now a.section.now (map decision_in a.decisions.now)
     (length a.relocations.now / 24) (omega arith) c.requires.made
 
 pub loop-index-preserved-then-place-count : goal.loop-index-preserved-then-place-count
-loop-index-preserved-then-place-count g c =
+loop-index-preserved-then-place-count c =
     let a = c.args in
     let k = c.loop-index.index in
     let bytes = a.relocations.now in
-    let ds = map g.D.AsDecision.decision a.decisions.now in
+    let ds = map decision_in a.decisions.now in
     let limit = length bytes / 24 in
     let place = c.place_beside-place.result in
     let beside = subst (λ r. IsPlaceBeside bytes ds limit k r.offset place) c.relocation_in-offset.ensures c.place_beside-place.ensures in
@@ -82,11 +83,11 @@ loop-index-preserved-then-place-count g c =
     }
 
 pub returns-then-is_covered : goal.returns-then-is_covered
-returns-then-is_covered g c =
+returns-then-is_covered c =
     let a = c.args in
     let k = c.loop-index.index in
     let bytes = a.relocations.now in
-    let ds = map g.D.AsDecision.decision a.decisions.now in
+    let ds = map decision_in a.decisions.now in
     let limit = length bytes / 24 in
     let place = c.place_beside-place.result in
     let beside = subst (λ r. IsPlaceBeside bytes ds limit k r.offset place) c.relocation_in-offset.ensures c.place_beside-place.ensures in
@@ -102,11 +103,11 @@ returns-then-is_covered g c =
     )
 
 pub loop-index-preserved : goal.loop-index-preserved
-loop-index-preserved g c =
+loop-index-preserved c =
     let a = c.args in
     let k = c.loop-index.index in
     let bytes = a.relocations.now in
-    let ds = map g.D.AsDecision.decision a.decisions.now in
+    let ds = map decision_in a.decisions.now in
     let limit = length bytes / 24 in
     let place = c.place_beside-place.result in
     let beside = subst (λ r. IsPlaceBeside bytes ds limit k r.offset place) c.relocation_in-offset.ensures c.place_beside-place.ensures in
@@ -119,7 +120,7 @@ loop-index-preserved g c =
     }
 
 pub returns : goal.returns
-returns g c n less =
+returns c n less =
     let t = c.loop-index-test.false in
     let e = c.relocations_len-count.ensures in
     c.loop-index.invariant.clear n (omega (arith, t, e, less))

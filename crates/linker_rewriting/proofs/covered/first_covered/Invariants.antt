@@ -1,10 +1,11 @@
 use Rattle.std.proofs.Common.{ℕ, ◌<◌, ◌/◌, length, map}
+use Rattle.linker_rewriting.specs.Numbers.{decision_in}
 use Rattle.linker_rewriting.specs.Decisions.{IsCovered}
 use Rattle.linker_rewriting.specs.Inner.Places.{IsPlace}
 use Rattle.linker_rewriting.proofs.covered.first_covered.Given as goal
 
 abbrev pub invariant-loop-index : goal.invariant-loop-index
-invariant-loop-index g l = record {
-  clear : (n : ℕ) → n < l.index → ¬ IsCovered l.architecture l.relocations l.section (map g.D.AsDecision.decision l.decisions) (length l.relocations / 24) n;
-  place : IsPlace l.relocations (map g.D.AsDecision.decision l.decisions) (length l.relocations / 24) l.place;
+invariant-loop-index l = record {
+  clear : (n : ℕ) → n < l.index → ¬ IsCovered l.architecture l.relocations l.section (map decision_in l.decisions) (length l.relocations / 24) n;
+  place : IsPlace l.relocations (map decision_in l.decisions) (length l.relocations / 24) l.place;
 }

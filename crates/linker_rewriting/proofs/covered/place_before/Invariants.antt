@@ -2,7 +2,7 @@ use Rattle.std.proofs.Common.{◌≤◌}
 use Rattle.linker_rewriting.proofs.covered.place_before.Given as goal
 
 abbrev pub invariant-loop-at : goal.invariant-loop-at
-invariant-loop-at g l = l.at ≤ l.from
+invariant-loop-at l = l.at ≤ l.from
 
 abbrev pub decreases-loop-at : goal.decreases-loop-at
-decreases-loop-at g l = l.at
+decreases-loop-at l = l.at

@@ -1,4 +1,5 @@
 use Rattle.std.proofs.Common.{◌≢◌, ℕ, ◌<◌, ◌≤◌, ◌/◌, length, map, ap, sym, subst, arith}
+use Rattle.linker_rewriting.specs.Numbers.{decision_in}
 use Rattle.linker_rewriting.proofs.Places.{above_window, below_window, no_more, no_window}
 use Rattle.linker_rewriting.specs.Decisions.{start_at, end_at}
 use Rattle.linker_rewriting.specs.Inner.Places.{IsWindow, AreAbove}
@@ -6,11 +7,11 @@ use Rattle.linker_rewriting.proofs.covered.place_from.Goals as goal
 use borrow.Author.Count.{below_more}
 
 pub loop-at-preserved-then-is_kept : goal.loop-at-preserved-then-is_kept
-loop-at-preserved-then-is_kept g c =
+loop-at-preserved-then-is_kept c =
     let a = c.args in
     let k = c.loop-at.at in
     let bytes = a.relocations.now in
-    let ds = map g.D.AsDecision.decision a.decisions.now in
+    let ds = map decision_in a.decisions.now in
     let none : IsWindow bytes ds k → ⊥ = no_window bytes ds k (c.is_kept.ensures c.if-is_kept.true) in
     record {
       below = below_more (λ n. IsWindow bytes ds n → end_at bytes ds n ≤ c.loop-at.below) k
@@ -23,11 +24,11 @@ no_bytes : (start end : ℕ) → end ≤ start → start < end → ⊥
 no_bytes start end none some = omega arith
 
 pub loop-at-preserved-then-end-start : goal.loop-at-preserved-then-end-start
-loop-at-preserved-then-end-start g c =
+loop-at-preserved-then-end-start c =
     let a = c.args in
     let k = c.loop-at.at in
     let bytes = a.relocations.now in
-    let ds = map g.D.AsDecision.decision a.decisions.now in
+    let ds = map decision_in a.decisions.now in
     let none : IsWindow bytes ds k → ⊥ =
     no_bytes (start_at bytes ds k) (end_at bytes ds k) (subst (λ x. x.1 ≤ x.0) c.span_at-start.ensures c.if-end-start.true) in
     record {
@@ -38,11 +39,11 @@ loop-at-preserved-then-end-start g c =
     }
 
 pub loop-at-preserved-then-at-index : goal.loop-at-preserved-then-at-index
-loop-at-preserved-then-at-index g c =
+loop-at-preserved-then-at-index c =
     let a = c.args in
     let k = c.loop-at.at in
     let bytes = a.relocations.now in
-    let ds = map g.D.AsDecision.decision a.decisions.now in
+    let ds = map decision_in a.decisions.now in
     let less : k < length bytes / 24 =
     (let t = c.loop-at-test.true in let e = c.relocations_len-len.ensures in omega (arith, t, e)) in
     record {
@@ -54,11 +55,11 @@ loop-at-preserved-then-at-index g c =
     }
 
 pub returns-then-offset-end : goal.returns-then-offset-end
-returns-then-offset-end g c =
+returns-then-offset-end c =
     let a = c.args in
     let k = c.loop-at.at in
     let bytes = a.relocations.now in
-    let ds = map g.D.AsDecision.decision a.decisions.now in
+    let ds = map decision_in a.decisions.now in
     let some : IsWindow bytes ds k =
     subst (λ x. x.0 < x.1) c.span_at-start.ensures c.if-end-start.false in
     record {
@@ -76,11 +77,11 @@ returns-then-offset-end g c =
     }
 
 pub loop-at-preserved : goal.loop-at-preserved
-loop-at-preserved g c =
+loop-at-preserved c =
     let a = c.args in
     let k = c.loop-at.at in
     let bytes = a.relocations.now in
-    let ds = map g.D.AsDecision.decision a.decisions.now in
+    let ds = map decision_in a.decisions.now in
     let less : k < length bytes / 24 =
     (let t = c.loop-at-test.true in let e = c.relocations_len-len.ensures in omega (arith, t, e)) in
     record {
@@ -93,7 +94,7 @@ loop-at-preserved g c =
     }
 
 pub returns : goal.returns
-returns g c =
+returns c =
     let t = c.loop-at-test.false in
     let e = c.relocations_len-len.ensures in
     record {

@@ -1,11 +1,12 @@
 use Rattle.std.proofs.Common.{◌≤◌, map, sym, subst, arith}
+use Rattle.linker_rewriting.specs.Numbers.{decision_in}
 use Rattle.linker_rewriting.specs.Decisions.{decision_at, end_by}
 use Rattle.linker_rewriting.proofs.covered.span_at.Goals as goal
 
 pub span_of-requires : goal.span_of-requires
-span_of-requires g c =
+span_of-requires c =
     let a = c.args in
-    let ds = map g.D.AsDecision.decision a.decisions.now in
+    let ds = map decision_in a.decisions.now in
     let same = c.relocation_in.ensures in
     subst (λ d. end_by d c.relocation_in.result.offset ≤ 0xffffffffffffffff) (sym c.decision_in-decision.ensures)
     (subst (λ r. end_by (decision_at ds a.index) r.offset ≤ 0xffffffffffffffff) (sym same)

@@ -1,4 +1,5 @@
 use Rattle.std.proofs.Common.{◌≡◌, ◌<◌, ◌/◌, List, length, map, sym, subst, arith, rules}
+use Rattle.linker_rewriting.specs.Numbers.{decision_in}
 use Rattle.linker_rewriting.proofs.Imports.{Decision}
 use Rattle.linker_rewriting.proofs.GlobalPointer.{turned_next}
 use Rattle.linker_rewriting.specs.Decisions.{decision_at}
@@ -6,9 +7,9 @@ use Rattle.linker_rewriting.specs.GlobalPointer.{relocation_by}
 use Rattle.linker_rewriting.proofs.global_pointer.turn_all.Goals as goal
 
 pub loop-index-preserved : goal.loop-index-preserved
-loop-index-preserved g c =
+loop-index-preserved c =
     let a = c.args in
-    let f = g.D.AsDecision.decision in
+    let f = decision_in in
     let ds : List Decision = map f a.decisions.now in
     let k = c.loop-index.index in
     let r = c.relocation_in.result in

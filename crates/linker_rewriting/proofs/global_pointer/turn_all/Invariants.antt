@@ -1,10 +1,11 @@
 use Rattle.std.proofs.Common.{◌/◌, length, map}
+use Rattle.linker_rewriting.specs.Numbers.{decision_in}
 use Rattle.linker_rewriting.proofs.GlobalPointer.{AreTurned}
 use Rattle.linker_rewriting.specs.Decisions.{decision_at}
 use Rattle.linker_rewriting.specs.GlobalPointer.{relocation_by}
 use Rattle.linker_rewriting.proofs.global_pointer.turn_all.Given as goal
 
 abbrev pub invariant-loop-index : goal.invariant-loop-index
-invariant-loop-index g l =
-    AreTurned (λ n r. relocation_by (decision_at (map g.D.AsDecision.decision l.decisions) n) r)
+invariant-loop-index l =
+    AreTurned (λ n r. relocation_by (decision_at (map decision_in l.decisions) n) r)
     l.fn.relocations l.relocations (length l.fn.relocations / 24) l.index

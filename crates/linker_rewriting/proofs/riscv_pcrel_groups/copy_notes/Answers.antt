@@ -1,4 +1,5 @@
 use Rattle.std.proofs.Common.{◌≡◌, ◌<◌, ◌+◌, ◌/◌, ◌∙◌, length, map, slice_set, ap, sym, subst, arith, false}
+use Rattle.linker_rewriting.specs.Numbers.{decision_in}
 use Rattle.linker_rewriting.proofs.Imports.{drop-set-lt, length-map, map-set}
 use Rattle.linker_rewriting.specs.Facts.{context_of}
 use Rattle.linker_rewriting.specs.RiscVPcrelGroups.{IsInLabel}
@@ -7,10 +8,10 @@ use Rattle.linker_rewriting.proofs.LabelGroups.{AreCopied, more_copied, same_cop
 use Rattle.linker_rewriting.proofs.riscv_pcrel_groups.copy_notes.Goals as goal
 
 pub loop-index-preserved : goal.loop-index-preserved
-loop-index-preserved g c =
+loop-index-preserved c =
     let a = c.args in
     let k = c.loop-index.index in
-    let f = g.D.AsDecision.decision in
+    let f = decision_in in
     let xs = c.loop-index.decisions in
     let ds = map f xs in
     let first = map f a.decisions.now in
@@ -32,10 +33,10 @@ loop-index-preserved g c =
     }
 
 pub loop-index-preserved-then-not-is_in_label : goal.loop-index-preserved-then-not-is_in_label
-loop-index-preserved-then-not-is_in_label g c =
+loop-index-preserved-then-not-is_in_label c =
     let a = c.args in
     let k = c.loop-index.index in
-    let f = g.D.AsDecision.decision in
+    let f = decision_in in
     record {
       copied = same_copied (context_of a.context.now) a.relocations.now a.section.now
           (map f a.decisions.now) (map f c.loop-index.decisions) k

@@ -1,4 +1,5 @@
 use Rattle.std.proofs.Common.{◌≡◌, ◌<◌, ◌+◌, ◌/◌, ◌∙◌, length, map, slice_set, ap, sym, subst, arith, Some, None}
+use Rattle.linker_rewriting.specs.Numbers.{decision_in}
 use Rattle.linker_rewriting.proofs.Imports.{Consumed, IfSome, drop-set-lt, length-map, map-set}
 use Rattle.linker_rewriting.specs.Facts.{context_of}
 use Rattle.linker_rewriting.specs.RiscVPcrelGroups.{IsLacking}
@@ -7,12 +8,12 @@ use Rattle.linker_rewriting.proofs.LabelGroups.{more_noted, same_noted}
 use Rattle.linker_rewriting.proofs.riscv_pcrel_groups.note_highs.Goals as goal
 
 pub loop-index-preserved : goal.loop-index-preserved
-loop-index-preserved g c =
+loop-index-preserved c =
     let a = c.args in
     let k = c.loop-index.index in
     let within : c.in-Some.high < length a.relocations.now / 24 =
     subst (λ x. IfSome x (λ high. high < length a.relocations.now / 24)) c.in-Some.is c.lacking.ensures.within in
-    let f = g.D.AsDecision.decision in
+    let f = decision_in in
     let xs = c.loop-index.decisions in
     let ds = map f xs in
     let s = context_of a.context.now in
@@ -32,12 +33,12 @@ loop-index-preserved g c =
     }
 
 pub loop-index-preserved-in_default : goal.loop-index-preserved-in_default
-loop-index-preserved-in_default g c =
+loop-index-preserved-in_default c =
     let a = c.args in
     let k = c.loop-index.index in
     record {
       noted = same_noted (context_of a.context.now) a.relocations.now a.section.now
-          (map g.D.AsDecision.decision c.loop-index.decisions) k c.loop-index.invariant.noted
+          (map decision_in c.loop-index.decisions) k c.loop-index.invariant.noted
           (subst (λ r. IsLacking (context_of a.context.now) a.relocations.now a.section.now k r None) c.relocation_in.ensures
           (subst (IsLacking (context_of a.context.now) a.relocations.now a.section.now k c.relocation_in.result) c.in_default.is
           (c.lacking.ensures.lacking c.requires.ascending)));

@@ -1,11 +1,12 @@
 use Rattle.std.proofs.Common.{◌≡◌, ◌/◌, length, map, drop}
+use Rattle.linker_rewriting.specs.Numbers.{decision_in}
 use Rattle.linker_rewriting.specs.Facts.{context_of}
 use Rattle.linker_rewriting.specs.Notes.{AreHighsNoted}
 use Rattle.linker_rewriting.proofs.riscv_pcrel_groups.note_highs.Given as goal
 
 abbrev pub invariant-loop-index : goal.invariant-loop-index
-invariant-loop-index g l = record {
+invariant-loop-index l = record {
   noted : AreHighsNoted (context_of l.context)
-      l.relocations l.section (map g.D.AsDecision.decision l.decisions) l.index;
+      l.relocations l.section (map decision_in l.decisions) l.index;
   others : drop (length l.relocations / 24) l.decisions ≡ drop (length l.relocations / 24) l.fn.decisions;
 }

@@ -1,10 +1,11 @@
 use Rattle.std.proofs.Common.{◌∙◌, map, sym}
+use Rattle.linker_rewriting.specs.Numbers.{decision_in}
 use Rattle.linker_rewriting.specs.Facts.{context_of}
 use Rattle.linker_rewriting.proofs.LabelGroups.{no_labels}
 use Rattle.linker_rewriting.proofs.riscv_pcrel_groups.note_labels.Goals as goal
 
 pub returns-then-not-has_labels-clause-noted : goal.returns-then-not-has_labels-clause-noted
-returns-then-not-has_labels-clause-noted g c =
+returns-then-not-has_labels-clause-noted c =
     let a = c.args in
-    no_labels (context_of a.context.now) a.relocations.now a.section.now (map g.D.AsDecision.decision a.decisions.now)
+    no_labels (context_of a.context.now) a.relocations.now a.section.now (map decision_in a.decisions.now)
     (sym c.has_labels.ensures ∙ c.if-not-has_labels.true)

@@ -1,4 +1,5 @@
 use Rattle.std.proofs.Common.{◌≡◌, ℕ, ◌<◌, ◌≤◌, ◌+◌, ◌/◌, ◌∙◌, length, map, take, slice_set, ap, sym, subst, arith, Some, None, inl, inr}
+use Rattle.linker_rewriting.specs.Numbers.{decision_in, IsWrittenDecision}
 use Rattle.linker_rewriting.proofs.Imports.{All, Decision, IfNone, IfSome, Kept, drop-set-lt, length-map, map-set, written_more}
 use Rattle.linker_rewriting.proofs.Deciding.{AreDecidedTo, IsGrown, all_decided, bytes_apart, more_decided, more_kept, overlapping}
 use Rattle.linker_rewriting.specs.Decisions.{IsEndAfter, IsMadeBy}
@@ -9,8 +10,8 @@ pub returns-in_default-clause-rejected : goal.returns-in_default-clause-rejected
 returns-in_default-clause-rejected g c =
     let a = c.args in
     let k = c.loop-index.index in
-    let enough : length a.relocations.now / 24 ≤ length (map g.D.AsDecision.decision c.loop-index.decisions) =
-    (let e = c.relocations_len-index-end.ensures in let f = c.requires.enough in let l = c.loop-index.auto.decisions in let m = length-map c.loop-index.decisions g.D.AsDecision.decision in omega (arith, e, f, l, m)) in
+    let enough : length a.relocations.now / 24 ≤ length (map decision_in c.loop-index.decisions) =
+    (let e = c.relocations_len-index-end.ensures in let f = c.requires.enough in let l = c.loop-index.auto.decisions in let m = length-map c.loop-index.decisions decision_in in omega (arith, e, f, l, m)) in
     let less : k < length a.relocations.now / 24 =
     (let t = c.loop-index-test.true in let e = c.relocations_len-index-end.ensures in omega (arith, t, e)) in (
       less,
@@ -29,15 +30,15 @@ returns-in_default-end_after-clause-rejected g c =
     let d = c.in-Some.decision in
     let end = c.loop-index.end in
     let are = c.loop-index.invariant.decided in
-    let enough : length a.relocations.now / 24 ≤ length (map g.D.AsDecision.decision c.loop-index.decisions) =
-    (let e = c.relocations_len-index-end.ensures in let f = c.requires.enough in let l = c.loop-index.auto.decisions in let m = length-map c.loop-index.decisions g.D.AsDecision.decision in omega (arith, e, f, l, m)) in
+    let enough : length a.relocations.now / 24 ≤ length (map decision_in c.loop-index.decisions) =
+    (let e = c.relocations_len-index-end.ensures in let f = c.requires.enough in let l = c.loop-index.auto.decisions in let m = length-map c.loop-index.decisions decision_in in omega (arith, e, f, l, m)) in
     let less : k < length a.relocations.now / 24 =
     (let t = c.loop-index-test.true in let e = c.relocations_len-index-end.ensures in omega (arith, t, e)) in
     let made = subst (λ x. IfSome x (IsMadeBy Decides S E a.relocations.now a.section.now k c.loop-index.is_taken)) c.in-Some.is c.decide.ensures.decided in
     inl (
       less,
       λ n below. (are.decided n below).decides,
-      overlapping Decides S E a.relocations.now (map g.D.AsDecision.decision c.loop-index.decisions) end k c.loop-index.is_taken d
+      overlapping Decides S E a.relocations.now (map decision_in c.loop-index.decisions) end k c.loop-index.is_taken d
           made.decides are.taken_is
           (subst (λ x. IsEndAfter (S d x.offset) (E d x.offset) end None) c.relocation_in-relocation.ensures
           (subst (λ x. IsEndAfter (x.0) (x.1) end None) c.span-start.ensures
@@ -64,7 +65,7 @@ loop-index-preserved g c =
     subst (λ x. IsEndAfter (S d x.offset) (E d x.offset) c.loop-index.end (Some end)) c.relocation_in-relocation.ensures
     (subst (λ x. IsEndAfter (x.0) (x.1) c.loop-index.end (Some end)) c.span-start.ensures
     (subst (IsEndAfter (c.span-start.result.0) (c.span-start.result.1) c.loop-index.end) c.in-Some-end_after.is c.end_after.ensures)) in
-    let f = g.D.AsDecision.decision in
+    let f = decision_in in
     let xs = c.loop-index.decisions in
     let ds = map f xs in
     let x = c.from_decision-in-loop-index.result in
@@ -78,7 +79,7 @@ loop-index-preserved g c =
           c.loop-index.invariant.decided within_map
           (subst (λ x. IfSome x (Each k c.loop-index.is_taken)) c.in-Some.is c.decide.ensures.decided)
           grow));
-      form = written_more g.D.AsDecision.is_written xs k x within c.from_decision-in-loop-index.ensures.form c.loop-index.invariant.form;
+      form = written_more IsWrittenDecision xs k x within c.from_decision-in-loop-index.ensures.form c.loop-index.invariant.form;
       others = drop-set-lt len xs k x less ∙ c.loop-index.invariant.others;
     }
 
@@ -94,7 +95,7 @@ loop-index-preserved-then-leaves g c =
     let less : k < len = (let t = c.loop-index-test.true in let e = c.relocations_len-index-end.ensures in omega (arith, t, e)) in
     let within : k < length c.loop-index.decisions =
     (let t = c.loop-index-test.true in let e = c.relocations_len-index-end.ensures in let f = c.requires.enough in let l = c.loop-index.auto.decisions in omega (arith, t, e, f, l)) in
-    let f = g.D.AsDecision.decision in
+    let f = decision_in in
     let xs = c.loop-index.decisions in
     let ds = map f xs in
     let x = c.from_decision.result in
@@ -106,7 +107,7 @@ loop-index-preserved-then-leaves g c =
           (more_kept Each IsNoted S E a.relocations.now ds c.loop-index.end c.loop-index.is_taken len k
           c.loop-index.invariant.decided within_map (c.leaves.ensures.not_taken c.if-leaves.true)
           (c.leaves.ensures.left c.if-leaves.true a.section.now) (c.leaves.ensures.none c.if-leaves.true));
-      form = written_more g.D.AsDecision.is_written xs k x within c.from_decision.ensures.form c.loop-index.invariant.form;
+      form = written_more IsWrittenDecision xs k x within c.from_decision.ensures.form c.loop-index.invariant.form;
       others = drop-set-lt len xs k x less ∙ c.loop-index.invariant.others;
     }
 
@@ -129,7 +130,7 @@ pub returns-in-None-clause-form : goal.returns-in-None-clause-form
 returns-in-None-clause-form g c =
     let end : c.loop-index.index ≡ length c.args.relocations.now / 24 =
     (let t = c.loop-index-test.false in let e = c.relocations_len-index-end.ensures in let n = c.loop-index.auto.index-end in omega (arith, t, e, n)) in
-    subst (λ n. All g.D.AsDecision.is_written (take n c.loop-index.decisions)) end c.loop-index.invariant.form
+    subst (λ n. All IsWrittenDecision (take n c.loop-index.decisions)) end c.loop-index.invariant.form
 
 pub first_covered-requires-clause-made : goal.first_covered-requires-clause-made
 first_covered-requires-clause-made g c =
@@ -144,7 +145,7 @@ first_covered-requires-clause-apart g c =
     let e = c.relocations_len-index-end.ensures in
     let are = c.loop-index.invariant.decided in
     bytes_apart (g.R.Rule.decides a.rule.now a.relocations.now a.section.now) g.R.Rule.start g.R.Rule.end a.relocations.now a.section.now
-    (map g.D.AsDecision.decision c.loop-index.decisions) (length a.relocations.now / 24)
+    (map decision_in c.loop-index.decisions) (length a.relocations.now / 24)
     (λ n less. are.decided n (omega (arith, t, e, less)))
     (λ i j ij less some_i some_j. are.apart i j ij (omega (arith, t, e, less)) some_i some_j)
 
@@ -152,8 +153,8 @@ pub returns-in-Some-first_covered-clause-rejected : goal.returns-in-Some-first_c
 returns-in-Some-first_covered-clause-rejected g c =
     let t = c.loop-index-test.false in
     let e = c.relocations_len-index-end.ensures in
-    let enough : length c.args.relocations.now / 24 ≤ length (map g.D.AsDecision.decision c.loop-index.decisions) =
-    (let f = c.requires.enough in let l = c.loop-index.auto.decisions in let m = length-map c.loop-index.decisions g.D.AsDecision.decision in omega (arith, e, f, l, m)) in
+    let enough : length c.args.relocations.now / 24 ≤ length (map decision_in c.loop-index.decisions) =
+    (let f = c.requires.enough in let l = c.loop-index.auto.decisions in let m = length-map c.loop-index.decisions decision_in in omega (arith, e, f, l, m)) in
     inr (
       λ n less. (c.loop-index.invariant.decided.decided n (omega (arith, t, e, less))).decides,
       c.in-Some-first_covered.ensures,
@@ -167,6 +168,6 @@ returns-in-None-clause-decided g c =
     let e = c.relocations_len-index-end.ensures in
     let are = c.loop-index.invariant.decided in
     all_decided (g.R.Rule.decides a.rule.now a.relocations.now a.section.now) g.R.Rule.start g.R.Rule.end a.architecture a.relocations.now a.section.now
-    (map g.D.AsDecision.decision c.loop-index.decisions)
+    (map decision_in c.loop-index.decisions)
     (λ n less. are.decided n (omega (arith, t, e, less)))
     (λ i j ij less some_i some_j. are.apart i j ij (omega (arith, t, e, less)) some_i some_j) c.in-None.ensures

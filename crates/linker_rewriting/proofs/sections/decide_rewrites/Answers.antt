@@ -1,5 +1,6 @@
 use Rattle.std.proofs.Common.{◌∙◌, ◌/◌, length, map, sym, subst}
 use Rattle.std.proofs.lemmas.Result.{err_from_is_err_and}
+use Rattle.linker_rewriting.specs.Numbers.{decision_in}
 use Rattle.linker_rewriting.specs.Decisions.{AreAllDecided, IsDecidedAfter, start_by, end_by}
 use Rattle.linker_rewriting.specs.Facts.{pre_layout}
 use Rattle.linker_rewriting.proofs.Noted.{means_unsurveyed}
@@ -7,7 +8,7 @@ use Rattle.linker_rewriting.proofs.Whole.{whole}
 use Rattle.linker_rewriting.proofs.sections.decide_rewrites.Goals as goal
 
 pub returns : goal.returns
-returns g c =
+returns c =
     let a = c.args in
     let s = pre_layout a.architecture a.output.now a.symbols.now in
     let k = c.keep_bytes.ensures in
@@ -17,7 +18,7 @@ returns g c =
       decided = record {
         decided = e.decided;
         groups = whole s a.kept.now a.relocations.now a.section.now
-            (map g.D.AsDecision.decision c.keep_bytes.new.decisions) (length a.relocations.now / 24) e.decided;
+            (map decision_in c.keep_bytes.new.decisions) (length a.relocations.now / 24) e.decided;
         fit = λ n less. (e.made n less, e.matches n less, k.bytes n less);
         apart = e.apart;
         clear = e.clear;
@@ -29,8 +30,8 @@ returns g c =
     }
 
 pub returns-in_err-changes-clause-surveyed : goal.returns-in_err-changes-clause-surveyed
-returns-in_err-changes-clause-surveyed g c =
+returns-in_err-changes-clause-surveyed c =
     let a = c.args in
     let p = err_from_is_err_and c.from_residual.result c.from_residual.ensures.1 in
     rw (p.1, p.2) (means_unsurveyed (pre_layout a.architecture a.output.now a.symbols.now) a.kept.now a.relocations.now a.section.now
-    (map g.D.AsDecision.decision c.decide_section.new.decisions) _ c.in_err-changes.ensures.rejected)
+    (map decision_in c.decide_section.new.decisions) _ c.in_err-changes.ensures.rejected)

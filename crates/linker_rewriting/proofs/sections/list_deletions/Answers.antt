@@ -1,44 +1,44 @@
-use Rattle.std.proofs.Common.{◌≡◌, ◌<◌, ◌≤◌, ◌/◌, ◌∙◌, ◌+◌, length, map, slice_set, ap, sym, subst, arith, Some}
+use Rattle.std.proofs.Common.{◌≡◌, ◌<◌, ◌≤◌, ◌/◌, ◌∙◌, ◌+◌, length, map, ap, sym, subst, arith, Some}
+use Rattle.linker_rewriting.specs.Numbers.{decision_in}
 use Rattle.linker_rewriting.proofs.Imports.{drop-set-lt, drop_more_same, length-map, map-set, relocation_in}
-use Rattle.linker_rewriting.specs.Decisions.{decision_at, deleted_of, deleted_end}
+use Rattle.linker_rewriting.specs.Decisions.{decision_at, deleted_of, deleted_end, pair_of, pairs_in}
+use Rattle.linker_rewriting.specs.declared.decisions.Deletion.{Deletion}
 use Rattle.linker_rewriting.proofs.Listing.{AreListed, nothing_more, one_more, no_room}
 use Rattle.linker_rewriting.proofs.Untouched.{none_deleted}
 use Rattle.linker_rewriting.proofs.sections.list_deletions.Goals as goal
 
 pub returns-then-deleted-len-clause-short : goal.returns-then-deleted-len-clause-short
-returns-then-deleted-len-clause-short g c =
+returns-then-deleted-len-clause-short c =
     let a = c.args in
-    let f = g.D.AsDecision.decision in
-    let h = g.L.AsDeletion.deletion in
+    let f = decision_in in
     let k = c.loop-index.index in
     let less : k < length a.relocations.now / 24 =
     (let t = c.loop-index-test.true in let e = c.relocations_len-index-end.ensures in omega arith) in
     let at = sym c.decision_in.ensures in
-    let full : length (map h c.loop-index.deleted) ≤ c.loop-index.len =
-    (let e = length-map c.loop-index.deleted h in let n = c.if-deleted-len.true in omega (arith, e, n)) in
-    let same = length-map a.deleted.now h in
-    let short = no_room a.relocations.now (map f a.decisions.now) (map h a.deleted.now) (map h c.loop-index.deleted) c.loop-index.len k
+    let full : length (pairs_in c.loop-index.deleted) ≤ c.loop-index.len =
+    (let e = length-map c.loop-index.deleted pair_of in let n = c.if-deleted-len.true in omega (arith, e, n)) in
+    let same = length-map a.deleted.now pair_of in
+    let short = no_room a.relocations.now (map f a.decisions.now) (pairs_in a.deleted.now) (pairs_in c.loop-index.deleted) c.loop-index.len k
     (length a.relocations.now / 24) c.in-Some.bytes c.loop-index.invariant.listed full less
     (ap deleted_of at ∙ sym c.deleted.ensures ∙ c.in-Some.is) in
     omega (arith, same, short)
 
 pub loop-index-preserved-in_default : goal.loop-index-preserved-in_default
-loop-index-preserved-in_default g c =
+loop-index-preserved-in_default c =
     let a = c.args in
-    let f = g.D.AsDecision.decision in
-    let h = g.L.AsDeletion.deletion in
+    let f = decision_in in
     let k = c.loop-index.index in
     let at = sym c.decision_in.ensures in
     record {
-      listed = nothing_more a.relocations.now (map f a.decisions.now) (map h a.deleted.now) (map h c.loop-index.deleted) c.loop-index.len k
+      listed = nothing_more a.relocations.now (map f a.decisions.now) (pairs_in a.deleted.now) (pairs_in c.loop-index.deleted) c.loop-index.len k
           c.loop-index.invariant.listed (ap deleted_of at ∙ sym c.deleted.ensures ∙ c.in_default.is);
       left = c.loop-index.invariant.left;
     }
 
-pub overflow_add-relocation : goal.overflow_add-relocation
-overflow_add-relocation g c =
+pub overflow_add-deleted : goal.overflow_add-deleted
+overflow_add-deleted c =
     let a = c.args in
-    let f = g.D.AsDecision.decision in
+    let f = decision_in in
     let k = c.loop-index.index in
     let less : k < length a.relocations.now / 24 =
     (let t = c.loop-index-test.true in let e = c.relocations_len-index-end.ensures in omega arith) in
@@ -51,29 +51,28 @@ overflow_add-relocation g c =
     omega (arith, fit, same, e)
 
 pub loop-index-preserved : goal.loop-index-preserved
-loop-index-preserved g c =
+loop-index-preserved c =
     let a = c.args in
-    let f = g.D.AsDecision.decision in
-    let h = g.L.AsDeletion.deletion in
+    let f = decision_in in
     let k = c.loop-index.index in
     let len = c.loop-index.len in
     let now = c.loop-index.deleted in
     let at = sym c.decision_in.ensures in
     let is : deleted_of (decision_at (map f a.decisions.now) k) ≡ Some c.in-Some.bytes =
     ap deleted_of at ∙ sym c.deleted.ensures ∙ c.in-Some.is in
-    let room : len < length (map h now) = (let e = length-map now h in let n = c.if-deleted-len.false in omega (arith, e, n)) in
-    let y = c.from_deletion.result in
+    let room : len < length (pairs_in now) = (let e = length-map now pair_of in let n = c.if-deleted-len.false in omega (arith, e, n)) in
+    let y : Deletion = record { offset = c.relocation_in-relocation.result.offset + c.in-Some.bytes.start; bytes = c.in-Some.bytes.count } in
     record {
-      listed = subst (λ l. AreListed a.relocations.now (map f a.decisions.now) (map h a.deleted.now) l (len + 1) (k + 1))
-          (sym (map-set h now len y ∙ ap (slice_set (map h now) len) c.from_deletion.ensures))
-          (one_more a.relocations.now (map f a.decisions.now) (map h a.deleted.now) (map h now) len k c.in-Some.bytes
+      listed = subst (λ l. AreListed a.relocations.now (map f a.decisions.now) (pairs_in a.deleted.now) l (len + 1) (k + 1))
+          (sym (map-set pair_of now len y))
+          (one_more a.relocations.now (map f a.decisions.now) (pairs_in a.deleted.now) (pairs_in now) len k c.in-Some.bytes
           c.relocation_in-relocation.result.offset c.loop-index.invariant.listed is room
           (ap (λ r. r.offset) c.relocation_in-relocation.ensures));
       left = drop-set-lt (len + 1) now len y (omega arith) ∙ drop_more_same now a.deleted.now len c.loop-index.invariant.left;
     }
 
 pub returns-then-not-changes-clause-listed : goal.returns-then-not-changes-clause-listed
-returns-then-not-changes-clause-listed g c =
+returns-then-not-changes-clause-listed c =
     let a = c.args in
-    sym (none_deleted a.relocations.now (map g.D.AsDecision.decision a.decisions.now)
+    sym (none_deleted a.relocations.now (map decision_in a.decisions.now)
     (length a.relocations.now / 24) (c.requires.left c.if-not-changes.true))

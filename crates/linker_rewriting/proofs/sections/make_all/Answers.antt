@@ -1,4 +1,5 @@
 use Rattle.std.proofs.Common.{◌≡◌, ◌<◌, ◌/◌, ◌∙◌, length, map, ap, refl, sym, subst, arith, rules}
+use Rattle.linker_rewriting.specs.Numbers.{decision_in}
 use Rattle.linker_rewriting.proofs.Imports.{relocation_in}
 use Rattle.linker_rewriting.specs.Decisions.{CanBeMade}
 use Rattle.linker_rewriting.specs.Rewritten.{section_after, relocation_after, IsDone}
@@ -6,7 +7,7 @@ use Rattle.linker_rewriting.proofs.Making.{made_next, kept_next, can_next, windo
 use Rattle.linker_rewriting.proofs.sections.make_all.Goals as goal
 
 pub loop-index-preserved : goal.loop-index-preserved
-loop-index-preserved g c =
+loop-index-preserved c =
     let a = c.args in
     let r = c.relocation_in-relocation.result in
     let limit = length a.relocations.now / 24 in
@@ -15,7 +16,7 @@ loop-index-preserved g c =
     let is = c.decision_in-decision.ensures in
     let same_len : length c.loop-index.relocations ≡ length a.relocations.now =
     c.loop-index.invariant.same_entries_len in
-    made_next (map g.D.AsDecision.decision a.decisions.now) a.relocations.now c.loop-index.relocations
+    made_next (map decision_in a.decisions.now) a.relocations.now c.loop-index.relocations
     c.set_relocation.new.relocations a.section.now c.loop-index.section c.make.new.section limit c.loop-index.index
     r c.make.new.relocation c.loop-index.invariant less
     c.requires.made (windows_apart _ _ _ c.requires.apart) c.relocation_in-relocation.ensures
@@ -26,35 +27,35 @@ loop-index-preserved g c =
     (search rules)
 
 pub loop-index-preserved-in-Kept : goal.loop-index-preserved-in-Kept
-loop-index-preserved-in-Kept g c =
+loop-index-preserved-in-Kept c =
     let a = c.args in
     let limit = length a.relocations.now / 24 in
     let less : c.loop-index.index < limit =
     (let t = c.loop-index-test.true in let e = c.relocations_len-index-end.ensures in omega arith) in
-    kept_next (map g.D.AsDecision.decision a.decisions.now) a.relocations.now c.loop-index.relocations a.section.now
+    kept_next (map decision_in a.decisions.now) a.relocations.now c.loop-index.relocations a.section.now
     c.loop-index.section limit c.loop-index.index c.loop-index.invariant less c.requires.made
     (windows_apart _ _ _ c.requires.apart) (sym c.decision_in-decision.ensures ∙ c.in-Kept.is)
 
 pub make-requires : goal.make-requires
-make-requires g c =
+make-requires c =
     let a = c.args in
     let r = c.relocation_in-relocation.result in
     let limit = length a.relocations.now / 24 in
     let less : c.loop-index.index < limit =
     (let t = c.loop-index-test.true in let e = c.relocations_len-index-end.ensures in omega arith) in
     subst (λ y. CanBeMade y c.loop-index.section r.offset) (sym c.decision_in-decision.ensures)
-    (can_next (map g.D.AsDecision.decision a.decisions.now) a.relocations.now c.loop-index.relocations a.section.now
+    (can_next (map decision_in a.decisions.now) a.relocations.now c.loop-index.relocations a.section.now
     c.loop-index.section limit c.loop-index.index r c.loop-index.invariant less
     c.requires.made c.relocation_in-relocation.ensures)
 
 pub returns-clause-others : goal.returns-clause-others
-returns-clause-others g c =
+returns-clause-others c =
     let t = c.loop-index-test.false in
     let e = c.relocations_len-index-end.ensures in
     λ at outside. c.loop-index.invariant.others at (λ n less. outside n (omega arith))
 
 pub returns-then-not-changes : goal.returns-then-not-changes
-returns-then-not-changes g c =
+returns-then-not-changes c =
     let entries = c.args.relocations.now in
     let section = c.args.section.now in
     let kept = c.requires.left c.if-not-changes.true in

@@ -1,8 +1,9 @@
 use Rattle.std.proofs.Common.{◌/◌, length, map}
+use Rattle.linker_rewriting.specs.Numbers.{decision_in}
 use Rattle.linker_rewriting.proofs.Making.{AreMade}
 use Rattle.linker_rewriting.proofs.sections.make_all.Given as goal
 
 abbrev pub invariant-loop-index : goal.invariant-loop-index
-invariant-loop-index g l =
-    AreMade (map g.D.AsDecision.decision l.decisions) l.fn.relocations l.relocations l.fn.section l.section
+invariant-loop-index l =
+    AreMade (map decision_in l.decisions) l.fn.relocations l.relocations l.fn.section l.section
     (length l.fn.relocations / 24) l.index

@@ -1,5 +1,6 @@
 use Rattle.std.proofs.Common.{◌/◌, length, map, rules}
 use Rattle.std.proofs.lemmas.Result.{err_from_is_err_and}
+use Rattle.linker_rewriting.specs.Numbers.{decision_in}
 use Rattle.linker_rewriting.specs.Decisions.{IsDecidedAfter, IsRejectedIn, IsRejectedWith}
 use Rattle.linker_rewriting.specs.Facts.{context_of}
 use Rattle.linker_rewriting.proofs.Listing.{all_fit}
@@ -9,16 +10,16 @@ use Rattle.linker_rewriting.proofs.Whole.{whole, labels_whole}
 use Rattle.linker_rewriting.proofs.sections.rewrite_placed_section.Goals as goal
 
 pub list_deletions-requires-clause-fit : goal.list_deletions-requires-clause-fit
-list_deletions-requires-clause-fit g c =
+list_deletions-requires-clause-fit c =
     let a = c.args in
-    all_fit a.relocations.now a.section.now (map g.D.AsDecision.decision c.decide_section.new.decisions)
+    all_fit a.relocations.now a.section.now (map decision_in c.decide_section.new.decisions)
     (length a.relocations.now / 24) _ c.in_ok-changes.ensures.decided.made (search rules)
 
 pub returns : goal.returns
-returns g c =
+returns c =
     let a = c.args in
     let s = context_of a.context.now in
-    let ds = map g.D.AsDecision.decision c.decide_section.new.decisions in
+    let ds = map decision_in c.decide_section.new.decisions in
     let e = c.in_ok-changes.ensures.decided in
     let m = c.make_all.ensures in
     let l = c.in-Some-list_deletions.ensures in
@@ -46,11 +47,11 @@ returns g c =
     }
 
 pub returns-in_err-changes-clause-rejected : goal.returns-in_err-changes-clause-rejected
-returns-in_err-changes-clause-rejected g c =
+returns-in_err-changes-clause-rejected c =
     let a = c.args in
     let p = err_from_is_err_and c.from_residual.result c.from_residual.ensures.1 in
     let s = context_of a.context.now in
-    let ds = map g.D.AsDecision.decision c.decide_section.new.decisions in
+    let ds = map decision_in c.decide_section.new.decisions in
     let IsError = IsRejectedIn s a.kept.now a.relocations.now a.section.now ds in
     let Decides = IsDecidedAfter s a.kept.now a.relocations.now a.section.now in
     rw (p.1, p.2) (rejected_first s.symbols s.values a.relocations.now
@@ -58,9 +59,9 @@ returns-in_err-changes-clause-rejected g c =
     (rejected_with Decides a.relocations.now ds (length a.deleted.now) IsError _ c.in_err-changes.ensures.rejected))
 
 pub returns-in_err-changes-clause-surveyed : goal.returns-in_err-changes-clause-surveyed
-returns-in_err-changes-clause-surveyed g c =
+returns-in_err-changes-clause-surveyed c =
     let a = c.args in
     let p = err_from_is_err_and c.from_residual.result c.from_residual.ensures.1 in
     let s = context_of a.context.now in
-    let ds = map g.D.AsDecision.decision c.decide_section.new.decisions in
+    let ds = map decision_in c.decide_section.new.decisions in
     rw (p.1, p.2) (means_unsurveyed s a.kept.now a.relocations.now a.section.now ds _ c.in_err-changes.ensures.rejected)

@@ -1,11 +1,12 @@
-use Rattle.linker_runs.proofs.Imports.{ℕ, List, ◌∙◌, ap, map, arith, subst, inl, MatchOption, Item, Relocation, Makes}
+use Rattle.linker_runs.proofs.Imports.{ℕ, List, ◌∙◌, ◌++◌, ◌∷◌, [], map_push, ap, map, arith, subst, inl, MatchOption, Item, Relocation, Makes}
+use Rattle.linker_runs.specs.Relaxing.{item_of, items_in}
 use Rattle.linker_runs.proofs.Alignments.{ahead_on}
 use Rattle.linker_runs.proofs.Made.{made_none, made_less, made_more}
 use Rattle.linker_runs.proofs.items.section_items.Goals as goal
 use Rattle.linker_runs.proofs.items.section_items.Goals.{in-Some-item_at+in_ok-push+in_ok-push-2, in_default-item_at}
 
 pub loop-index-init : goal.loop-index-init
-loop-index-init g c = record { made = made_none _ _ _ c.new-items.ensures.items c.new-makers.ensures.items; next = inl (omega arith) }
+loop-index-init g c = record { made = made_none _ _ _ (ap items_in c.new-items.ensures.items) c.new-makers.ensures.items; next = inl (omega arith) }
 
 pub loop-index-preserved : goal.loop-index-preserved
 loop-index-preserved g c =
@@ -16,7 +17,9 @@ loop-index-preserved g c =
     record {
       made = elim c.match-item_at.branch [
         | in-Some-item_at+in_ok-push+in_ok-push-2 w ↦
-            made_more makes i _ c.match-item_at.items.items _ c.match-item_at.makers.items w.in-Some-item_at.item before (ap (λ v. v.items) w.items-is ∙ w.in_ok-push.ensures.items)
+            made_more makes i _ (items_in c.match-item_at.items.items) _ c.match-item_at.makers.items w.in-Some-item_at.item before
+            (ap (λ v. items_in v.items) w.items-is ∙ ap items_in w.in_ok-push.ensures.items ∙ map_push item_of _ w.from_item.result
+            ∙ ap (λ item. items_in c.loop-index.items.items ++ item ∷ []) w.from_item.ensures.item)
             (ap (λ v. v.items) w.makers-is ∙ w.in_ok-push-2.ensures.items)
             (subst (λ made. MatchOption made ((item : Item) → ¬ makes i item) (makes i)) w.in-Some-item_at.is c.item_at.ensures)
         | in_default-item_at w ↦

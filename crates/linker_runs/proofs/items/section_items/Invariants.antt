@@ -1,4 +1,5 @@
 use Rattle.linker_runs.proofs.Imports.{map, MayBeAhead, AreMade, Makes}
+use Rattle.linker_runs.specs.Relaxing.{items_in}
 use Rattle.linker_runs.proofs.items.section_items.Given as goal
 
 -- the items so far are those of the relocations so far
@@ -6,6 +7,6 @@ abbrev pub invariant-loop-index : goal.invariant-loop-index
 invariant-loop-index g l =
     let rs = map g.R.AsRelocation.relocation l.relocations in
     record {
-      made : AreMade (Makes l.machine l.section l.base rs) l.index l.items.items l.makers.items;
+      made : AreMade (Makes l.machine l.section l.base rs) l.index (items_in l.items.items) l.makers.items;
       next : MayBeAhead l.machine rs l.index l.next;
     }

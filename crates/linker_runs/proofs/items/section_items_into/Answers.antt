@@ -1,18 +1,19 @@
 use Rattle.linker_runs.proofs.Imports.{ℕ, inl, List, map, arith, subst, sym, MatchOption, Item, Relocation, Makes}
+use Rattle.linker_runs.specs.Relaxing.{item_of, HasKind}
 use Rattle.linker_runs.proofs.Alignments.{ahead_on}
 use Rattle.linker_runs.proofs.Made.{put_none, put_less, put_more}
 use Rattle.linker_runs.proofs.items.section_items_into.Goals as goal
 use Rattle.linker_runs.proofs.items.section_items_into.Goals.{in-Some-item_at, in_default-item_at}
 
 pub loop-index-init : goal.loop-index-init
-loop-index-init g c = record { put = put_none g.I.AsItem.item g.I.AsItem.is_written _ c.args.out.now c.args.makers.now; next = inl (omega arith) }
+loop-index-init g c = record { put = put_none item_of HasKind _ c.args.out.now c.args.makers.now; next = inl (omega arith) }
 
 pub loop-index-preserved : goal.loop-index-preserved
 loop-index-preserved g c =
     let rs : List Relocation = map g.R.AsRelocation.relocation c.args.relocations.now in
     let makes : ℕ → Item → Type 0 = Makes c.args.machine c.args.section.now c.args.base rs in
-    let f = g.I.AsItem.item in
-    let form = g.I.AsItem.is_written in
+    let f = item_of in
+    let form = HasKind in
     let i = c.loop-index.index in
     let n = c.loop-index.count in
     let before = c.args.out.now in

@@ -1,4 +1,5 @@
 use Rattle.linker_runs.proofs.Imports.{map, MayBeAhead, Makes}
+use Rattle.linker_runs.specs.Relaxing.{item_of, HasKind}
 use Rattle.linker_runs.proofs.Made.{ArePut}
 use Rattle.linker_runs.proofs.items.section_items_into.Given as goal
 
@@ -6,6 +7,6 @@ abbrev pub invariant-loop-index : goal.invariant-loop-index
 invariant-loop-index g l =
     let rs = map g.R.AsRelocation.relocation l.relocations in
     record {
-      put : ArePut g.I.AsItem.item g.I.AsItem.is_written (Makes l.machine l.section l.base rs) l.index l.count l.out l.initial.out l.makers l.initial.makers;
+      put : ArePut item_of HasKind (Makes l.machine l.section l.base rs) l.index l.count l.out l.initial.out l.makers l.initial.makers;
       next : MayBeAhead l.machine rs l.index l.next;
     }

@@ -2,7 +2,7 @@ use Rattle.linker_runs.proofs.Imports.{subst, deletions_of, AreMoved, section_of
 use Rattle.linker_runs.proofs.packing.pack_run.Goals as goal
 
 pub returns-clause-moved : goal.returns-clause-moved
-returns-clause-moved g c valid =
+returns-clause-moved c valid =
     let s = section_of c.args.section.now c.args.base (deletions_of c.args.deltas.now) c.args.start in
     let begun = c.position_of-begin.ensures.position valid in
     subst (λ items. AreMoved c.args.machine s items c.args.relocations.now c.move_relocations.new.relocations) c.new-list.ensures

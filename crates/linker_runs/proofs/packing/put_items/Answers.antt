@@ -3,7 +3,7 @@ use Rattle.linker_runs.proofs.PackedItems.{writable_excludes, written_start, wri
 use Rattle.linker_runs.proofs.packing.put_items.Goals as goal
 
 pub loop-index-init : goal.loop-index-init
-loop-index-init g c = record {
+loop-index-init c = record {
   rises = λ ready some. omega (arith, c.requires.begin, (ready 0 some).inside.0);
   position = λ valid begun ready. begun;
   put = λ valid begun room ready filled.
@@ -11,33 +11,33 @@ loop-index-init g c = record {
 }
 
 pub returns-then-not-is_inside : goal.returns-then-not-is_inside
-returns-then-not-is_inside g c = λ valid begun room ready stays filled.
+returns-then-not-is_inside c = λ valid begun room ready stays filled.
     let ds = deletions_of c.args.deltas.now in
     absurd (both_ways c.is_inside.result c.if-not-is_inside.true ((c.is_inside.ensures ds c.args.start).1 (subst (IsInside (section_of c.args.section.now c.args.base ds c.args.start)) (sym c.at-item.ensures) (ready c.loop-index.index (omega arith)).inside)))
 
 pub piece_of-requires-clause-at : goal.piece_of-requires-clause-at
-piece_of-requires-clause-at g c = c.position_from-at.ensures.offset ∙ c.offset.ensures
+piece_of-requires-clause-at c = c.position_from-at.ensures.offset ∙ c.offset.ensures
 
 pub piece_of-requires-clause-end : goal.piece_of-requires-clause-end
-piece_of-requires-clause-end g c =
+piece_of-requires-clause-end c =
     let within = ((c.is_inside.ensures [] 0).0 c.if-not-is_inside.false).1 in
     omega (arith, c.position_from-past.ensures.offset, c.saturating_add.ensures, c.offset-in-loop-index.ensures, c.len.ensures, within, c.requires.small)
 
 pub piece_of-requires-clause-from : goal.piece_of-requires-clause-from
-piece_of-requires-clause-from g c = ((c.is_inside.ensures [] 0).0 c.if-not-is_inside.false).0
+piece_of-requires-clause-from c = ((c.is_inside.ensures [] 0).0 c.if-not-is_inside.false).0
 
 pub piece_of-requires-clause-to : goal.piece_of-requires-clause-to
-piece_of-requires-clause-to g c = ((c.is_inside.ensures [] 0).0 c.if-not-is_inside.false).1
+piece_of-requires-clause-to c = ((c.is_inside.ensures [] 0).0 c.if-not-is_inside.false).1
 
 pub returns-in-Err : goal.returns-in-Err
-returns-in-Err g c = λ valid begun room ready stays filled.
+returns-in-Err c = λ valid begun room ready stays filled.
     let s = section_of c.args.section.now c.args.base (deletions_of c.args.deltas.now) c.args.start in
     let position = c.position_from-at.ensures.position valid (c.loop-index.invariant.position valid begun ready) (omega (arith, c.loop-index.invariant.rises ready (omega arith), (ap offset_of c.at-item.ensures), c.offset.ensures)) in
     let rejected = subst (λ it. (is_fixed it ≡ false) × IsUnwritable c.args.machine s it c.in-Err._error) c.at-item.ensures (c.in-Err.ensures.rejected valid position (c.position_from-past.ensures.position valid position (omega (arith, c.position_from-at.ensures.offset, c.offset.ensures, c.saturating_add.ensures, c.offset-in-loop-index.ensures)))) in
     absurd (writable_excludes c.args.machine s (item_at c.args.items.now c.loop-index.index) c.in-Err._error ((ready c.loop-index.index (omega arith)).writable rejected.0) rejected.1)
 
 pub loop-index-preserved : goal.loop-index-preserved
-loop-index-preserved g c =
+loop-index-preserved c =
     let ds = deletions_of c.args.deltas.now in
     let s = section_of c.args.section.now c.args.base ds c.args.start in
     let items = c.args.items.now in
@@ -65,7 +65,7 @@ loop-index-preserved g c =
     }
 
 pub returns : goal.returns
-returns g c = λ valid begun room ready stays filled.
+returns c = λ valid begun room ready stays filled.
     let s = section_of c.args.section.now c.args.base (deletions_of c.args.deltas.now) c.args.start in
     let room' = c.loop-index.auto.packed ∙ room in
     written_end c.args.machine s c.args.items.now c.loop-index.index c.loop-index.packed (omega arith) room' (record { gaps = λ i within. (ready i within).gap; end = stays }) (c.loop-index.invariant.put valid begun room' ready filled)

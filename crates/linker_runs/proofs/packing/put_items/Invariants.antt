@@ -3,7 +3,7 @@ use Rattle.linker_runs.proofs.packing.put_items.Given as goal
 
 -- the walk isn't past the next item, and the items so far are written
 abbrev pub invariant-loop-index : goal.invariant-loop-index
-invariant-loop-index g l = record {
+invariant-loop-index l = record {
   rises : AreReady l.machine (section_of l.section l.base (deletions_of l.deltas) l.start) l.items (length l.items)
       → l.index < length l.items → l.at.input_offset ≤ offset_of (item_at l.items l.index);
   position : AreValidDeltas l.deltas → IsPosition l.deltas l.begin

@@ -3,7 +3,7 @@ use Rattle.linker_runs.proofs.PackedItems.{cause_of, gap_below, gap_next, apart_
 use Rattle.linker_runs.proofs.packing.test_items.Goals as goal
 
 pub loop-index-init : goal.loop-index-init
-loop-index-init g c = record {
+loop-index-init c = record {
   inside = λ i below. absurd (omega arith);
   stands = λ ds start. c.requires.begin;
   position = λ valid begun. begun;
@@ -11,7 +11,7 @@ loop-index-init g c = record {
 }
 
 pub returns-then-not-is_apart-clause-err : goal.returns-then-not-is_apart-clause-err
-returns-then-not-is_apart-clause-err g c = λ valid begun.
+returns-then-not-is_apart-clause-err c = λ valid begun.
     let ds = deletions_of c.args.deltas.now in
     let s = section_of c.args.section.now c.args.base ds c.args.start in
     let items = c.args.items.now in
@@ -24,7 +24,7 @@ returns-then-not-is_apart-clause-err g c = λ valid begun.
     }
 
 pub returns-then-not-is_inside-clause-err : goal.returns-then-not-is_inside-clause-err
-returns-then-not-is_inside-clause-err g c = λ valid begun.
+returns-then-not-is_inside-clause-err c = λ valid begun.
     let ds = deletions_of c.args.deltas.now in
     let s = section_of c.args.section.now c.args.base ds c.args.start in
     let items = c.args.items.now in
@@ -38,7 +38,7 @@ returns-then-not-is_inside-clause-err g c = λ valid begun.
     }
 
 pub stay_whole-requires : goal.stay_whole-requires
-stay_whole-requires g c =
+stay_whole-requires c =
     let ds = deletions_of c.args.deltas.now in
     let s = section_of c.args.section.now c.args.base ds c.args.start in
     let items = c.args.items.now in
@@ -52,7 +52,7 @@ stay_whole-requires g c =
     up
 
 pub returns-then-not-stay_whole-clause-err : goal.returns-then-not-stay_whole-clause-err
-returns-then-not-stay_whole-clause-err g c = λ valid begun.
+returns-then-not-stay_whole-clause-err c = λ valid begun.
     let ds = deletions_of c.args.deltas.now in
     let s = section_of c.args.section.now c.args.base ds c.args.start in
     let items = c.args.items.now in
@@ -70,21 +70,21 @@ returns-then-not-stay_whole-clause-err g c = λ valid begun.
     }
 
 pub piece_of-requires-clause-at : goal.piece_of-requires-clause-at
-piece_of-requires-clause-at g c = c.position_from-at.ensures.offset ∙ c.offset.ensures
+piece_of-requires-clause-at c = c.position_from-at.ensures.offset ∙ c.offset.ensures
 
 pub piece_of-requires-clause-end : goal.piece_of-requires-clause-end
-piece_of-requires-clause-end g c =
+piece_of-requires-clause-end c =
     let within = ((c.is_inside.ensures [] 0).0 c.if-not-is_inside.false).1 in
     omega (arith, c.position_from-past.ensures.offset, c.saturating_add.ensures, c.offset-in-loop-index.ensures, c.len.ensures, within, c.requires.small)
 
 pub piece_of-requires-clause-from : goal.piece_of-requires-clause-from
-piece_of-requires-clause-from g c = ((c.is_inside.ensures [] 0).0 c.if-not-is_inside.false).0
+piece_of-requires-clause-from c = ((c.is_inside.ensures [] 0).0 c.if-not-is_inside.false).0
 
 pub piece_of-requires-clause-to : goal.piece_of-requires-clause-to
-piece_of-requires-clause-to g c = ((c.is_inside.ensures [] 0).0 c.if-not-is_inside.false).1
+piece_of-requires-clause-to c = ((c.is_inside.ensures [] 0).0 c.if-not-is_inside.false).1
 
 pub returns-in-Err-clause-err : goal.returns-in-Err-clause-err
-returns-in-Err-clause-err g c = λ valid begun.
+returns-in-Err-clause-err c = λ valid begun.
     let ds = deletions_of c.args.deltas.now in
     let s = section_of c.args.section.now c.args.base ds c.args.start in
     let items = c.args.items.now in
@@ -108,7 +108,7 @@ returns-in-Err-clause-err g c = λ valid begun.
     }
 
 pub loop-index-preserved : goal.loop-index-preserved
-loop-index-preserved g c =
+loop-index-preserved c =
     let ds = deletions_of c.args.deltas.now in
     let s = section_of c.args.section.now c.args.base ds c.args.start in
     let items = c.args.items.now in
@@ -145,11 +145,11 @@ last_below base end bytes items zero low inside = low
 last_below base end bytes items (suc n) low inside = inside n (omega arith)
 
 pub stay_whole-requires-2 : goal.stay_whole-requires-2
-stay_whole-requires-2 g c =
+stay_whole-requires-2 c =
     omega (arith, last_below c.args.base (c.args.base + length c.args.section.now) c.args.section.now c.args.items.now c.loop-index.index (omega arith) c.loop-index.invariant.inside, c.loop-index.invariant.stands [] 0, c.position_from-end.ensures.offset)
 
 pub returns-then-stay_whole-clause-ok : goal.returns-then-stay_whole-clause-ok
-returns-then-stay_whole-clause-ok g c = λ valid begun.
+returns-then-stay_whole-clause-ok c = λ valid begun.
     let ds = deletions_of c.args.deltas.now in
     let s = section_of c.args.section.now c.args.base ds c.args.start in
     let items = c.args.items.now in
@@ -161,7 +161,7 @@ returns-then-stay_whole-clause-ok g c = λ valid begun.
     )
 
 pub returns-else-stay_whole-clause-err : goal.returns-else-stay_whole-clause-err
-returns-else-stay_whole-clause-err g c = λ valid begun.
+returns-else-stay_whole-clause-err c = λ valid begun.
     let ds = deletions_of c.args.deltas.now in
     let s = section_of c.args.section.now c.args.base ds c.args.start in
     let items = c.args.items.now in

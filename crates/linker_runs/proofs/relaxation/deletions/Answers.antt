@@ -4,10 +4,10 @@ use Rattle.linker_runs.proofs.relaxation.deletions.Goals as goal
 use Rattle.linker_runs.proofs.relaxation.deletions.Goals.{then-kept-index+in_ok-push, else-kept-index}
 
 pub loop-index-init : goal.loop-index-init
-loop-index-init g c = c.in_ok-raw.ensures.items ∙ sym (deletions_none c.new-list.result c.args.kept.now)
+loop-index-init c = c.in_ok-raw.ensures.items ∙ sym (deletions_none c.new-list.result c.args.kept.now)
 
 pub loop-index-preserved : goal.loop-index-preserved
-loop-index-preserved g c =
+loop-index-preserved c =
     let items = c.new-list.result in
     let kept = c.args.kept.now in
     let i = c.loop-index.index in
@@ -26,4 +26,4 @@ loop-index-preserved g c =
     ]
 
 pub new-requires : goal.new-requires
-new-requires g c = subst IsValid (sym (c.deref.ensures.value ∙ c.loop-index.invariant)) (deletions_valid c.args.start c.new-list.result c.args.kept.now (subst (AreInOrder c.args.start) (sym c.new-list.ensures) c.requires.items) c.loop-index.index (omega arith))
+new-requires c = subst IsValid (sym (c.deref.ensures.value ∙ c.loop-index.invariant)) (deletions_valid c.args.start c.new-list.result c.args.kept.now (subst (AreInOrder c.args.start) (sym c.new-list.ensures) c.requires.items) c.loop-index.index (omega arith))

@@ -2,7 +2,7 @@ use Rattle.linker_runs.proofs.Imports.{arith, rules, with_items_is}
 use Rattle.linker_runs.proofs.relaxation.relax.Goals as goal
 
 pub returns-clause-relaxed : goal.returns-clause-relaxed
-returns-clause-relaxed g c =
+returns-clause-relaxed c =
     let new = c.relax_into.new in
     rw (
       with_items_is c.in_ok-shapes.shapes new.shapes (search (rules, arith)),

@@ -31,7 +31,7 @@ swept start items shapes freed are few greatest laid = record {
 }
 
 pub returns : goal.returns
-returns g c =
+returns c =
     let start = c.args.start in
     let items = c.new-list.result in
     let are : AreItems start items = subst (AreItems start) (sym c.new-list.ensures) c.requires.items in
@@ -61,7 +61,7 @@ returns g c =
     })
 
 pub keep-requires-clause-freed : goal.keep-requires-clause-freed
-keep-requires-clause-freed g c =
+keep-requires-clause-freed c =
     let start = c.args.start in
     let items = c.new-list.result in
     elim c.if-not-settle.branch [

@@ -5,7 +5,7 @@ use Rattle.linker_base.specs.Deltas.{deletion_of, RecordsDeletions}
 use Rattle.linker_runs.specs.Relaxing.{offset_of, len_of, item_at, AreInOrder}
 use Rattle.linker_runs.specs.Deleting.{deletions_before}
 use Rattle.linker_runs.proofs.Deletions.{deletions_none, deletions_valid}
-use Rattle.linker_utils_c.specs.Relaxing.{item_of, items_in}
+use Rattle.linker_runs.specs.Relaxing.{item_of, items_in}
 use Rattle.linker_utils_c.proofs.RunItems.{no_numbers, item_in, offset_in, len_in, run_next, run_same, run_sum, run_listed, run_none}
 use Rattle.linker_utils_c.proofs.relaxing.write_deltas.Goals as goal
 use Rattle.linker_utils_c.proofs.relaxing.write_deltas.Goals.{then-stay-from, else-stay-from}

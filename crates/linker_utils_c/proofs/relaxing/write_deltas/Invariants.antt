@@ -4,7 +4,7 @@ use Rattle.linker_base.specs.Deletions.{bytes_of}
 use Rattle.linker_base.specs.Deltas.{RecordsDeletions}
 use Rattle.linker_runs.specs.Relaxing.{AreInOrder}
 use Rattle.linker_runs.specs.Deleting.{deletions_before}
-use Rattle.linker_utils_c.specs.Relaxing.{items_in}
+use Rattle.linker_runs.specs.Relaxing.{items_in}
 use Rattle.linker_utils_c.proofs.relaxing.write_deltas.Given as goal
 
 abbrev pub invariant-loop-index : goal.invariant-loop-index

@@ -3,7 +3,7 @@
 
 use super::{aligned, site};
 use linker_utils::runs::Machine::{self, LoongArch64};
-use linker_utils::runs::{self, Item, ItemsError, Relocation, SectionItems, are_items, shapes};
+use linker_utils::runs::{self, ItemNumbers, ItemsError, Relocation, SectionItems, are_items, shapes};
 use linker_utils::section::Section;
 
 /// RV64.
@@ -30,11 +30,16 @@ fn of_symbol(offset: u64, r_type: u32, addend: i64) -> Relocation {
 
 /// Requires these items of a section at the offset 0x100 of the run, each of the relocation at its
 /// place.
-fn expect_items(machine: Machine, section: &[u8], relocations: &[Relocation], expected: &[Item]) {
+fn expect_items(
+    machine: Machine,
+    section: &[u8],
+    relocations: &[Relocation],
+    expected: &[ItemNumbers],
+) {
     let made = section_items(machine, section, 0x100, relocations).unwrap();
     assert_eq!(made.items, expected);
     for (item, &maker) in made.items.iter().zip(&made.makers) {
-        assert_eq!(item.offset(), 0x100 + relocations[maker].offset);
+        assert_eq!(item.offset, 0x100 + relocations[maker].offset);
     }
 }
 

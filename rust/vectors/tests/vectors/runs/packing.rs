@@ -6,7 +6,7 @@ use linker_utils::relaxation::RelaxDelta;
 use linker_utils::runs::shapes::fixed;
 use linker_utils::runs::shapes::loongarch64::{CALL36, PCALA};
 use linker_utils::runs::shapes::riscv64::{CALL, TAIL_C};
-use linker_utils::runs::{Item, ItemError, Machine, RejectedItem, Run, are_items, pack_run};
+use linker_utils::runs::{ItemError, ItemNumbers, Machine, RejectedItem, Run, are_items, pack_run};
 use linker_utils::runs::{packed_run_len, relax};
 use linker_utils::section::Section;
 
@@ -14,7 +14,7 @@ use linker_utils::section::Section;
 fn expect(
     machine: Machine,
     section: &[u8],
-    items: &[Item],
+    items: &[ItemNumbers],
     deltas: &[RelaxDelta],
     expected: Result<(), RejectedItem>,
     bytes: &[u8],
@@ -33,13 +33,13 @@ fn expect(
 fn expect_rejected(
     machine: Machine,
     section: &[u8],
-    items: &[Item],
-    item: Item,
+    items: &[ItemNumbers],
+    item: ItemNumbers,
     deltas: &[RelaxDelta],
     error: ItemError,
 ) {
-    let is_before = |other: &&Item| other.offset() + other.len() <= item.offset();
-    let mut items: Vec<Item> = items.iter().filter(is_before).copied().collect();
+    let is_before = |other: &&ItemNumbers| other.offset + u64::from(other.len) <= item.offset;
+    let mut items: Vec<ItemNumbers> = items.iter().filter(is_before).copied().collect();
     let rejected = RejectedItem { index: items.len(), error };
     items.push(item);
     let len = packed_run_len(0x100, section.len(), deltas);
@@ -65,7 +65,7 @@ const RISC_V: [u8; 44] = [
 
 /// The items of that section at the input offset 0x100 of a run that loses 8 bytes before it. `far`
 /// goes to the address 0x40000000.
-fn riscv_items() -> [Item; 5] {
+fn riscv_items() -> [ItemNumbers; 5] {
     [
         site(0x10, 0, fixed(0)),
         site(0x100, 0x12a, CALL),
@@ -94,7 +94,7 @@ const LOONGARCH: [u8; 68] = [
 ];
 
 /// The items of that section, as for RISC-V. `data` is at the address 0x40000808.
-fn loongarch_items() -> [Item; 7] {
+fn loongarch_items() -> [ItemNumbers; 7] {
     [
         site(0x10, 0, fixed(0)),
         site(0x100, 0x140, CALL36),

@@ -2,7 +2,8 @@
 //! Random runs compared with a model, which lays a run out byte for byte and tries every choice.
 
 use super::aligned;
-use linker_utils::runs::{Alignment, Item, Plan, Shape, Shapes, Site, are_items, relax};
+use linker_utils::runs::{are_items, relax};
+use linker_utils::runs::{Alignment, Item, ItemNumbers, Plan, Shape, Shapes, Site};
 
 /// Numbers that only look random (Knuth's linear congruential generator MMIX).
 struct Random {
@@ -23,26 +24,26 @@ fn random_shape(random: &mut Random, kept: u32, least: u64) -> Shape {
     Shape { kept, max_backward: reach, max_forward: reach, granularity: 2 }
 }
 
-fn random_site(random: &mut Random, offset: u64) -> Item {
+fn random_site(random: &mut Random, offset: u64) -> ItemNumbers {
     let first = random_shape(random, 2, 0);
     let short = [first, random_shape(random, 4, first.max_forward)];
     let count = 1 + random.below(2) as u8;
-    Item::Site(Site {
+    ItemNumbers::from_item(Item::Site(Site {
         offset,
         len: 8,
         target: 2 * random.below(65),
         shapes: Shapes { short, count, longest: 8 },
-    })
+    }))
 }
 
-fn random_alignment(random: &mut Random, offset: u64) -> Item {
+fn random_alignment(random: &mut Random, offset: u64) -> ItemNumbers {
     let power = 2 << random.below(5);
     let most = if random.below(4) == 0 { Some(2 * random.below(8)) } else { None };
     aligned(offset, power - 2, u64::from(power), most)
 }
 
 /// Up to eight items.
-fn random_run(random: &mut Random, has_alignments: bool) -> Vec<Item> {
+fn random_run(random: &mut Random, has_alignments: bool) -> Vec<ItemNumbers> {
     let mut items = Vec::new();
     let mut offset = 0;
     for _ in 0..1 + random.below(8) {
@@ -53,26 +54,26 @@ fn random_run(random: &mut Random, has_alignments: bool) -> Vec<Item> {
             random_site(random, offset)
         };
         items.push(item);
-        offset += item.len();
+        offset += u64::from(item.len);
     }
     items
 }
 
 /// How many bytes of the deletions lie below an input offset, where so many of each item stay.
-fn deleted_below(items: &[Item], kept: &[u64], offset: u64) -> u64 {
-    let deleted = |(item, &kept): (&Item, &u64)| {
-        (item.len() - kept).min(offset.saturating_sub(item.offset() + kept))
+fn deleted_below(items: &[ItemNumbers], kept: &[u64], offset: u64) -> u64 {
+    let deleted = |(item, &kept): (&ItemNumbers, &u64)| {
+        (u64::from(item.len) - kept).min(offset.saturating_sub(item.offset + kept))
     };
     items.iter().zip(kept).map(deleted).sum()
 }
 
-fn output_offset(items: &[Item], kept: &[u64], offset: u64) -> u64 {
+fn output_offset(items: &[ItemNumbers], kept: &[u64], offset: u64) -> u64 {
     offset - deleted_below(items, kept, offset)
 }
 
 /// How many shapes an item has.
-fn count_shapes(item: &Item) -> u64 {
-    match item {
+fn count_shapes(item: &ItemNumbers) -> u64 {
+    match item.as_item() {
         Item::Site(site) => u64::from(site.shapes.count) + 1,
         Item::Aligned(_) => 1,
     }
@@ -87,10 +88,10 @@ fn count_needed(alignment: &Alignment, address: u64) -> u64 {
 }
 
 /// How many bytes of each item stay with a choice, from left to right.
-fn kept_with(items: &[Item], choice: &[u8], keeps_all: bool) -> Vec<u64> {
+fn kept_with(items: &[ItemNumbers], choice: &[u8], keeps_all: bool) -> Vec<u64> {
     let mut kept = Vec::new();
     for (item, &shape) in items.iter().zip(choice) {
-        let bytes = match item {
+        let bytes = match item.as_item() {
             Item::Site(site) => match shape {
                 0 if site.shapes.count > 0 => u64::from(site.shapes.short[0].kept),
                 1 if site.shapes.count > 1 => u64::from(site.shapes.short[1].kept),
@@ -99,7 +100,7 @@ fn kept_with(items: &[Item], choice: &[u8], keeps_all: bool) -> Vec<u64> {
             Item::Aligned(alignment) if keeps_all => u64::from(alignment.nops),
             Item::Aligned(alignment) => {
                 let address = output_offset(items, &kept, alignment.offset);
-                let needed = count_needed(alignment, address);
+                let needed = count_needed(&alignment, address);
                 match alignment.max_skip {
                     Some(most) if needed > most => 0,
                     _ => needed,
@@ -113,7 +114,7 @@ fn kept_with(items: &[Item], choice: &[u8], keeps_all: bool) -> Vec<u64> {
 
 /// Whether a site reaches its target by one of its short shapes, where so many bytes of each item
 /// stay.
-fn reaches(items: &[Item], kept: &[u64], site: &Site, short: &Shape) -> bool {
+fn reaches(items: &[ItemNumbers], kept: &[u64], site: &Site, short: &Shape) -> bool {
     let from = output_offset(items, kept, site.offset);
     let to = output_offset(items, kept, site.target);
     let is_near =
@@ -122,17 +123,17 @@ fn reaches(items: &[Item], kept: &[u64], site: &Site, short: &Shape) -> bool {
 }
 
 /// Whether each site reaches its target, where so many bytes of each item stay.
-fn is_in_reach(items: &[Item], choice: &[u8], kept: &[u64]) -> bool {
-    items.iter().zip(choice).all(|(item, &shape)| match item {
+fn is_in_reach(items: &[ItemNumbers], choice: &[u8], kept: &[u64]) -> bool {
+    items.iter().zip(choice).all(|(item, &shape)| match item.as_item() {
         Item::Site(site) if shape < site.shapes.count => {
-            reaches(items, kept, site, &site.shapes.short[usize::from(shape)])
+            reaches(items, kept, &site, &site.shapes.short[usize::from(shape)])
         }
         _ => true,
     })
 }
 
 /// The choice at an index of all choices.
-fn choice_at(items: &[Item], index: u64) -> Vec<u8> {
+fn choice_at(items: &[ItemNumbers], index: u64) -> Vec<u8> {
     let mut rest = index;
     let mut shape_of = |item| {
         let count = count_shapes(item);
@@ -149,7 +150,7 @@ fn is_nowhere_longer(shapes: &[u8], choice: &[u8]) -> bool {
 
 /// Requires of a run that the plan is exact, in reach, and nowhere longer than a choice that is in
 /// reach where alignments keep all.
-fn expect_run(items: &[Item], plan: &Plan) {
+fn expect_run(items: &[ItemNumbers], plan: &Plan) {
     let kept = kept_with(items, &plan.shapes, false);
     assert_eq!(kept, plan.kept);
     assert!(is_in_reach(items, &plan.shapes, &kept), "{items:?}");

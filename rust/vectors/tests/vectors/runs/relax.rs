@@ -2,11 +2,12 @@
 //! Runs worked by hand.
 
 use super::{aligned, site};
+use linker_utils::runs::{are_items, first_faulty, relax};
 use linker_utils::runs::shapes::{fixed, loongarch64, riscv64};
-use linker_utils::runs::{Fault, Item, ItemFault, Shape, Shapes, are_items, first_faulty, relax};
+use linker_utils::runs::{Fault, Item, ItemFault, ItemNumbers, Shape, Shapes};
 
 /// Requires these shapes and kept bytes of a run.
-fn expect_plan(items: &[Item], shapes: &[u8], kept: &[u64]) {
+fn expect_plan(items: &[ItemNumbers], shapes: &[u8], kept: &[u64]) {
     assert!(are_items(items, 0));
     let plan = relax(items, 0).unwrap();
     assert_eq!(plan.shapes, shapes);
@@ -53,13 +54,13 @@ fn an_alignment_keeps_none_where_more_are_needed_than_may_stay() {
 }
 
 /// Requires that the item at an index is the first faulty one, and the fault its first.
-fn expect_fault(items: &[Item], index: usize, fault: Fault) {
+fn expect_fault(items: &[ItemNumbers], index: usize, fault: Fault) {
     assert!(!are_items(items, 0));
     assert_eq!(first_faulty(items, 0), Some(ItemFault { index, fault }));
 }
 
 /// A site of eight bytes at 0 whose short shapes keep 4 bytes and more.
-fn shaped(short: [Shape; 2], count: u8, longest: u32) -> Item {
+fn shaped(short: [Shape; 2], count: u8, longest: u32) -> ItemNumbers {
     site(0, 0, Shapes { short, count, longest })
 }
 
@@ -162,7 +163,7 @@ fn fewer_nops_need_addresses_that_are_always_multiples() {
     assert_eq!(first(&items, 2), Some((3, Fault::MayBeMisaligned)));
 }
 
-fn first(items: &[Item], start: u64) -> Option<(usize, Fault)> {
+fn first(items: &[ItemNumbers], start: u64) -> Option<(usize, Fault)> {
     first_faulty(items, start).map(|found| (found.index, found.fault))
 }
 
@@ -188,7 +189,11 @@ fn alignments_below_the_unit_keep_their_nops() {
 
 /// Sites 20 bytes apart that reach 101 bytes ahead or 102 back, and go to 109 of them: each is in reach
 /// only with another short one in between.
-pub fn cascade(count: u64, ahead: bool, between: impl Fn(u64) -> Option<Item>) -> Vec<Item> {
+pub fn cascade(
+    count: u64,
+    ahead: bool,
+    between: impl Fn(u64) -> Option<ItemNumbers>,
+) -> Vec<ItemNumbers> {
     let shapes =
         Shapes { short: [reaching(4, 102, 102, 1), riscv64::CALL.short[0]], count: 1, longest: 8 };
     let call = |index| {
@@ -214,20 +219,20 @@ fn each_site_is_long_because_of_the_next_one() {
 
 /// The greatest choice that is in reach where each alignment keeps all its nops, by testing each site
 /// until none is out of reach.
-fn cautious(items: &[Item]) -> Vec<u8> {
+fn cautious(items: &[ItemNumbers]) -> Vec<u8> {
     let mut shapes = vec![0; items.len()];
     loop {
         let mut freed = vec![0];
         for (item, &shape) in items.iter().zip(&shapes) {
-            let gone = match item {
+            let gone = match item.as_item() {
                 Item::Site(site) if shape == 0 => 8 - u64::from(site.shapes.short[0].kept),
                 _ => 0,
             };
             freed.push(freed[freed.len() - 1] + gone);
         }
         let output =
-            |offset| offset - freed[items.partition_point(|it| it.offset() + it.len() <= offset)];
-        let out_of_reach = |index: &usize| match items[*index] {
+            |offset| offset - freed[items.partition_point(|it| it.offset + u64::from(it.len) <= offset)];
+        let out_of_reach = |index: &usize| match items[*index].as_item() {
             Item::Site(site) => {
                 let (from, to) = (site.offset - freed[*index], output(site.target));
                 shapes[*index] == 0 && (to > from + 101 || from > to + 102)
@@ -255,17 +260,17 @@ fn long_cascades_between_alignments_are_cautious() {
         let plan = relax(&items, 0).unwrap();
         let expected = cautious(&items);
         for (index, item) in items.iter().enumerate() {
-            if let Item::Site(_) = item {
+            if item.kind == 0 {
                 assert!(plan.shapes[index] <= expected[index], "{index}");
                 assert!(every < 100 || plan.shapes[index] == expected[index], "{index}");
             }
         }
         for (index, item) in items.iter().enumerate() {
-            let at = item.offset() - plan.freed[index];
-            match item {
+            let at = item.offset - plan.freed[index];
+            match item.as_item() {
                 Item::Aligned(_) => assert_eq!((at + plan.kept[index]) % 4, 0, "{index}"),
                 Item::Site(site) if plan.shapes[index] == 0 => {
-                    let place = items.partition_point(|it| it.offset() + it.len() <= site.target);
+                    let place = items.partition_point(|it| it.offset + u64::from(it.len) <= site.target);
                     let to = site.target - plan.freed[place];
                     assert!(to <= at + 101 && at <= to + 102, "{index}");
                 }

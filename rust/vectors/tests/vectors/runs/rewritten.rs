@@ -6,11 +6,12 @@ use linker_utils::elf::Architecture;
 use linker_utils::output::Origins;
 use linker_utils::relaxation::DeltaSlice;
 use linker_utils::rewriting::{
-    Decision, Phase, SymbolFacts, UnrelaxableGroups, rewrite_placed_section, survey_placed_section,
+    DecisionNumbers, Deletion, Phase, SymbolFacts, UnrelaxableGroups, rewrite_placed_section,
+    survey_placed_section,
 };
 use linker_utils::runs::Machine::{self, LoongArch64};
 use linker_utils::runs::shapes::fixed;
-use linker_utils::runs::{Fault, Item, ItemFault, Relocation, RewrittenItemsError, Run, Site};
+use linker_utils::runs::{Fault, Item, ItemFault, ItemNumbers, Relocation, RewrittenItemsError, Run, Site};
 use linker_utils::runs::{first_faulty, pack_run, packed_run_len, relax, rewritten_items_into};
 use linker_utils::section::{Link, Object, Section, Symbol};
 use linker_utils::section::{memory_len, relocate_section, relocations};
@@ -57,7 +58,7 @@ fn without_thread_offsets(
     architecture: Architecture,
     section: &[u8],
     entries: &[Entry],
-) -> (Bytes, Vec<(u64, u32)>) {
+) -> (Bytes, Vec<Deletion>) {
     let link = link(architecture);
     let object = Object {
         facts: &[SymbolFacts { is_local: true, ..SymbolFacts::default() }; 4],
@@ -74,8 +75,8 @@ fn without_thread_offsets(
     let phase = Phase::TlsLocalExec;
     survey_placed_section(&link, &object, &section, phase, &mut kept).expect("tables that agree");
     let object = Object { unrelaxable_groups: &kept, ..object };
-    let mut decisions = vec![Decision::Kept; entries.len()];
-    let mut deleted = vec![(0, 0); entries.len()];
+    let mut decisions = vec![DecisionNumbers::default(); entries.len()];
+    let mut deleted = vec![Deletion::default(); entries.len()];
     let (made, listed) = (&mut decisions, &mut deleted);
     let count = rewrite_placed_section(&link, &object, &mut section, phase, made, listed);
     deleted.truncate(count.unwrap());
@@ -94,7 +95,7 @@ fn expect(
     types: &[(u64, u32)],
 ) {
     let (mut section, deleted) = without_thread_offsets(architecture, section, entries);
-    assert_eq!(deleted, [(8, 4), (12, 4)]);
+    assert_eq!(deleted, [8, 12].map(|offset| Deletion { offset, bytes: 4 }));
     let listed: Vec<_> = relocations(&section.relocations)
         .map(|it| Relocation::new(it, is_in_run(it.symbol, f), true))
         .collect();
@@ -105,8 +106,8 @@ fn expect(
     items.truncate(count);
     for (item, &maker) in items.iter().zip(&makers) {
         let offset = listed.get(maker).map(|it| it.offset);
-        let offset = offset.unwrap_or_else(|| deleted[maker - listed.len()].0);
-        assert_eq!(item.offset(), BASE + offset);
+        let offset = offset.unwrap_or_else(|| deleted[maker - listed.len()].offset);
+        assert_eq!(item.offset, BASE + offset);
     }
     assert_eq!(first_faulty(&items, START), None);
     let plan = relax(&items, START).unwrap();
@@ -221,7 +222,7 @@ fn relocation(offset: u64, r_type: u32, addend: i64, target: Option<u64>) -> Rel
 fn items_without(
     relocations: &[Relocation],
     deleted: &[(u64, u32)],
-) -> Result<(Vec<Item>, Vec<usize>), RewrittenItemsError> {
+) -> Result<(Vec<ItemNumbers>, Vec<usize>), RewrittenItemsError> {
     let room = relocations.len() + deleted.len();
     let (mut items, mut makers) = (vec![aligned(0, 0, 1, None); room], vec![usize::MAX; room]);
     let section = Section { base: BASE, ..Section::new(&RISC_V, []) };
@@ -233,9 +234,9 @@ fn items_without(
     Ok((items, makers))
 }
 
-fn gone(offset: u64, len: u32) -> Item {
+fn gone(offset: u64, len: u32) -> ItemNumbers {
     let offset = BASE + offset;
-    Item::Site(Site { offset, len, target: offset, shapes: fixed(0) })
+    ItemNumbers::from_item(Item::Site(Site { offset, len, target: offset, shapes: fixed(0) }))
 }
 
 #[test]

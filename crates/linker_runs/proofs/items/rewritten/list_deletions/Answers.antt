@@ -1,4 +1,5 @@
 use Rattle.linker_runs.proofs.Imports.{◌≡◌, ◌+◌, ◌∙◌, ap, map, refl, inl, inr, subst, sym, set, arith, drop-set-lt, length-map, drop_more_same, end_of, IsDeleted, deleted_at, deleted_end, Rewritten, AreListedIn, rewritten_of}
+use Rattle.linker_runs.specs.Relaxing.{item_of, HasKind}
 use Rattle.linker_runs.proofs.Listed.{put_deleted}
 use Rattle.linker_runs.proofs.items.rewritten.list_deletions.Goals as goal
 
@@ -7,7 +8,7 @@ loop-gone-init g c = record { count = refl; last = inl (refl, refl, refl); liste
 
 pub loop-gone-preserved : goal.loop-gone-preserved
 loop-gone-preserved g c =
-    let f = g.I.AsItem.item in
+    let f = item_of in
     let ds = map g.L.AsDeletion.deletion c.args.deleted.now in
     let k = c.loop-gone.gone in
     let n = c.loop-gone.count in
@@ -28,11 +29,11 @@ loop-gone-preserved g c =
           let all = length-map c.args.deleted.now g.L.AsDeletion.deletion in
           let of : Rewritten = rewritten_of m s base rs ds in
           let after = base + (at.0 + c.from.result) in
-          let put = put_deleted f g.I.AsItem.is_written of i k n c.loop-gone.end after c.loop-gone.out c.loop-gone.makers x so_far
+          let put = put_deleted f HasKind of i k n c.loop-gone.end after c.loop-gone.out c.loop-gone.makers x so_far
           (omega (arith, so_far.few, few, c.requires.room, c.loop-gone.auto.out, c.loop-gone-test.true))
           (omega (arith, so_far.few, few, c.requires.makers, c.loop-gone.auto.makers, c.loop-gone-test.true))
           is c.from_item.ensures.form (omega (arith, all)) ends (λ more. omega (arith, end, (c.requires.apart k) (omega (arith, more, all)))) in
-          subst (λ first. AreListedIn f g.I.AsItem.is_written of i (k + 1) (n + 1) after (set c.loop-gone.out n x) (set c.loop-gone.makers n (first + k))) len put;
+          subst (λ first. AreListedIn f HasKind of i (k + 1) (n + 1) after (set c.loop-gone.out n x) (set c.loop-gone.makers n (first + k))) len put;
       others = drop-set-lt (n + 1) c.loop-gone.out n x (omega arith) ∙ drop_more_same c.loop-gone.out c.args.out.now n inv.others;
       makers_stay = drop-set-lt (n + 1) c.loop-gone.makers n _ (omega arith) ∙ drop_more_same c.loop-gone.makers c.args.makers.now n inv.makers_stay;
     }

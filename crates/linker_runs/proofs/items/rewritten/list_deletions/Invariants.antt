@@ -1,10 +1,11 @@
 use Rattle.linker_runs.proofs.Imports.{◌≡◌, ◌+◌, ◌≤◌, ◌<◌, ◌⊎◌, ℕ, List, length, map, drop, Relocation, Machine, deleted_at, deleted_end, AreListedIn, rewritten_of}
+use Rattle.linker_runs.specs.Relaxing.{item_of, HasKind}
 use Rattle.linker_runs.proofs.items.rewritten.list_deletions.Given as goal
 
 abbrev pub invariant-loop-gone : goal.invariant-loop-gone
 invariant-loop-gone g l =
-    let f = g.I.AsItem.item in
-    let W = g.I.AsItem.is_written in
+    let f = item_of in
+    let W = HasKind in
     let ds = map g.L.AsDeletion.deletion l.deleted in
     record {
       count : l.count + l.fn.listed.gone ≡ l.fn.listed.count + l.gone;

@@ -1,10 +1,11 @@
 use Rattle.linker_runs.proofs.Imports.{◌≡◌, ◌+◌, ◌<◌, ◌≤◌, ◌∙◌, ap, map, subst, sym, length, ⊎_elim, arith, both_ways, cases_lt, drop-set-lt, length-map, drop_more_same, offset_of, end_of, deleted_at, Makes, rewritten_of}
+use Rattle.linker_runs.specs.Relaxing.{item_of, HasKind}
 use Rattle.linker_runs.proofs.Listed.{put_made}
 use Rattle.linker_runs.proofs.items.rewritten.list_item.Goals as goal
 
 pub returns-clause-listed : goal.returns-clause-listed
 returns-clause-listed g c = λ m s rs len is before.
-    let f = g.I.AsItem.item in
+    let f = item_of in
     let ds = map g.L.AsDeletion.deletion c.args.deleted.now in
     let base = c.args.base in
     let all = c.list_deletions-all in
@@ -21,7 +22,7 @@ returns-clause-listed g c = λ m s rs len is before.
     (λ (cut : base + (deleted_at ds all.result.gone).0 < after). absurd (both_ways c.is_cut.result c.if-is_cut.false (c.is_cut.ensures.1 (more, omega (arith, cut, end)))))
     (λ (clear : after ≤ base + (deleted_at ds all.result.gone).0). clear)
     (cases_lt (base + (deleted_at ds all.result.gone).0) after) in
-    put_made f g.I.AsItem.is_written (rewritten_of m s base rs ds) i all.result.gone all.result.count all.result.end after all.new.out all.new.makers x so_far
+    put_made f HasKind (rewritten_of m s base rs ds) i all.result.gone all.result.count all.result.end after all.new.out all.new.makers x so_far
     (omega (arith, so_far.few, all.ensures.range.1, c.requires.index, c.requires.room, all.auto.out))
     (omega (arith, so_far.few, all.ensures.range.1, c.requires.index, c.requires.makers, all.auto.makers))
     made c.from_item.ensures.form following (end ∙ sym (ap end_of there)) (λ more. next (omega (arith, more, (length-map c.args.deleted.now g.L.AsDeletion.deletion))))

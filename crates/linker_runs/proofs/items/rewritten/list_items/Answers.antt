@@ -1,17 +1,18 @@
 use Rattle.linker_runs.proofs.Imports.{◌≡◌, ◌∙◌, ◌<◌, ◌≤◌, ℕ, List, map, inl, inr, ⊎_elim, length, suc, take, add-one, arith, subst, MatchOption, cases_lt, length-map, Item, Relocation, Rewritten, rewritten_of, AreListed, Makes}
+use Rattle.linker_runs.specs.Relaxing.{item_of, HasKind}
 use Rattle.linker_runs.proofs.Alignments.{ahead_on}
 use Rattle.linker_runs.proofs.Listed.{walked_none, walked_past, walked_on, drop_same_from}
 use Rattle.linker_runs.proofs.items.rewritten.list_items.Goals as goal
 use Rattle.linker_runs.proofs.items.rewritten.list_items.Goals.{in-Some+in-Some-list_item, in_default}
 
 pub loop-index-init : goal.loop-index-init
-loop-index-init g c = record { walked = walked_none g.I.AsItem.item g.I.AsItem.is_written _ c.args.out.now c.args.makers.now; next = inl (omega arith) }
+loop-index-init g c = record { walked = walked_none item_of HasKind _ c.args.out.now c.args.makers.now; next = inl (omega arith) }
 
 pub loop-index-preserved : goal.loop-index-preserved
 loop-index-preserved g c =
     let rs : List Relocation = map g.R.AsRelocation.relocation c.args.relocations.now in
-    let f = g.I.AsItem.item in
-    let W = g.I.AsItem.is_written in
+    let f = item_of in
+    let W = HasKind in
     let s : Rewritten = rewritten_of c.args.machine c.args.section.now c.args.base rs (map g.L.AsDeletion.deletion c.args.deleted.now) in
     let makes : ℕ → Item → Type 0 = Makes c.args.machine c.args.section.now c.args.base rs in
     let i = c.loop-index.index in
@@ -68,7 +69,7 @@ returns-clause-listed g c =
     (λ (none : length c.args.deleted.now ≤ all.result.gone). omega (arith, none, all.ensures.range.1, (length-map c.args.deleted.now g.L.AsDeletion.deletion)))
     (cases_lt all.result.gone (length c.args.deleted.now)) in
     let listed = all.ensures.listed c.args.machine c.args.section.now rs c.loop-index.index all_relocations (omega (arith, i, all_relocations)) c.loop-index.invariant.walked.listed in
-    let items = map g.I.AsItem.item (take all.result.count all.new.out) in
+    let items = map item_of (take all.result.count all.new.out) in
     let makers = take all.result.count all.new.makers in (
       all.result.end,
       subst (λ n. AreListed makes c.args.base (length rs) ds (length rs) n all.result.end items makers) gone

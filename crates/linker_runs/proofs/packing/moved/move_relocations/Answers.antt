@@ -6,7 +6,7 @@ use Rattle.linker_runs.proofs.packing.moved.move_relocations.Goals as goal
 use Rattle.linker_runs.proofs.packing.moved.move_relocations.Goals.{in-Some, in_default}
 
 pub loop-index-preserved : goal.loop-index-preserved
-loop-index-preserved g c =
+loop-index-preserved c =
     let i = c.loop-index.index in
     let old = c.loop-index.whole in
     let inv = c.loop-index.invariant in
@@ -32,7 +32,7 @@ loop-index-preserved g c =
     ]
 
 pub returns : goal.returns
-returns g c = λ valid begun start ready.
+returns c = λ valid begun start ready.
     let xs = c.args.relocations.now in
     let ys = c.loop-index.whole in
     let w = c.relocations_len-len.result * 24 in

@@ -3,7 +3,7 @@ use Rattle.linker_runs.proofs.packing.moved.move_relocations.Given as goal
 
 -- the relocations below the index are moved, and the others are as they were
 abbrev pub invariant-loop-index : goal.invariant-loop-index
-invariant-loop-index g l = record {
+invariant-loop-index l = record {
   moved : AreValidDeltas l.deltas → IsPosition l.deltas l.begin → (start : ℕ)
       → AreReady l.machine (section_of l.section l.base (deletions_of l.deltas) start) l.items (length l.items) → (n : ℕ) → n < l.index
       → IsMoved l.machine (section_of l.section l.base (deletions_of l.deltas) start) l.items (relocation_in l.initial.whole n) (relocation_in l.whole n);

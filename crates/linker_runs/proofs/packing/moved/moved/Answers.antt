@@ -3,7 +3,7 @@ use Rattle.linker_runs.proofs.packing.moved.moved.Goals as goal
 use Rattle.linker_runs.proofs.packing.moved.moved.Goals.{then-relocation-len-2, else-relocation-len-2}
 
 pub returns : goal.returns
-returns g c = λ valid begun start ready.
+returns c = λ valid begun start ready.
     let ds = deletions_of c.args.deltas.now in
     let s = section_of c.args.section.now c.args.base ds start in
     let place = c.position_of-here.ensures.offset in

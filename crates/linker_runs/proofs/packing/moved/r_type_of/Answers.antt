@@ -3,12 +3,12 @@ use Rattle.linker_runs.proofs.Moved.{apart_items, gone_of, kept_of}
 use Rattle.linker_runs.proofs.packing.moved.r_type_of.Goals as goal
 
 pub returns-then-next-here : goal.returns-then-next-here
-returns-then-next-here g c = λ valid here bytes base start small ready.
+returns-then-next-here c = λ valid here bytes base start small ready.
     let next = c.position_from-next.ensures.position valid here (omega arith) in
     gone (gone_of (deletions_of c.args.deltas.now) c.args.here.now.input_offset c.position_from-next.result.input_offset c.position_from-next.ensures.offset (sym next.output ∙ c.if-next-here.true ∙ here.output)) refl
 
 pub returns-in-Some : goal.returns-in-Some
-returns-in-Some g c = λ valid here bytes base start small ready.
+returns-in-Some c = λ valid here bytes base start small ready.
     let ds = deletions_of c.args.deltas.now in
     let items = c.args.items.now in
     let item = c.in-Some.item in
@@ -26,7 +26,7 @@ returns-in-Some g c = λ valid here bytes base start small ready.
     (c.r_type_at_item.ensures ∙ ap (λ n. r_type_at_item c.args.machine item n c.args.r_type) len ∙ ap (λ it. r_type_at_item c.args.machine it (kept_len ds it) c.args.r_type) (sym is))
 
 pub returns-in-None : goal.returns-in-None
-returns-in-None g c = λ valid here bytes base start small ready.
+returns-in-None c = λ valid here bytes base start small ready.
     let next = c.position_from-next.ensures.position valid here (omega arith) in
     other (kept_of (deletions_of c.args.deltas.now) c.args.here.now.input_offset c.position_from-next.result.input_offset c.position_from-next.ensures.offset (λ same. c.if-next-here.false (next.output ∙ same ∙ sym here.output)))
     (c.in-None.ensures (apart_items c.args.items.now (λ i within. (ready i within).apart))) refl

@@ -3,10 +3,10 @@ use Rattle.linker_runs.proofs.Choices.{cautious_none, cautious_next, cautious_fi
 use Rattle.linker_runs.proofs.relaxation.cautious.lay_out_cautiously.Goals as goal
 
 pub loop-index-init : goal.loop-index-init
-loop-index-init g c = record { before = sym (cautious_none c.args.items.now (choice_of c.args.shapes.now)); written = λ k below. absurd (omega arith) }
+loop-index-init c = record { before = sym (cautious_none c.args.items.now (choice_of c.args.shapes.now)); written = λ k below. absurd (omega arith) }
 
 pub overflow_add-before : goal.overflow_add-before
-overflow_add-before g c =
+overflow_add-before c =
     let items = c.args.items.now in
     let choice = choice_of c.args.shapes.now in
     let i = c.loop-index.index in
@@ -15,7 +15,7 @@ overflow_add-before g c =
     omega (arith, cautious_next items choice i, c.loop-index.invariant.before, c.freed_cautiously-before.ensures ∙ ap (λ it. freed_cautiously it (choice i)) c.at-item.ensures)
 
 pub loop-index-preserved : goal.loop-index-preserved
-loop-index-preserved g c =
+loop-index-preserved c =
     let items = c.args.items.now in
     let choice = choice_of c.args.shapes.now in
     let i = c.loop-index.index in
@@ -27,7 +27,7 @@ loop-index-preserved g c =
     }
 
 pub returns : goal.returns
-returns g c =
+returns c =
     let n = c.len.result in
     record {
       below = λ j low. absurd (omega arith);

@@ -4,12 +4,12 @@ use Rattle.linker_runs.proofs.relaxation.cautious.lengthen_at.Goals as goal
 use Rattle.linker_runs.proofs.relaxation.cautious.lengthen_at.Goals.{then-place-index, else-place-index}
 
 pub returns-clause-freed : goal.returns-clause-freed
-returns-clause-freed g c =
+returns-clause-freed c =
     next_layout c.args.start c.args.items.now c.args.shapes.now _ c.args.index c.requires.items c.requires.within c.requires.shapes refl c.args.freed.now c.args.more
     c.freed_cautiously-2.result c.freed_cautiously.result (c.freed_cautiously.ensures ∙ ap (λ it. freed_cautiously it (choice_of c.args.shapes.now c.args.index)) c.at-item.ensures) (c.freed_cautiously-2.ensures ∙ ap (λ it. freed_cautiously it (choice_of c.args.shapes.now c.args.index + 1)) c.at-item.ensures) c.requires.freed
 
 pub returns-clause-forced : goal.returns-clause-forced
-returns-clause-forced g c =
+returns-clause-forced c =
     let items = c.args.items.now in
     let i = c.args.index in
     let choice = choice_of c.args.shapes.now in
@@ -31,16 +31,16 @@ returns-clause-forced g c =
     next_forced c.args.start items c.args.shapes.now _ i c.requires.items c.requires.within c.requires.shapes refl out
 
 pub returns-clause-short : goal.returns-clause-short
-returns-clause-short g c =
+returns-clause-short c =
     next_short c.args.start c.args.items.now c.args.shapes.now _ c.args.index c.requires.items c.requires.within c.requires.shapes refl (c.reaches.ensures.can_grow c.if-reaches.false) c.requires.short
 
 pub returns-then-place-len-clause-reached : goal.returns-then-place-len-clause-reached
-returns-then-place-len-clause-reached g c = λ _. ⊎_elim
+returns-then-place-len-clause-reached c = λ _. ⊎_elim
     (λ is. absurd (omega (arith, is, c.requires.placed.within c.args.index c.requires.within)))
     (λ far. far.1.cautiously (choice_of c.args.shapes.now))
     (c.requires.placed.each c.args.index c.requires.within)
 
 pub returns-clause-longer : goal.returns-clause-longer
-returns-clause-longer g c = λ _.
+returns-clause-longer c = λ _.
     let xs = c.args.shapes.now in
     omega (arith, sum_by-set (λ (x : ℕ). x) xs c.args.index ((choice_of xs c.args.index) + 1) 0 (omega arith))

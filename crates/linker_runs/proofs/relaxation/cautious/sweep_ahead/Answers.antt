@@ -4,7 +4,7 @@ use Rattle.linker_runs.proofs.Sweeps.{ahead_step, last_fits}
 use Rattle.linker_runs.proofs.relaxation.cautious.sweep_ahead.Goals as goal
 
 pub loop-index-init : goal.loop-index-init
-loop-index-init g c = record {
+loop-index-init c = record {
   freed = c.requires.freed;
   fits = last_fits c.args.start c.args.items.now c.args.shapes.now c.args.freed.now c.requires.items c.requires.freed;
   short = c.requires.short;
@@ -16,22 +16,22 @@ loop-index-init g c = record {
 }
 
 pub overflow_sub-freed : goal.overflow_sub-freed
-overflow_sub-freed g c =
+overflow_sub-freed c =
     omega (arith, c.loop-index.invariant.freed.above c.loop-index.index (omega arith) (omega arith))
 
 pub lengthen_at-more-requires-clause-freed : goal.lengthen_at-more-requires-clause-freed
-lengthen_at-more-requires-clause-freed g c =
+lengthen_at-more-requires-clause-freed c =
     ahead_step c.args.items.now c.loop-index.shapes c.loop-index.freed _ c.loop-index.index c.loop-index.more (omega arith) (omega arith) c.loop-index.invariant.freed refl
 
 pub overflow_add-more : goal.overflow_add-more
-overflow_add-more g c =
+overflow_add-more c =
     let n = length c.args.items.now in
     let i = c.loop-index.index in
     let laid = c.lengthen_at-more.ensures.freed.above n (omega arith) (omega arith) in
     omega (arith, get_or-set_other c.loop-index.freed i n (get_or c.loop-index.freed i 0 - c.loop-index.more) 0 (omega arith), c.loop-index.invariant.fits)
 
 pub loop-index-preserved : goal.loop-index-preserved
-loop-index-preserved g c =
+loop-index-preserved c =
     let n = length c.args.items.now in
     let i = c.loop-index.index in
     let old = c.args.shapes.now in
@@ -64,4 +64,4 @@ loop-index-preserved g c =
     }
 
 pub returns-clause-lengthened : goal.returns-clause-lengthened
-returns-clause-lengthened g c = λ i within out. c.loop-index.invariant.done i (omega arith) out
+returns-clause-lengthened c = λ i within out. c.loop-index.invariant.done i (omega arith) out

@@ -2,7 +2,7 @@ use Rattle.linker_runs.proofs.Imports.{◌≡◌, false, ◌^◌, ◌<◌, ◌�
 use Rattle.linker_runs.proofs.relaxation.cautious.sweep_ahead.Given as goal
 
 abbrev pub invariant-loop-index : goal.invariant-loop-index
-invariant-loop-index g l = record {
+invariant-loop-index l = record {
   freed : AreCautious l.items l.shapes l.freed l.index l.more;
   fits : get_or l.freed (length l.items) 0 < 2 ^ 64;
   short : (i : ℕ) → choice_of l.shapes i ≤ 2;

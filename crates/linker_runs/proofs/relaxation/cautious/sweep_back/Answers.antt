@@ -3,7 +3,7 @@ use Rattle.linker_runs.proofs.Sweeps.{back_step, whole_layout, last_fits, more_f
 use Rattle.linker_runs.proofs.relaxation.cautious.sweep_back.Goals as goal
 
 pub loop-following-init : goal.loop-following-init
-loop-following-init g c = record {
+loop-following-init c = record {
   freed = whole_layout c.args.items.now c.args.shapes.now c.args.freed.now (length c.args.items.now - 0) (omega arith) c.requires.freed;
   fits = last_fits c.args.start c.args.items.now c.args.shapes.now c.args.freed.now c.requires.items c.requires.freed;
   short = c.requires.short;
@@ -14,17 +14,17 @@ loop-following-init g c = record {
 }
 
 pub overflow_add-more : goal.overflow_add-more
-overflow_add-more g c =
+overflow_add-more c =
     omega (arith, c.lengthen_at-more.ensures.freed.above (length c.args.items.now) (omega arith) (omega arith), c.loop-following.invariant.fits)
 
 pub overflow_add-freed : goal.overflow_add-freed
-overflow_add-freed g c =
+overflow_add-freed c =
     let fits = more_fits c.args.start c.args.items.now c.lengthen_at-more.new.shapes c.loop-following.freed (c.len.result - 1 - c.loop-following.following) (c.loop-following.more + c.lengthen_at-more.result) (omega arith)
     c.lengthen_at-more.ensures.freed c.loop-following.invariant.fits in
     omega arith
 
 pub loop-following-preserved : goal.loop-following-preserved
-loop-following-preserved g c =
+loop-following-preserved c =
     let items = c.args.items.now in
     let n = length items in
     let i = c.len.result - 1 - c.loop-following.following in

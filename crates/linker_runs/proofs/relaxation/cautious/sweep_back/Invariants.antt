@@ -2,7 +2,7 @@ use Rattle.linker_runs.proofs.Imports.{◌≡◌, ◌-◌, ◌^◌, ◌<◌, ◌
 use Rattle.linker_runs.proofs.relaxation.cautious.sweep_back.Given as goal
 
 abbrev pub invariant-loop-following : goal.invariant-loop-following
-invariant-loop-following g l = record {
+invariant-loop-following l = record {
   freed : AreCautious l.items l.shapes l.freed (length l.items - l.following) l.more;
   fits : get_or l.freed (length l.items) 0 < 2 ^ 64;
   short : (i : ℕ) → choice_of l.shapes i ≤ 2;

@@ -2,4 +2,4 @@ use Rattle.linker_runs.proofs.Imports.{◌<◌, ℕ, Fault, OwnMeets}
 use Rattle.linker_runs.proofs.relaxation.faults.first_own_fault.Given as goal
 
 abbrev pub invariant-loop-index : goal.invariant-loop-index
-invariant-loop-index g l = (k : ℕ) → k < l.index → (fault : Fault) → OwnMeets l.start l.items k fault
+invariant-loop-index l = (k : ℕ) → k < l.index → (fault : Fault) → OwnMeets l.start l.items k fault

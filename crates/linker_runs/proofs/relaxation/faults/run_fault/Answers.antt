@@ -3,16 +3,16 @@ use Rattle.linker_runs.proofs.Validity.{own_item, own_formed, run_met, run_earli
 use Rattle.linker_runs.proofs.relaxation.faults.run_fault.Goals as goal
 
 pub granularity_fault-requires-clause-few : goal.granularity_fault-requires-clause-few
-granularity_fault-requires-clause-few g c = subst (λ it. (fault : Fault) → ItemMeets it fault) (sym c.at-item.ensures) (own_item c.args.start c.args.items.now c.args.index (c.requires.sound c.args.index c.requires.within))
+granularity_fault-requires-clause-few c = subst (λ it. (fault : Fault) → ItemMeets it fault) (sym c.at-item.ensures) (own_item c.args.start c.args.items.now c.args.index (c.requires.sound c.args.index c.requires.within))
 
 pub has_its_nops-requires-clause-formed : goal.has_its_nops-requires-clause-formed
-has_its_nops-requires-clause-formed g c = own_formed c.args.start c.args.items.now c.requires.sound c.args.index c.requires.within
+has_its_nops-requires-clause-formed c = own_formed c.args.start c.args.items.now c.requires.sound c.args.index c.requires.within
 
 pub returns-in-Some : goal.returns-in-Some
-returns-in-Some g c = first_unit c.args.granularity c.args.start c.args.items.now c.args.index c.in-Some.fault (subst (λ it. IsFirstOf (UnitMeets c.args.granularity c.args.start it) c.in-Some.fault) c.at-item.ensures c.in-Some.ensures)
+returns-in-Some c = first_unit c.args.granularity c.args.start c.args.items.now c.args.index c.in-Some.fault (subst (λ it. IsFirstOf (UnitMeets c.args.granularity c.args.start it) c.in-Some.fault) c.at-item.ensures c.in-Some.ensures)
 
 pub returns-then-not-is_clear : goal.returns-then-not-is_clear
-returns-then-not-is_clear g c =
+returns-then-not-is_clear c =
     let items = c.args.items.now in
     record {
       here = λ met. (let yes = c.is_clear.ensures.1 (subst (IsClearRun items) (sym (c.target.ensures ∙ ap target_of c.at-item.ensures)) (clear_of c.args.start items (target_of (item_at items c.args.index)) c.requires.in_order met)) in cc);
@@ -20,7 +20,7 @@ returns-then-not-is_clear g c =
     }
 
 pub returns-then-not-has_its_nops : goal.returns-then-not-has_its_nops
-returns-then-not-has_its_nops g c =
+returns-then-not-has_its_nops c =
     let items = c.args.items.now in
     let clear = subst (IsClearRun items) (c.target.ensures ∙ ap target_of c.at-item.ensures) (c.is_clear.ensures.0 c.if-not-is_clear.false) in
     record {
@@ -29,7 +29,7 @@ returns-then-not-has_its_nops g c =
     }
 
 pub returns-else-not-has_its_nops : goal.returns-else-not-has_its_nops
-returns-else-not-has_its_nops g c =
+returns-else-not-has_its_nops c =
     run_met c.args.granularity c.args.start c.args.items.now c.args.index c.requires.in_order (subst (λ it. (fault : Fault) → UnitMeets c.args.granularity c.args.start it fault) c.at-item.ensures c.in_default.ensures)
     (subst (IsClearRun c.args.items.now) (c.target.ensures ∙ ap target_of c.at-item.ensures) (c.is_clear.ensures.0 c.if-not-is_clear.false))
     (c.has_its_nops.ensures.0 c.if-not-has_its_nops.false)

@@ -4,7 +4,7 @@ use Rattle.linker_runs.proofs.relaxation.passes.find_places.Goals as goal
 use Rattle.linker_runs.proofs.relaxation.passes.find_places.Goals.{then-reaches, else-reaches}
 
 pub loop-index-preserved : goal.loop-index-preserved
-loop-index-preserved g c =
+loop-index-preserved c =
     let start = c.args.start in
     let items = c.args.items.now in
     let i = c.loop-index.index in

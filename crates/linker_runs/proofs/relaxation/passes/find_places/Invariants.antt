@@ -2,7 +2,7 @@ use Rattle.linker_runs.proofs.Imports.{◌≡◌, ◌<◌, ℕ, length, get_or, 
 use Rattle.linker_runs.proofs.relaxation.passes.find_places.Given as goal
 
 abbrev pub invariant-loop-index : goal.invariant-loop-index
-invariant-loop-index g l = record {
+invariant-loop-index l = record {
   each : (k : ℕ) → k < l.index → (get_or l.places k 0 ≡ place_of l.items (target_of (item_at l.items k)))
       ⊎ ((length l.items < get_or l.places k 0) × IsAlwaysInReach l.start l.items k);
 }

@@ -3,10 +3,10 @@ use Rattle.linker_runs.proofs.Layouts.{freed_fits}
 use Rattle.linker_runs.proofs.relaxation.passes.keep.Goals as goal
 
 pub kept_by-requires-clause-freed : goal.kept_by-requires-clause-freed
-kept_by-requires-clause-freed g c = omega (arith, c.requires.freed.each c.loop-index.index (omega arith), freed_fits c.args.start c.args.items.now (choice_of c.args.shapes.now) c.requires.in_order c.loop-index.index (omega arith), ap offset_of c.at-item.ensures)
+kept_by-requires-clause-freed c = omega (arith, c.requires.freed.each c.loop-index.index (omega arith), freed_fits c.args.start c.args.items.now (choice_of c.args.shapes.now) c.requires.in_order c.loop-index.index (omega arith), ap offset_of c.at-item.ensures)
 
 pub loop-index-preserved : goal.loop-index-preserved
-loop-index-preserved g c = below_more _ _
+loop-index-preserved c = below_more _ _
     (λ k h. let ne : k ≢ c.loop-index.index = omega arith in rw get_or-set_other (c.loop-index.invariant k h))
     (let lt : c.loop-index.index < length c.loop-index.kept = omega arith in
     let there = c.requires.freed.each c.loop-index.index (omega arith) in

@@ -19,7 +19,7 @@ one_more : (xs ys : List ℕ) (i y : ℕ) → ys ≡ set xs i y → y ≡ get_or
 one_more xs ys i y e f lt = let h = sum_by-set (λ (x : ℕ). x) xs i y 0 lt in let g : sum ys ≡ sum (set xs i y) = ap sum e in omega arith
 
 pub loop-index-preserved : goal.loop-index-preserved
-loop-index-preserved g c =
+loop-index-preserved c =
     let start = c.args.start in
     let items = c.args.items.now in
     let old = c.args.shapes.now in

@@ -2,7 +2,7 @@ use Rattle.linker_runs.proofs.Imports.{◌≡◌, ◌<◌, ◌≤◌, ℕ, true,
 use Rattle.linker_runs.proofs.relaxation.passes.lengthen.Given as goal
 
 abbrev pub invariant-loop-index : goal.invariant-loop-index
-invariant-loop-index g l = record {
+invariant-loop-index l = record {
   done : (k : ℕ) → k < l.index → get_or l.shapes k 0 ≡ lengthened l.start l.items (choice_of l.initial.shapes) k;
   left : (k : ℕ) → l.index ≤ k → get_or l.shapes k 0 ≡ get_or l.initial.shapes k 0;
   short : (k : ℕ) → get_or l.shapes k 0 ≤ 2;

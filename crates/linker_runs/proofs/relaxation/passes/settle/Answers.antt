@@ -4,7 +4,7 @@ use Rattle.linker_runs.proofs.Choices.{relaxed_cautious}
 use Rattle.linker_runs.proofs.relaxation.passes.settle.Goals as goal
 
 pub loop-round-init : goal.loop-round-init
-loop-round-init g c = record {
+loop-round-init c = record {
   freed = c.lay_out.ensures;
   short = λ i. omega (arith, c.shorten.ensures i);
   same = λ i. c.shorten.ensures i ∙ sym (no_round c.args.start c.args.items.now i);
@@ -12,12 +12,12 @@ loop-round-init g c = record {
 }
 
 pub returns-then-not-lengthen-clause-forced : goal.returns-then-not-lengthen-clause-forced
-returns-then-not-lengthen-clause-forced g c =
+returns-then-not-lengthen-clause-forced c =
     subst (AreForced c.args.items.now) (sym (c.lengthen.ensures.same c.if-not-lengthen.true))
     (relaxed_cautious c.args.start c.args.items.now c.loop-round.shapes c.loop-round._round c.requires.items c.loop-round.invariant.same)
 
 pub loop-round-preserved : goal.loop-round-preserved
-loop-round-preserved g c =
+loop-round-preserved c =
     let start = c.args.start in
     let items = c.args.items.now in
     let round = c.loop-round._round in
@@ -30,4 +30,4 @@ loop-round-preserved g c =
     }
 
 pub returns-clause-forced : goal.returns-clause-forced
-returns-clause-forced g c = relaxed_cautious c.args.start c.args.items.now c.loop-round.shapes c.loop-round._round c.requires.items c.loop-round.invariant.same
+returns-clause-forced c = relaxed_cautious c.args.start c.args.items.now c.loop-round.shapes c.loop-round._round c.requires.items c.loop-round.invariant.same

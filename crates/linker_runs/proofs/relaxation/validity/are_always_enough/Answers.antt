@@ -10,11 +10,11 @@ at_most n power fits = ⊎_elim
     (cases_lt 63 power.0)
 
 pub next_power_of_two-requires : goal.next_power_of_two-requires
-next_power_of_two-requires g c =
+next_power_of_two-requires c =
     omega (arith, at_most c.args.alignment.now.alignment c.requires.power (omega arith), c.saturating_sub-unfilled.ensures)
 
 pub returns-else-unfilled-granularity : goal.returns-else-unfilled-granularity
-returns-else-unfilled-granularity g c =
+returns-else-unfilled-granularity c =
     let alignment = c.args.alignment.now in
     let start = c.args.start in
     let items = c.args.items.now in

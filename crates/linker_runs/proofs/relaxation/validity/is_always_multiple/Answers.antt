@@ -16,23 +16,23 @@ at_offset : (w start o p : ℕ) (items : List Item) (n : ℕ) → o ≡ p → Is
 at_offset w start o p items n same always = subst (λ x. IsAlwaysMultiple w start x items n) same always
 
 pub loop-following-init : goal.loop-following-init
-loop-following-init g c = (
+loop-following-init c = (
   subst (IsAlwaysMultiple c.args.number c.args.start c.offset-offset.result c.args.items.now) (omega arith),
   subst (IsAlwaysMultiple c.args.number c.args.start c.offset-offset.result c.args.items.now) (omega arith),
 )
 
 pub is_anchor-requires-clause-following : goal.is_anchor-requires-clause-following
-is_anchor-requires-clause-following g c =
+is_anchor-requires-clause-following c =
     let below = ends_by c.args.start c.args.items.now c.requires.in_order c.args.index (c.args.index - 1 - c.loop-following.following) c.requires.within (omega arith) in
     omega (arith, c.offset-offset.ensures ∙ ap offset_of c.at-here.ensures, ap end_of c.at-item.ensures)
 
 pub frees_multiples-requires-clause-following : goal.frees_multiples-requires-clause-following
-frees_multiples-requires-clause-following g c =
+frees_multiples-requires-clause-following c =
     let below = ends_by c.args.start c.args.items.now c.requires.in_order c.args.index (c.args.index - 1 - c.loop-following.following) c.requires.within (omega arith) in
     omega (arith, c.offset-offset.ensures ∙ ap offset_of c.at-here.ensures, ap end_of c.at-item.ensures)
 
 pub returns-then-is_anchor : goal.returns-then-is_anchor
-returns-then-is_anchor g c =
+returns-then-is_anchor c =
     let anchor = subst (IsAnchor c.args.number c.offset-offset.result) c.at-item.ensures (c.is_anchor.ensures.0 (search rules)) in
     let last = last_of c.args.number c.args.start c.offset-offset.result c.args.items.now c.args.index c.loop-following.following c.loop-following-test.true in (
       λ _. at_offset c.args.number c.args.start c.offset-offset.result (offset_of (item_at c.args.items.now c.args.index)) c.args.items.now c.args.index (c.offset-offset.ensures ∙ ap offset_of c.at-here.ensures) (c.loop-following.invariant.0 (last.0 (inl anchor))),
@@ -40,7 +40,7 @@ returns-then-is_anchor g c =
     )
 
 pub returns-then-not-frees_multiples : goal.returns-then-not-frees_multiples
-returns-then-not-frees_multiples g c =
+returns-then-not-frees_multiples c =
     let last = last_of c.args.number c.args.start c.offset-offset.result c.args.items.now c.args.index c.loop-following.following c.loop-following-test.true in (
       λ never. absurd (false_is never),
       λ always. absurd (⊎_elim
@@ -53,7 +53,7 @@ returns-then-not-frees_multiples g c =
     false_is never = cc
 
 pub loop-following-preserved : goal.loop-following-preserved
-loop-following-preserved g c =
+loop-following-preserved c =
     let number = c.args.number in
     let start = c.args.start in
     let o = c.offset-offset.result in
@@ -70,7 +70,7 @@ loop-following-preserved g c =
     )
 
 pub returns : goal.returns
-returns g c =
+returns c =
     let number = c.args.number in
     let start = c.args.start in
     let o = c.offset-offset.result in

@@ -3,4 +3,4 @@ use Rattle.linker_runs.proofs.relaxation.validity.is_always_multiple.Given as go
 
 -- what is left to be told is what all items tell
 abbrev pub invariant-loop-following : goal.invariant-loop-following
-invariant-loop-following g l = IsAlwaysMultiple l.number l.start l.offset l.items (l.index - l.following) ↔ IsAlwaysMultiple l.number l.start l.offset l.items l.index
+invariant-loop-following l = IsAlwaysMultiple l.number l.start l.offset l.items (l.index - l.following) ↔ IsAlwaysMultiple l.number l.start l.offset l.items l.index

@@ -2,7 +2,7 @@ use Rattle.linker_runs.proofs.Imports.{◌-◌, ◌<◌, ◌≤◌, length, item
 use Rattle.linker_runs.proofs.items.list.ItemList.place_of.Given as goal
 
 abbrev pub invariant-loop-low : goal.invariant-loop-low
-invariant-loop-low g l = record {
+invariant-loop-low l = record {
   order : l.low ≤ l.high;
   within : l.high ≤ length l.self;
   below : 0 < l.low → end_of (item_at l.self (l.low - 1)) ≤ l.offset;
@@ -10,4 +10,4 @@ invariant-loop-low g l = record {
 }
 
 abbrev pub decreases-loop-low : goal.decreases-loop-low
-decreases-loop-low g l = l.high - l.low
+decreases-loop-low l = l.high - l.low

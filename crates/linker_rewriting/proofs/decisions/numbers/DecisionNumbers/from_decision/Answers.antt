@@ -1,7 +1,7 @@
 use Rattle.std.proofs.Common.{◌∙◌, sym, subst, pos, Some}
-use Rattle.linker_utils_c.specs.Rewriting.{IsWrittenAs}
-use Rattle.linker_utils_c.proofs.Decisions.{decided_in}
-use Rattle.linker_utils_c.proofs.rewriting.DecisionNumbersAsDecision.from_decision.Goals as goal
+use Rattle.linker_rewriting.specs.Numbers.{IsWrittenAs}
+use Rattle.linker_rewriting.proofs.Numbers.{decided_in}
+use Rattle.linker_rewriting.proofs.decisions.numbers.DecisionNumbers.from_decision.Goals as goal
 
 pub returns-in-Rewritten-clause-decision : goal.returns-in-Rewritten-clause-decision
 returns-in-Rewritten-clause-decision c =

@@ -1,7 +1,7 @@
 use Rattle.std.proofs.Common.{refl}
-use Rattle.linker_utils_c.proofs.Decisions.{chosen_in}
-use Rattle.linker_utils_c.specs.declared.rewriting.DecisionNumbers.{DecisionNumbers}
-use Rattle.linker_utils_c.proofs.rewriting.of_choice.Goals as goal
+use Rattle.linker_rewriting.proofs.Numbers.{chosen_in}
+use Rattle.linker_rewriting.specs.declared.decisions.numbers.DecisionNumbers.{DecisionNumbers}
+use Rattle.linker_rewriting.proofs.decisions.numbers.of_choice.Goals as goal
 
 pub returns-clause-choice : goal.returns-clause-choice
 returns-clause-choice c =
