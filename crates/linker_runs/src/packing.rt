@@ -486,10 +486,10 @@ pub fn packed_run_len(base: u64, len: usize, deltas: &[RelaxDelta]) -> usize
 }
 
 /// Whether a site is eight bytes of a section, of instructions that can have its shapes: of RISC-V
-/// `auipc` and `jalr` with `CALL`, or with `TAIL_C` where they link x0; of LoongArch `pcaddu18i`
-/// and `jirl` with `CALL36`, or `pcalau12i` and `addi.d` of one register with `PCALA`. The section
-/// begins at the input offset `base` of the run. A site of which the linker has decided has none of
-/// these shapes; an alignment has no instructions to be tested.
+/// `auipc` and `jalr` with `CALL`, or with `TAIL_C` where they link x0, or x1 on RV32; of LoongArch
+/// `pcaddu18i` and `jirl` with `CALL36`, or `pcalau12i` and `addi.d` of one register with `PCALA`.
+/// The section begins at the input offset `base` of the run. A site of which the linker has decided
+/// has none of these shapes; an alignment has no instructions to be tested.
 ///
 /// Where this is so of a site that `relax` made shorter, `pack_run` can write it: the instruction
 /// reaches its target.
@@ -518,9 +518,9 @@ pub fn has_its_instructions(machine: Machine, section: &[u8], base: u64, item: &
 /// Targets may lie anywhere in the run.
 ///
 /// How many bytes of an item stay, which have to be its first ones, says what is written:
-/// - of RISC-V `c.j` of two bytes for a call that links x0, `jal` of four with the link register of
-///   the `jalr`, and of eight the call as it is, with `R_RISCV_CALL_PLT` applied (RISC-V ELF psABI,
-///   "Function Call Relaxation");
+/// - of RISC-V two bytes of `c.j` for a call that links x0, or on RV32 of `c.jal` for one that links
+///   x1, `jal` of four with the link register of the `jalr`, and of eight the call as it is, with
+///   `R_RISCV_CALL_PLT` applied (RISC-V ELF psABI, "Function Call Relaxation");
 /// - of LoongArch four bytes of `b` for a call whose `jirl` links none, of `bl` for one that links
 ///   `ra`, and of `pcaddi`, with the `addi.d`'s register, for an address; of eight the instructions
 ///   as they are, with `R_LARCH_CALL36`, or `R_LARCH_PCALA_HI20` and `R_LARCH_PCALA_LO12`, applied

@@ -722,7 +722,6 @@ are_written architecture addresses bytes values before after small all =
         inside = are_inside architecture addresses bytes values before n all.apart found all.relocated used;
       };
       fields = held architecture addresses bytes values before n all.apart found all.relocated used small;
-      others = all.others;
       left = stays architecture addresses bytes values before n all.apart found all.relocated (omega arith) used;
       same_length = all.same_length;
     }

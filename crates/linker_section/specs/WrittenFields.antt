@@ -18,7 +18,7 @@ use Rattle.linker_elf.specs.declared.elf.RowSize.TheVariants.{ByteSize, BitMaski
 use Rattle.linker_section.specs.Conditions.{HasLength, holds_offset}
 use Rattle.linker_section.specs.Fields.{field_end, field_len, begins_pair, ends_pair, is_of_pair}
 use Rattle.linker_section.specs.Fields.{AreApart}
-use Rattle.linker_section.specs.Sections.{IsNumberOfPair, IsInNoField, IsInside, BeginsPair}
+use Rattle.linker_section.specs.Sections.{IsNumberOfPair, IsInside, BeginsPair}
 use Rattle.linker_section.specs.Sections.{Values, by_index, IsCauseAt, IsOfValue}
 use Rattle.linker_section.specs.Values.{offset_at}
 use Rattle.linker_section.specs.declared.facts.Addresses.{Addresses}
@@ -192,8 +192,6 @@ pub record AreWrittenBy (architecture : Architecture) (addresses : Addresses) (b
   pub fields : (i : ℕ) (row : RowInfo) (v : ℤ) → i < length bytes / 24
       → can.found i ≡ Some (row, v) → 0 < field_len row (drop (offset_at bytes i) before)
       → IsHeld can.found bytes before after (length bytes / 24) i row v
-  pub others : (p : ℕ) → IsInNoField architecture bytes before (length bytes / 24) p
-      → slice_index after p ≡ slice_index before p
   pub left : (p : ℕ) → IsUnwritten can.found bytes before (length bytes / 24) p
       → slice_index after p ≡ slice_index before p
   pub same_length : length after ≡ length before

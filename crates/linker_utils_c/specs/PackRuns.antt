@@ -31,10 +31,14 @@ abbrev pub packed_as : Option Architecture → Option Machine
 packed_as None = None
 packed_as (Some architecture) = machine_of architecture
 
+-- e_machine of RISC-V, and LINKER_UTILS_CLASS32
+abbrev pub riscv32 : ℕ
+riscv32 = 0xf3 + 0x8000
+
 -- the same by e_machine, with a number of its own for RV32
 abbrev pub packing_machine : ℕ → Option Machine
 packing_machine machine =
-    if machine == 0x80f3 then Some (RiscV true) else packed_as (architecture_of machine)
+    if machine == riscv32 then Some (RiscV true) else packed_as (architecture_of machine)
 
 -- the status of why an item isn't written
 abbrev pub item_status : ItemError → Status
