@@ -23,6 +23,8 @@ pub(super) struct Reached<'a> {
     pub deleted: u64,
     // Where the last of these ends.
     pub end: u64,
+    // The bytes of this last one, or 0 where there is none.
+    pub bytes: u64,
 }
 
 // Where the first of some deltas begins, or `u64::MAX` where there is none.
@@ -49,6 +51,7 @@ impl<'a> Reached<'a> {
             next: first_offset(deltas),
             deleted: 0,
             end: 0,
+            bytes: 0,
         }
     }
 
@@ -64,7 +67,8 @@ impl<'a> Reached<'a> {
                 break;
             };
             self.deleted = delta.cumulative_deleted;
-            self.end = self.next.wrapping_add(u64::from(delta.bytes_deleted));
+            self.bytes = u64::from(delta.bytes_deleted);
+            self.end = self.next.wrapping_add(self.bytes);
             self.next = first_offset(self.rest.as_slice());
         }
     }
