@@ -71,11 +71,7 @@ impl<'a> RelaxCursor<'a> {
             self.reached.pass(input_offset);
             return input_offset.max(self.reached.end) - self.reached.deleted;
         }
-        // one comparison says whether it lies after where the last deletion begins, up to its end
-        if self.reached.end.wrapping_sub(input_offset) < self.reached.bytes {
-            return self.reached.end - self.reached.deleted;
-        }
-        input_offset - self.reached.deleted
+        self.reached.kept(input_offset) - self.reached.deleted
     }
 
     /// Whether `input_offset` may be given to `translate`.

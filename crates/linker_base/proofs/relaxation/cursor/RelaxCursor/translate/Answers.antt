@@ -1,13 +1,11 @@
 use Rattle.std.proofs.Common.{◌≡◌, ◌≤◌, ◌<◌, ℕ, ◌+◌, List, map, max, ap, take, inl, inr, arith, refl, All}
-use Rattle.std.specs.Prelude.{◌%◌, ◌^◌, ◌-◌}
-use Rattle.std.proofs.lemmas.Bool.{cases_lt}
 use Rattle.linker_base.specs.declared.relaxation.RelaxDelta.{RelaxDelta}
 use Rattle.linker_base.specs.declared.relaxation.walk.Reached.{Reached}
 use Rattle.linker_base.specs.Deletions.{begun_below, rank}
 use Rattle.linker_base.specs.Deltas.{deletion_of}
 use Rattle.linker_base.specs.Inner.Listed.{IsWalking, passed_in}
 use Rattle.linker_base.specs.Walk.{walk_at}
-use Rattle.linker_base.proofs.Walking.{walked_ahead, walked_below_end, passed_is, passes_none, begin_below, ahead_by_last, bytes_below_end}
+use Rattle.linker_base.proofs.Walking.{walked_ahead, walked_below_end, passed_is, passes_none, begin_below}
 use Rattle.linker_base.proofs.relaxation.cursor.RelaxCursor.translate.Goals as goal
 
 -- ---- deltas are passed
@@ -44,51 +42,28 @@ stays deltas reached i walking low = passes_none deltas walking.listed reached _
 ranked : (deltas : List RelaxDelta) (reached : Reached) (i : ℕ) → IsWalking deltas reached → i ≤ reached.next → All (λ d. d.0 < i) (take (passed_in deltas reached) (map deletion_of deltas)) → rank (map deletion_of deltas) i + reached.deleted ≡ max i reached.end
 ranked deltas reached i walking low ahead = (walked_ahead deltas walking.listed (passed_in deltas reached) i (passed_in deltas reached) reached walking.walked.within (stays deltas reached i walking low) walking.walked ahead).0
 
-pub overflow_sub-result-then-self-input_offset-2 : goal.overflow_sub-result-then-self-input_offset-2
-overflow_sub-result-then-self-input_offset-2 c = walked_below_end c.self.inside.deltas.now c.self.invariant.listed c.self.inside.reached _ c.self.invariant.walked
-
-pub returns-then-self-input_offset-2-clause-walks : goal.returns-then-self-input_offset-2-clause-walks
-returns-then-self-input_offset-2-clause-walks c = rw (← c.self.view_is) (ap (walk_at (map deletion_of c.self.inside.deltas.now)) (stays c.self.inside.deltas.now c.self.inside.reached c.args.input_offset c.self.invariant (omega (arith, c.if-self-input_offset.false))))
-
-pub returns-then-self-input_offset-2-clause-ahead : goal.returns-then-self-input_offset-2-clause-ahead
-returns-then-self-input_offset-2-clause-ahead c given =
-    let is = ranked c.self.inside.deltas.now c.self.inside.reached c.args.input_offset c.self.invariant (omega (arith, c.if-self-input_offset.false)) (rw (← c.self.view_is) at given) in
-    let below = bytes_below_end c.self.inside.deltas.now c.self.invariant.listed c.self.inside.reached _ c.self.invariant.walked in
-    rw (← c.self.view_is) (omega (arith, is, below.0, below.1, c.if-self-input_offset-2.true, c.ranges.input_offset.fits))
-
-pub returns-then-self-input_offset-2-clause-step_back : goal.returns-then-self-input_offset-2-clause-step_back
-returns-then-self-input_offset-2-clause-step_back c back =
-    let below = bytes_below_end c.self.inside.deltas.now c.self.invariant.listed c.self.inside.reached _ c.self.invariant.walked in
-    absurd (back (rw (← c.self.view_is) ((ahead_by_last c.self.inside.deltas.now c.self.invariant.listed c.self.inside.reached _ c.args.input_offset c.self.invariant.walked).0 (λ _. omega (arith, below.0, below.1, c.if-self-input_offset-2.true, c.ranges.input_offset.fits)))))
-
--- an offset that isn't inside the last deletion, and is no step back, lies at its end or after it
-outside : (deltas : List RelaxDelta) (reached : Reached) (i : ℕ) → IsWalking deltas reached → reached.bytes ≤ (reached.end + 2 ^ 64 - i) % 2 ^ 64 → i < 2 ^ 64 → All (λ d. d.0 < i) (take (passed_in deltas reached) (map deletion_of deltas)) → reached.end ≤ i
-outside deltas reached i walking wrapped fits ahead =
-    let below = bytes_below_end deltas walking.listed reached _ walking.walked in
-    elim (cases_lt 0 (passed_in deltas reached)) [
-      | inl some ↦
-          let last = (ahead_by_last deltas walking.listed reached _ i walking.walked).1 ahead some in
-          omega (arith, below.0, below.1, last, wrapped, fits)
-      | inr none ↦
-          let zero : passed_in deltas reached ≡ 0 = omega (arith, none) in
-          omega (arith, walking.walked.end.none zero)
-    ]
-
 pub overflow_sub-result-2 : goal.overflow_sub-result-2
-overflow_sub-result-2 c = elim c.requires [
-  | inl ahead ↦
-      let below = walked_below_end c.self.inside.deltas.now c.self.invariant.listed c.self.inside.reached _ c.self.invariant.walked in
-      let past = outside c.self.inside.deltas.now c.self.inside.reached c.args.input_offset c.self.invariant (omega (arith, c.if-self-input_offset-2.false)) (omega (arith, c.ranges.input_offset.fits)) (rw (← c.self.view_is) at ahead) in
-      omega (arith, below, past)
-  | inr fits ↦ omega (arith, c.self.invariant.walked.sum, rw (← c.self.view_is) at fits)
-]
+overflow_sub-result-2 c =
+    let deltas = c.self.inside.deltas.now in
+    elim c.requires [
+      | inl ahead ↦
+          let below = walked_below_end deltas c.self.invariant.listed c.self.inside.reached _ c.self.invariant.walked in
+          omega (arith, below, c.kept.ensures.ahead deltas _ c.self.invariant.listed c.self.invariant.walked (rw (← c.self.view_is) at ahead))
+      | inr fits ↦ omega (arith, c.self.invariant.walked.sum, rw (← c.self.view_is) at fits, c.kept.ensures.least deltas _ c.self.invariant.listed c.self.invariant.walked)
+    ]
 
 pub returns-clause-walks : goal.returns-clause-walks
 returns-clause-walks c = rw (← c.self.view_is) (ap (walk_at (map deletion_of c.self.inside.deltas.now)) (stays c.self.inside.deltas.now c.self.inside.reached c.args.input_offset c.self.invariant (omega (arith, c.if-self-input_offset.false))))
 
 pub returns-clause-ahead : goal.returns-clause-ahead
 returns-clause-ahead c given =
+    let deltas = c.self.inside.deltas.now in
     let ahead = rw (← c.self.view_is) at given in
-    let is = ranked c.self.inside.deltas.now c.self.inside.reached c.args.input_offset c.self.invariant (omega (arith, c.if-self-input_offset.false)) ahead in
-    let past = outside c.self.inside.deltas.now c.self.inside.reached c.args.input_offset c.self.invariant (omega (arith, c.if-self-input_offset-2.false)) (omega (arith, c.ranges.input_offset.fits)) ahead in
-    rw (← c.self.view_is) (omega (arith, is, past))
+    let is = ranked deltas c.self.inside.reached c.args.input_offset c.self.invariant (omega (arith, c.if-self-input_offset.false)) ahead in
+    rw (← c.self.view_is) (omega (arith, is, c.kept.ensures.ahead deltas _ c.self.invariant.listed c.self.invariant.walked ahead))
+
+pub returns-clause-step_back : goal.returns-clause-step_back
+returns-clause-step_back c back =
+    let deltas = c.self.inside.deltas.now in
+    let kept = c.kept.ensures.step_back deltas _ c.self.invariant.listed c.self.invariant.walked (λ ahead. back (rw (← c.self.view_is) ahead)) in
+    rw (← c.self.view_is) (omega (arith, kept, c.self.invariant.walked.sum))
