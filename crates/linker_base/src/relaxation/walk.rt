@@ -86,7 +86,11 @@ impl<'a> Reached<'a> {
             → IsWalked deltas k self.now → ¬ (IsAhead (walk_at (map deletion_of deltas) k) offset)
             → result ≡ offset }
     {
-        if self.end.wrapping_sub(offset) < self.bytes { self.end } else { offset }
+        if self.end.wrapping_sub(offset) < self.bytes {
+            self.end
+        } else {
+            offset
+        }
     }
 
     // Passes deltas for each query, and writes its output offset.

@@ -1,4 +1,4 @@
-use Rattle.std.proofs.Common.{◌+◌, ◌%◌, ◌^◌, ap, inl, inr, arith, refl}
+use Rattle.std.proofs.Common.{◌+◌, ◌%◌, ◌^◌, inl, inr, arith, refl}
 use Rattle.std.proofs.lemmas.Bool.{cases_eq}
 use Rattle.linker_base.specs.declared.relaxation.walk.Reached.{Reached}
 use Rattle.linker_base.specs.Inner.Listed.{passed_in}
