@@ -8,7 +8,7 @@ ghost use Rattle.std.specs.Int.{w32, from_le_bytes};
 ghost use Rattle.linker_rewriting.specs.Numbers.{decisions_in, IsWrittenDecision};
 ghost use Rattle.linker_rewriting.specs.Agreement.{Agree, IsContradiction};
 ghost use Rattle.linker_rewriting.specs.Decisions.{AllCanBeMade, IsThere, IsWithin, EachIs};
-ghost use Rattle.linker_rewriting.specs.Decisions.{RestStays, deletions_by, IsRejectedFirst};
+ghost use Rattle.linker_rewriting.specs.Decisions.{RestStays, deletions_by, pairs_in, IsRejectedFirst};
 ghost use Rattle.linker_rewriting.specs.Facts.{context_of};
 ghost use Rattle.linker_rewriting.specs.GlobalPointer as spec;
 ghost use Rattle.linker_riscv64.specs.RiscVCalls.{word_at};

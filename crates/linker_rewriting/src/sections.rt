@@ -7,6 +7,7 @@ ghost use Rattle.linker_rewriting.specs.Numbers.{decisions_in, numbers_in, IsKep
 ghost use Rattle.linker_rewriting.specs.Numbers.{IsWrittenDecision};
 ghost use Rattle.linker_rewriting.specs.Agreement.{Agree};
 ghost use Rattle.linker_rewriting.specs.Decisions as spec;
+ghost use Rattle.linker_rewriting.specs.Decisions.{pairs_in};
 ghost use Rattle.linker_rewriting.specs.Facts.{pre_layout, context_of};
 ghost use Rattle.linker_rewriting.specs.Inner.Left.{AreKept};
 ghost use Rattle.linker_rewriting.specs.Rewritten.{section_after, relocation_after, AreDone};
