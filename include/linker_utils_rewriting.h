@@ -230,6 +230,8 @@ struct linker_utils_link_facts {
      * (`linker_utils_relocation_fits`). Where its instructions may be apart, none of them is
      * rewritten without it. docs/CHOICES.md says which relocations are asked. */
     uint8_t group_fits;
+    /* The code is of a file of ELFCLASS32. RISC-V's then has c.jal. */
+    uint8_t is_class32;
     /* Those of the relocation before the rewrite. The addend is always read. `got_entry` is that of
      * the relocation after it: of a rewrite to initial-exec TLS that of the offset from the thread
      * pointer. */

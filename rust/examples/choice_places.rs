@@ -56,6 +56,7 @@ fn facts(addend: i64) -> LinkFacts {
         is_executable: true,
         has_local_exec_base: true,
         may_compress: true,
+        is_class32: true,
         is_relaxable: true,
         has_got_high_part: true,
         is_label_relaxable: true,

@@ -54,7 +54,7 @@ macro_rules! statements {
 
 statements! {
     is_local is_ifunc is_undefined_weak has_fixed_address is_pcrel_link_time_constant is_executable
-    has_local_exec_base may_compress is_relaxable has_got_high_part is_label_relaxable toc_base_is_exclusive
+    has_local_exec_base may_compress is_class32 is_relaxable has_got_high_part is_label_relaxable toc_base_is_exclusive
     may_change_toc has_addresses group_fits
 }
 

@@ -593,7 +593,7 @@ static struct buffer *any_facts(void) {
     struct linker_utils_link_facts *facts = filled(given);
     uint64_t *operand = &facts->operands.symbol;
     for (size_t i = 0; i < sizeof facts->operands / sizeof *operand; i++) operand[i] = any_number();
-    for (uint8_t *fact = &facts->is_local; fact <= &facts->group_fits; fact++)
+    for (uint8_t *fact = &facts->is_local; fact <= &facts->is_class32; fact++)
         *fact = (uint8_t)(once_in(8) ? any() : below(2));
     if (once_in(2)) facts->operands.addend = -4;
     return given;

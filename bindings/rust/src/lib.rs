@@ -159,6 +159,7 @@ pub struct LinkFacts {
     pub may_change_toc: bool,
     pub has_addresses: bool,
     pub group_fits: bool,
+    pub is_class32: bool,
     pub operands: Operands,
 }
 
@@ -180,6 +181,7 @@ impl From<&LinkFacts> for raw::LinkFacts {
             may_change_toc: facts.may_change_toc.into(),
             has_addresses: facts.has_addresses.into(),
             group_fits: facts.group_fits.into(),
+            is_class32: facts.is_class32.into(),
             operands: facts.operands,
         }
     }

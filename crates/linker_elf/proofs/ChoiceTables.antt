@@ -4,7 +4,7 @@ use Rattle.std.proofs.lemmas.Option.{none-some}
 use Rattle.std.proofs.lemmas.Bool.{eqb-true, eq-eqb, and_left}
 use Rattle.std.proofs.Common.{◌≡◌, ◌↔◌, ◌<◌, ◌≤◌, ◌++◌, ℕ, ℤ, List, [], ◌∷◌, Option, Some, None, Bool, true, false, if◌then◌else◌, not, ◌&&◌, ◌||◌, ◌==◌, zero, suc, IsTrue, refl, sym, ap, ◌∙◌, subst, arith, inl, inr, bit_and, length, drop, get_or, IfSome, true≢false}
 use Rattle.std.specs.Bool.{⊤}
-use Rattle.linker_elf.specs.Choices.{Condition, Entry, ConditionHolds, AllHold, choice, Applies, IsFirst, bound, weak_zero, fixed_address, fixed_distance, executable, local_exec_base, compressible, marked, label_marked, got_high_part, private_base, changed_toc, without_plt, group_fits}
+use Rattle.linker_elf.specs.Choices.{Condition, Entry, ConditionHolds, AllHold, choice, Applies, IsFirst, bound, weak_zero, fixed_address, class32, fixed_distance, executable, local_exec_base, compressible, marked, label_marked, got_high_part, private_base, changed_toc, without_plt, group_fits}
 use Rattle.linker_elf.specs.Inner.ChoiceTables.{with_fact, fact_conditions, is_held, facts_hold, value_conditions, ValuesHold, addend_condition, conditions_of, EntryApplies, IsFirstOf, IsChoiceAt, IsTableOf, AreEqualities, AreSampled, seldom_facts_hold}
 use Rattle.linker_elf.specs.declared.elf.RowInfo.{RowInfo}
 use Rattle.linker_elf.specs.declared.elf.choice.Choice.{Choice}
@@ -76,7 +76,8 @@ all_facts {R} row after facts mask =
     let f5 : List (Condition R) = with_fact mask 32 local_exec_base f6 in
     let f4 : List (Condition R) = with_fact mask 16 executable f5 in
     let f3 : List (Condition R) = with_fact mask 8 fixed_distance f4 in
-    let f2 : List (Condition R) = with_fact mask 4 fixed_address f3 in
+    let f32 : List (Condition R) = with_fact mask 16384 class32 f3 in
+    let f2 : List (Condition R) = with_fact mask 4 fixed_address f32 in
     let f1 : List (Condition R) = with_fact mask 2 weak_zero f2 in
     next row after facts mask 8192 group_fits [] _ _
     (next row after facts mask 4096 without_plt f13 _ _
@@ -89,11 +90,13 @@ all_facts {R} row after facts mask =
     (next row after facts mask 32 local_exec_base f6 _ _
     (next row after facts mask 16 executable f5 _ _
     (next row after facts mask 8 fixed_distance f4 _ _
-    (next row after facts mask 4 fixed_address f3 _ _
+    (next row after facts mask 16384 class32 f3 _ _
+    (next row after facts mask 4 fixed_address f32 _ _
     (next row after facts mask 2 weak_zero f2 _ _
     (first row after facts mask 1 bound f1 _ (is_bound facts.is_local facts.is_ifunc))
     (same (facts.is_undefined_weak ≡ true)))
     (same (facts.has_fixed_address ≡ true)))
+    (same (facts.is_class32 ≡ true)))
     (same (facts.is_pcrel_link_time_constant ≡ true)))
     (same (facts.is_executable ≡ true)))
     (same (facts.has_local_exec_base ≡ true)))
@@ -133,18 +136,18 @@ pub without_fact : {O K R : Type 0} → (row : R → Option RowInfo) (after : Op
 without_fact row after facts e M n =
     (λ h. absurd (true≢false (sym h)), λ h. absurd (true≢false (sym ((parts row after facts e).1 h.1).0 ∙ n)))
 
--- of the first three the last two fail
-second_third : (a b c : Bool) → (b && c) ≡ false → (a && b && c) ≡ false
-second_third true b c n = n
-second_third false b c n = refl
+-- of the first four the last three fail
+all_but_first : (a b c d : Bool) → (b && c && d) ≡ false → (a && b && c && d) ≡ false
+all_but_first true b c d n = n
+all_but_first false b c d n = refl
 
 -- where facts fail that seldom hold, all do
 seldom_fails : (mask : ℕ) (facts : LinkFacts) → seldom_facts_hold mask facts ≡ false → facts_hold mask facts ≡ false
 seldom_fails mask facts n =
     and_left _ _ (and_left _ _ (and_left _ _ (and_left _ _ (and_left _ _ (and_left _ _
-    (and_left _ _ (and_left _ _ (and_left _ _ (and_left _ _ (and_left _ _ (second_third
+    (and_left _ _ (and_left _ _ (and_left _ _ (and_left _ _ (and_left _ _ (all_but_first
     (is_held mask 1 (facts.is_local && not facts.is_ifunc)) (is_held mask 2 facts.is_undefined_weak)
-    (is_held mask 4 facts.has_fixed_address) n)))))))))))
+    (is_held mask 4 facts.has_fixed_address) (is_held mask 16384 facts.is_class32) n)))))))))))
 
 pub without_seldom_fact : {O K R : Type 0} → (row : R → Option RowInfo) (after : Operands) (facts : LinkFacts)
     → (e : ChoiceEntry O K R) (M : Type 0) → seldom_facts_hold e.conditions.facts facts ≡ false

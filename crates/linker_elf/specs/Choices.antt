@@ -19,6 +19,8 @@ pub data Condition (R : Type 0) : Type 0 where
   -- undefined and weak, so that the address is 0
   weak_zero : Condition R
   fixed_address : Condition R
+  -- the code is of ELFCLASS32
+  class32 : Condition R
   fixed_distance : Condition R
   executable : Condition R
   -- the base of local-dynamic TLS is the thread pointer
@@ -126,6 +128,7 @@ abbrev pub ConditionHolds : {R : Type 0} → (R → Option RowInfo) → Operands
 ConditionHolds row after facts bound = IsBound facts
 ConditionHolds row after facts weak_zero = facts.is_undefined_weak ≡ true
 ConditionHolds row after facts fixed_address = facts.has_fixed_address ≡ true
+ConditionHolds row after facts class32 = facts.is_class32 ≡ true
 ConditionHolds row after facts fixed_distance = facts.is_pcrel_link_time_constant ≡ true
 ConditionHolds row after facts executable = facts.is_executable ≡ true
 ConditionHolds row after facts local_exec_base = facts.has_local_exec_base ≡ true

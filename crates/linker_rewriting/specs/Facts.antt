@@ -35,6 +35,7 @@ facts_of output symbol addend marked =
       is_executable = output.is_executable;
       has_local_exec_base = true;
       may_compress = false;
+      is_class32 = false;
       is_relaxable = marked;
       has_got_high_part = false;
       is_label_relaxable = false;

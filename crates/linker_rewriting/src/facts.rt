@@ -90,6 +90,7 @@ pub(crate) fn facts_of(
         is_executable: output.is_executable,
         has_local_exec_base: true,
         may_compress: false,
+        is_class32: false,
         is_relaxable: marked,
         has_got_high_part: false,
         is_label_relaxable: false,

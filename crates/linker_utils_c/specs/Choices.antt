@@ -31,6 +31,7 @@ facts_of facts =
       is_executable = is_set facts.is_executable;
       has_local_exec_base = is_set facts.has_local_exec_base;
       may_compress = is_set facts.may_compress;
+      is_class32 = is_set facts.is_class32;
       is_relaxable = is_set facts.is_relaxable;
       has_got_high_part = is_set facts.has_got_high_part;
       is_label_relaxable = is_set facts.is_label_relaxable;

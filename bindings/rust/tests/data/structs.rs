@@ -72,7 +72,7 @@ layout! {
         is_local, is_ifunc, is_undefined_weak, has_fixed_address, is_pcrel_link_time_constant,
         is_executable, has_local_exec_base, may_compress, is_relaxable, has_got_high_part,
         is_label_relaxable, toc_base_is_exclusive, may_change_toc, has_addresses, group_fits,
-        operands,
+        is_class32, operands,
     }
     "linker_utils_choice": raw::Choice {
         rewrite, relocation, modifier, deleted_len, deleted_start, other_offset, other_relocation,

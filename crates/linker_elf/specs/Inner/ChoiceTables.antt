@@ -2,10 +2,10 @@
 use Rattle.std.specs.Prelude.{◌≡◌, ◌==◌, ◌++◌, ◌⊎◌, ◌↔◌, ℕ, ℤ, ⊤, Bool, not, ◌&&◌, ◌||◌, bit_and}
 use Rattle.std.specs.Prelude.{if◌then◌else◌, List, [], ◌∷◌, Option, None, Some, suc, zero, IsTrue}
 use Rattle.linker_elf.specs.Choices.{Condition, Entry, entry, choice, Applies, AllHold, IsFirst}
-use Rattle.linker_elf.specs.Choices.{bound, weak_zero, fixed_address, fixed_distance, executable}
-use Rattle.linker_elf.specs.Choices.{local_exec_base, compressible, marked, label_marked}
-use Rattle.linker_elf.specs.Choices.{got_high_part, private_base, changed_toc, without_plt}
-use Rattle.linker_elf.specs.Choices.{group_fits}
+use Rattle.linker_elf.specs.Choices.{bound, weak_zero, fixed_address, class32, fixed_distance}
+use Rattle.linker_elf.specs.Choices.{executable, local_exec_base, compressible, marked}
+use Rattle.linker_elf.specs.Choices.{label_marked, got_high_part, private_base, changed_toc}
+use Rattle.linker_elf.specs.Choices.{without_plt, group_fits}
 use Rattle.linker_elf.specs.Choices.{addend, low_12, in_reach, in_reach_if_known}
 use Rattle.linker_elf.specs.Choices.{within, within_if_known}
 use Rattle.linker_elf.specs.declared.elf.RowInfo.{RowInfo}
@@ -30,6 +30,7 @@ fact_conditions mask =
     with_fact mask 1 bound
     (with_fact mask 2 weak_zero
     (with_fact mask 4 fixed_address
+    (with_fact mask 0x4000 class32
     (with_fact mask 8 fixed_distance
     (with_fact mask 0x10 executable
     (with_fact mask 0x20 local_exec_base
@@ -40,7 +41,7 @@ fact_conditions mask =
     (with_fact mask 0x400 private_base
     (with_fact mask 0x800 changed_toc
     (with_fact mask 0x1000 without_plt
-    (with_fact mask 0x2000 group_fits [])))))))))))))
+    (with_fact mask 0x2000 group_fits []))))))))))))))
 
 -- a fact holds, if a mask has its bit
 abbrev pub is_held : ℕ → ℕ → Bool → Bool
@@ -52,6 +53,7 @@ facts_hold mask facts =
     is_held mask 1 (facts.is_local && not facts.is_ifunc)
     && is_held mask 2 facts.is_undefined_weak
     && is_held mask 4 facts.has_fixed_address
+    && is_held mask 0x4000 facts.is_class32
     && is_held mask 8 facts.is_pcrel_link_time_constant
     && is_held mask 0x10 facts.is_executable
     && is_held mask 0x20 facts.has_local_exec_base
@@ -68,6 +70,7 @@ facts_hold mask facts =
 abbrev pub seldom_facts_hold : ℕ → LinkFacts → Bool
 seldom_facts_hold mask facts =
     is_held mask 2 facts.is_undefined_weak && is_held mask 4 facts.has_fixed_address
+    && is_held mask 0x4000 facts.is_class32
 
 -- ---- conditions
 
