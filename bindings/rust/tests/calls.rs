@@ -506,6 +506,15 @@ fn choices_are_by_what_the_linker_knows() {
     facts.operands.place = 0x1000; // 2 bytes out of reach
     let jal = choose(Architecture::RiscV, 19, &tail, 0, &facts).map(|choice| choice.rewrite);
     assert_eq!(jal, Ok(RiscVRewrite::TailToJal.into()));
+    // auipc ra, 0 and jalr ra become c.jal on RV32, where it reaches
+    let call = [0x97, 0, 0, 0, 0xe7, 0x80, 0, 0];
+    facts.operands.place = 0x1002;
+    for (is_class32, rewrite) in [(false, RiscVRewrite::CallToJal), (true, RiscVRewrite::CallToCJal)] {
+        facts.is_class32 = is_class32;
+        let choice = choose(Architecture::RiscV, 19, &call, 0, &facts).map(|choice| choice.rewrite);
+        assert_eq!(choice, Ok(rewrite.into()), "{is_class32}");
+    }
+    facts.is_class32 = false;
 
     // `adrp x3` and `add x3, x3` become `nop` and `adr x3`, with R_AARCH64_ADR_PREL_LO21, and the
     // relocation of the `adrp` becomes R_AARCH64_NONE
@@ -581,6 +590,7 @@ fn tells_the_bytes_that_a_rewrite_writes() {
         // `jal`, `c.j`, and an instruction that is deleted as it is
         (RiscVRewrite::CallToJal.into(), 0, 4),
         (RiscVRewrite::TailToCJ.into(), 0, 2),
+        (RiscVRewrite::CallToCJal.into(), 0, 2),
         (RiscVRewrite::Delete.into(), 0, 0),
         (LoongArch64Rewrite::CallToBl.into(), 0, 4),
         // `addis`, a prefixed instruction, and an `add` whose mark is at its second byte
@@ -596,8 +606,9 @@ fn tells_the_bytes_that_a_rewrite_writes() {
 
 #[test]
 fn tells_what_becomes_of_the_next_relocation() {
-    let skipped: [Rewrite; 15] = [
+    let skipped: [Rewrite; 16] = [
         RiscVRewrite::CallToJal.into(),
+        RiscVRewrite::CallToCJal.into(),
         RiscVRewrite::TailToJal.into(),
         RiscVRewrite::TailToCJ.into(),
         RiscVRewrite::Hi20Delete.into(),

@@ -683,8 +683,8 @@ are_rewritten_calls call = (
       ∙ ap (λ r. 0x6f + r * 128) (sym m.0.2),
   λ m.
       ap (from_le_bytes w32) (put_there call 0 4 tail_to_jal (omega arith))
-      ∙ sym (ap (λ r. 0x6f + r * 2 ^ 7) m.links_none),
-  λ m. (m.links_none, ap (from_le_bytes w16) (put_there call 0 2 tail_to_cj (omega arith))),
+      ∙ sym (ap (λ r. 0x6f + r * 2 ^ 7) m.links),
+  λ m. (m.links, ap (from_le_bytes w16) (put_there call 0 2 tail_to_cj (omega arith))),
 )
 
 -- ---- loads from the GOT

@@ -20,9 +20,10 @@ use Rattle.linker_elf.specs.Originals.{HasWord}
 use Rattle.linker_riscv64.specs.RiscVCalls.{IsCallPair, IsPlainCall, word_at}
 use Rattle.linker_riscv64.specs.RiscVFields.{opcode_of, funct3_of, rd_of, stores_base}
 use Rattle.linker_elf.specs.Choices.{Condition, fixed_address, fixed_distance, compressible, marked}
-use Rattle.linker_elf.specs.Choices.{without_plt, low_12, in_reach, low_12_bounds, executable}
-use Rattle.linker_elf.specs.Choices.{bound, addend, within, in_reach_if_known, got_high_part}
-use Rattle.linker_elf.specs.Choices.{label_marked, facts_on, Entry, entry, choice, Applies, IsFirst}
+use Rattle.linker_elf.specs.Choices.{class32, without_plt, low_12, in_reach, low_12_bounds}
+use Rattle.linker_elf.specs.Choices.{executable, bound, addend, within, in_reach_if_known}
+use Rattle.linker_elf.specs.Choices.{got_high_part, label_marked, facts_on, Entry, entry}
+use Rattle.linker_elf.specs.Choices.{choice, Applies, IsFirst}
 use Rattle.linker_elf.specs.RiscVRelocations.{riscv_relocation}
 use Rattle.linker_elf.specs.declared.elf.RowInfo.{RowInfo}
 use Rattle.linker_elf.specs.declared.elf.choice.Choice.{Choice}
@@ -42,6 +43,10 @@ tail_to_jal window = 0x6f ∷ 0x00 ∷ 0x00 ∷ 0x00 ∷ []
 -- `c.j` of distance 0
 abbrev pub tail_to_cj : List ℕ → List ℕ
 tail_to_cj window = 0x01 ∷ 0xa0 ∷ []
+
+-- `c.jal` of distance 0
+abbrev pub call_to_cjal : List ℕ → List ℕ
+call_to_cjal window = 0x01 ∷ 0x20 ∷ []
 
 -- two `c.nop`
 abbrev pub two_nops : List ℕ → List ℕ
@@ -108,6 +113,7 @@ riscv_rewrite kinds.CLuiToCLi = Some (replaces 0 2 clui_to_cli)
 -- `lui rd, 0` and `addi rd, x0, 0`
 riscv_rewrite kinds.AuipcToLui = Some (rewrites_word (of_destination 0x37))
 riscv_rewrite kinds.LdToAddiZero = Some (rewrites_word (of_destination 0x13))
+riscv_rewrite kinds.CallToCJal = Some (replaces 0 2 call_to_cjal)
 
 abbrev pub riscv_modifier : RewriteKind → RelocationModifier
 riscv_modifier kinds.NoOp = Normal
@@ -118,6 +124,7 @@ riscv_modifier kinds.Hi20Delete = SkipNextRelocation
 riscv_modifier kinds.Lo12Rs1ToZero = Normal
 riscv_modifier kinds.TailToJal = SkipNextRelocation
 riscv_modifier kinds.TailToCJ = SkipNextRelocation
+riscv_modifier kinds.CallToCJal = SkipNextRelocation
 riscv_modifier kind = Normal
 
 -- where the mark `R_RISCV_RELAX` is that is skipped, from the offset on
@@ -126,6 +133,7 @@ riscv_skipped kinds.CallToJal = Some 0
 riscv_skipped kinds.Hi20Delete = Some 0
 riscv_skipped kinds.TailToJal = Some 0
 riscv_skipped kinds.TailToCJ = Some 0
+riscv_skipped kinds.CallToCJal = Some 0
 riscv_skipped kind = None
 
 abbrev pub riscv_may_be_skipped : RiscVRelocation → Bool
@@ -135,8 +143,8 @@ riscv_may_be_skipped name = false
 abbrev pub deleted_from : ℕ → ℕ → Option DeletedBytes
 deleted_from start count = Some record { start = start; count = count }
 
--- what is deleted after a rewrite: the `jalr` of a call, all of a tail call but the `c.j`, the
--- second half of a `lui`, a whole `lui`, and another instruction
+-- what is deleted after a rewrite: the `jalr` of a call, all of a call but the `c.j` or the
+-- `c.jal`, the second half of a `lui`, a whole `lui`, and another instruction
 abbrev pub riscv_deleted : RewriteKind → Option DeletedBytes
 riscv_deleted kinds.NoOp = None
 riscv_deleted kinds.ReplaceWithNop = None
@@ -146,6 +154,7 @@ riscv_deleted kinds.Hi20Delete = deleted_from 0 4
 riscv_deleted kinds.Lo12Rs1ToZero = None
 riscv_deleted kinds.TailToJal = deleted_from 4 4
 riscv_deleted kinds.TailToCJ = deleted_from 2 6
+riscv_deleted kinds.CallToCJal = deleted_from 2 6
 riscv_deleted kinds.Delete = deleted_from 0 4
 riscv_deleted kind = None
 
@@ -157,7 +166,7 @@ riscv_rewrites =
     kinds.TailToCJ ∷ kinds.Delete ∷ kinds.ReplaceWithLongNop ∷ kinds.BaseToTp ∷
     kinds.AddiToLui ∷ kinds.AddiToAuipc ∷ kinds.CallToAddi ∷ kinds.CallToAddiZero ∷
     kinds.CallToLd ∷ kinds.LdToAddi ∷ kinds.CLuiToCLi ∷ kinds.AuipcToLui ∷
-    kinds.LdToAddiZero ∷ []
+    kinds.LdToAddiZero ∷ kinds.CallToCJal ∷ []
 
 -- bits 12 to 31 of the value plus 0x800
 abbrev pub hi20 : ℕ → ℕ
@@ -242,12 +251,12 @@ IsClui half =
     (field half 0 2 ≡ 1) × (field half 13 16 ≡ 3) × (rd_of half ≢ 0) × (rd_of half ≢ 2)
 
 -- At the offset there are `auipc` of a register other than x0, which is always 0, and a `jalr` from
--- that register that links none.
-pub record IsTailCall (section : List ℕ) (o : ℕ) : Type 0 where
+-- that register that links a given one: x0 in a tail call.
+pub record IsCallLinking (register : ℕ) (section : List ℕ) (o : ℕ) : Type 0 where
   pub inside : o + 8 ≤ length section
   pub pair : IsCallPair (word_at section o) (word_at section (o + 4))
   pub base : rd_of (word_at section o) ≢ 0
-  pub links_none : rd_of (word_at section (o + 4)) ≡ 0
+  pub links : rd_of (word_at section (o + 4)) ≡ register
 
 -- What a rewrite is meant for is at an offset of the section.
 abbrev pub riscv_matches : RewriteKind → List ℕ → ℕ → Type 0
@@ -259,8 +268,8 @@ riscv_matches kinds.Hi20ToCLui section o =
 riscv_matches kinds.Hi20Delete section o = HasWord section o (λ word. opcode_of word ≡ 0x37)
 riscv_matches kinds.Lo12Rs1ToZero section o =
     HasWord section o (λ word. IsTrue (adds_low12 (opcode_of word) (funct3_of word)))
-riscv_matches kinds.TailToJal section o = IsTailCall section o
-riscv_matches kinds.TailToCJ section o = IsTailCall section o
+riscv_matches kinds.TailToJal section o = IsCallLinking 0 section o
+riscv_matches kinds.TailToCJ section o = IsCallLinking 0 section o
 riscv_matches kinds.Delete section o = HasWord section o (λ _. ⊤)
 riscv_matches kinds.ReplaceWithLongNop section o = HasWord section o (λ _. ⊤)
 riscv_matches kinds.BaseToTp section o =
@@ -274,6 +283,7 @@ riscv_matches kinds.LdToAddi section o = HasWord section o IsLd
 riscv_matches kinds.CLuiToCLi section o = (o + 2 ≤ length section) × IsClui (half_at section o)
 riscv_matches kinds.AuipcToLui section o = HasWord section o IsAuipc
 riscv_matches kinds.LdToAddiZero section o = HasWord section o IsLd
+riscv_matches kinds.CallToCJal section o = IsCallLinking 1 section o
 
 -- Which rewrite of RISC-V is chosen (RISC-V ELF psABI, "Linker Relaxation": "Function Call
 -- Relaxation", "Compressed Function Call Relaxation", "Compressed Tail Call Relaxation", "LUI
@@ -303,6 +313,10 @@ by_jump = fixed_distance ∷ marked ∷ without_plt ∷ in_reach r.R_RISCV_JAL 0
 abbrev pub by_short_jump : Conditions
 by_short_jump =
     fixed_distance ∷ compressible ∷ marked ∷ without_plt ∷ in_reach r.R_RISCV_RVC_JUMP 0 ∷ []
+
+-- a `c.jal` does, which RV32 has
+abbrev pub by_short_call : Conditions
+by_short_call = class32 ∷ by_short_jump
 
 -- 12 signed bits hold the address
 abbrev pub with_low_part : Conditions
@@ -371,6 +385,7 @@ start_of_descriptor = left_out to_local_exec (left_out to_initial_exec [])
 abbrev pub call_entries : List RiscVEntry
 call_entries =
     entry kinds.TailToCJ r.R_RISCV_RVC_JUMP by_short_jump
+    ∷ entry kinds.CallToCJal r.R_RISCV_RVC_JUMP by_short_call
     ∷ entry kinds.TailToJal r.R_RISCV_JAL by_jump
     ∷ entry kinds.CallToJal r.R_RISCV_JAL by_jump ∷ []
 

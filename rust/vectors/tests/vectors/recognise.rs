@@ -324,7 +324,7 @@ fn a_relocation_is_recognised_by_its_code() {
         19,
         &Windows { original: &pair, offset: 0, others: &[], linked: &jal },
     );
-    assert_eq!(found, [None, None, Some(made), None, None, None]);
+    assert_eq!(found, [None, None, None, Some(made), None, None]);
     // nothing is known that lets `choose` choose it
     let facts = LinkFacts::default();
     let found = architecture::recognise_chosen(

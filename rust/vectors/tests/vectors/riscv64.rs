@@ -183,13 +183,16 @@ fn rewrites_match_their_instructions() {
     // `lui a0` and `lui sp`, and then `addi a0, a0` and `ori a0, a0`
     let lui = both([0x0000_0537, 0x0005_0513]);
     let lui_sp = both([0x0000_0137, 0x0005_6513]);
-    let table: [(RewriteKind, &[u8], u64, bool); 15] = [
+    let table: [(RewriteKind, &[u8], u64, bool); 18] = [
         (RewriteKind::CallToJal, &call, 0, true),
         (RewriteKind::CallToJal, &tail, 0, false),
         (RewriteKind::CallToJal, &call_t0, 0, false),
         (RewriteKind::CallToJal, &call, 4, false),
         (RewriteKind::TailToJal, &tail, 0, true),
         (RewriteKind::TailToCJ, &tail, 0, true),
+        (RewriteKind::CallToCJal, &call, 0, true),
+        (RewriteKind::CallToCJal, &tail, 0, false),
+        (RewriteKind::CallToCJal, &call_t0, 0, false),
         (RewriteKind::TailToJal, &call, 0, false),
         (RewriteKind::TailToJal, &call_t0, 0, false),
         (RewriteKind::TailToJal, &apart, 0, false),

@@ -149,6 +149,38 @@ fn choices_of_calls_match_linkers() {
 }
 
 #[test]
+fn short_calls_of_rv32_match_gnu_ld() {
+    let name = RiscVRelocation::R_RISCV_CALL_PLT;
+    let kind_of = |words, facts: &LinkFacts| choose(name, &both(words), 0, facts).kind;
+    // each distance before and after bytes are deleted, and the linker's half
+    for (input, output, want) in [(36, 14, 0x2039u16), (8, 2, 0x2009), (-2048, -2048, 0x3001)] {
+        let place = 0x20_0000u64;
+        let rv64 = facts_at(place.wrapping_add_signed(input), place);
+        assert_eq!(kind_of(CALL, &rv64), RewriteKind::CallToJal, "{input:?}");
+        let facts = LinkFacts { is_class32: true, ..rv64 };
+        let mut section = both(CALL);
+        let chosen = choose(name, &section, 0, &facts);
+        let short = choice(RewriteKind::CallToCJal, RiscVRelocation::R_RISCV_RVC_JUMP);
+        assert_eq!(chosen, short, "{input:?}");
+        let deleted = Some(DeletedBytes { start: 2, count: 6 });
+        assert_eq!(chosen.kind.deleted(), deleted, "{input:?}");
+        let (mut offset, mut addend) = (0, 0);
+        chosen.kind.apply(&mut section, &mut offset, &mut addend);
+        let closer = facts_at(place.wrapping_add_signed(output), place);
+        write(chosen.relocation, &mut section, 0, &closer.operands);
+        let [a, b, _, _, _, _, _, _] = section;
+        assert_eq!(u16::from_le_bytes([a, b]), want, "{input:?}");
+    }
+    // too far, without the C extension, and calls that link another register than ra
+    let facts = LinkFacts { is_class32: true, ..facts_at(0x1000, 0x1000) };
+    let far = LinkFacts { is_class32: true, ..facts_at(0x1800, 0x1000) };
+    assert_eq!(kind_of(CALL, &far), RewriteKind::CallToJal);
+    assert_eq!(kind_of(CALL, &LinkFacts { may_compress: false, ..facts }), RewriteKind::CallToJal);
+    assert_eq!(kind_of(TAIL, &facts), RewriteKind::TailToCJ);
+    assert_eq!(kind_of([0x0000_0317, 0x0003_02e7], &facts), RewriteKind::NoOp);
+}
+
+#[test]
 fn altered_calls_are_left() {
     let name = RiscVRelocation::R_RISCV_CALL;
     let facts = facts_at(0x1800, 0x1000);
