@@ -442,8 +442,9 @@ class RiscV(Unicorn):
             code = word.to_bytes(4, "little")
         elif does == "nop":
             code = b"\x01\x00"
-        elif does == "c.j":
-            code = (0xa001 | choose.getrandbits(11) << 2).to_bytes(2, "little")
+        elif does in ("c.j", "c.jal"):
+            base = 0xa001 if does == "c.j" else 0x2001
+            code = (base | choose.getrandbits(11) << 2).to_bytes(2, "little")
         elif does == "c.lui":
             rd = choose.choice([r for r in range(1, 32) if r != 2])
             bits = choose.randrange(1, 64)
@@ -458,6 +459,37 @@ class RiscV(Unicorn):
         if opcode == 0x67:  # somewhere that an address can be
             numbers[rs1] = choose.getrandbits(46)
         return Row(code, numbers)
+
+
+class RiscV32(RiscV):
+    """The instructions of RV32's calls, and what makes their addresses."""
+    file = "RiscV32"
+    engine = unicorn.UC_ARCH_RISCV, unicorn.UC_MODE_RISCV32
+    registers = {n: getattr(riscv, f"UC_RISCV_REG_X{n}") for n in range(32)}
+
+    def code_at(self, row, number):
+        return 3 * 2**28 + self.unit * (number % 2**26)
+
+    def data_at(self, number):
+        return 2**30 + number % 2**26
+
+    def made(self, row, place):
+        number = super().made(row, place)
+        return number % 2**32 if place < MEMORY else number
+
+    def groups(self):
+        listed = [("lui", 0x37, None, "upper"), ("auipc", 0x17, None, "upper"),
+                  ("jal", 0x6f, None, "upper"), ("addi", 0x13, 0, "sum"), ("jalr", 0x67, 0, "sum"),
+                  ("add", 0x33, 0, "add")]
+        listed += [(name, None, None, name) for name in ("c.j", "c.jal", "c.lui", "c.li")]
+        for name, opcode, function, does in listed:
+            chance, rows = Chance(name), []
+            for chance.turn in range(ROWS // 2 - 5, ROWS // 2 + 5):
+                rows.append(self.row(chance, opcode, function, does))
+                numbers = rows[-1].before
+                numbers.update({place: number % 2**32 for place, number in numbers.items()
+                                if place < MEMORY})
+            yield Group(name, rows)
 
 
 # ---- AArch64
@@ -973,8 +1005,8 @@ def written(architecture, groups, vector_groups, functions):
     return "\n".join(lines) + "\n"
 
 
-ARCHITECTURES = {"aarch64": AArch64, "riscv": RiscV, "x86_64": X86, "loongarch": LoongArch,
-                 "ppc64": Ppc64}
+ARCHITECTURES = {"aarch64": AArch64, "riscv": RiscV, "riscv32": RiscV32, "x86_64": X86,
+                 "loongarch": LoongArch, "ppc64": Ppc64}
 
 
 def make(names):

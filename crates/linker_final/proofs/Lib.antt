@@ -43,6 +43,7 @@ pub mod PutBack
 pub mod Relaxed
 pub mod RelocatedFields
 pub mod RiscV32
+pub mod RiscV32Calls
 pub mod RiscV32Sums
 pub mod RiscVAddresses
 pub mod RiscVChosen

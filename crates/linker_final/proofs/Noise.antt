@@ -3,7 +3,7 @@
 use Rattle.linker_final.proofs.Imports.{◌≡◌, ℕ, ◌+◌, ◌*◌, ◌/◌, ◌%◌, ◌^◌, ◌==◌, Bool, List, sym, subst, if◌then◌else◌, AllPass, Executed, Numbers, at, pc}
 use Rattle.linker_final.specs.Steps.{Group}
 
-abbrev noise_64 : ℕ → ℕ
+abbrev pub noise_64 : ℕ → ℕ
 noise_64 k =
     let n = k * 0x9e3779b97f4a7c15f39cc0605cedc8341082276bf3a27251f86c6a11d0c18e95 % 0x10000000000000000 in
     n * n / 0x100000000 % 0x10000000000000000

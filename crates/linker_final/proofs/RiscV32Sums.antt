@@ -16,7 +16,7 @@ weaker (step ∷ steps) o c t t' same is =
     mapped (λ row law at before after applied holds.
     weaker steps o (c (number_at row.size after)) t t' same (law at before after applied holds)) step.row is
 
-with_addend : (o : Operands) (a : ℤ) → AreAddresses o → AreAddresses (record o { addend = a })
+pub with_addend : (o : Operands) (a : ℤ) → AreAddresses o → AreAddresses (record o { addend = a })
 with_addend o a small = record {
   symbol = small.symbol;
   place = small.place;
@@ -31,7 +31,7 @@ abbrev IsTarget32 : (Operands → ℕ) → Type 0
 IsTarget32 target =
     (o : Operands) (a : ℤ) → IsSame32 a o.addend → target (record o { addend = a }) % 2 ^ 32 ≡ target o % 2 ^ 32
 
-symbol_32 : IsTarget32 symbol_address
+pub symbol_32 : IsTarget32 symbol_address
 symbol_32 o a same = omega (arith, same)
 
 entry_32 : IsTarget32 entry_and_addend

@@ -21,6 +21,9 @@ pub mod Ppc64Table
 pub mod Ppc64VectorsExecuted
 pub mod Relaxed
 pub mod RiscV32
+pub mod RiscV32Calls
+pub mod RiscV32Executed
+pub mod RiscV32Steps
 pub mod RiscVExecuted
 pub mod RiscVFinal
 pub mod RiscVNear

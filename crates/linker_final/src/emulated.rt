@@ -13,6 +13,7 @@ ghost use Rattle.linker_final.specs.Ppc64Executed as ppc64_executed;
 ghost use Rattle.linker_final.specs.Ppc64FunctionsExecuted as ppc64_functions_executed;
 ghost use Rattle.linker_final.specs.Ppc64Table as ppc64_table;
 ghost use Rattle.linker_final.specs.Ppc64VectorsExecuted as ppc64_vectors_executed;
+ghost use Rattle.linker_final.specs.RiscV32Executed as riscv32_executed;
 ghost use Rattle.linker_final.specs.RiscVExecuted as riscv_executed;
 ghost use Rattle.linker_final.specs.RiscVTable as riscv_table;
 ghost use Rattle.linker_final.specs.X86Executed as x86_executed;
@@ -31,6 +32,11 @@ pub fn aarch64()
 pub fn riscv64()
     ensures agrees { riscv_table.Agrees }
     ensures steps { riscv_executed.Agrees }
+{}
+
+/// RV32: what `lui`, `auipc`, `jal`, `addi`, `jalr`, `add`, `c.j`, `c.jal`, `c.lui` and `c.li` do.
+pub fn riscv32()
+    ensures steps { riscv32_executed.Agrees }
 {}
 
 /// LoongArch: immediates of 20, 16 and 12 bits, branches, `pcaddu18i` with `jirl`, numbers by two

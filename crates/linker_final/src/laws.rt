@@ -8,6 +8,7 @@ ghost use Rattle.linker_final.specs.Final as final_bytes;
 ghost use Rattle.linker_final.specs.LoongArchSection as loongarch64_section;
 ghost use Rattle.linker_final.specs.Ppc64Section as ppc64_section;
 ghost use Rattle.linker_final.specs.RiscV32 as riscv32;
+ghost use Rattle.linker_final.specs.RiscV32Calls as riscv32_calls;
 ghost use Rattle.linker_final.specs.RiscVFinal as riscv64_final;
 ghost use Rattle.linker_final.specs.RiscVNear as riscv64_near;
 ghost use Rattle.linker_final.specs.RiscVSection as riscv64_section;
@@ -127,6 +128,16 @@ pub fn riscv32_instructions()
     ensures thread { riscv32.ThreadAddresses }
     ensures branches { riscv32.Branches }
     ensures words { riscv32.Words }
+{
+    linker_laws::relocations::riscv64();
+}
+
+/// RV32: a call by `auipc` and `jalr`, and the `c.jal` that `CallToCJal` makes of it, each with the
+/// value of its relocation, whose addend is the file's modulo 2^32. Both go to their targets, by
+/// `jalr` without bit 0, and leave in ra the address after their bytes: pc + 8 and pc + 2. All else
+/// stays, but for the register of the `auipc`.
+pub fn riscv32_calls()
+    ensures { riscv32_calls.Calls }
 {
     linker_laws::relocations::riscv64();
 }

@@ -146,13 +146,13 @@ module _ (y : Operands) (before code : List ℕ)
     (applied : IsApplied (jump_row 16 CjType (negsuc 2047, pos 2047)) y before code)
     (len : length code ≡ length before)
     (is_short : field (from_le_bytes w16 before) 0 2 ≡ 1)
-    (function : field (from_le_bytes w16 before) 13 16 ≡ 5) where
+    {number : ℕ} (function : field (from_le_bytes w16 before) 13 16 ≡ number) where
   pub short_jump_low : field (from_le_bytes w16 code) 0 2 ≡ 1
   short_jump_low =
       kept_field CjType (record { start = 0; end = 16 }) applied.value before code applied.written
       (λ b w. refl) 0 2 refl ∙ is_short
 
-  pub short_jump_function : field (from_le_bytes w16 code) 13 16 ≡ 5
+  pub short_jump_function : field (from_le_bytes w16 code) 13 16 ≡ number
   short_jump_function =
       kept_field CjType (record { start = 0; end = 16 }) applied.value before code applied.written
       (λ b w. refl) 13 3 refl ∙ function
