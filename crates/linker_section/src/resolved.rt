@@ -44,7 +44,8 @@ pub struct Resolved {
     /// the string's address less the relocation's addend.
     pub address: u64,
     /// The address of the entry of the GOT that the relocation requires, as `needs` says: of S, of
-    /// S + A, or of the module (local-dynamic). 0 if there is none. Not read where it requires none.
+    /// S + A, or of the module (local-dynamic). 0 if there is none. Not read where it requires
+    /// none.
     pub entry: u64,
     /// The address of the entry of the PLT, or of another stub, by which the relocation's branch
     /// goes; 0 if it goes to `address`.
