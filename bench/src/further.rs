@@ -902,7 +902,7 @@ fn runs(report: &mut Report, random: &mut Random) {
             },
             || {
                 run.iter()
-                    .all(|item| has_its_instructions(of_crate, &section, 0, item))
+                    .all(|item| has_its_instructions(of_crate, &section, 0, &item.as_item()))
             },
         );
         let (mut shapes, mut kept) = (vec![0; count], vec![0; count]);
