@@ -80,6 +80,9 @@ enum { NEAR = 100, FROM_POINTER };
 /* a struct with these fields, for good */
 #define NEW(type, ...) keep(&(type){__VA_ARGS__}, sizeof(type))
 
+/* the length of one of ELF's structs in all files */
+#define SIZE_OF(type) (is_narrow ? sizeof(Elf32_##type) : sizeof(Elf64_##type))
+
 /* the bytes of a section in the linked file */
 #define BYTES_OF(s) (s)->output->bytes + (s)->offset, (s)->len
 
@@ -265,7 +268,7 @@ static inline uint32_t type_of(const Elf64_Rela *r) { return ELF64_R_TYPE(r->r_i
 #define symbol_at(s, r) ((s)->object->symbols[ELF64_R_SYM((r)->r_info)])
 
 /* How many bytes a word with an address has. */
-static inline uint64_t word_len(void) { return is_narrow ? 4 : 8; }
+static inline uint64_t word_len(void) { return SIZE_OF(Addr); }
 static inline uint16_t class_bit(void) { return is_narrow ? LINKER_UTILS_CLASS32 : 0; }
 
 /* How many bytes the shortest instruction has. */
@@ -343,9 +346,12 @@ void add_row(struct output *o, uint64_t offset, uint32_t type, struct symbol *s,
 void fill_entry(struct symbol *s, const struct entry *e);
 bool write_dynamic(void);
 /* class32.c */
-void widen(struct object *o);
-size_t cut_head(Elf64_Ehdr *h), cut_loads(Elf64_Phdr *all, size_t count);
-size_t cut_heads(Elf64_Shdr *all, size_t count), cut_symbol(Elf64_Sym *elf);
+void note_class(const struct object *o);
+/* the entries of a file's table as those of ELFCLASS64; cuts them in place, to so many bytes */
+const void *wide_Ehdr(const void *table, size_t count), *wide_Shdr(const void *table, size_t count);
+const void *wide_Sym(const void *table, size_t count);
+size_t cut_Ehdr(void *table, size_t count), cut_Shdr(void *table, size_t count);
+size_t cut_Phdr(void *table, size_t count), cut_Sym(void *table, size_t count);
 /* properties.c, relax.c, frames.c, output.c */
 uint64_t read_frames(const struct section *s, const uint8_t *bytes, uint8_t *rows);
 void merge_properties(const char *flag), relax(void), index_frames(void);

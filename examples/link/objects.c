@@ -124,16 +124,19 @@ static void resolve_all(void) {
 /* Reads the header and the sections of a file. */
 void read_heads(struct object *o, uint16_t type, const char *otherwise) {
     Elf64_Ehdr head;
-    memcpy(&head, bytes_at(o, 0, sizeof head), sizeof head);
-    if (memcmp(head.e_ident, ELFMAG "\2\1", 6) || head.e_type != type || !head.e_shnum)
+    note_class(o);
+    memcpy(&head, wide_Ehdr(bytes_at(o, 0, SIZE_OF(Ehdr)), 1), sizeof head);
+    if (memcmp(head.e_ident, is_narrow ? ELFMAG "\1\1" : ELFMAG "\2\1", 6) ||
+        head.e_type != type || !head.e_shnum)
         fail_of(o, "%s of little-endian ELF64", otherwise);
     if (!machine) linked.machine = machine = head.e_machine;
     demand(o, machine == head.e_machine && !linker_utils_relocate(machine, 0, 0, NULL, 0),
            "of another architecture");
-    Elf64_Shdr table = {.sh_offset = head.e_shoff, .sh_size = head.e_shnum * sizeof table,
+    Elf64_Shdr table = {.sh_offset = head.e_shoff, .sh_size = head.e_shnum * SIZE_OF(Shdr),
                         .sh_entsize = head.e_shentsize, .sh_link = head.e_shstrndx};
     const struct section all = {o, "its sections", .head = &table};
-    o->heads = table_of(o, &table, sizeof table, &o->sections_len);
+    o->heads = table_of(o, &table, SIZE_OF(Shdr), &o->sections_len);
+    o->heads = wide_Shdr(o->heads, o->sections_len);
     o->sections = take(o->sections_len, sizeof *o->sections);
     for (size_t i = 0; i < o->sections_len; i++) {
         const Elf64_Shdr *s = &o->heads[i];
@@ -153,13 +156,13 @@ void read_heads(struct object *o, uint16_t type, const char *otherwise) {
 static void read_object(struct object file) {
     struct object *o = *objects_end = keep(&file, sizeof file);
     objects_end = &o->next;
-    widen(o);
     read_heads(o, ET_REL, "not a relocatable object");
     const struct section *table = NULL;
     EACH_SECTION_OF(o, s) {
         if (s->head->sh_type != SHT_SYMTAB) continue;
         demand(o, !table, "two tables of symbols");
-        o->mentions = table_of(o, s->head, sizeof *o->mentions, &o->mentions_len);
+        o->mentions = table_of(o, s->head, SIZE_OF(Sym), &o->mentions_len);
+        o->mentions = wide_Sym(o->mentions, o->mentions_len);
         table = s;
     }
     EACH_SECTION_OF(o, s) if (s->head->sh_type == SHT_GROUP) read_group(s, table);

@@ -63,7 +63,7 @@ Elf64_Sym symbol_of(const struct symbol *s) {
  * Symbols have a name and are in the file. */
 static void put_symbols(uint64_t offset, Elf64_Ehdr *head, bool has_symbols) {
     symbol_table.room = (has_symbols ? symbols_len + 1 : 1) * sizeof(Elf64_Sym);
-    make_room(&symbol_table, 8, symbol_table.element = cut_symbol(&(Elf64_Sym){0}));
+    make_room(&symbol_table, 8, sizeof(Elf64_Sym));
     for (int locals = 1; has_symbols && locals >= 0; locals--)
         EACH_SYMBOL(s) {
             uint16_t at = s->elf.st_shndx;
@@ -72,16 +72,17 @@ static void put_symbols(uint64_t offset, Elf64_Ehdr *head, bool has_symbols) {
             if (is_local(s) != locals || !is_in_file || !has_name) continue;
             Elf64_Sym elf = symbol_of(s);
             elf.st_name = add_name(&strings, s->name);
-            uint64_t len = cut_symbol(&elf);
-            append(&symbol_table, 8, &elf, len);
+            append(&symbol_table, 8, &elf, sizeof elf);
             symbol_table.info += (uint32_t)locals;
         }
+    symbol_table.element = SIZE_OF(Sym);
+    symbol_table.len = cut_Sym(symbol_table.bytes, symbol_table.len / sizeof(Elf64_Sym));
     offset = round_up(offset, 8);
     add_head(outputs[outputs_len++] = &symbol_table, offset);
     add_head(outputs[outputs_len++] = &strings, offset + symbol_table.len);
     EACH_OUTPUT(o) if (o->link) heads[o->index].sh_link = o->link->index;
     head->e_shoff = round_up(offset + symbol_table.len + strings.len, 8);
-    head->e_shentsize = sizeof *heads, head->e_shnum = (uint16_t)heads_len;
+    head->e_shentsize = SIZE_OF(Shdr), head->e_shnum = (uint16_t)heads_len;
     head->e_shstrndx = strings.index;
 }
 
@@ -96,14 +97,14 @@ static void write_part(FILE *file, uint64_t offset, const void *bytes, uint64_t 
  * a pipe is written to. Only an ordinary one is made executable. */
 static void write_parts(const char *path, Elf64_Ehdr *head) {
     struct stat status;
-    uint64_t heads_at = head->e_shoff, loads_len = cut_loads(loads, head->e_phnum);
-    uint64_t head_len = cut_head(head);
+    uint64_t heads_at = head->e_shoff, loads_len = cut_Phdr(loads, head->e_phnum);
+    uint64_t head_len = cut_Ehdr(head, 1);
     FILE *file = fopen(path, "wb");
     if (!file) fail("%s: can't be written", path);
     write_part(file, 0, head, head_len);
     write_part(file, head_len, loads, loads_len);
     EACH_OUTPUT(o) if (o->index && o->has_bytes) write_part(file, o->in_file, o->bytes, o->len);
-    if (heads_at) write_part(file, heads_at, heads, cut_heads(heads, heads_len));
+    if (heads_at) write_part(file, heads_at, heads, cut_Shdr(heads, heads_len));
     bool is_ordinary = !fstat(fileno(file), &status) && S_ISREG(status.st_mode);
     bool holds = !ferror(file) && (!is_ordinary || !fchmod(fileno(file), 0755));
     if (fclose(file) || !holds) fail("%s: can't be written", path);
@@ -148,6 +149,7 @@ static uint64_t put_sections(void) {
             *++load = (Elf64_Phdr){PT_LOAD, flags, offset, o->address, o->address, 0, 0, align};
         }
         end = o->address + o->len;
+        if (is_narrow && end > UINT32_MAX) fail("an address has more than 32 bits");
         load->p_memsz = end - load->p_vaddr;
         if (!bytes) continue;
         load->p_filesz = load->p_memsz;
@@ -162,11 +164,12 @@ static uint64_t put_sections(void) {
 }
 
 void write_file(const char *path, uint64_t entry, bool has_symbols) {
-    Elf64_Ehdr head = {.e_ident = ELFMAG "\2\1\1", /* ELFCLASS64, ELFDATA2LSB, EV_CURRENT */
+    Elf64_Ehdr head = {.e_ident = ELFMAG "\2\1\1", /* 64 bits so far, ELFDATA2LSB, EV_CURRENT */
                        .e_type = linked.is_fixed ? ET_EXEC : ET_DYN, .e_machine = machine,
-                       .e_version = EV_CURRENT, .e_entry = entry, .e_phoff = sizeof head,
+                       .e_version = EV_CURRENT, .e_entry = entry, .e_phoff = SIZE_OF(Ehdr),
                        .e_flags = linker_utils_output_flags(machine, machine_flags),
-                       .e_ehsize = sizeof head, .e_phentsize = sizeof *loads};
+                       .e_ehsize = SIZE_OF(Ehdr), .e_phentsize = SIZE_OF(Phdr)};
+    if (is_narrow) head.e_ident[EI_CLASS] = ELFCLASS32;
     sort_outputs();
     if (interpreter) load += 2;
     uint64_t offset = put_sections();

@@ -7,8 +7,8 @@
 void print_place(const struct section *s, const Elf64_Rela *r) {
     uint8_t name[LINKER_UTILS_NAME_SIZE];
     size_t len = 0;
-    uint64_t offset, at = s->table->sh_offset + (uint64_t)(r - s->relocations) * sizeof *r;
-    memcpy(&offset, s->object->bytes + at, sizeof offset);
+    uint64_t offset = 0, at = s->table->sh_offset + (uint64_t)(r - s->relocations) * SIZE_OF(Rela);
+    memcpy(&offset, s->object->bytes + at, word_len());
     if (linker_utils_relocation_name(machine, type_of(r), name, sizeof name, &len)) len = 0;
     fprintf(stderr, "%s: %s+0x%" PRIx64 ": %.*s", s->object->path, s->name, offset, (int)len,
             (const char *)name);
@@ -23,10 +23,12 @@ void check(const struct section *s, const Elf64_Rela *r, uint32_t status) {
 void read_relocations(struct section *s) {
     const struct object *o = s->object;
     size_t len;
-    const Elf64_Rela *elf = table_of(o, s->table, sizeof *elf, &len);
+    const void *elf = table_of(o, s->table, SIZE_OF(Rela), &len);
     bool has_addresses = s->output->rank == RANK_ADDRESSES;
     bool is_beside = s->output == frames || !strcmp(s->output->name, ".gcc_except_table");
-    s->relocations = memcpy(take(len, sizeof *elf), elf, len * sizeof *elf);
+    s->relocations = take(len, sizeof(Elf64_Rela));
+    if (!is_narrow) memcpy(s->relocations, elf, len * sizeof(Elf64_Rela));
+    else expect_ok(linker_utils_read_rela32(machine, elf, len * sizeof(Elf32_Rela), s->relocations, len));
     s->relocations_len = (uint32_t)len;
     if (has_addresses) s->kept_words = take(len, 1);
     EACH_RELOCATION(s, r) {
