@@ -218,39 +218,29 @@ static bool is_packed(const struct dynamic_row *row) {
     return relr && row->type == types.relative && !(row->offset % 8 || row->output->align % 8);
 }
 
-/* The addresses of a section's packed rows in order, or of all sections'; how many they are. */
-static size_t packed_places(const struct output *o, uint64_t *places) {
-    size_t len = 0;
+/* Writes the words of packed rows, if there is room, and returns how many they are. */
+static size_t pack_rows(uint64_t *words, size_t room) {
+    uint64_t *places = zeros(rows_len, sizeof *places);
+    size_t len = 0, needed = 0;
     for (const struct dynamic_row *row = rows; row < rows + rows_len; row++)
-        if (is_packed(row) && (!o || row->output == o))
-            places[len++] = (o ? 0 : row->output->address) + row->offset;
+        if (is_packed(row)) places[len++] = row->output->address + row->offset;
     if (len) qsort(places, len, sizeof *places, by_number);
-    return len;
+    uint32_t status = linker_utils_write_relr(places, len, words, room, &needed);
+    if (status != LINKER_UTILS_TOO_SHORT || room) expect_ok(status);
+    free(places);
+    return needed;
 }
 
-/* Makes room for the words of each section's packed rows; sections that meet need no more. */
+/* Makes room for the words while sections are so far apart that none is of two: sections that meet
+ * need no more. */
 static void make_packed(void) {
-    uint64_t *places = zeros(rows_len, sizeof *places);
-    size_t needed = 0;
-    EACH_OUTPUT(o) {
-        uint32_t status = linker_utils_write_relr(places, packed_places(o, places), NULL, 0, &needed);
-        if (status != LINKER_UTILS_TOO_SHORT) expect_ok(status);
-        make_room(relr, 8, 8 * needed);
-    }
-    free(places);
+    uint64_t apart = 0;
+    EACH_OUTPUT(o) o->address = apart += 2 * MOST_BYTES;
+    make_room(relr, 8, 8 * pack_rows(NULL, 0));
     for (struct library *l = libraries; l && relr->len; l = l->next) /* glibc requires it */
         for (size_t i = 0; i <= MOST_VERSIONS; i++)
             l->versions[i].number |= l->versions[i].name &&
                                      !strcmp(l->versions[i].name, "GLIBC_ABI_DT_RELR");
-}
-
-/* Writes the words, and bitmaps without a bit after them. */
-static void write_packed(void) {
-    uint64_t *places = zeros(rows_len, sizeof *places), *words = (uint64_t *)relr->bytes;
-    size_t len = packed_places(NULL, places), used = 0;
-    expect_ok(linker_utils_write_relr(places, len, words, relr->len / 8, &used));
-    while (used < relr->len / 8) words[used++] = 1;
-    free(places);
 }
 
 static void put_entry(int64_t tag, uint64_t value) {
@@ -342,7 +332,10 @@ static int by_symbol(const void *left, const void *right) {
 bool write_dynamic(void) {
     bool is_of_gnu = false;
     Elf64_Rela *to = (Elf64_Rela *)rela->bytes;
-    if (relr && relr->len) write_packed();
+    if (relr && relr->len) { /* after them bitmaps without a bit */
+        uint64_t *words = (uint64_t *)relr->bytes;
+        for (size_t at = pack_rows(words, relr->len / 8); at < relr->len / 8;) words[at++] = 1;
+    }
     for (const struct dynamic_row *row = rows; row < rows + rows_len; row++) {
         const struct symbol *s = row->symbol;
         bool is_looked_up = s->is_imported || row->type == types.copy;
