@@ -1,14 +1,14 @@
 /* SPDX-License-Identifier: MIT OR Apache-2.0 */
 /* Files of ELFCLASS32. Their tables are read as those of ELFCLASS64, whose structs have fields of the
- * same names, and those of the linked file are cut. Only static executables are linked so. */
+ * same names, and the linked file's are cut to theirs. Only static executables are linked so. */
 #include "link.h"
 
 /* The fields of each struct, but for `e_ident`, with which both begin. */
-#define FIELDS_OF_Ehdr(F) \
+#define FIELDS_OF_Ehdr(F)                                                                       \
     F(e_type) F(e_machine) F(e_version) F(e_entry) F(e_phoff) F(e_shoff) F(e_flags) F(e_ehsize) \
     F(e_phentsize) F(e_phnum) F(e_shentsize) F(e_shnum) F(e_shstrndx)
-#define FIELDS_OF_Shdr(F) \
-    F(sh_name) F(sh_type) F(sh_flags) F(sh_addr) F(sh_offset) F(sh_size) F(sh_link) F(sh_info) \
+#define FIELDS_OF_Shdr(F)                                                                       \
+    F(sh_name) F(sh_type) F(sh_flags) F(sh_addr) F(sh_offset) F(sh_size) F(sh_link) F(sh_info)  \
     F(sh_addralign) F(sh_entsize)
 #define FIELDS_OF_Phdr(F) \
     F(p_type) F(p_flags) F(p_offset) F(p_vaddr) F(p_paddr) F(p_filesz) F(p_memsz) F(p_align)
@@ -16,36 +16,36 @@
     F(st_name) F(st_info) F(st_other) F(st_shndx) F(st_value) F(st_size)
 #define COPY(field) to.field = from.field;
 
-/* Writes an entry of a table as the struct of the other class. */
-#define CONVERT(From, To, table, i, made, FIELDS)                 \
-    From from;                                                    \
-    To to = {0};                                                  \
-    memcpy(&from, (const uint8_t *)table + i * sizeof from, sizeof from); \
-    memcpy(&to, &from, sizeof to < sizeof from ? sizeof to : sizeof from); \
-    FIELDS(COPY)                                                  \
-    memcpy((uint8_t *)made + i * sizeof to, &to, sizeof to)
+/* Writes an entry of a table as the struct of the other class. The tables may be one that is cut. */
+#define CONVERT(From, To, FIELDS, table, made, i)                              \
+    From from;                                                                 \
+    To to = {0};                                                               \
+    memcpy(&from, (const uint8_t *)(table) + (i) * sizeof from, sizeof from);  \
+    memcpy(&to, &from, sizeof to < sizeof from ? sizeof to : sizeof from);     \
+    FIELDS(COPY)                                                               \
+    memcpy((uint8_t *)(made) + (i) * sizeof to, &to, sizeof to)
 
 #define WIDENS(type)                                                              \
     const void *wide_##type(const void *table, size_t count) {                    \
         Elf64_##type *made = is_narrow ? take(count, sizeof *made) : NULL;        \
         for (size_t i = 0; is_narrow && i < count; i++) {                         \
-            CONVERT(Elf32_##type, Elf64_##type, table, i, made, FIELDS_OF_##type); \
+            CONVERT(Elf32_##type, Elf64_##type, FIELDS_OF_##type, table, made, i); \
         }                                                                         \
         return is_narrow ? made : table;                                          \
     }
-#define CUTS(type)                                                                \
-    size_t cut_##type(void *table, size_t count) {                                \
-        for (size_t i = 0; is_narrow && i < count; i++) {                         \
-            CONVERT(Elf64_##type, Elf32_##type, table, i, table, FIELDS_OF_##type); \
-        }                                                                         \
-        return count * SIZE_OF(type);                                             \
+#define CUTS(type)                                                                 \
+    size_t cut_##type(void *table, size_t count) {                                 \
+        for (size_t i = 0; is_narrow && i < count; i++) {                          \
+            CONVERT(Elf64_##type, Elf32_##type, FIELDS_OF_##type, table, table, i); \
+        }                                                                          \
+        return count * SIZE_OF(type);                                              \
     }
 WIDENS(Ehdr) WIDENS(Shdr) WIDENS(Sym) CUTS(Ehdr) CUTS(Shdr) CUTS(Phdr) CUTS(Sym)
 
 /* Notes of which class the files are, all of one. ELFCLASS32 is for machines of whose files the
  * library knows it. */
 void note_class(const struct object *o) {
-    Elf32_Ehdr head = {.e_machine = EM_NONE};
+    Elf32_Ehdr head = {.e_shnum = 0};
     if (o->len >= sizeof head) memcpy(&head, o->bytes, sizeof head);
     bool is_one = head.e_ident[EI_CLASS] == ELFCLASS32 &&
                   !linker_utils_read_rela32(head.e_machine, NULL, 0, NULL, 0);

@@ -355,9 +355,7 @@ bool write_dynamic(void) {
     Elf64_Sym *elf = (Elf64_Sym *)dynsym->bytes + 1;
     for (size_t i = 1; i < listed_len; i++, elf++) {
         const struct symbol *s = listed[i];
-        uint32_t name = elf->st_name;
-        *elf = symbol_of(s);
-        elf->st_name = name;
+        *elf = symbol_of(s, elf->st_name);
         if (!is_defined(s)) elf->st_shndx = SHN_UNDEF;
         if (!is_defined(s) && s->library)
             elf->st_info = ELF64_ST_INFO(bind_of(s), ELF64_ST_TYPE(s->there->st_info));

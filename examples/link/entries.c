@@ -103,8 +103,6 @@ void require(struct object *o) {
             fail_at(s, r, ": '%s' is in a section that is left out", to->name);
         if (to == module_base && tls.has_base && linked.is_executable && kept->local_dynamic)
             fail_at(s, r, ": '%s' where other sequences of the object stay", to->name);
-        if (kind->row.kind == LINKER_UTILS_KIND_ALIGNMENT && !s->output->shrinks)
-            fail_at(s, r, " is not supported");
         struct linker_utils_requirements needs = needs_of(s, r);
         bool is_rewritten = needs.entry_class == LINKER_UTILS_ENTRY_DESCRIPTOR &&
                             linked.is_executable && !to->is_imported && !kept[index].descriptor;

@@ -16,7 +16,7 @@
  * - relocate.c: the values of all relocations
  * - frames.c: the table of unwind information
  * - output.c: the file with its symbols
- * - class32.c: files of ELFCLASS32, which all others know as those of ELFCLASS64
+ * - class32.c: files of ELFCLASS32, whose tables all others read as those of ELFCLASS64
  *
  * Relocations stay as objects have them, ELF's own, in a copy of each section's: the library reads
  * and rewrites them there. The first error ends the linker, and of memory it frees only what is
@@ -355,7 +355,7 @@ size_t cut_Phdr(void *table, size_t count), cut_Sym(void *table, size_t count);
 /* properties.c, relax.c, frames.c, output.c */
 uint64_t read_frames(const struct section *s, const uint8_t *bytes, uint8_t *rows);
 void merge_properties(const char *flag), relax(void), index_frames(void);
-Elf64_Sym symbol_of(const struct symbol *s);
+Elf64_Sym symbol_of(const struct symbol *s, uint32_t name);
 void write_file(const char *path, uint64_t entry, bool has_symbols);
 
 #endif

@@ -42,13 +42,12 @@ const char *text_at(const struct section *s, uint64_t at) {
 /* Leaves out the sections of a group that an earlier object has too. */
 static void read_group(const struct section *s, const struct section *table) {
     const struct object *o = s->object;
-    Elf64_Shdr head = *s->head;
+    const Elf64_Shdr *head = s->head;
     size_t len;
-    head.sh_entsize = sizeof(Elf32_Word);
-    const Elf32_Word *words = table_of(o, &head, sizeof *words, &len);
-    if (!table || head.sh_link != table - o->sections || head.sh_info >= o->mentions_len || !len)
+    const Elf32_Word *words = table_of(o, head, sizeof *words, &len);
+    if (!table || head->sh_link != table - o->sections || head->sh_info >= o->mentions_len || !len)
         fail_in(s, "a group without its symbol");
-    struct symbol *signature = named(text_at(table, o->mentions[head.sh_info].st_name));
+    struct symbol *signature = named(text_at(table, o->mentions[head->sh_info].st_name));
     bool is_comdat = words[0] & GRP_COMDAT, is_discarded = is_comdat && signature->has_group;
     signature->has_group |= is_comdat;
     for (size_t i = 1; i < len; i++) {

@@ -43,8 +43,8 @@ static bool is_local(const struct symbol *s) {
     return bind_of(s) == STB_LOCAL || (is_hidden && is_defined(s));
 }
 
-/* What the table of symbols says of one. */
-Elf64_Sym symbol_of(const struct symbol *s) {
+/* What a table of symbols says of one. */
+Elf64_Sym symbol_of(const struct symbol *s, uint32_t name) {
     Elf64_Sym elf = s->elf;
     const struct output *o = s->output;
     unsigned type = ELF64_ST_TYPE(elf.st_info);
@@ -55,6 +55,7 @@ Elf64_Sym symbol_of(const struct symbol *s) {
     else if (o && type == STT_GNU_IFUNC) /* its stub */
         type = STT_FUNC, elf.st_size = 0;
     elf.st_info = ELF64_ST_INFO(is_local(s) ? STB_LOCAL : bind_of(s), type);
+    elf.st_name = name;
     if (o) elf.st_shndx = o->index ? o->index : SHN_ABS;
     return elf;
 }
@@ -70,8 +71,7 @@ static void put_symbols(uint64_t offset, Elf64_Ehdr *head, bool has_symbols) {
             bool is_in_file = !at || at >= SHN_LORESERVE || s->output;
             bool has_name = *s->name && stt_of(s) != STT_SECTION;
             if (is_local(s) != locals || !is_in_file || !has_name) continue;
-            Elf64_Sym elf = symbol_of(s);
-            elf.st_name = add_name(&strings, s->name);
+            Elf64_Sym elf = symbol_of(s, add_name(&strings, s->name));
             append(&symbol_table, 8, &elf, sizeof elf);
             symbol_table.info += (uint32_t)locals;
         }
