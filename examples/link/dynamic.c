@@ -166,7 +166,11 @@ static void write_needed(void) {
     for (struct library *l = libraries; l; l = l->next) {
         Elf64_Verneed head = {.vn_version = VER_NEED_CURRENT, .vn_file = l->name_at,
                               .vn_aux = sizeof head};
-        for (size_t i = 0; i <= MOST_VERSIONS; i++) head.vn_cnt += l->versions[i].number;
+        for (struct version *v = l->versions; v <= l->versions + MOST_VERSIONS; v++) {
+            bool is_of_relr = v->name && !strcmp(v->name, "GLIBC_ABI_DT_RELR");
+            v->number |= is_of_relr && relr && relr->len; /* glibc requires it then */
+            head.vn_cnt += v->number;
+        }
         if (!head.vn_cnt) continue;
         head.vn_next = sizeof head + head.vn_cnt * (uint32_t)sizeof(Elf64_Vernaux);
         last = append(verneed, 4, &head, sizeof head);
@@ -229,18 +233,6 @@ static size_t pack_rows(uint64_t *words, size_t room) {
     if (status != LINKER_UTILS_TOO_SHORT || room) expect_ok(status);
     free(places);
     return needed;
-}
-
-/* Makes room for the words while sections are so far apart that none is of two: sections that meet
- * need no more. */
-static void make_packed(void) {
-    uint64_t apart = 0;
-    EACH_OUTPUT(o) o->address = apart += 2 * MOST_BYTES;
-    make_room(relr, 8, 8 * pack_rows(NULL, 0));
-    for (struct library *l = libraries; l && relr->len; l = l->next) /* glibc requires it */
-        for (size_t i = 0; i <= MOST_VERSIONS; i++)
-            l->versions[i].number |= l->versions[i].name &&
-                                     !strcmp(l->versions[i].name, "GLIBC_ABI_DT_RELR");
 }
 
 static void put_entry(int64_t tag, uint64_t value) {
@@ -306,9 +298,12 @@ static void put_entries(void) {
 void make_dynamic(void) {
     uint8_t path[LINKER_UTILS_NAME_SIZE + 1] = {0};
     size_t used = 0, most = sizeof path - 1, rela_len = 0;
+    uint64_t apart = 0;
     for (size_t i = 0; i < rows_len; i++) rela_len += !is_packed(&rows[i]);
     if (rela_len) make_room(rela, 8, rela_len * sizeof(Elf64_Rela));
-    if (relr) make_packed();
+    /* while sections are so far apart that no word is of two: sections that meet need no more */
+    EACH_OUTPUT(o) o->address = apart += 2 * MOST_BYTES;
+    if (relr) make_room(relr, 8, 8 * pack_rows(NULL, 0));
     if (!is_dynamic) return;
     if (interpreter && linker_utils_interpreter(machine, machine_flags, path, most, &used))
         fail("no dynamic linker is known for such objects");

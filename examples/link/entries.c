@@ -111,8 +111,7 @@ void require(struct object *o) {
         if (needs.entry_class && !is_rewritten) add_entry(s, r, &needs);
         if (is_ifunc(to)) to->needs_stub = true;
         if (is_dynamic) import(s, r, &needs);
-        bool is_by_word = is_ifunc(to) || to->is_imported;
-        if (needs.may_use_stub && is_by_word) r->r_addend += entered_at(s, r);
+        if (needs.may_use_stub && (is_ifunc(to) || to->is_imported)) r->r_addend += entered_at(s, r);
     }
 }
 

@@ -39,9 +39,8 @@ void merge_properties(const char *flag) {
         if (status) fail_of(o, "%s: %s", note->name, linker_utils_status_text(status));
         memcpy(all, made, len * sizeof *all);
     }
-    load_kind = LINKER_UTILS_STUB_LOAD;
-    if (value_of(landing.kind, all, len) & landing.bit)
-        load_kind = LINKER_UTILS_STUB_LANDING_LOAD;
+    bool is_protected = value_of(landing.kind, all, len) & landing.bit;
+    load_kind = is_protected ? LINKER_UTILS_STUB_LANDING_LOAD : LINKER_UTILS_STUB_LOAD;
     expect_ok(linker_utils_write_properties(machine, all, len, bytes, sizeof bytes, &len));
     if (len) append(note, 8, bytes, len);
 }
