@@ -52,9 +52,7 @@ void import(struct section *in, Elf64_Rela *r, const struct linker_utils_require
     bool is_changed = kind >= LINKER_UTILS_KIND_ABSOLUTE_SET && kind < LINKER_UTILS_KIND_RELATIVE;
     bool is_imported = s->is_imported && !((is_in_module || is_changed) && is_defined(s));
     bool is_word = needs->is_word && in->output->flags & SHF_WRITE;
-    if (needs->entry_class || kind == LINKER_UTILS_KIND_ALIGNMENT ||
-        kind == LINKER_UTILS_KIND_TLS_DESC_CALL)
-        return;
+    if (needs->entry_class || kind == LINKER_UTILS_KIND_TLS_DESC_CALL) return;
     if ((is_imported && (is_in_module || is_of_thread)) || (is_of_thread && !linked.is_executable))
         fail_at(in, r, " can't reach '%s' from such an output", s->name);
     bool is_relative = kind >= LINKER_UTILS_KIND_RELATIVE && kind <= LINKER_UTILS_KIND_PLT_RELATIVE;
