@@ -381,7 +381,7 @@ fn rejects_rewrites() {
     // past the last rewrite of each architecture, and a machine that is none
     let unknown = [
         (Architecture::AArch64.machine(), 13),
-        (Architecture::RiscV.machine(), 20),
+        (Architecture::RiscV.machine(), 21),
         (Architecture::LoongArch64.machine(), 13),
         (Architecture::Ppc64.machine(), 28),
         (Architecture::X86_64.machine(), 24),
@@ -564,7 +564,7 @@ fn a_relocation_fits_where_its_instruction_can_be_rewritten() {
 
 #[test]
 fn tells_the_bytes_that_a_rewrite_writes() {
-    let lens: [(Rewrite, u64, u64); 21] = [
+    let lens: [(Rewrite, u64, u64); 22] = [
         // `data16 lea x@tlsgd(%rip), %rdi; data16 data16 rex.W call __tls_get_addr`: the field is 4
         // bytes from the beginning, and the 16 bytes end with that of the `lea` that is written
         (X86_64Rewrite::TlsGdToLocalExec.into(), 4, 16 - 4),

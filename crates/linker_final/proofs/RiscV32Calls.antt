@@ -1,17 +1,19 @@
 -- RV32's calls, by what RV64's instructions do.
-use Rattle.std.proofs.Common.{◌≡◌, ◌≢◌, ℕ, ◌+◌, ◌-◌, ◌%◌, ◌^◌, ◌≤◌, ◌==◌, ◌&&◌, ◌×◌, nat_le, Bool, true, false, if◌then◌else◌, ℤ, List, drop, length, Some, IsSomeAnd, refl, sym, ap, ap₂, ◌∙◌, subst, arith, ints, ne_eqb, eq-eqb, le-leb}
+use Rattle.std.proofs.Common.{◌≡◌, ◌≢◌, ℕ, ◌+◌, ◌-◌, ◌%◌, ◌^◌, ◌≤◌, ◌==◌, ◌&&◌, nat_le, Bool, true, false, if◌then◌else◌, ℤ, pos, negsuc, ◌+ℤ◌, List, drop, length, Some, IsSomeAnd, refl, sym, ap, ◌∙◌, subst, arith, ne_eqb, eq-eqb, le-leb}
 use Rattle.std.proofs.lemmas.List.{length-drop}
 use Rattle.std.specs.Int.{w16, w32, from_le_bytes}
 use Rattle.linker_base.specs.Bits.{field}
 use Rattle.linker_elf.specs.declared.elf.RelocationKind.TheVariants.{PltRelative}
 use Rattle.linker_elf.specs.declared.riscv64.relocations.RiscVRelocation.TheVariants as names
 use Rattle.linker_final.proofs.RiscV32Sums.{symbol_32, with_addend}
-use Rattle.linker_final.proofs.RiscVImports.{CjType, IType, IsSame32, Operands, UType, UiType, after_rewrite, even, moved, pair_row, plt_address, rd_of, register, riscv_form, riscv_row, rs1_of, sum_64, symbol_address, word_of}
+use Rattle.linker_final.proofs.RiscVImports.{CjType, IType, IsApplied, IsSame32, Operands, RiscVRelocation, UType, UiType, after_rewrite, moved, pair_row, plt_address, rd_of, register, riscv_form, riscv_row, rs1_of, sum_64, symbol_address, word_of}
 use Rattle.linker_final.specs.RiscV32Calls.{Calls, HasCalled, LongCall, ShortCall, executed_32, fetched_32, is_cjal, modulo_32, step_32}
+use Rattle.linker_laws.proofs.Imports.{ap₂, ints, jump_row}
 use Rattle.linker_laws.proofs.RiscVJumps.{high_decodes, high_long, low_decodes, low_long, pair_base, pair_leads, pair_link, pair_register, short_jump_function, short_jump_leads, short_jump_low}
 use Rattle.linker_laws.proofs.RiscVMachine.{fetched_word}
 use Rattle.linker_laws.proofs.Sums.{lift, wrapped_is}
 use Rattle.linker_laws.proofs.Words.{put_there, same_low_two}
+use Rattle.linker_laws.specs.RiscVRelocationLaws.{even}
 use Rattle.linker_laws.specs.RiscVMachine.{Hart, Instruction, auipc, executed, fetched, goes_on, goes_to, jal, jumps, of_word, sums, with_integer}
 use Rattle.linker_utils.specs.RiscVRewrites.{call_to_cjal}
 use Rattle.linker_utils.specs.declared.riscv64.rewrites.RewriteKind.TheVariants as kinds
@@ -87,7 +89,7 @@ short_call o addend small same call code matches relocated h at =
     let there : from_le_bytes w16 jump ≡ 0x2001 = ap (from_le_bytes w16) (put_there call 0 2 call_to_cjal (omega arith)) in
     let quadrant : field (from_le_bytes w16 jump) 0 2 ≡ 1 = omega (arith, there) in
     let function : field (from_le_bytes w16 jump) 13 16 ≡ 1 = omega (arith, there) in
-    let applied = relocated.applied in
+    let applied : IsApplied (jump_row 16 CjType (negsuc 2047, pos 2047)) p jump code = relocated.applied in
     let long = applied.accepted.long in
     let len = relocated.len in
     let is = fetched_cjal code (omega (arith, long, len))

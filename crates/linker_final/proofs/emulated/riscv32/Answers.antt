@@ -1,6 +1,7 @@
 -- The steps of RV32: by computation.
 use Rattle.linker_final.proofs.Imports.{ℕ, ◌+◌, ◌*◌, ◌%◌, ◌^◌, ◌==◌, if◌then◌else◌, refl, AllPass, Numbers, at, pc}
 use Rattle.std.proofs.Common.{nat_lt}
+use Rattle.linker_base.specs.Form.{place_sum}
 use Rattle.linker_final.specs.RiscV32Executed.{made_32, passes_32}
 use Rattle.linker_final.specs.RiscV32Steps.{riscv32_groups}
 use Rattle.linker_final.specs.Steps.{m0}
@@ -16,7 +17,7 @@ quick row place =
     if nat_lt place m0 then number % 2 ^ 32 else number)))
 
 pass : AllPass quick passes_32 riscv32_groups
-unfolding riscv32_groups
+unfolding place_sum riscv32_groups
 pass = refl
 
 pub returns : goal.returns
