@@ -11,12 +11,12 @@ ghost use Rattle.linker_rewriting.specs.Decisions.{AllCanBeMade, IsThere, IsWith
 ghost use Rattle.linker_rewriting.specs.Decisions.{RestStays, deletions_by, IsRejectedFirst};
 ghost use Rattle.linker_rewriting.specs.Decisions.{pairs_in};
 ghost use Rattle.linker_rewriting.specs.Facts.{context_of};
-ghost use Rattle.linker_rewriting.specs.GlobalPointer as spec;
 ghost use Rattle.linker_riscv64.specs.RiscVCalls.{word_at};
 ghost use Rattle.linker_riscv64.specs.RiscVFields.{opcode_of, funct3_of};
 ghost use Rattle.linker_utils.specs.RiscVRewrites.{adds_low12, with_rs1};
 ghost use Rattle.linker_section.specs.Relocations.{relocation_in};
 ghost use Rattle.linker_section.specs.Values.{IsAscending};
+ghost use Rattle.linker_rewriting.specs.GlobalPointer as spec;
 
 use crate::agreement::contradiction;
 use crate::decisions::{

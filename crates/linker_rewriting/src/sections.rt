@@ -6,7 +6,6 @@ ghost use Rattle.linker_section.specs.Relocations.{relocation_in};
 ghost use Rattle.linker_rewriting.specs.Numbers.{decisions_in, numbers_in, IsKeptDecision};
 ghost use Rattle.linker_rewriting.specs.Numbers.{IsWrittenDecision};
 ghost use Rattle.linker_rewriting.specs.Agreement.{Agree};
-ghost use Rattle.linker_rewriting.specs.Decisions as spec;
 ghost use Rattle.linker_rewriting.specs.Decisions.{pairs_in};
 ghost use Rattle.linker_rewriting.specs.Facts.{pre_layout, context_of};
 ghost use Rattle.linker_rewriting.specs.Inner.Left.{AreKept};
@@ -14,6 +13,7 @@ ghost use Rattle.linker_rewriting.specs.Rewritten.{section_after, relocation_aft
 ghost use Rattle.linker_rewriting.specs.Rewritten.{AreRelocationsAfter, OthersStay, IsRewrittenAs};
 ghost use Rattle.linker_rewriting.specs.Rewritten.{AreDecidedAs, AreMadeAs, LabelsAreWhole};
 ghost use Rattle.linker_rewriting.specs.Surveys.{MeansUnsurveyed};
+ghost use Rattle.linker_rewriting.specs.Decisions as spec;
 
 use crate::agreement::contradiction;
 use crate::checked::{check_decisions, keep_bytes};
@@ -278,7 +278,7 @@ pub(crate) fn list_deletions(
     requires fit { (n : ℕ) → n < length relocations.now / 24
         → spec.deleted_end (relocation_in relocations.now n).offset
         (spec.deleted_of (spec.decision_at (decisions_in decisions.now) n)) ≤ u64.MAX }
-    ensures listed { IfSome result (λ len. take len (pairs_in deleted.new)
+    ensures listed { IfSome result (λ len. take len (spec.pairs_in deleted.new)
         ≡ spec.deletions_by relocations.now (decisions_in decisions.now)
         (length relocations.now / 24)) }
     ensures others_stay { IfSome result (λ len. drop len deleted.new ≡ drop len deleted.old) }
@@ -357,7 +357,7 @@ pub fn rewrite_placed_section(
         relocations.new section.old section.new (decisions_in decisions.new)) }
     ensures within { OnOk result (spec.AllCanBeMade relocations.old section.old
         (decisions_in decisions.new) (length relocations.old / 24)) }
-    ensures listed { IfOk result (λ len. take len (pairs_in deleted.new)
+    ensures listed { IfOk result (λ len. take len (spec.pairs_in deleted.new)
         ≡ spec.deletions_by relocations.old (decisions_in decisions.new)
         (length relocations.old / 24)) }
     ensures labels { OnOk result (LabelsAreWhole (context_of context.now) relocations.old
