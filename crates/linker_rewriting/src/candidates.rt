@@ -18,7 +18,6 @@ use linker_section::relocations::{Rela, relocation_at};
 use linker_utils::architecture::{Relaxation, choose, may_be_skipped};
 use linker_utils::elf::{Architecture, Choice, LinkFacts, Operands};
 
-/// Whether the symbol at an index is `__tls_get_addr`.
 #[inline(always)]
 pub(crate) fn is_tls_get_addr(symbols: &[SymbolFacts], symbol: u32) -> bool
     ensures { result ≡ spec.calls_tls_get_addr (slice_get symbols.now symbol) }
@@ -29,7 +28,7 @@ pub(crate) fn is_tls_get_addr(symbols: &[SymbolFacts], symbol: u32) -> bool
     }
 }
 
-/// Whether a relocation is that of a call of `__tls_get_addr` n bytes after an offset.
+/// Whether a relocation is that of a call of `__tls_get_addr` `distance` bytes after an offset.
 #[inline(always)]
 fn is_call(context: &RelaxContext<'_>, offset: u64, distance: u64, next: Option<Rela>) -> bool
     ensures { spec.IsCallIn context.now.architecture context.now.symbols.now offset distance next
@@ -115,7 +114,6 @@ pub(crate) fn candidate_by(
     Some(chosen)
 }
 
-/// What the rewrite of a relocation is chosen by, by its own symbol and mark.
 #[inline(always)]
 fn own_facts(context: &RelaxContext<'_>, site: &Site<'_>) -> Option<LinkFacts>
     requires { site.now.index + 1 ≤ usize.MAX }

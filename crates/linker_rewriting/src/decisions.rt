@@ -12,12 +12,11 @@ ghost use Rattle.linker_rewriting.specs.Inner.Left.{AreKept};
 ghost use Rattle.linker_rewriting.specs.RiscVPcrelGroups.{IsInLabel, IsLabelNote};
 ghost use Rattle.linker_rewriting.specs.TocIndirection.{subject_of};
 
-use crate::calls::keeps_call;
 use crate::candidates::candidate;
 use crate::facts::{OutputFacts, RelaxContext, SymbolFacts};
 use crate::groups::{Scope, UnrelaxableGroups, group_stays, scope_in};
 use crate::phases::Phase;
-use crate::r_types::{is_listed, lists_any, of_each};
+use crate::r_types::{is_listed, keeps_call, lists_any, of_each};
 use crate::relocations::{Site, relocation_in};
 use crate::riscv_pcrel_groups::{high_of, label_candidate, note_labels, set_all};
 use crate::rules::{Rule, decide_by};
@@ -57,7 +56,6 @@ pub enum Decision {
     Consumed,
 }
 
-/// The decision with an index.
 #[inline(always)]
 pub(crate) fn decision_in(decisions: &[DecisionNumbers], index: usize) -> Decision
     requires { index < length decisions.now }
@@ -159,7 +157,7 @@ impl Decision {
     }
 }
 
-/// Whether the relocation after one, if there is one, is alone and is rewritten.
+/// Whether the next relocation, if there is one, is alone and is rewritten.
 fn is_next_rewritten(context: &RelaxContext<'_>, site: &Site<'_>) -> bool
     requires { site.now.index + 4 ≤ usize.MAX }
     ensures { spec.IsRewrittenAt (context_of context.now) site.now.relocations.now
@@ -193,7 +191,6 @@ fn takes_symbol(phase: Phase, r_type: u32) -> bool
     }
 }
 
-/// What a relocation is of: its symbol and its addend.
 #[inline(always)]
 pub(crate) fn subject_of(relocation: &Rela) -> Subject
     ensures { result ≡ subject_of relocation.now }
@@ -204,7 +201,6 @@ pub(crate) fn subject_of(relocation: &Rela) -> Subject
     }
 }
 
-/// What rewrites the instruction of a relocation of a label with a high part.
 #[inline(always)]
 fn label_decision(phase: Phase, chosen: Choice<Relaxation, u32>, high: &Rela) -> Decision
     ensures { result ≡ spec.label_decision phase chosen high.now }
@@ -329,16 +325,13 @@ pub(crate) fn end_after(start: u64, own: u64, end: u64) -> Option<u64>
     Some(own)
 }
 
-/// The rule of groups, for an architecture and a phase: all of a group are rewritten, or none is.
+/// The rule of groups: all of a group are rewritten, or none is. Architecture and phase are those
+/// of the context, known to the compiler.
 #[derive(Clone, Copy)]
 struct Groups<'a> {
-    /// The architecture.
     architecture: Architecture,
-    /// The phase.
     phase: Phase,
-    /// What rewrites are chosen by, in that phase.
     context: &'a RelaxContext<'a>,
-    /// Which groups stay.
     kept: &'a [UnrelaxableGroups],
 }
 
@@ -438,9 +431,9 @@ fn decide_all(
     Ok(true)
 }
 
-/// Decides what becomes of each relocation of a section and of its instruction, in the caller's
-/// memory. Nothing is rewritten. False if all stay as they are by their types. It is compiled for
-/// each architecture and phase.
+/// Decides what becomes of each relocation of a section and of its instruction. Nothing is
+/// rewritten. False if all stay as they are by their types. It is compiled for each architecture
+/// and phase.
 pub(crate) fn decide_section(
     context: &RelaxContext<'_>,
     kept: &[UnrelaxableGroups],

@@ -1,11 +1,14 @@
-//! What a linker knows of symbols and of the output, and what a rewrite is chosen by.
+//! What a linker knows of symbols and of the output, and what a rewrite is chosen by; whether the
+//! two tables of an object's symbols say the same of a symbol.
 
-ghost use Rattle.std.specs.Prelude.{◌≡◌, ◌||◌};
+ghost use Rattle.std.specs.Prelude.{◌≡◌, ◌||◌, MatchOption};
+ghost use Rattle.linker_rewriting.specs.Agreement as agreement;
 ghost use Rattle.linker_rewriting.specs.Facts as spec;
 
 use crate::phases::Phase;
+use crate::relocations::relocation_in;
 use linker_section::facts::{Addresses, Symbol};
-use linker_section::relocations::Rela;
+use linker_section::relocations::{Rela, relocations_len};
 use linker_utils::elf::{Architecture, LinkFacts, Operands};
 
 /// What a linker knows of a symbol of an object once names are resolved. A table of these has those
@@ -52,7 +55,22 @@ pub(crate) const NO_ADDRESSES: Addresses = Addresses {
     has_tls: false,
 };
 
-/// Whether a symbol's address is a number, wherever the output is loaded.
+/// A context before addresses are known.
+macro_rules! pre_layout {
+    ($architecture:expr, $output:expr, $symbols:expr) => {
+        RelaxContext {
+            architecture: $architecture,
+            phase: Phase::PreLayout,
+            output: $output,
+            symbols: $symbols,
+            addresses: &crate::facts::NO_ADDRESSES,
+            values: &[],
+        }
+    };
+}
+
+pub(crate) use pre_layout;
+
 #[inline(always)]
 fn has_own_address(symbol: &SymbolFacts) -> bool
     ensures { result ≡ spec.has_own_address symbol.now }
@@ -60,7 +78,6 @@ fn has_own_address(symbol: &SymbolFacts) -> bool
     symbol.is_absolute || symbol.is_undefined_weak
 }
 
-/// Whether a call of a symbol may return with another TOC pointer.
 #[inline(always)]
 pub(crate) fn may_change_toc(symbol: &SymbolFacts) -> bool
     ensures { result ≡ spec.may_change_toc symbol.now }
@@ -89,28 +106,14 @@ pub(crate) fn facts_of(
         is_pcrel_link_time_constant: output.has_near_symbols && !has_own_address,
         is_executable: output.is_executable,
         has_local_exec_base: true,
-        may_compress: false,
-        is_class32: false,
         is_relaxable: marked,
-        has_got_high_part: false,
-        is_label_relaxable: false,
-        toc_base_is_exclusive: false,
         may_change_toc: may_change_toc(symbol),
         group_fits: true,
-        has_addresses: false,
         operands: Operands {
             addend,
-            symbol: 0,
-            place: 0,
-            got_entry: 0,
-            got_base: 0,
-            plt_entry: 0,
-            symbol_size: 0,
-            tls_base: 0,
-            has_got_entry: false,
-            has_plt_entry: false,
-            has_tls_base: false,
+            ..Operands::default()
         },
+        ..LinkFacts::default()
     }
 }
 
@@ -120,8 +123,8 @@ pub(crate) fn facts_of(
 pub struct RelaxContext<'a> {
     /// The architecture.
     pub architecture: Architecture,
-    /// The phase. Loads from `.toc` are rewritten in `ShortPcRel`. The rewrites by the global
-    /// pointer don't read it.
+    /// The phase. A rewrite by the global pointer doesn't read it, nor does
+    /// `relocate_rewritten_section`.
     pub phase: Phase,
     /// What is known of the output.
     pub output: &'a OutputFacts,
@@ -147,8 +150,8 @@ pub(crate) fn address_in(addresses: &Addresses, value: &Symbol) -> u64
     }
 }
 
-/// Whether the output is an executable, whose definition of the symbol is used in the phase of
-/// offsets from the thread pointer.
+/// Whether the output is an executable, whose definition of the symbol is used where one to
+/// local-exec is rewritten.
 #[inline(always)]
 fn is_executable_in(phase: Phase, output: &OutputFacts, symbol: &SymbolFacts) -> bool
     ensures { result ≡ spec.is_executable_in phase output.now symbol.now }
@@ -159,7 +162,6 @@ fn is_executable_in(phase: Phase, output: &OutputFacts, symbol: &SymbolFacts) ->
     }
 }
 
-/// Whether instructions may be deleted in a phase.
 #[inline(always)]
 fn may_delete(phase: Phase) -> bool
     ensures { result ≡ spec.may_delete phase }
@@ -225,4 +227,43 @@ pub(crate) fn link_facts(
             Some(placed_facts(context, symbol, value, offset, addend, marked))
         }
     }
+}
+
+/// Whether a symbol is defined in the output and nothing defines it, or has two `st_other`. One
+/// that is thread-local is at the thread pointer where nothing defines it.
+#[inline(always)]
+fn contradicts(facts: &SymbolFacts, symbol: &Symbol) -> bool
+    ensures { result ≡ agreement.contradicts facts.now symbol.now }
+{
+    let is_absent = facts.is_undefined_weak || symbol.is_undefined_weak && !symbol.is_thread_local;
+    facts.is_local && is_absent || facts.other != symbol.other
+}
+
+#[inline(always)]
+fn contradict_at(facts: &[SymbolFacts], symbols: &[Symbol], relocation: &Rela) -> bool
+    ensures { result ≡ agreement.contradict_at facts.now symbols.now relocation.now }
+{
+    let index = relocation.symbol as usize;
+    match (facts.get(index), symbols.get(index)) {
+        (Some(facts), Some(symbol)) => contradicts(facts, symbol),
+        _ => false,
+    }
+}
+
+/// The index of the symbol of the first relocation about which two tables contradict each other.
+pub(crate) fn contradiction(
+    facts: &[SymbolFacts],
+    symbols: &[Symbol],
+    relocations: &[u8],
+) -> Option<usize>
+    ensures { MatchOption result (agreement.Agree facts.now symbols.now relocations.now)
+        (agreement.IsContradiction facts.now symbols.now relocations.now) }
+{
+    for index in 0..relocations_len(relocations) {
+        let relocation = relocation_in(relocations, index);
+        if contradict_at(facts, symbols, &relocation) {
+            return Some(relocation.symbol as usize);
+        }
+    }
+    None
 }

@@ -1,5 +1,7 @@
-//! RISC-V's addresses within 2 KiB of the global pointer or of 0. They need no `lui` and no
-//! `auipc`: each low part takes x3 or x0 as its base, all of a symbol or none.
+//! RISC-V's addresses within 2 KiB of the global pointer, from 2,048 below it to 2,047 above it, or
+//! of 0 (RISC-V ELF psABI, "Global-pointer Relaxation" and "Zero-page Relaxation"). They need no
+//! `lui` and no `auipc`: each low part takes x3 or x0 as its base, all of a symbol or none. `gp` is
+//! the address of `__global_pointer$`. For other architectures nothing is noted or rewritten.
 
 ghost use Rattle.std.specs.Prelude.{◌≡◌, ◌↔◌, ◌+◌, ◌<◌, ◌≤◌, ◌/◌, ℕ, length, map, take, drop};
 ghost use Rattle.std.specs.Prelude.{IfSome, IfErr, IfOk, OnOk, OnErr, IsTrue, ◌&&◌};
@@ -18,12 +20,10 @@ ghost use Rattle.linker_section.specs.Relocations.{relocation_in};
 ghost use Rattle.linker_section.specs.Values.{IsAscending};
 ghost use Rattle.linker_rewriting.specs.GlobalPointer as spec;
 
-use crate::agreement::contradiction;
 use crate::decisions::{
     Decision, DecisionNumbers, Deletion, RewritingError, decision_in, subject_of,
 };
-use crate::facts::{OutputFacts, RelaxContext, SymbolFacts, address_in};
-use crate::phases::Phase;
+use crate::facts::{OutputFacts, RelaxContext, SymbolFacts, address_in, contradiction};
 use crate::relocations::{Site, relocation_in};
 use crate::riscv_pcrel_groups::{high_at, is_beyond, label_at};
 use crate::rules::{Rule, decide_by};
@@ -56,8 +56,6 @@ pub const GPREL_I: u32 = 47;
 /// The same of the S format, `R_RISCV_GPREL_S`.
 pub const GPREL_S: u32 = 48;
 
-/// What the instruction of a relocation is of an address.
-#[inline(always)]
 fn part_of(architecture: Architecture, r_type: u32) -> Option<Part>
     ensures { result ≡ spec.part_of architecture r_type }
 {
@@ -99,7 +97,6 @@ fn labelled(context: &RelaxContext<'_>, relocations: &[u8], relocation: &Rela) -
 }
 
 /// The relocation whose symbol and addend are those of a part.
-#[inline(always)]
 fn part_subject(
     context: &RelaxContext<'_>,
     relocations: &[u8],
@@ -129,7 +126,6 @@ fn member_of(
 }
 
 /// Whether 12 signed bits hold the distance of an address from another one.
-#[inline(always)]
 fn is_near(base: u64, address: u64) -> bool
     ensures { result ≡ spec.is_near base address }
 {
@@ -137,7 +133,6 @@ fn is_near(base: u64, address: u64) -> bool
 }
 
 /// Whether nothing replaces a symbol at run time, and its address is that of data or of code.
-#[inline(always)]
 fn is_bound(symbol: &SymbolFacts, value: &Symbol) -> bool
     ensures { result ≡ spec.is_bound symbol.now value.now }
 {
@@ -145,7 +140,6 @@ fn is_bound(symbol: &SymbolFacts, value: &Symbol) -> bool
 }
 
 /// S + A.
-#[inline(always)]
 fn address_of(addresses: &Addresses, relocation: &Rela, value: &Symbol) -> u64
     ensures { result ≡ spec.address_of addresses.now relocation.now value.now }
 {
@@ -168,7 +162,6 @@ fn is_reached(context: &RelaxContext<'_>, gp: u64, relocation: &Rela) -> bool
 }
 
 /// Whether four bytes from an offset on are in the section.
-#[inline(always)]
 fn has_word(section: &[u8], offset: u64) -> bool
     ensures { result ≡ spec.has_word section.now offset }
 {
@@ -177,7 +170,6 @@ fn has_word(section: &[u8], offset: u64) -> bool
 }
 
 /// The instruction at an offset of the section, by its four bytes alone.
-#[inline(always)]
 fn window_at(section: &[u8], offset: u64) -> u32
     requires { offset + 4 ≤ length section.now }
     ensures { result ≡ from_le_bytes w32 (take 4 (drop offset section.now)) }
@@ -186,16 +178,14 @@ fn window_at(section: &[u8], offset: u64) -> u32
 }
 
 /// Whether an instruction has an opcode, and is of another register than x0 and x3.
-#[inline(always)]
-fn is_high_word(r_type: u32, word: u32) -> bool
-    ensures { result ≡ spec.is_high_word r_type word }
+fn is_high_word(expected: u32, word: u32) -> bool
+    ensures { result ≡ spec.is_high_word expected word }
 {
-    opcode(word) == r_type && destination(word) != 0 && destination(word) != 3
+    opcode(word) == expected && destination(word) != 0 && destination(word) != 3
 }
 
 /// Whether an instruction writes no integer register: it is a store, or loads a number of floating
 /// point.
-#[inline(always)]
 fn writes_none(word: u32) -> bool
     ensures { result ≡ spec.writes_none word }
 {
@@ -203,7 +193,6 @@ fn writes_none(word: u32) -> bool
 }
 
 /// Whether an instruction adds 12 bits to a register.
-#[inline(always)]
 fn adds_low(section: &[u8], offset: u64) -> bool
     requires { offset + 4 ≤ length section.now }
     ensures { result ≡ adds_low12 (opcode_of (word_at section.now offset))
@@ -214,7 +203,6 @@ fn adds_low(section: &[u8], offset: u64) -> bool
 
 /// Whether an instruction adds 12 bits to another register than x0, doesn't store what that holds,
 /// and doesn't write x3.
-#[inline(always)]
 fn is_low_at(section: &[u8], offset: u64) -> bool
     requires { offset + 4 ≤ length section.now }
     ensures { result ≡ spec.is_low_word (word_at section.now offset) }
@@ -245,12 +233,9 @@ fn is_expected(section: &[u8], relocation: &Rela, part: Part, subject: &Rela) ->
     }
 }
 
-/// What parts are chosen by.
 #[derive(Clone, Copy)]
 struct Parts<'a> {
-    /// What is known of symbols and of the output, with addresses.
     context: &'a RelaxContext<'a>,
-    /// The address of the global pointer.
     gp: u64,
     /// Whether the relocations ascend.
     ascends: bool,
@@ -294,15 +279,12 @@ fn keeping_symbol(parts: &Parts<'_>, site: &Site<'_>) -> Option<usize>
 
 /// Notes which symbols of an object keep the `lui` and `auipc` of their address, since a relocation
 /// of this section of code is of such an instruction, or of a low part, and can't be rewritten: it
-/// isn't marked by `R_RISCV_RELAX`, its instruction is another one, or S + A is neither within
-/// 2 KiB of the global pointer, from 2,048 below it to 2,047 above it, nor of 0 (RISC-V ELF psABI,
-/// "Global-pointer Relaxation" and "Zero-page Relaxation"). All symbols of a section stay whose
-/// relocations don't ascend, and all where the output isn't an executable that is always loaded at
-/// the address that it is linked for.
+/// isn't marked by `R_RISCV_RELAX`, its instruction is another one, or S + A is near neither the
+/// global pointer nor 0. All symbols of a section stay whose relocations don't ascend, and all
+/// where the output isn't an executable that is always loaded at the address that it is linked for.
 ///
 /// As with `survey` there is one table, with an element for each symbol of the object, all of which
-/// are false at first. A symbol without an element stays. `gp` is the address of
-/// `__global_pointer$`. For other architectures than RISC-V nothing is noted.
+/// are false at first. A symbol without an element stays.
 ///
 /// # Errors
 ///
@@ -343,8 +325,6 @@ pub fn survey_global_pointer(
     Ok(())
 }
 
-/// What becomes of a part that is rewritten.
-#[inline(always)]
 fn part_decision(part: Part, subject: &Rela) -> Decision
     ensures { result ≡ spec.part_decision part subject.now }
 {
@@ -366,9 +346,7 @@ fn part_decision(part: Part, subject: &Rela) -> Decision
 /// The rule of parts: all of a symbol are rewritten, or none is.
 #[derive(Clone, Copy)]
 struct Symbols<'a, 'b> {
-    /// What parts are chosen by.
     parts: Parts<'a>,
-    /// Which symbols stay.
     kept: &'b [bool],
 }
 
@@ -402,7 +380,6 @@ fn decide_part(rule: &Symbols<'_, '_>, site: &Site<'_>) -> Option<Decision>
 
 /// Where the instruction of a part ends, by its offset. That of a part that stays has no bytes
 /// here.
-#[inline(always)]
 fn part_end(decision: &Decision, offset: u64) -> u64
     requires { spec.part_end decision.now offset ≤ u64.MAX }
     ensures { result ≡ spec.part_end decision.now offset }
@@ -440,7 +417,6 @@ impl Rule for Symbols<'_, '_> {
 }
 
 /// A relocation after what became of it, where no bytes are rewritten.
-#[inline(always)]
 fn relocation_by(decision: &Decision, relocation: &Rela) -> Rela
     ensures { result ≡ spec.relocation_by decision.now relocation.now }
 {
@@ -463,8 +439,6 @@ fn relocation_by(decision: &Decision, relocation: &Rela) -> Rela
     }
 }
 
-/// Turns the relocations of a section into those after what became of them, where no bytes are
-/// rewritten.
 fn turn_all(decisions: &[DecisionNumbers], relocations: &mut [u8])
     requires { length relocations.old / 24 ≤ length decisions.now }
     ensures { spec.AreRelocationsBy (decisions_in decisions.now) relocations.old relocations.new
@@ -486,8 +460,8 @@ fn turn_all(decisions: &[DecisionNumbers], relocations: &mut [u8])
 /// The relocation of such an instruction gets the type 0. Those of the low parts of these symbols
 /// get the symbol and the addend of the address and the type `GPREL_I` or `GPREL_S`, which no other
 /// call knows: `finish_gp_relaxation` writes the base of their instruction once all addresses are
-/// final, and gives them the type whose value is then written. What became of each relocation is in
-/// `decisions`, which needs room for each of them.
+/// final, and gives them the type whose value is then written. The `decisions` are as
+/// `rewrite_section` has them.
 ///
 /// The premise is that x3 is the address of `__global_pointer$` wherever the code of the section
 /// runs, and never changes: what sets it isn't marked. An instruction that is deleted leaves its
@@ -582,7 +556,6 @@ pub fn rewrite_global_pointer(
 }
 
 /// The type that the relocation of a low part without a base gets.
-#[inline(always)]
 fn low_r_type(r_type: u32) -> Option<u32>
     ensures { result ≡ spec.low_r_type r_type }
 {
@@ -596,7 +569,6 @@ fn low_r_type(r_type: u32) -> Option<u32>
 }
 
 /// The base register that reaches an address, x0 or x3, and the address that it has.
-#[inline(always)]
 fn base_for(gp: u64, address: u64) -> Option<(u32, u64)>
     ensures base { result ≡ spec.base_for gp address }
     ensures register { IfSome result (λ base. base.0 ≤ 3) }
@@ -610,19 +582,14 @@ fn base_for(gp: u64, address: u64) -> Option<(u32, u64)>
     }
 }
 
-/// What bases are chosen by: all addresses.
 #[derive(Clone, Copy)]
 struct Bases<'a> {
-    /// Those that values are counted from.
     addresses: &'a Addresses,
-    /// Those of the object's symbols.
     values: &'a [Symbol],
-    /// That of the global pointer.
     gp: u64,
 }
 
 /// The base of what a relocation refers to.
-#[inline(always)]
 fn base_of(bases: &Bases<'_>, relocation: &Rela) -> Option<(u32, u64)>
     ensures base { result ≡ spec.base_of bases.now.addresses.now bases.now.values.now bases.now.gp
         relocation.now }
@@ -644,7 +611,6 @@ fn is_placed(bases: &Bases<'_>, section: &[u8], relocation: &Rela) -> bool
     }
 }
 
-/// The index of the first relocation that isn't placed.
 fn first_unplaced(bases: &Bases<'_>, relocations: &[u8], section: &[u8]) -> Option<usize>
     ensures { MatchOption result ((n : ℕ) → n < length relocations.now / 24
         → spec.is_placed bases.now.addresses.now bases.now.values.now bases.now.gp section.now
@@ -660,8 +626,6 @@ fn first_unplaced(bases: &Bases<'_>, relocations: &[u8], section: &[u8]) -> Opti
     None
 }
 
-/// An instruction with another base register.
-#[inline(always)]
 fn with_base(register: u32, word: u32) -> u32
     requires { register ≤ 3 }
     ensures { result ≡ with_rs1 register word }
@@ -670,7 +634,6 @@ fn with_base(register: u32, word: u32) -> u32
 }
 
 /// Writes the base of a low part. Returns its relocation after it.
-#[inline(always)]
 fn set_base(bases: &Bases<'_>, section: &mut [u8], relocation: &Rela) -> Rela
     requires { spec.is_placed bases.now.addresses.now bases.now.values.now bases.now.gp section.old
         relocation.now ≡ true }
@@ -695,7 +658,6 @@ fn set_base(bases: &Bases<'_>, section: &mut [u8], relocation: &Rela) -> Rela
     }
 }
 
-/// Writes the base of each low part of a section.
 fn set_bases(bases: &Bases<'_>, relocations: &mut [u8], section: &mut [u8])
     requires { (n : ℕ) → n < length relocations.old / 24 → spec.is_placed bases.now.addresses.now
         bases.now.values.now bases.now.gp section.old (relocation_in relocations.old n) ≡ true }
@@ -720,8 +682,8 @@ fn set_bases(bases: &Bases<'_>, relocations: &mut [u8], section: &mut [u8])
 /// # Errors
 ///
 /// The section and its relocations are as before. The index of the first relocation whose S + A is
-/// neither within 2 KiB of `gp`, from 2,048 below it to 2,047 above it, nor of 0; whose symbol
-/// isn't in the table; or whose instruction isn't in the section.
+/// near neither `gp` nor 0, whose symbol isn't in the table, or whose instruction isn't in the
+/// section.
 pub fn finish_gp_relaxation(
     addresses: &Addresses,
     values: &[Symbol],

@@ -117,7 +117,6 @@ macro_rules! scopes {
     };
 }
 
-/// The scope of a relocation of AArch64 in a phase.
 #[inline(always)]
 fn aarch64_scope_in(phase: Phase, name: AArch64Relocation) -> Scope
     ensures { result ≡ spec.aarch64_scope_in phase name }
@@ -141,7 +140,7 @@ fn aarch64_scope_in(phase: Phase, name: AArch64Relocation) -> Scope
     }
 }
 
-/// The scope of a relocation of RISC-V, whose rewrites all wait for addresses.
+/// All of RISC-V's rewrites wait for addresses.
 #[inline(always)]
 fn riscv_scope_in(phase: Phase, name: RiscVRelocation) -> Scope
     ensures { result ≡ spec.riscv_scope_in phase name }
@@ -160,7 +159,6 @@ fn riscv_scope_in(phase: Phase, name: RiscVRelocation) -> Scope
     }
 }
 
-/// The scope of a relocation of LoongArch.
 #[inline(always)]
 fn loongarch_scope_in(phase: Phase, name: LoongArch64Relocation) -> Scope
     ensures { result ≡ spec.loongarch_scope_in phase name }
@@ -182,7 +180,6 @@ fn loongarch_scope_in(phase: Phase, name: LoongArch64Relocation) -> Scope
     }
 }
 
-/// The scope of a relocation of PowerPC64.
 #[inline(always)]
 fn ppc64_scope_in(phase: Phase, name: Ppc64Relocation) -> Scope
     ensures { result ≡ spec.ppc64_scope_in phase name }
@@ -214,7 +211,7 @@ fn ppc64_scope_in(phase: Phase, name: Ppc64Relocation) -> Scope
     }
 }
 
-/// The scope of a relocation of x86-64, whose rewrites all are made before addresses are known.
+/// All of x86-64's rewrites are made before addresses are known.
 #[inline(always)]
 fn x86_64_scope_in(phase: Phase, name: X86_64Relocation) -> Scope
     ensures { result ≡ spec.x86_64_scope_in phase name }
@@ -261,7 +258,6 @@ pub fn scope_in(architecture: Architecture, phase: Phase, r_type: u32) -> Scope
     }
 }
 
-/// The table of `has_rewrites`.
 #[inline(always)]
 fn is_listed(architecture: Architecture, phase: Phase) -> bool
     ensures { result ≡ spec.has_rewrites architecture phase }
@@ -312,7 +308,6 @@ pub(crate) fn marks_call(r_type: u32) -> bool
     is_mark(Ppc64Relocation::from_elf(r_type))
 }
 
-/// The index of the symbol whose groups a group is one of.
 #[inline(always)]
 pub(crate) fn symbol_of_group(group: Group, symbol: u32) -> u32
     ensures { result ≡ spec.symbol_of_group group symbol }
@@ -323,7 +318,6 @@ pub(crate) fn symbol_of_group(group: Group, symbol: u32) -> u32
     }
 }
 
-/// Whether the group of a kind stays at an index of a table. All do where the table has none.
 #[inline(always)]
 pub(crate) fn stays_at(kept: &[UnrelaxableGroups], group: Group, symbol: u32) -> bool
     ensures { result ≡ spec.stays_at kept.now group symbol }
@@ -334,7 +328,6 @@ pub(crate) fn stays_at(kept: &[UnrelaxableGroups], group: Group, symbol: u32) ->
     }
 }
 
-/// Whether the group of a kind and of a symbol stays.
 #[inline(always)]
 pub(crate) fn group_stays(kept: &[UnrelaxableGroups], group: Group, symbol: u32) -> bool
     ensures { result ≡ spec.group_stays kept.now group symbol }

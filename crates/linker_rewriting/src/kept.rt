@@ -9,8 +9,7 @@ ghost use Rattle.linker_section.specs.Sections.{AreAllRelocated};
 ghost use Rattle.linker_section.specs.Relocations.{relocation_in};
 ghost use Rattle.linker_section.specs.WrittenFields.{AreWritten};
 
-use crate::agreement::contradiction;
-use crate::facts::{OutputFacts, SymbolFacts};
+use crate::facts::{OutputFacts, SymbolFacts, contradiction};
 use crate::relocations::relocation_in;
 use linker_section::facts::{Addresses, Symbol};
 use linker_section::relocations::{Rela, relocations_len};

@@ -2,10 +2,7 @@
 //! instructions are rewritten, all of a group or none, and what becomes of their relocations.
 #![tactic(auto)]
 
-mod agreement;
-mod calls;
 pub mod candidates;
-mod checked;
 mod covered;
 pub mod decisions;
 pub mod facts;

@@ -1,16 +1,21 @@
 //! Whether a relocation may be rewritten in a phase, by its `r_type`, and whether a survey looks
 //! for its rewrite. Loops that ask this are compiled for each architecture and phase by itself:
-//! LLVM makes a few comparisons of it then.
+//! LLVM makes a few comparisons of it then. Most calls stay as they are before addresses are known,
+//! so that is tested before what else a rewrite is chosen by.
 
-ghost use Rattle.std.specs.Prelude.{◌≡◌, ◌/◌, length, false};
+ghost use Rattle.std.specs.Prelude.{◌≡◌, ◌/◌, length, false, slice_get};
+ghost use Rattle.linker_rewriting.specs.Inner.Calls as calls;
 ghost use Rattle.linker_rewriting.specs.Inner.RelocationTypes.{IsListed, IsUngroupedUnless};
 ghost use Rattle.linker_rewriting.specs.Inner.Left.{AreUnlisted};
 
+use crate::facts::{SymbolFacts, may_change_toc};
 use crate::groups::{Scope, scope_in};
 use crate::phases::Phase;
 use crate::relocations::relocation_in;
-use linker_section::relocations::relocations_len;
+use linker_section::relocations::{Rela, relocations_len};
+use linker_utils::aarch64::AArch64Relocation;
 use linker_utils::elf::Architecture;
+use linker_utils::ppc64::Ppc64Relocation;
 
 /// A call for an architecture and a phase, which is compiled for each pair by itself.
 macro_rules! of_each {
@@ -65,4 +70,52 @@ pub(crate) fn lists_any(architecture: Architecture, phase: Phase, relocations: &
         }
     }
     false
+}
+
+#[inline(always)]
+fn is_weak_zero(symbols: &[SymbolFacts], symbol: u32) -> bool
+    ensures { result ≡ calls.is_weak_zero (slice_get symbols.now symbol) }
+{
+    match symbols.get(symbol as usize) {
+        Some(symbol) => symbol.is_undefined_weak,
+        None => false,
+    }
+}
+
+#[inline(always)]
+fn changes_toc(symbols: &[SymbolFacts], symbol: u32) -> bool
+    ensures { result ≡ calls.changes_toc (slice_get symbols.now symbol) }
+{
+    match symbols.get(symbol as usize) {
+        Some(symbol) => may_change_toc(symbol),
+        None => false,
+    }
+}
+
+/// Whether a relocation is of a call that stays as it is, by its symbol: of AArch64 a branch, but
+/// for those to what is undefined and weak, which become a `nop`; of PowerPC64 a call that returns
+/// with the same TOC pointer.
+#[inline(always)]
+pub(crate) fn keeps_call(
+    architecture: Architecture,
+    phase: Phase,
+    symbols: &[SymbolFacts],
+    relocation: &Rela,
+) -> bool
+    ensures { result ≡ calls.keeps_call phase architecture
+        (slice_get symbols.now relocation.now.symbol) relocation.now.r_type }
+{
+    let r_type = relocation.r_type;
+    match (phase, architecture) {
+        (Phase::PreLayout, Architecture::AArch64) => {
+            let is_call = r_type == AArch64Relocation::R_AARCH64_CALL26.r_type();
+            let is_branch = is_call || r_type == AArch64Relocation::R_AARCH64_JUMP26.r_type();
+            is_branch && !is_weak_zero(symbols, relocation.symbol)
+        }
+        (Phase::PreLayout, Architecture::Ppc64) => {
+            let is_call = r_type == Ppc64Relocation::R_PPC64_REL24.r_type();
+            is_call && !changes_toc(symbols, relocation.symbol)
+        }
+        _ => false,
+    }
 }

@@ -24,7 +24,6 @@ use linker_utils::elf::{Architecture, Choice, LinkFacts, Operands};
 use linker_utils::riscv64::RiscVRelocation;
 
 /// The `r_type` of the high parts whose groups a phase rewrites.
-#[inline(always)]
 fn high_r_type(phase: Phase) -> u32
     ensures { result ≡ spec.high_r_type phase }
 {
@@ -39,7 +38,6 @@ const SEARCHED: usize = 16;
 
 /// Whether as many others at an offset are before the relocation with an index, among relocations
 /// that ascend.
-#[inline(always)]
 pub(crate) fn is_beyond(relocations: &[u8], at: u64, index: usize) -> bool
     requires { index < length relocations.now / 24 }
     ensures { result ≡ spec.is_beyond relocations.now at index }
@@ -48,7 +46,6 @@ pub(crate) fn is_beyond(relocations: &[u8], at: u64, index: usize) -> bool
 }
 
 /// Where a search ends that begins at an index, of n relocations.
-#[inline(always)]
 fn search_end(first: usize, len: usize) -> usize
     requires { first ≤ len }
     ensures from { first ≤ result }
@@ -83,7 +80,6 @@ pub(crate) fn high_at(relocations: &[u8], r_type: u32, at: u64) -> Option<usize>
 }
 
 /// Where the label is in the section that is a relocation's symbol.
-#[inline(always)]
 pub(crate) fn label_at(context: &RelaxContext<'_>, relocation: &Rela) -> Option<u64>
     ensures { result ≡ spec.offset_of_label context.now.addresses.now
         (slice_get context.now.values.now relocation.now.symbol) }
@@ -92,8 +88,6 @@ pub(crate) fn label_at(context: &RelaxContext<'_>, relocation: &Rela) -> Option<
     Some(label.address.wrapping_sub(context.addresses.section))
 }
 
-/// Where the label of a relocation is in the section.
-#[inline(always)]
 fn label_offset(context: &RelaxContext<'_>, relocation: &Rela) -> Option<u64>
     ensures { result ≡ spec.label_offset context.now.phase context.now.addresses.now
         context.now.values.now relocation.now }
@@ -128,7 +122,6 @@ pub(crate) fn is_in_label(architecture: Architecture, phase: Phase, r_type: u32)
 }
 
 /// Whether the mark is there that counts for a relocation with a high part.
-#[inline(always)]
 fn is_label_marked(context: &RelaxContext<'_>, site: &Site<'_>, high: usize) -> bool
     requires index { site.now.index + 3 ≤ usize.MAX }
     requires high { high < length site.now.relocations.now / 24 }
@@ -146,7 +139,6 @@ fn is_label_marked(context: &RelaxContext<'_>, site: &Site<'_>, high: usize) -> 
 }
 
 /// The same facts, where no entry of the GOT is in reach: G + A is 2^63 bytes from the place.
-#[inline(always)]
 fn without_entry(facts: Option<LinkFacts>) -> Option<LinkFacts>
     ensures { result ≡ spec.without_entry facts }
 {
@@ -209,7 +201,6 @@ pub(crate) fn is_note(decision: &Decision) -> bool
     matches!(decision, Decision::Consumed)
 }
 
-/// Sets all decisions of a section to one.
 pub(crate) fn set_all(relocations: &[u8], decision: Decision, decisions: &mut [DecisionNumbers])
     requires { length relocations.now / 24 ≤ length decisions.old }
     ensures set { (n : ℕ) → n < length relocations.now / 24
@@ -252,7 +243,6 @@ fn note_highs(
 }
 
 /// What is noted of the group of a relocation: at its high part; it stays where there is none.
-#[inline(always)]
 fn note_of(
     context: &RelaxContext<'_>,
     relocations: &[u8],
@@ -293,8 +283,6 @@ fn copy_notes(
     }
 }
 
-/// Whether an architecture has groups of labels in a phase.
-#[inline(always)]
 fn has_labels(architecture: Architecture, phase: Phase) -> bool
     ensures { result ≡ spec.has_labels architecture phase }
 {

@@ -1,7 +1,11 @@
 //! The rewrites of a section, made in one call for each phase.
+//!
+//! What became of each relocation is in `decisions`, which needs room for each of them. One that
+//! goes, with its instruction or since another's rewrite takes it along, gets the type 0, so that
+//! indexes stay. After an error the section and its relocations are as before.
 
-ghost use Rattle.std.specs.Prelude.{◌≡◌, ◌<◌, ◌≤◌, ◌/◌, ℕ, length, take, IfErr, IfOk, IfSome};
-ghost use Rattle.std.specs.Prelude.{IfNone, OnOk, OnErr, map, drop, false};
+ghost use Rattle.std.specs.Prelude.{◌≡◌, ◌↔◌, ◌<◌, ◌≤◌, ◌+◌, ◌/◌, ℕ, length, map, take, drop};
+ghost use Rattle.std.specs.Prelude.{IfErr, IfOk, IfSome, IfNone, IsTrue, OnOk, OnErr, true, false};
 ghost use Rattle.linker_section.specs.Relocations.{relocation_in};
 ghost use Rattle.linker_rewriting.specs.Numbers.{decisions_in, numbers_in, IsKeptDecision};
 ghost use Rattle.linker_rewriting.specs.Numbers.{IsWrittenDecision};
@@ -13,21 +17,151 @@ ghost use Rattle.linker_rewriting.specs.Rewritten.{section_after, relocation_aft
 ghost use Rattle.linker_rewriting.specs.Rewritten.{AreRelocationsAfter, OthersStay, IsRewrittenAs};
 ghost use Rattle.linker_rewriting.specs.Rewritten.{AreDecidedAs, AreMadeAs, LabelsAreWhole};
 ghost use Rattle.linker_rewriting.specs.Surveys.{MeansUnsurveyed};
+ghost use Rattle.linker_base.specs.Rewrite.{CanRewrite};
+ghost use Rattle.linker_base.specs.RewriteWindow.{window_of_rewrite};
+ghost use Rattle.linker_utils.specs.Relaxations.{relaxation_rewrite, relaxation_deleted};
+ghost use Rattle.linker_utils.specs.Relaxations.{relaxation_matches};
+ghost use Rattle.linker_rewriting.specs.Candidates.{deletes_within};
 ghost use Rattle.linker_rewriting.specs.Decisions as spec;
 
-use crate::agreement::contradiction;
-use crate::checked::{check_decisions, keep_bytes};
+use crate::candidates::deletes_within;
 use crate::decisions::{
-    Decision, DecisionError, DecisionNumbers, Deletion, RewritingError, decide_section, decision_in,
+    Decision, DecisionError, DecisionNumbers, Deletion, RewritingError, decide_section,
+    decision_in, end_after, span_of,
 };
-use crate::facts::{NO_ADDRESSES, OutputFacts, RelaxContext, SymbolFacts};
+use crate::facts::{OutputFacts, RelaxContext, SymbolFacts, contradiction, pre_layout};
 use crate::groups::UnrelaxableGroups;
 use crate::phases::Phase;
 use crate::relocations::relocation_in;
 use linker_section::relocations::{Rela, relocations_len, set_relocation};
+use linker_utils::architecture::Relaxation;
 use linker_utils::elf::{Architecture, InstructionRewrite};
 
-/// Rewrites the instruction of a relocation as decided. The relocation becomes the one after it.
+/// The bits of a number, turned up by 8.
+#[inline(always)]
+fn turned(number: u32) -> u32
+    ensures { result ≡ spec.turned number }
+{
+    number % (1 << 24) * (1 << 8) + number / (1 << 24)
+}
+
+/// A number of the bytes of a section from a place on, which is another where one of them is.
+fn bytes_number(section: &[u8], start: u64, len: u64) -> u32
+    requires { start + len ≤ length section.now }
+    ensures { result ≡ spec.bytes_number section.now start len }
+{
+    let mut number: u32 = 0;
+    for index in 0..len {
+        number = turned(number).wrapping_add(u32::from(section[(start + index) as usize]));
+    }
+    number
+}
+
+/// That of the bytes that a rewrite at an offset writes.
+#[inline(always)]
+fn window_number(kind: Relaxation, section: &[u8], offset: u64) -> u32
+    requires { CanRewrite (relaxation_rewrite kind) section.now offset }
+    ensures { result ≡ spec.window_number (window_of_rewrite (relaxation_rewrite kind)) section.now
+        offset }
+{
+    let window = kind.window();
+    if window.len == 0 {
+        return 0;
+    }
+    bytes_number(section, offset - window.back, window.len)
+}
+
+/// Whether a rewrite's instructions are at an offset, and what it deletes is in the section.
+#[inline(always)]
+fn is_there(kind: Relaxation, section: &[u8], offset: u64) -> bool
+    ensures exactly { IsTrue result ↔ (relaxation_matches kind section.now offset
+        × (deletes_within section.now offset (relaxation_deleted kind) ≡ true)) }
+    ensures rewritable { IsTrue result → CanRewrite (relaxation_rewrite kind) section.now offset }
+{
+    kind.matches(section, offset) && deletes_within(section, offset, kind.deleted())
+}
+
+/// Whether a decision can be made at an offset, of instructions that its rewrite is meant for and
+/// of bytes with a number.
+#[inline(always)]
+fn fits(decision: &Decision, number: u32, section: &[u8], offset: u64) -> bool
+    ensures { IsTrue result ↔ spec.StillFits decision.now number section.now offset }
+{
+    match decision {
+        Decision::Rewritten(choice) => {
+            is_there(choice.kind, section, offset)
+                && window_number(choice.kind, section, offset) == number
+        }
+        Decision::RewrittenWithSymbol(choice, _) => is_there(choice.kind, section, offset),
+        _ => true,
+    }
+}
+
+/// Keeps a number of the bytes that each decision rewrites, if anything changes.
+fn keep_bytes(changes: bool, relocations: &[u8], section: &[u8], decisions: &mut [DecisionNumbers])
+    requires left { changes ≡ false → AreKept (decisions_in decisions.old)
+        (length relocations.now / 24) }
+    requires enough { length relocations.now / 24 ≤ length decisions.old }
+    requires made { spec.AllCanBeMade relocations.now section.now (decisions_in decisions.old)
+        (length relocations.now / 24) }
+    requires form { spec.EachIs IsWrittenDecision relocations.now decisions.old }
+    ensures decisions { decisions_in decisions.new ≡ decisions_in decisions.old }
+    ensures bytes { spec.AllKeepBytes relocations.now section.now (decisions_in decisions.new)
+        (numbers_in decisions.new) (length relocations.now / 24) }
+    ensures form { spec.EachIs IsKeptDecision relocations.now decisions.new }
+    ensures others_stay { spec.RestStays relocations.now decisions.old decisions.new }
+{
+    if !changes {
+        return;
+    }
+    for index in 0..relocations_len(relocations) {
+        let Decision::Rewritten(choice) = decision_in(decisions, index) else {
+            continue;
+        };
+        let offset = relocation_in(relocations, index).offset;
+        let number = window_number(choice.kind, section, offset);
+        decisions[index] = DecisionNumbers::from_choice(choice, number);
+    }
+}
+
+/// Tests that decisions can be made of a section as it is.
+fn check_decisions(
+    relocations: &[u8],
+    section: &[u8],
+    decisions: &[DecisionNumbers],
+) -> Result<(), DecisionError>
+    ensures enough { OnOk result (length relocations.now / 24 ≤ length decisions.now) }
+    ensures fit { OnOk result (spec.AllStillFit relocations.now section.now
+        (decisions_in decisions.now) (numbers_in decisions.now)
+        (length relocations.now / 24)) }
+    ensures apart { OnOk result (spec.AreApart relocations.now (decisions_in decisions.now)
+        (length relocations.now / 24)) }
+    ensures unmade { IfErr result (spec.IsUnmade relocations.now section.now
+        (decisions_in decisions.now) (numbers_in decisions.now)) }
+{
+    let len = relocations_len(relocations);
+    if decisions.len() < len {
+        return Err(DecisionError::TooShort);
+    }
+    let mut end = 0;
+    for index in 0..len {
+        let decision = decision_in(decisions, index);
+        if let Decision::Kept = decision {
+            continue;
+        }
+        let offset = relocation_in(relocations, index).offset;
+        if !fits(&decision, decisions[index].bytes(), section, offset) {
+            return Err(DecisionError::Changed(index));
+        }
+        let (start, own) = span_of(&decision, offset);
+        let Some(new_end) = end_after(start, own, end) else {
+            return Err(DecisionError::Overlaps(index));
+        };
+        end = new_end;
+    }
+    Ok(())
+}
+
 #[inline(always)]
 fn make(decision: Decision, relocation: &mut Rela, section: &mut [u8])
     requires { spec.CanBeMade decision section.old relocation.old.offset }
@@ -38,9 +172,8 @@ fn make(decision: Decision, relocation: &mut Rela, section: &mut [u8])
         Decision::Kept => {}
         Decision::Consumed => relocation.r_type = 0,
         Decision::Rewritten(choice) => {
-            choice
-                .kind
-                .apply(section, &mut relocation.offset, &mut relocation.addend);
+            let kind = choice.kind;
+            kind.apply(section, &mut relocation.offset, &mut relocation.addend);
             relocation.r_type = choice.relocation;
         }
         Decision::RewrittenWithSymbol(choice, subject) => {
@@ -94,13 +227,11 @@ pub(crate) fn make_all(
 ///
 /// An instruction whose relocation is `Scope::Independent` is rewritten where it can be. Those of a
 /// group are all rewritten, or none is where the group stays by `kept`, which `survey` made of all
-/// sections of code of the object with the same facts. A relocation that a rewrite takes along gets
-/// the type 0, so that indexes stay. A relocation of a symbol that isn't in the table isn't
-/// rewritten.
+/// sections of code of the object with the same facts. One whose relocation's symbol isn't in the
+/// table isn't rewritten. Nothing is deleted.
 ///
-/// What became of each relocation is in `decisions`, which needs room for each of them. Nothing is
-/// deleted. Since no address is known, a value after a rewrite may turn out to be out of reach.
-/// What this call doesn't rewrite, a linker may rewrite by `choose`.
+/// Since no address is known, a value after a rewrite may turn out to be out of reach. What this
+/// call doesn't rewrite, a linker may rewrite by `choose`.
 ///
 /// A value out of reach is an error of `relocate_section`, with two exceptions, both of LoongArch.
 /// What its load from the GOT becomes takes any distance (`R_LARCH_PCALA_HI20`), and what its
@@ -112,8 +243,8 @@ pub(crate) fn make_all(
 ///
 /// # Errors
 ///
-/// The section and its relocations are as before. Relocations of instructions that can be rewritten
-/// have to ascend by offset (`Overlaps`). All others may be in any order.
+/// Relocations of instructions that can be rewritten have to ascend by offset (`Overlaps`). All
+/// others may be in any order.
 pub fn rewrite_section(
     architecture: Architecture,
     output: &OutputFacts,
@@ -135,14 +266,7 @@ pub fn rewrite_section(
     ensures section { OnErr result (section.new ≡ section.old) }
     ensures entries { OnErr result (relocations.new ≡ relocations.old) }
 {
-    let context = RelaxContext {
-        architecture,
-        phase: Phase::PreLayout,
-        output,
-        symbols,
-        addresses: &NO_ADDRESSES,
-        values: &[],
-    };
+    let context = pre_layout!(architecture, output, symbols);
     let changes = decide_section(&context, kept, relocations, section, decisions)?;
     make_all(changes, decisions, relocations, section);
     Ok(())
@@ -157,9 +281,9 @@ pub fn rewrite_section(
 /// nothing of one that is `Decision::Consumed`. None is `Decision::RewrittenWithSymbol`.
 ///
 /// No decision depends on an address. A branch is rewritten by its symbol's facts alone: AArch64's
-/// to an undefined weak symbol becomes a `nop`, whose relocation has the type 0. The `nop` after
-/// PowerPC64's call restores the TOC pointer where its function may change it, by the symbol's
-/// facts. So a linker may still choose a stub as the target of a branch that keeps its relocation.
+/// to an undefined weak symbol becomes a `nop`. The `nop` after PowerPC64's call restores the TOC
+/// pointer where its function may change it. So a linker may still choose a stub as the target of a
+/// branch that keeps its relocation.
 ///
 /// # Errors
 ///
@@ -215,14 +339,7 @@ pub fn decide_rewrites(
     ensures surveyed { IfErr result (MeansUnsurveyed (pre_layout architecture output.now
         symbols.now) relocations.now section.now kept.now) }
 {
-    let context = RelaxContext {
-        architecture,
-        phase: Phase::PreLayout,
-        output,
-        symbols,
-        addresses: &NO_ADDRESSES,
-        values: &[],
-    };
+    let context = pre_layout!(architecture, output, symbols);
     let changes = decide_section(&context, kept, relocations, section, decisions)?;
     keep_bytes(changes, relocations, section, decisions);
     Ok(())
@@ -245,8 +362,7 @@ pub fn decide_rewrites(
 ///
 /// # Errors
 ///
-/// The section and its relocations are as before. `TooShort`, or else the error of the first
-/// relocation that has one.
+/// `TooShort`, or else the error of the first relocation that has one.
 pub fn make_rewrites(
     relocations: &mut [u8],
     section: &mut [u8],
@@ -264,8 +380,8 @@ pub fn make_rewrites(
     Ok(())
 }
 
-/// Lists what decisions delete, if anything changes, in the caller's memory. Returns how many there
-/// are; none where there is less room.
+/// Lists what decisions delete, if anything changes. Returns how many there are; none where there
+/// is less room.
 pub(crate) fn list_deletions(
     changes: bool,
     relocations: &[u8],
@@ -319,9 +435,8 @@ pub(crate) fn list_deletions(
 ///
 /// Bytes that are to be deleted are listed in `deleted`, ascending, as `SectionRelaxDeltas::new` of
 /// `linker_base::relaxation` takes their pairs. They are in the section, apart from each other and
-/// from all that is rewritten, and still there.
-/// `Phase::TlsLocalExec` alone has any. Returns how many there are. A relocation that goes, with
-/// its instruction or without, gets the type 0.
+/// from all that is rewritten, and still there. `Phase::TlsLocalExec` alone has any. Returns how
+/// many there are.
 ///
 /// - `TlsLocalExec`: where an offset from the thread pointer has 12 bits, RISC-V's and LoongArch's
 ///   `lui` and `add` of it are deleted, and loads and stores are over the thread pointer; where it
@@ -340,9 +455,8 @@ pub(crate) fn list_deletions(
 ///
 /// # Errors
 ///
-/// The section and its relocations are as before. Those of `rewrite_section`, and before them
-/// `Contradiction`, of the first such symbol; an undefined weak symbol that the dynamic linker may
-/// define is none.
+/// Those of `rewrite_section`, and before them `Contradiction`, of the first such symbol; an
+/// undefined weak symbol that the dynamic linker may define is none.
 pub fn rewrite_placed_section(
     context: &RelaxContext<'_>,
     kept: &[UnrelaxableGroups],

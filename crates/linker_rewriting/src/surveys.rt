@@ -8,9 +8,8 @@ ghost use Rattle.linker_rewriting.specs.Facts.{context_of};
 ghost use Rattle.linker_rewriting.specs.Inner.RelocationTypes.{KeepsNone};
 ghost use Rattle.linker_rewriting.specs.Surveys as spec;
 
-use crate::agreement::contradiction;
 use crate::candidates::{candidate, is_matched, is_tls_get_addr};
-use crate::facts::{NO_ADDRESSES, OutputFacts, RelaxContext, SymbolFacts};
+use crate::facts::{OutputFacts, RelaxContext, SymbolFacts, contradiction, pre_layout};
 use crate::groups::{Group, Scope, UnrelaxableGroups, marks_call, scope_in, symbol_of_group};
 use crate::phases::Phase;
 use crate::r_types::{is_surveyed, of_each};
@@ -18,7 +17,6 @@ use crate::relocations::{Site, relocation_in};
 use linker_section::relocations::{Rela, relocations_len};
 use linker_utils::elf::Architecture;
 
-/// Notes that the group of a kind and of a symbol stays.
 #[inline(always)]
 fn keep(kept: &mut [UnrelaxableGroups], group: Group, symbol: u32)
     ensures { spec.AreKeptToo kept.old kept.new (spec.IsGroup group symbol) }
@@ -29,7 +27,6 @@ fn keep(kept: &mut [UnrelaxableGroups], group: Group, symbol: u32)
     }
 }
 
-/// Notes that the group of a kind, if any, among a symbol's stays.
 #[inline(always)]
 fn keep_group(kept: &mut [UnrelaxableGroups], group: Option<Group>, symbol: u32)
     ensures { spec.AreKeptToo kept.old kept.new (spec.IsGroupOf group symbol) }
@@ -39,7 +36,7 @@ fn keep_group(kept: &mut [UnrelaxableGroups], group: Option<Group>, symbol: u32)
     }
 }
 
-/// Notes that all groups of thread-local storage in the object stay, if they do.
+/// Notes that all groups of thread-local storage in the object stay, if `stay`.
 #[inline(always)]
 fn keep_threads(kept: &mut [UnrelaxableGroups], stay: bool)
     ensures { spec.AreKeptToo kept.old kept.new (spec.IsOfThreads stay) }
@@ -106,8 +103,8 @@ fn needs_mark(
     }
 }
 
-/// Whether a relocation is one that keeps all thread-local storage of its object: it needs a mark,
-/// and has none.
+/// Whether a relocation keeps all thread-local storage of its object: it needs a mark, and has
+/// none.
 #[inline(always)]
 fn is_unmarked(context: &RelaxContext<'_>, site: &Site<'_>) -> bool
     requires { site.now.index ≤ length site.now.relocations.now / 24 }
@@ -237,14 +234,7 @@ pub fn survey(
     ensures { spec.IsSurveyed architecture output.now symbols.now relocations.now section.now
         kept.old kept.new (length relocations.now / 24) }
 {
-    let context = RelaxContext {
-        architecture,
-        phase: Phase::PreLayout,
-        output,
-        symbols,
-        addresses: &NO_ADDRESSES,
-        values: &[],
-    };
+    let context = pre_layout!(architecture, output, symbols);
     survey_in(&context, relocations, section, kept);
 }
 

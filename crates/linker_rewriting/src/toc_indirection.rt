@@ -1,6 +1,11 @@
 //! Instructions that load addresses from the words of a section, as from those of PowerPC64's
 //! `.toc`. Nothing changes such a word, so that once addresses are known the instructions may
-//! compute its address: all that load it, or none.
+//! compute its address: all that load it, or none. Only PowerPC64 has such words: of other
+//! architectures nothing is noted or rewritten.
+//!
+//! A context's phase is `ShortPcRel`, as in the calls from C. `TlsLocalExec` and `GotToPcRel` do
+//! the same. In `PreLayout` no load is tested to be in reach, and `has_near_symbols` of the output
+//! decides in its place.
 
 ghost use Rattle.std.specs.Prelude.{◌≡◌, ◌⊎◌, ◌↔◌, ◌+◌, ◌<◌, ◌≤◌, ◌/◌, ℕ, length, map};
 ghost use Rattle.std.specs.Prelude.{IfSome, IfErr, OnOk, OnErr, true, ⊤};
@@ -12,10 +17,9 @@ ghost use Rattle.linker_rewriting.specs.Inner.TocIndirection.{IsThatWord, with_r
 ghost use Rattle.linker_rewriting.specs.TocIndirection as spec;
 ghost use Rattle.linker_section.specs.Relocations.{relocation_in};
 
-use crate::agreement::contradiction;
 use crate::candidates::candidate_by;
 use crate::decisions::{Decision, DecisionNumbers, RewritingError, span_of, subject_of};
-use crate::facts::{OutputFacts, RelaxContext, SymbolFacts, address_in, link_facts};
+use crate::facts::{OutputFacts, RelaxContext, SymbolFacts, address_in, contradiction, link_facts};
 use crate::phases::Phase;
 use crate::relocations::{Site, relocation_in};
 use crate::riscv_pcrel_groups::high_at;
@@ -63,11 +67,9 @@ fn word_offset(context: &RelaxContext<'_>, start: u64, relocation: &Rela) -> Opt
 /// The words of an object's section of addresses, and what loads of them are chosen by.
 #[derive(Clone, Copy)]
 struct Words<'a> {
-    /// What rewrites are chosen by.
     context: &'a RelaxContext<'a>,
-    /// The address of the section of words.
+    /// The address of their section.
     start: u64,
-    /// The relocations of the words.
     relocations: &'a [u8],
 }
 
@@ -128,7 +130,6 @@ fn load_candidate(
     candidate_by(words.context, &site, &facts)
 }
 
-/// Whether a word stays, by the index of its relocation.
 #[inline(always)]
 pub(crate) fn word_stays(kept: &[bool], word: usize) -> bool
     ensures { result ≡ spec.word_stays kept.now word }
@@ -139,7 +140,6 @@ pub(crate) fn word_stays(kept: &[bool], word: usize) -> bool
     }
 }
 
-/// Notes that a word, if any, stays.
 #[inline(always)]
 pub(crate) fn keep_word(kept: &mut [bool], word: Option<usize>)
     ensures { (w : ℕ) → (spec.word_stays kept.new w ≡ true)
@@ -175,8 +175,7 @@ fn keeping_word(words: &Words<'_>, site: &Site<'_>) -> Option<usize>
 ///
 /// `words` are the relocations of the section of addresses, as `linker_output`'s description names
 /// it, and have to ascend by offset; `kept` has an element for each. `words_start` is its address.
-/// A relocation is of a word where it refers to its address, whichever its symbol. Only PowerPC64
-/// has such a section: of other architectures nothing is noted.
+/// A relocation is of a word where it refers to its address, whichever its symbol.
 ///
 /// # Errors
 ///
@@ -222,9 +221,7 @@ pub fn survey_toc_loads(
 /// The rule of loads: all of a word are rewritten, or none is.
 #[derive(Clone, Copy)]
 struct Loads<'a, 'b> {
-    /// The words.
     words: Words<'a>,
-    /// Which words stay.
     kept: &'b [bool],
 }
 
@@ -284,11 +281,8 @@ impl Rule for Loads<'_, '_> {
 /// addresses are known. They are then of the symbol and the addend of the word's relocation
 /// (`Decision::RewrittenWithSymbol`). All loads of a word are rewritten, or none is where the word
 /// stays by `kept`, which `survey_toc_loads` made of all sections of code of the object with the
-/// same facts, addresses and `words`. It decides by all of the section's bytes before it rewrites
-/// one.
-///
-/// What became of each relocation is in `decisions`, which needs room for each of them. Nothing is
-/// deleted.
+/// same context and `words`. It decides by all of the section's bytes before it rewrites one.
+/// Nothing is deleted, and `decisions` are as `rewrite_section` has them.
 ///
 /// # Errors
 ///

@@ -1,7 +1,7 @@
 use Rattle.std.proofs.Common.{map}
 use Rattle.linker_rewriting.specs.Numbers.{decision_in, number_of}
 use Rattle.linker_rewriting.proofs.Makeable.{AreChecked}
-use Rattle.linker_rewriting.proofs.checked.check_decisions.Given as goal
+use Rattle.linker_rewriting.proofs.sections.check_decisions.Given as goal
 
 abbrev pub invariant-loop-index : goal.invariant-loop-index
 invariant-loop-index l = AreChecked l.relocations l.section (map decision_in l.decisions) (map number_of l.decisions) l.end l.index

@@ -4,7 +4,7 @@ use Rattle.std.proofs.Common.{◌≡◌, ◌<◌, ◌≤◌, ◌/◌, ◌∙◌,
 use Rattle.linker_rewriting.proofs.Makeable.{more_checked, kept_checked, overlaps}
 use Rattle.linker_rewriting.proofs.Deciding.{IsGrown, ends_within}
 use Rattle.linker_rewriting.specs.Decisions.{IsEndAfter, StillFits, start_by, end_by}
-use Rattle.linker_rewriting.proofs.checked.check_decisions.Goals as goal
+use Rattle.linker_rewriting.proofs.sections.check_decisions.Goals as goal
 
 pub loop-index-preserved-in-Kept : goal.loop-index-preserved-in-Kept
 loop-index-preserved-in-Kept c =

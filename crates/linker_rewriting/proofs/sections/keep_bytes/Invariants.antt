@@ -1,6 +1,6 @@
 use Rattle.linker_rewriting.specs.Numbers.{decision_in, number_of, IsKeptDecision}
 use Rattle.linker_rewriting.proofs.KeptBytes.{AreKeptTo}
-use Rattle.linker_rewriting.proofs.checked.keep_bytes.Given as goal
+use Rattle.linker_rewriting.proofs.sections.keep_bytes.Given as goal
 
 abbrev pub invariant-loop-index : goal.invariant-loop-index
 invariant-loop-index l = AreKeptTo decision_in number_of IsKeptDecision l.relocations l.section l.fn.decisions l.decisions l.index

@@ -1,6 +1,6 @@
 use Rattle.std.proofs.Common.{◌≡◌}
 use Rattle.linker_rewriting.specs.Decisions.{bytes_number}
-use Rattle.linker_rewriting.proofs.checked.bytes_number.Given as goal
+use Rattle.linker_rewriting.proofs.sections.bytes_number.Given as goal
 
 abbrev pub invariant-loop-index : goal.invariant-loop-index
 invariant-loop-index l = l.number ≡ bytes_number l.section l.start l.index

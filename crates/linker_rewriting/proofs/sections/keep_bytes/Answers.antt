@@ -4,7 +4,7 @@ use Rattle.std.proofs.Common.{◌≡◌, ◌<◌, ◌/◌, ◌∙◌, length, ma
 use Rattle.std.specs.Prelude.{All}
 use Rattle.linker_rewriting.proofs.KeptBytes.{keeps_none, written_at, replaced, passed, unchanged_at}
 use Rattle.linker_rewriting.specs.Decisions.{CanBeMade, KeepsBytes, decision_at, window_number}
-use Rattle.linker_rewriting.proofs.checked.keep_bytes.Goals as goal
+use Rattle.linker_rewriting.proofs.sections.keep_bytes.Goals as goal
 
 pub loop-index-preserved : goal.loop-index-preserved
 loop-index-preserved c =
@@ -21,7 +21,7 @@ loop-index-preserved c =
     let within : k < length now = (let n = c.requires.enough in let l = c.loop-index.auto.decisions in omega (arith, n, l, less)) in
     let held : f (get_or now k d) ≡ c.decision_in.result = sym (c.decision_in.ensures ∙ get_or-map f now k d Kept within) in
     let keeps : KeepsBytes (Rewritten choice) (h x) a.section.now (relocation_in a.relocations.now k).offset =
-    c.from_choice.ensures.bytes ∙ (c.window_number.ensures
+    c.from_choice.ensures.bytes ∙ (c.window_number-number.ensures
     ∙ ap (λ r. window_number (window_of_rewrite (relaxation_rewrite choice.kind)) a.section.now r.offset) c.relocation_in-offset.ensures) in
     replaced f h IsKeptDecision a.relocations.now a.section.now a.decisions.now now k x d c.loop-index.invariant within
     (c.from_choice.ensures.decision ∙ sym (held ∙ c.in-Rewritten.is))
@@ -48,8 +48,8 @@ loop-index-preserved-in_default c =
     (subst IsWrittenDecision (sym (unchanged_at f h IsKept a.relocations.now a.section.now a.decisions.now now k d c.loop-index.invariant))
     (written_at IsWrittenDecision a.decisions.now (length a.relocations.now / 24) k d c.requires.form less c.requires.enough)))
 
-pub window_number-requires : goal.window_number-requires
-window_number-requires c =
+pub window_number-number-requires : goal.window_number-number-requires
+window_number-number-requires c =
     let a = c.args in
     let f = decision_in in
     let k = c.loop-index.index in
