@@ -2,7 +2,7 @@
 use Rattle.std.proofs.Common.{◌≡◌, ℕ, zero, suc, ◌+◌, is_some, ◌<◌, ◌∙◌, ◌||◌, ◌↔◌, List, ap, sym, subst, arith, refl, IsTrue, Option, Some, None, Bool, true, false, inl, inr}
 use Rattle.linker_rewriting.proofs.LabelGroups.{one_label_decision}
 use Rattle.linker_rewriting.proofs.Noted.{one_group}
-use Rattle.linker_rewriting.proofs.Unique.{one_scope, no_other, one_candidate, one_matched, one_unmarked_by}
+use Rattle.linker_rewriting.proofs.Unique.{one_scope, no_other, one_candidate, one_matched}
 use Rattle.linker_rewriting.specs.Decisions.{decision_of, decision_ahead, decision_at, is_taken, takes_next, IsGroupDecision, IsMatchedDecision, IsScopeDecision, IsDecidedAfter, IsRewrittenAlone, IsRewrittenAt, DecisionsFollow}
 use Rattle.linker_rewriting.specs.Facts.{RelaxContext}
 use Rattle.linker_rewriting.specs.Groups.{IsScopeIn, stays_at, symbol_of_group, group_stays}
@@ -56,8 +56,7 @@ cause_stays s bytes section before after limit n group symbol surveyed less (inl
 cause_stays s bytes section before after limit n group symbol surveyed less (inr cause) =
     let noted = surveyed.noted n less in
     let same : noted.unmarked ≡ true =
-    one_unmarked_by _ bytes n (relocation_in bytes n) noted.unmarked true
-    noted.is_unmarked (cause.0) in
+    noted.is_unmarked ∙ sym (cause.0) in
     subst (λ y. IsTrue (stays_at after group y)) (sym (cause.2))
     (subst (λ b. AllStayIf b after) same noted.all_stay group (cause.1))
 

@@ -1,10 +1,10 @@
 -- The groups that stay, noted relocation by relocation.
-use Rattle.std.proofs.Common.{◌≡◌, ℕ, ◌+◌, inl, inr, ◌∙◌, List, ap, sym, subst, arith, refl, IsTrue, Option, None, Some, Bool, true, false}
+use Rattle.std.proofs.Common.{◌≡◌, ℕ, ◌+◌, inl, inr, ◌∙◌, List, ap, sym, subst, arith, refl, IsTrue, Option, None, Some, Bool, true, false, ◌&&◌, not}
 use Rattle.linker_rewriting.proofs.Imports.{Group, Grouped, IfGroupMatches, Rela, Scope, UnrelaxableGroups, relocation_in}
 use Rattle.linker_rewriting.specs.Facts.{RelaxContext}
 use Rattle.linker_rewriting.specs.Groups.{stays_at, symbol_of_group}
 use Rattle.linker_rewriting.specs.Inner.RelocationTypes.{is_of_group, KeepsNone}
-use Rattle.linker_rewriting.specs.Surveys.{AreKeptToo, IsGroupOf, IsOfThreads, IsKeeping, IsUnmarked, IsUnmarkedBy, HasRewrite, StaysBy, AllStayIf, IsNoted, IsCause, IsSurveyedIn}
+use Rattle.linker_rewriting.specs.Surveys.{AreKeptToo, IsGroupOf, IsOfThreads, IsKeeping, IsUnmarked, is_marked, HasRewrite, StaysBy, AllStayIf, IsNoted, IsCause, IsSurveyedIn}
 use borrow.Author.Count.{below_more}
 
 abbrev pub AreKept : List UnrelaxableGroups → List UnrelaxableGroups → Type 0
@@ -125,5 +125,5 @@ one_left s bytes section before mid k surveyed none =
     more_surveyed s bytes section before mid mid mid k None false surveyed
     ((none.0).0, (none.0).1, of_no_group s bytes section k r ((none.0).0) ((none.0).2))
     (none_too mid (IsGroupOf None r.symbol) (λ group symbol is. is))
-    (subst (λ b. IsUnmarkedBy b bytes k r false) (sym (none.1)) refl)
+    (sym (ap (λ b. b && not (is_marked bytes k r)) (none.1)))
     (none_too mid (IsOfThreads false) (λ group symbol is. let e : false ≡ true = is.0 in cc))

@@ -28,8 +28,7 @@ use Rattle.linker_utils.specs.declared.architecture.Relaxation.TheVariants as re
 use Rattle.linker_rewriting.specs.Candidates.{IsCallIn, IsTaken, IsCandidate, IsCandidateBy, IsCandidateWith, IsMatched, at_base, calls_tls_get_addr, deletes_within, own_facts}
 use Rattle.linker_rewriting.specs.Facts.{RelaxContext}
 use Rattle.linker_rewriting.specs.Sequences.{IsWhole}
-use Rattle.linker_rewriting.specs.Surveys.{IsMarked, IsUnmarkedBy}
-use Rattle.linker_rewriting.specs.Groups.{is_mark, aarch64_scope_in, riscv_scope_in, loongarch_scope_in, ppc64_scope_in, x86_64_scope_in, IsScopeIn}
+use Rattle.linker_rewriting.specs.Groups.{aarch64_scope_in, riscv_scope_in, loongarch_scope_in, ppc64_scope_in, x86_64_scope_in, IsScopeIn}
 use Rattle.linker_rewriting.specs.declared.phases.Phase.TheVariants as phases
 use Rattle.linker_elf.specs.Architectures.{IsNamedValue}
 
@@ -299,23 +298,3 @@ one_matched s bytes section n r x y a b =
     ∙ (ap is_some (one_candidate_with s bytes section n r
     (at_base (own_facts s bytes n r))
     (a.0) (b.0) (a.1) (b.1)) ∙ sym (b.2))
-
--- ---- marks of PowerPC64's calls
-
-markless : (name : Ppc64Relocation) → (IsNamed (ppc64_name name) → ⊥) → is_mark name ≡ false
-markless (ppc64_names.Other r_type) isnt = refl
-markless _ isnt = absurd (isnt tt)
-
-one_marked : (bytes : List ℕ) (n : ℕ) (r : Rela) (x y : Bool) → IsMarked bytes n r x
-    → IsMarked bytes n r y → x ≡ y
-one_marked bytes zero r x y a b = a ∙ sym b
-one_marked bytes (suc n) r x y a b =
-    a.2
-    ∙ (ap (λ z. z && (relocation_in bytes n).offset == r.offset)
-    (of_one ppc64_name is_mark false (relocation_in bytes n).r_type (a.0) (b.0) markless (a.1) (b.1)) ∙ sym (b.2))
-
-pub one_unmarked_by : (needs : Bool) (bytes : List ℕ) (n : ℕ) (r : Rela) (x y : Bool)
-    → IsUnmarkedBy needs bytes n r x → IsUnmarkedBy needs bytes n r y → x ≡ y
-one_unmarked_by false bytes n r x y a b = a ∙ sym b
-one_unmarked_by true bytes n r x y a b =
-    a.2 ∙ (ap not (one_marked bytes n r (a.0) (b.0) (a.1) (b.1)) ∙ sym (b.2))

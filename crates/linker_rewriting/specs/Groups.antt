@@ -172,15 +172,6 @@ abbrev pub symbol_of_group : Group → ℕ → ℕ
 symbol_of_group LocalDynamic symbol = 0
 symbol_of_group group symbol = symbol
 
--- a name of PowerPC64 marks the call of `__tls_get_addr` at its place
-abbrev pub is_mark : Ppc64Relocation → Bool
-is_mark ppc64.R_PPC64_TLSGD = true
-is_mark ppc64.R_PPC64_TLSLD = true
-is_mark name = false
-
-abbrev pub IsMark : ℕ → Bool → Type 0
-IsMark = IsNamedValue ppc64_name is_mark
-
 -- ---- groups that stay
 
 abbrev pub keeps : Group → UnrelaxableGroups → Bool

@@ -1,28 +1,27 @@
 -- Which groups stay, since one of their instructions can't be rewritten.
-use Rattle.std.specs.Prelude.{◌≡◌, ℕ, zero, suc, ◌<◌, ◌/◌, ◌⊎◌, ◌↔◌, ◌&&◌, ◌==◌, not, Bool, true}
-use Rattle.std.specs.Prelude.{false, IsTrue, List, length, Option, Some, None, slice_get}
+use Rattle.std.specs.Prelude.{◌≡◌, ℕ, ◌-◌, ◌<◌, ◌/◌, ◌⊎◌, ◌↔◌, ◌&&◌, ◌||◌, ◌==◌, not, nat_le, Bool}
+use Rattle.std.specs.Prelude.{true, false, IsTrue, List, length, Option, Some, None, slice_get}
 use Rattle.linker_rewriting.specs.Imports.{Architecture, Choice, GeneralDynamic, Group, Grouped}
 use Rattle.linker_rewriting.specs.Imports.{IfGroupMatches, InitialExec, LocalDynamic, NotSurveyed}
 use Rattle.linker_rewriting.specs.Imports.{OutputFacts, Phase, Ppc64, PreLayout, Rela, Relaxation}
 use Rattle.linker_rewriting.specs.Imports.{RewritingError, Scope, SymbolFacts, UnrelaxableGroups}
-use Rattle.linker_rewriting.specs.Imports.{relocation_in}
+use Rattle.linker_rewriting.specs.Imports.{ppc64_name, r_type_of, relocation_in}
 use Rattle.linker_rewriting.specs.Candidates.{IsCandidate, IsMatched, calls_tls_get_addr}
 use Rattle.linker_rewriting.specs.Facts.{RelaxContext, pre_layout}
-use Rattle.linker_rewriting.specs.Groups.{IsScopeIn, IsMark, stays_at, symbol_of_group}
+use Rattle.linker_rewriting.specs.Groups.{IsScopeIn, stays_at, symbol_of_group}
+use Rattle.linker_elf.specs.declared.ppc64.relocations.Ppc64Relocation.TheVariants as ppc64
 
 -- ---- what keeps groups
 
--- PowerPC64: the relocation before is a mark at the same place
-abbrev pub IsMarked : List ℕ → ℕ → Rela → Bool → Type 0
-IsMarked bytes zero r marked = marked ≡ false
-IsMarked bytes (suc n) r marked =
-    (is_mark : Bool) × IsMark (relocation_in bytes n).r_type is_mark
-    × (marked ≡ (is_mark && (relocation_in bytes n).offset == r.offset))
+-- a relocation of PowerPC64 marks the call of `__tls_get_addr` at an offset
+abbrev pub marks_call : ℕ → Rela → Bool
+marks_call offset mark =
+    (mark.r_type == r_type_of (ppc64_name ppc64.R_PPC64_TLSGD)
+    || mark.r_type == r_type_of (ppc64_name ppc64.R_PPC64_TLSLD)) && (mark.offset == offset)
 
-abbrev pub IsUnmarkedBy : Bool → List ℕ → ℕ → Rela → Bool → Type 0
-IsUnmarkedBy false bytes n r unmarked = unmarked ≡ false
-IsUnmarkedBy true bytes n r unmarked =
-    (marked : Bool) × IsMarked bytes n r marked × (unmarked ≡ not marked)
+-- the relocation before is the mark at the same place
+abbrev pub is_marked : List ℕ → ℕ → Rela → Bool
+is_marked bytes n r = nat_le 1 n && marks_call r.offset (relocation_in bytes (n - 1))
 
 -- PowerPC64: a use of `__tls_get_addr`. Without a mark nobody knows whose address it is called for
 -- (64-Bit ELF V2 ABI, "TLS Linkage Optimizations").
@@ -30,9 +29,12 @@ abbrev pub needs_mark : Phase → Architecture → Option SymbolFacts → Bool
 needs_mark PreLayout Ppc64 = calls_tls_get_addr
 needs_mark phase architecture = λ symbol. false
 
+abbrev pub is_unmarked : RelaxContext → List ℕ → ℕ → Rela → Bool
+is_unmarked s bytes n r =
+    needs_mark s.phase s.architecture (slice_get s.symbols r.symbol) && not (is_marked bytes n r)
+
 abbrev pub IsUnmarked : RelaxContext → List ℕ → ℕ → Rela → Bool → Type 0
-IsUnmarked s bytes n r =
-    IsUnmarkedBy (needs_mark s.phase s.architecture (slice_get s.symbols r.symbol)) bytes n r
+IsUnmarked s bytes n r unmarked = unmarked ≡ is_unmarked s bytes n r
 
 -- it keeps these
 abbrev pub IsThreadLocal : Group → Type 0

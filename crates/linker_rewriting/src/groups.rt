@@ -289,25 +289,6 @@ pub fn scope_of(architecture: Architecture, r_type: u32) -> Scope
     scope_in(architecture, Phase::PreLayout, r_type)
 }
 
-/// Whether a name of PowerPC64 marks a call of `__tls_get_addr`.
-#[inline(always)]
-fn is_mark(name: Ppc64Relocation) -> bool
-    ensures { result ≡ spec.is_mark name }
-{
-    matches!(
-        name,
-        Ppc64Relocation::R_PPC64_TLSGD | Ppc64Relocation::R_PPC64_TLSLD
-    )
-}
-
-/// Whether a relocation with an `r_type` of PowerPC64 marks a call of `__tls_get_addr`.
-#[inline(always)]
-pub(crate) fn marks_call(r_type: u32) -> bool
-    ensures { spec.IsMark r_type result }
-{
-    is_mark(Ppc64Relocation::from_elf(r_type))
-}
-
 #[inline(always)]
 pub(crate) fn symbol_of_group(group: Group, symbol: u32) -> u32
     ensures { result ≡ spec.symbol_of_group group symbol }

@@ -10,12 +10,13 @@ ghost use Rattle.linker_rewriting.specs.Surveys as spec;
 
 use crate::candidates::{candidate, is_matched, is_tls_get_addr};
 use crate::facts::{OutputFacts, RelaxContext, SymbolFacts, contradiction, pre_layout};
-use crate::groups::{Group, Scope, UnrelaxableGroups, marks_call, scope_in, symbol_of_group};
+use crate::groups::{Group, Scope, UnrelaxableGroups, scope_in, symbol_of_group};
 use crate::phases::Phase;
 use crate::r_types::{is_surveyed, of_each};
 use crate::relocations::{Site, relocation_in};
 use linker_section::relocations::{Rela, relocations_len};
 use linker_utils::elf::Architecture;
+use linker_utils::ppc64::Ppc64Relocation;
 
 #[inline(always)]
 fn keep(kept: &mut [UnrelaxableGroups], group: Group, symbol: u32)
@@ -71,18 +72,28 @@ fn keeping(context: &RelaxContext<'_>, site: &Site<'_>) -> Option<Group>
     }
 }
 
-/// PowerPC64: whether the relocation before is a mark of a call at the same place.
+/// Whether a relocation of PowerPC64 marks the call of `__tls_get_addr` at an offset.
+#[inline(always)]
+fn marks_call(offset: u64, mark: &Rela) -> bool
+    ensures { result ≡ spec.marks_call offset mark.now }
+{
+    let is_mark = mark.r_type == Ppc64Relocation::R_PPC64_TLSGD.r_type()
+        || mark.r_type == Ppc64Relocation::R_PPC64_TLSLD.r_type();
+    is_mark && mark.offset == offset
+}
+
+/// Whether the relocation before is the mark at the same place.
 #[inline(always)]
 fn is_marked(site: &Site<'_>) -> bool
     requires { site.now.index ≤ length site.now.relocations.now / 24 }
-    ensures { spec.IsMarked site.now.relocations.now site.now.index site.now.relocation result }
+    ensures { result ≡ spec.is_marked site.now.relocations.now site.now.index site.now.relocation }
 {
-    if site.index == 0 {
-        return false;
-    }
-    let before = relocation_in(site.relocations, site.index - 1);
-    let is_mark = marks_call(before.r_type);
-    is_mark && before.offset == site.relocation.offset
+    let (relocations, index) = (site.relocations, site.index);
+    1 <= index
+        && marks_call(
+            site.relocation.offset,
+            &relocation_in(relocations, index - 1),
+        )
 }
 
 /// Whether a relocation is one whose mark a survey looks for: a use of `__tls_get_addr` on
@@ -108,14 +119,11 @@ fn needs_mark(
 #[inline(always)]
 fn is_unmarked(context: &RelaxContext<'_>, site: &Site<'_>) -> bool
     requires { site.now.index ≤ length site.now.relocations.now / 24 }
-    ensures { spec.IsUnmarked (context_of context.now) site.now.relocations.now site.now.index
-        site.now.relocation result }
+    ensures { result ≡ spec.is_unmarked (context_of context.now) site.now.relocations.now
+        site.now.index site.now.relocation }
 {
     let (architecture, phase) = (context.architecture, context.phase);
-    if !needs_mark(architecture, phase, context.symbols, &site.relocation) {
-        return false;
-    }
-    !is_marked(site)
+    needs_mark(architecture, phase, context.symbols, &site.relocation) && !is_marked(site)
 }
 
 /// The index of the first relocation from an index on that may keep a group, or how many
