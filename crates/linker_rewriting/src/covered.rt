@@ -44,16 +44,6 @@ fn span_at(relocations: &[u8], decisions: &[DecisionNumbers], index: usize) -> (
     span_of(&decision, relocation_in(relocations, index).offset)
 }
 
-/// Whether the relocation with an index stays as it is, and so does its instruction.
-#[inline(always)]
-fn is_kept(decisions: &[DecisionNumbers], index: usize) -> bool
-    requires { index < length decisions.now }
-    ensures { result ≡ true
-        → decision_at (decisions_in decisions.now) index ≡ Decision.Kept }
-{
-    matches!(decision_in(decisions, index), Decision::Kept)
-}
-
 /// An index that is no more than another, below which all bytes end at or below an offset.
 fn place_before(
     relocations: &[u8],
@@ -105,7 +95,7 @@ fn place_from(
     let len = relocations_len(relocations);
     let mut below = below;
     for at in from..len {
-        if is_kept(decisions, at) {
+        if let Decision::Kept = decision_in(decisions, at) {
             continue;
         }
         let (start, end) = span_at(relocations, decisions, at);
@@ -183,18 +173,6 @@ fn reaches(
     distance < field_len(architecture, relocations, section, index) as u64
 }
 
-/// Whether a rewrite takes along the relocation with an index.
-#[inline(always)]
-fn is_taken(decisions: &[DecisionNumbers], index: usize) -> bool
-    requires { index < length decisions.now }
-    ensures yes { result ≡ true
-        → decision_at (decisions_in decisions.now) index ≡ Decision.Consumed }
-    ensures no { result ≡ false
-        → decision_at (decisions_in decisions.now) index ≢ Decision.Consumed }
-{
-    matches!(decision_in(decisions, index), Decision::Consumed)
-}
-
 /// The first relocation that no rewrite takes along and whose field has a byte that the decision of
 /// another one writes or deletes. The bytes of decisions ascend, and where relocations do too each
 /// decision is passed once. Else those are passed again that are between the place of a relocation
@@ -227,7 +205,7 @@ pub(crate) fn first_covered(
         {
             continue;
         }
-        if is_taken(decisions, index) {
+        if let Decision::Consumed = decision_in(decisions, index) {
             continue;
         }
         place = place_beside(relocations, decisions, index, offset, place);

@@ -1,4 +1,4 @@
-use Rattle.std.proofs.Common.{ℕ, ◌<◌, ◌≤◌, ◌/◌, length, map, ap, subst, arith}
+use Rattle.std.proofs.Common.{ℕ, ◌<◌, ◌≤◌, ◌/◌, ◌∙◌, length, map, ap, sym, subst, arith}
 use Rattle.linker_rewriting.specs.Numbers.{decision_in}
 use Rattle.linker_rewriting.proofs.Places.{are_bounded, at_most, clear_at, covered_at}
 use Rattle.linker_rewriting.specs.Decisions.{IsCovered, start_at, end_at}
@@ -47,13 +47,13 @@ loop-index-preserved-then-not-reaches c =
       place = is;
     }
 
-pub loop-index-preserved-then-is_taken : goal.loop-index-preserved-then-is_taken
-loop-index-preserved-then-is_taken c =
+pub loop-index-preserved-in-Consumed : goal.loop-index-preserved-in-Consumed
+loop-index-preserved-in-Consumed c =
     let a = c.args in
     let ds = map decision_in a.decisions.now in
     record {
       clear = below_more (λ n. IsCovered a.architecture a.relocations.now a.section.now ds (length a.relocations.now / 24) n → ⊥) c.loop-index.index
-          c.loop-index.invariant.clear (λ covered. covered.untaken (c.is_taken.ensures.yes c.if-is_taken.true));
+          c.loop-index.invariant.clear (λ covered. covered.untaken (sym c.decision_in.ensures ∙ c.in-Consumed.is));
       place = c.loop-index.invariant.place;
     }
 
@@ -98,7 +98,7 @@ returns-then-is_covered c =
     let covered = c.reaches-is_covered.ensures.yes c.if-is_covered.true in (
       omega (arith, t, e),
       covered_at a.architecture bytes a.section.now ds limit k place (covered.0) beside (omega (arith, w, over, e))
-          (c.is_taken.ensures.no c.if-is_taken.false) (covered.1) (covered.2),
+          (λ is. c.in_default.not-Consumed (c.decision_in.ensures ∙ is)) (covered.1) (covered.2),
       c.loop-index.invariant.clear,
     )
 

@@ -1,4 +1,4 @@
-use Rattle.std.proofs.Common.{◌≢◌, ℕ, ◌<◌, ◌≤◌, ◌/◌, length, map, ap, sym, subst, arith}
+use Rattle.std.proofs.Common.{◌≢◌, ℕ, ◌<◌, ◌≤◌, ◌/◌, ◌∙◌, length, map, ap, sym, subst, arith}
 use Rattle.linker_rewriting.specs.Numbers.{decision_in}
 use Rattle.linker_rewriting.proofs.Places.{above_window, below_window, no_more, no_window}
 use Rattle.linker_rewriting.specs.Decisions.{start_at, end_at}
@@ -6,13 +6,13 @@ use Rattle.linker_rewriting.specs.Inner.Places.{IsWindow, AreAbove}
 use Rattle.linker_rewriting.proofs.covered.place_from.Goals as goal
 use borrow.Author.Count.{below_more}
 
-pub loop-at-preserved-then-is_kept : goal.loop-at-preserved-then-is_kept
-loop-at-preserved-then-is_kept c =
+pub loop-at-preserved-in-Kept : goal.loop-at-preserved-in-Kept
+loop-at-preserved-in-Kept c =
     let a = c.args in
     let k = c.loop-at.at in
     let bytes = a.relocations.now in
     let ds = map decision_in a.decisions.now in
-    let none : IsWindow bytes ds k → ⊥ = no_window bytes ds k (c.is_kept.ensures c.if-is_kept.true) in
+    let none : IsWindow bytes ds k → ⊥ = no_window bytes ds k (sym c.decision_in.ensures ∙ c.in-Kept.is) in
     record {
       below = below_more (λ n. IsWindow bytes ds n → end_at bytes ds n ≤ c.loop-at.below) k
           c.loop-at.invariant.below (λ some. absurd (none some));
