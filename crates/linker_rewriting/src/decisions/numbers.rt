@@ -2,8 +2,7 @@
 
 ghost use Rattle.std.specs.Prelude.{◌≡◌, Some};
 ghost use Rattle.linker_elf.specs.Machines.{machine_of};
-ghost use Rattle.linker_rewriting.specs.Numbers.{choice_in, decision_in, number_of, of_fate};
-ghost use Rattle.linker_rewriting.specs.Numbers.{subject_in, IsKeptDecision, IsWrittenDecision};
+ghost use Rattle.linker_rewriting.specs.Numbers as spec;
 ghost use Rattle.linker_utils.specs.Relaxations.{relaxation_architecture};
 
 use super::{Decision, Subject};
@@ -38,7 +37,7 @@ pub struct DecisionNumbers {
 /// One that rewrites nothing.
 #[inline(always)]
 fn of_fate(fate: u8) -> DecisionNumbers
-    ensures { result ≡ of_fate fate }
+    ensures { result ≡ spec.of_fate fate }
 {
     DecisionNumbers {
         addend: 0,
@@ -51,7 +50,6 @@ fn of_fate(fate: u8) -> DecisionNumbers
     }
 }
 
-/// `e_machine` of a rewrite's architecture.
 #[inline(always)]
 fn machine_of(kind: Relaxation) -> u16
     ensures { result ≡ machine_of (relaxation_architecture kind) }
@@ -69,8 +67,8 @@ fn machine_of(kind: Relaxation) -> u16
 #[inline(always)]
 fn of_choice(fate: u8, choice: Choice<Relaxation, u32>, subject: Subject) -> DecisionNumbers
     ensures fate { result.fate ≡ fate }
-    ensures choice { choice_in result ≡ Some choice }
-    ensures subject { subject_in result ≡ subject }
+    ensures choice { spec.choice_in result ≡ Some choice }
+    ensures subject { spec.subject_in result ≡ subject }
 {
     let (rewrite, opcode_len) = choice.kind.number();
     DecisionNumbers {
@@ -88,7 +86,7 @@ impl DecisionNumbers {
     /// The rewrite and the relocation after it, if its machine has a rewrite of these numbers.
     #[inline(always)]
     fn choice(self) -> Option<Choice<Relaxation, u32>>
-        ensures { result ≡ choice_in self }
+        ensures { result ≡ spec.choice_in self }
     {
         let architecture = Architecture::from_machine(self.machine)?;
         let kind = Relaxation::from_number(architecture, self.rewrite, self.opcode_len)?;
@@ -98,10 +96,10 @@ impl DecisionNumbers {
         })
     }
 
-    /// The decision.
+    /// The decision, `Decision::Kept` where the machine has no rewrite of these numbers.
     #[inline(always)]
     pub fn as_decision(self) -> Decision
-        ensures { result ≡ decision_in self }
+        ensures { result ≡ spec.decision_in self }
     {
         if self.fate == 0 {
             return Decision::Kept;
@@ -113,23 +111,20 @@ impl DecisionNumbers {
             return Decision::Kept;
         };
         if self.fate == 1 {
-            Decision::Rewritten(choice)
-        } else {
-            Decision::RewrittenWithSymbol(
-                choice,
-                Subject {
-                    symbol: self.symbol,
-                    addend: self.addend,
-                },
-            )
+            return Decision::Rewritten(choice);
         }
+        let subject = Subject {
+            symbol: self.symbol,
+            addend: self.addend,
+        };
+        Decision::RewrittenWithSymbol(choice, subject)
     }
 
     /// The numbers of a decision.
     #[inline(always)]
     pub fn from_decision(made: Decision) -> DecisionNumbers
-        ensures decision { decision_in result ≡ made }
-        ensures form { IsWrittenDecision result }
+        ensures decision { spec.decision_in result ≡ made }
+        ensures form { spec.IsWrittenDecision result }
     {
         match made {
             Decision::Kept => of_fate(0),
@@ -149,7 +144,7 @@ impl DecisionNumbers {
     /// The number of the bytes that it rewrites, if it is kept.
     #[inline(always)]
     pub(crate) fn bytes(self) -> u32
-        ensures { result ≡ number_of self }
+        ensures { result ≡ spec.number_of self }
     {
         self.symbol
     }
@@ -157,9 +152,9 @@ impl DecisionNumbers {
     /// The numbers of a rewrite that is kept, with a number of the bytes that it rewrites.
     #[inline(always)]
     pub(crate) fn from_choice(choice: Choice<Relaxation, u32>, number: u32) -> DecisionNumbers
-        ensures decision { decision_in result ≡ Decision.Rewritten choice }
-        ensures bytes { number_of result ≡ number }
-        ensures form { IsKeptDecision result }
+        ensures decision { spec.decision_in result ≡ Decision.Rewritten choice }
+        ensures bytes { spec.number_of result ≡ number }
+        ensures form { spec.IsKeptDecision result }
     {
         of_choice(
             1,
