@@ -184,14 +184,6 @@ fn is_high_word(expected: u32, word: u32) -> bool
     opcode(word) == expected && destination(word) != 0 && destination(word) != 3
 }
 
-/// Whether an instruction writes no integer register: it is a store, or loads a number of floating
-/// point.
-fn writes_none(word: u32) -> bool
-    ensures { result ≡ spec.writes_none word }
-{
-    opcode(word) == 0x23 || opcode(word) == 0x27 || opcode(word) == 0x07
-}
-
 /// Whether an instruction adds 12 bits to a register.
 fn adds_low(section: &[u8], offset: u64) -> bool
     requires { offset + 4 ≤ length section.now }
@@ -208,10 +200,12 @@ fn is_low_at(section: &[u8], offset: u64) -> bool
     ensures { result ≡ spec.is_low_word (word_at section.now offset) }
 {
     let word = word_at(section, offset);
+    // a store, or a load of a number of floating point
+    let writes_none = opcode(word) == 0x23 || opcode(word) == 0x27 || opcode(word) == 0x07;
     adds_low(section, offset)
         && base(word) != 0
         && !stores_base(word)
-        && (writes_none(word) || destination(word) != 3)
+        && (writes_none || destination(word) != 3)
 }
 
 /// Whether the instruction of a relocation is one of such a part.

@@ -94,7 +94,6 @@ fn load_of(words: &Words<'_>, relocation: &Rela) -> Option<(u32, usize)>
     }
 }
 
-/// A relocation with another `r_type`.
 #[inline(always)]
 fn with_r_type(r_type: u32, relocation: &Rela) -> Rela
     ensures { result ≡ with_r_type r_type relocation.now }
