@@ -900,7 +900,7 @@ pub fn first_changed<B: AsRef<[u8]>, R: AsRef<[u8]>>(
     kept::first_changed(&output, object.facts, object.facts_snapshot, relocations)
 }
 
-//= linker_rewriting::kept::relocate_rewritten_section: symbols = values, output = link, kept = facts_snapshot, relocations = section.relocations
+//= linker_rewriting::kept::relocate_rewritten_section: symbols = values, context = link, kept = facts_snapshot, relocations = section.relocations
 ///
 /// ```
 /// use linker_utils::elf::Architecture;
@@ -937,17 +937,11 @@ pub fn relocate_rewritten_section<B: AsMut<[u8]>, R: AsRef<[u8]>>(
     section: &mut Section<B, R>,
     memory: &mut [u64],
 ) -> Result<(), WritingError> {
-    let (architecture, addresses) = (link.architecture, link.addresses(section.address));
     let (relocations, bytes) = (section.relocations.as_ref(), section.bytes.as_mut());
-    let symbols = object.values;
     kept::relocate_rewritten_section(
-        architecture,
-        &link.output(),
-        object.facts,
+        context!(link, object, section, Phase::PreLayout),
         object.facts_snapshot,
-        &addresses,
         relocations,
-        symbols,
         bytes,
         memory,
     )
@@ -956,10 +950,10 @@ pub fn relocate_rewritten_section<B: AsMut<[u8]>, R: AsRef<[u8]>>(
         kept::WritingError::Changed(index) => WritingError::Changed(index),
         kept::WritingError::NeedsStub(index) => WritingError::NeedsStub(index),
         kept::WritingError::Section(found) => WritingError::Section(explained(
-            architecture,
-            &addresses,
+            link.architecture,
+            &link.addresses(section.address),
             relocations,
-            ByIndex { symbols },
+            ByIndex { symbols: object.values },
             found,
         )),
     })

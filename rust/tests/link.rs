@@ -312,14 +312,13 @@ fn compare(architecture: Architecture, random: &mut Random, counts: &mut [usize;
             })
     }, {
         let Written { bytes, relocations, .. } = it;
-        let (facts, kept, values) = (&facts, &facts_snapshot, &values);
-        long::relocate_rewritten_section(
-            a, o, facts, kept, at, relocations, values, bytes, &mut other,
+        let (context, kept) = (in_phase(Phase::PreLayout), &facts_snapshot);
+        long::relocate_rewritten_section(&context, kept, relocations, bytes, &mut other).map_err(
+            |error| match error {
+                long::WritingError::Section(it) => format!("{} {:?}", it.index, it.error),
+                other => format!("{other:?}"),
+            },
         )
-        .map_err(|error| match error {
-            long::WritingError::Section(it) => format!("{} {:?}", it.index, it.error),
-            other => format!("{other:?}"),
-        })
     });
     same!(10, it, [facts] {
         rewriting::snapshot_facts(&link, &object, &mut facts);

@@ -53,6 +53,14 @@ pub fn link_section(
         addresses.now symbols.now relocations.old section.old (decisions_in decisions.new) relocations.new
         section.new) }
 {
+    let context = RelaxContext {
+        architecture,
+        phase: Phase::PreLayout,
+        output,
+        symbols: facts,
+        addresses,
+        values: symbols,
+    };
     if let Err(error) = rewrite_section(
         architecture,
         output,
@@ -64,17 +72,7 @@ pub fn link_section(
     ) {
         return Err(LinkError::Rewriting(error));
     }
-    match relocate_rewritten_section(
-        architecture,
-        output,
-        facts,
-        kept,
-        addresses,
-        relocations,
-        symbols,
-        section,
-        memory,
-    ) {
+    match relocate_rewritten_section(&context, kept, relocations, section, memory) {
         Ok(()) => Ok(()),
         Err(error) => Err(LinkError::Writing(error)),
     }
@@ -165,17 +163,7 @@ pub fn link_section_in_two_phases(
     ) {
         return Err(PhaseError::Second(error));
     }
-    match relocate_rewritten_section(
-        architecture,
-        output,
-        facts,
-        kept,
-        addresses,
-        relocations,
-        symbols,
-        section,
-        memory,
-    ) {
+    match relocate_rewritten_section(&context, kept, relocations, section, memory) {
         Ok(()) => Ok(()),
         Err(error) => Err(PhaseError::Writing(error)),
     }

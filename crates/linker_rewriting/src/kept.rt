@@ -9,7 +9,7 @@ ghost use Rattle.linker_section.specs.Sections.{AreAllRelocated};
 ghost use Rattle.linker_section.specs.Relocations.{relocation_in};
 ghost use Rattle.linker_section.specs.WrittenFields.{AreWritten};
 
-use crate::facts::{OutputFacts, SymbolFacts, contradiction};
+use crate::facts::{OutputFacts, RelaxContext, SymbolFacts, contradiction};
 use crate::relocations::relocation_in;
 use linker_section::facts::{Addresses, Symbol};
 use linker_section::relocations::{Rela, relocations_len};
@@ -42,7 +42,6 @@ pub enum WritingError {
     Section(SectionError),
 }
 
-/// A bit that is worth so much, or 0.
 #[inline(always)]
 fn bit_if(worth: u16, is_set: bool) -> u16
     ensures bit { result ≡ spec.bit_if worth is_set }
@@ -60,7 +59,6 @@ fn toc_bits(other: u8) -> u16
     u16::from(other / 32) * 32
 }
 
-/// What choices read of a symbol and of the output.
 #[inline(always)]
 fn facts_snapshot(output: &OutputFacts, symbol: &SymbolFacts) -> FactsSnapshot
     ensures { result ≡ spec.facts_snapshot output.now symbol.now }
@@ -92,7 +90,6 @@ pub fn snapshot_facts(output: &OutputFacts, symbols: &[SymbolFacts], kept: &mut 
 }
 
 /// Whether what is kept of a relocation's symbol is what holds now.
-#[inline(always)]
 fn is_as_kept(
     output: &OutputFacts,
     symbols: &[SymbolFacts],
@@ -133,7 +130,6 @@ pub fn first_changed(
 
 /// Whether a symbol is a function of another file, and has no stub that keeps its caller's TOC
 /// pointer. A call of what is undefined and weak needs none.
-#[inline(always)]
 fn needs_stub(facts: &SymbolFacts, symbol: &Symbol) -> bool
     ensures { result ≡ spec.needs_stub facts.now symbol.now }
 {
@@ -142,40 +138,30 @@ fn needs_stub(facts: &SymbolFacts, symbol: &Symbol) -> bool
 }
 
 /// Whether a relocation is a call of PowerPC64 of such a function.
-#[inline(always)]
-fn lacks_stub(
-    architecture: Architecture,
-    facts: &[SymbolFacts],
-    symbols: &[Symbol],
-    relocation: &Rela,
-) -> bool
-    ensures { result ≡ spec.lacks_stub architecture facts.now symbols.now relocation.now }
+fn lacks_stub(context: &RelaxContext<'_>, relocation: &Rela) -> bool
+    ensures { result ≡ spec.lacks_stub context.now.architecture context.now.symbols.now
+        context.now.values.now relocation.now }
 {
     let call = Ppc64Relocation::R_PPC64_REL24.r_type();
-    if !matches!(architecture, Architecture::Ppc64) || relocation.r_type != call {
+    if !matches!(context.architecture, Architecture::Ppc64) || relocation.r_type != call {
         return false;
     }
     let index = relocation.symbol as usize;
-    match (facts.get(index), symbols.get(index)) {
+    match (context.symbols.get(index), context.values.get(index)) {
         (Some(facts), Some(symbol)) => needs_stub(facts, symbol),
         _ => false,
     }
 }
 
 /// The index of the first such relocation.
-fn first_without_stub(
-    architecture: Architecture,
-    facts: &[SymbolFacts],
-    symbols: &[Symbol],
-    relocations: &[u8],
-) -> Option<usize>
-    ensures { MatchOption result (spec.HaveStubs architecture facts.now symbols.now relocations.now
-        (length relocations.now / 24))
-        (spec.IsFirstWithoutStub architecture facts.now symbols.now relocations.now) }
+fn first_without_stub(context: &RelaxContext<'_>, relocations: &[u8]) -> Option<usize>
+    ensures { MatchOption result (spec.HaveStubs context.now.architecture context.now.symbols.now
+        context.now.values.now relocations.now (length relocations.now / 24))
+        (spec.IsFirstWithoutStub context.now.architecture context.now.symbols.now
+        context.now.values.now relocations.now) }
 {
     for index in 0..relocations_len(relocations) {
-        let relocation = relocation_in(relocations, index);
-        if lacks_stub(architecture, facts, symbols, &relocation) {
+        if lacks_stub(context, &relocation_in(relocations, index)) {
             return Some(index);
         }
     }
@@ -183,19 +169,21 @@ fn first_without_stub(
 }
 
 /// Writes the values of a section whose instructions were rewritten, as `relocate_section` does,
-/// where choices would still read the same facts: `facts` and `output` are those that hold now, and
-/// `kept` those of `snapshot_facts` when rewrites were chosen. So a symbol that was bound then and
-/// isn't any more doesn't get code that bypasses its GOT entry. A relocation that needs an entry
-/// which the linker hasn't made is an error of `relocate_section` (`NoEntry`).
+/// where choices would still read the same facts: those of `context` hold now, and `kept` are those
+/// of `snapshot_facts` when rewrites were chosen. So a symbol that was bound then and isn't any
+/// more doesn't get code that bypasses its GOT entry. A relocation that needs an entry which the
+/// linker hasn't made is an error of `relocate_section` (`NoEntry`). `memory` is that call's, and
+/// the phase isn't read.
 ///
 /// # Errors
 ///
 /// The section is as before. The first of the list that applies, with the first such index.
 ///
 /// ```
-/// use linker_rewriting::facts::{OutputFacts, SymbolFacts};
+/// use linker_rewriting::facts::{OutputFacts, RelaxContext, SymbolFacts};
 /// use linker_rewriting::kept::{FactsSnapshot, WritingError};
 /// use linker_rewriting::kept::{relocate_rewritten_section, snapshot_facts};
+/// use linker_rewriting::phases::Phase;
 /// use linker_section::facts::{Addresses, Symbol};
 /// use linker_utils::elf::Architecture;
 ///
@@ -213,58 +201,55 @@ fn first_without_stub(
 /// snapshot_facts(&output, &facts, &mut kept);
 /// // another definition replaces f
 /// facts[1].is_local = false;
-/// let addresses = Addresses { section: 0x1000, ..Addresses::default() };
-/// let symbols = [Symbol::default(), Symbol { address: 0x2000, ..Symbol::default() }];
-/// let written = relocate_rewritten_section(
-///     Architecture::X86_64,
-///     &output,
-///     &facts,
-///     &kept,
-///     &addresses,
-///     &relocations,
-///     &symbols,
-///     &mut section,
-///     &mut [0; 1],
-/// );
+/// let context = RelaxContext {
+///     architecture: Architecture::X86_64,
+///     phase: Phase::PreLayout,
+///     output: &output,
+///     symbols: &facts,
+///     addresses: &Addresses { section: 0x1000, ..Addresses::default() },
+///     values: &[0, 0x2000].map(|address| Symbol { address, ..Symbol::default() }),
+/// };
+/// let written =
+///     relocate_rewritten_section(&context, &kept, &relocations, &mut section, &mut [0; 1]);
 /// assert_eq!(written, Err(WritingError::Changed(0)));
 /// assert_eq!(section, [0x67, 0xe8, 0, 0, 0, 0]);
 /// ```
 pub fn relocate_rewritten_section(
-    architecture: Architecture,
-    output: &OutputFacts,
-    facts: &[SymbolFacts],
+    context: &RelaxContext<'_>,
     kept: &[FactsSnapshot],
-    addresses: &Addresses,
     relocations: &[u8],
-    symbols: &[Symbol],
     section: &mut [u8],
     memory: &mut [u64],
 ) -> Result<(), WritingError>
     requires memory { length relocations.now / 24 ≤ length memory.old }
-    ensures agree { OnOk result (Agree facts.now symbols.now relocations.now) }
-    ensures stubs { OnOk result (spec.HaveStubs architecture facts.now symbols.now relocations.now
-        (length relocations.now / 24)) }
-    ensures kept { OnOk result (spec.AreAsKept output.now facts.now kept.now relocations.now
-        (length relocations.now / 24)) }
-    ensures ok { OnOk result (AreAllRelocated architecture addresses.now relocations.now symbols.now
-        section.old section.new) }
-    ensures fields { OnOk result (AreWritten architecture addresses.now relocations.now symbols.now
-        section.old section.new) }
-    ensures rejected { IfErr result (spec.IsRejectedOrChanged architecture addresses.now
-        relocations.now symbols.now section.old) }
-    ensures cause { IfErr result (spec.IsWritingCause architecture output.now facts.now kept.now
-        addresses.now relocations.now symbols.now section.old) }
+    ensures agree { OnOk result (Agree context.now.symbols.now context.now.values.now
+        relocations.now) }
+    ensures stubs { OnOk result (spec.HaveStubs context.now.architecture context.now.symbols.now
+        context.now.values.now relocations.now (length relocations.now / 24)) }
+    ensures kept { OnOk result (spec.AreAsKept context.now.output.now context.now.symbols.now
+        kept.now relocations.now (length relocations.now / 24)) }
+    ensures ok { OnOk result (AreAllRelocated context.now.architecture context.now.addresses.now
+        relocations.now context.now.values.now section.old section.new) }
+    ensures fields { OnOk result (AreWritten context.now.architecture context.now.addresses.now
+        relocations.now context.now.values.now section.old section.new) }
+    ensures rejected { IfErr result (spec.IsRejectedOrChanged context.now.architecture
+        context.now.addresses.now relocations.now context.now.values.now section.old) }
+    ensures cause { IfErr result (spec.IsWritingCause context.now.architecture
+        context.now.output.now context.now.symbols.now kept.now context.now.addresses.now
+        relocations.now context.now.values.now section.old) }
     ensures unchanged { IfErr result (λ _. section.new ≡ section.old) }
 {
+    let (facts, symbols) = (context.symbols, context.values);
     if let Some(symbol) = contradiction(facts, symbols, relocations) {
         return Err(WritingError::Contradiction(symbol));
     }
-    if let Some(index) = first_changed(output, facts, kept, relocations) {
+    if let Some(index) = first_changed(context.output, facts, kept, relocations) {
         return Err(WritingError::Changed(index));
     }
-    if let Some(index) = first_without_stub(architecture, facts, symbols, relocations) {
+    if let Some(index) = first_without_stub(context, relocations) {
         return Err(WritingError::NeedsStub(index));
     }
+    let (architecture, addresses) = (context.architecture, context.addresses);
     relocate_section(
         architecture,
         addresses,

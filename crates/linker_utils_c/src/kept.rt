@@ -8,10 +8,11 @@ ghost use Rattle.linker_utils_c.specs.Status.{code};
 
 use crate::sections::status_of_error;
 use crate::status::Status;
-use linker_rewriting::facts::{OutputFacts, SymbolFacts};
+use linker_rewriting::facts::{OutputFacts, RelaxContext, SymbolFacts};
 use linker_rewriting::kept::{
     FactsSnapshot, WritingError, relocate_rewritten_section, snapshot_facts,
 };
+use linker_rewriting::phases::Phase;
 use linker_section::facts::{Addresses, Symbol};
 use linker_section::sections::memory_len;
 use linker_utils::elf::Architecture;
@@ -68,17 +69,15 @@ pub extern "C" fn linker_utils_relocate_rewritten_section_nonnull(
     if memory.len() < memory_len(relocations) {
         return Status::ShortMemory as u32;
     }
-    match relocate_rewritten_section(
+    let context = RelaxContext {
         architecture,
+        phase: Phase::PreLayout,
         output,
-        facts,
-        kept,
+        symbols: facts,
         addresses,
-        relocations,
-        symbols,
-        section,
-        memory,
-    ) {
+        values: symbols,
+    };
+    match relocate_rewritten_section(&context, kept, relocations, section, memory) {
         Ok(()) => Status::Success as u32,
         Err(WritingError::Contradiction(symbol)) => {
             *faulty = symbol;
