@@ -229,23 +229,19 @@ pub(crate) fn link_facts(
     }
 }
 
-/// Whether a symbol is defined in the output and nothing defines it, or has two `st_other`. One
-/// that is thread-local is at the thread pointer where nothing defines it.
-#[inline(always)]
-fn contradicts(facts: &SymbolFacts, symbol: &Symbol) -> bool
-    ensures { result ≡ agreement.contradicts facts.now symbol.now }
-{
-    let is_absent = facts.is_undefined_weak || symbol.is_undefined_weak && !symbol.is_thread_local;
-    facts.is_local && is_absent || facts.other != symbol.other
-}
-
+/// Whether a relocation's symbol is defined in the output and nothing defines it, or has two
+/// `st_other`. One that is thread-local is at the thread pointer where nothing defines it.
 #[inline(always)]
 fn contradict_at(facts: &[SymbolFacts], symbols: &[Symbol], relocation: &Rela) -> bool
     ensures { result ≡ agreement.contradict_at facts.now symbols.now relocation.now }
 {
     let index = relocation.symbol as usize;
     match (facts.get(index), symbols.get(index)) {
-        (Some(facts), Some(symbol)) => contradicts(facts, symbol),
+        (Some(facts), Some(symbol)) => {
+            let is_absent = facts.is_undefined_weak
+                || symbol.is_undefined_weak && !symbol.is_thread_local;
+            facts.is_local && is_absent || facts.other != symbol.other
+        }
         _ => false,
     }
 }

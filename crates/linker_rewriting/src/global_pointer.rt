@@ -132,13 +132,6 @@ fn is_near(base: u64, address: u64) -> bool
     address.wrapping_sub(base).wrapping_add(0x800) < 0x1000
 }
 
-/// Whether nothing replaces a symbol at run time, and its address is that of data or of code.
-fn is_bound(symbol: &SymbolFacts, value: &Symbol) -> bool
-    ensures { result ≡ spec.is_bound symbol.now value.now }
-{
-    (symbol.is_local || symbol.is_undefined_weak) && !symbol.is_ifunc && !value.is_thread_local
-}
-
 /// S + A.
 fn address_of(addresses: &Addresses, relocation: &Rela, value: &Symbol) -> u64
     ensures { result ≡ spec.address_of addresses.now relocation.now value.now }
@@ -147,15 +140,18 @@ fn address_of(addresses: &Addresses, relocation: &Rela, value: &Symbol) -> u64
     address_in(addresses, value).wrapping_add(addend)
 }
 
-/// Whether x3 or x0 reaches what a relocation refers to.
+/// Whether x3 or x0 reaches what a relocation refers to: data or code, which nothing replaces at run
+/// time.
 fn is_reached(context: &RelaxContext<'_>, gp: u64, relocation: &Rela) -> bool
     ensures { result ≡ spec.is_reached (context_of context.now) gp relocation.now }
 {
     let index = relocation.symbol as usize;
     match (context.symbols.get(index), context.values.get(index)) {
         (Some(symbol), Some(value)) => {
+            let stays_here = symbol.is_local || symbol.is_undefined_weak;
+            let is_bound = stays_here && !symbol.is_ifunc && !value.is_thread_local;
             let address = address_of(context.addresses, relocation, value);
-            is_bound(symbol, value) && (is_near(gp, address) || is_near(0, address))
+            is_bound && (is_near(gp, address) || is_near(0, address))
         }
         _ => false,
     }

@@ -128,16 +128,8 @@ pub fn first_changed(
     None
 }
 
-/// Whether a symbol is a function of another file, and has no stub that keeps its caller's TOC
-/// pointer. A call of what is undefined and weak needs none.
-fn needs_stub(facts: &SymbolFacts, symbol: &Symbol) -> bool
-    ensures { result ≡ spec.needs_stub facts.now symbol.now }
-{
-    let is_imported = !(facts.is_local || facts.is_undefined_weak);
-    is_imported && symbol.stub == 0 && !symbol.is_undefined_weak
-}
-
-/// Whether a relocation is a call of PowerPC64 of such a function.
+/// Whether a relocation is a call of PowerPC64 of a function of another file, without a stub that
+/// keeps its caller's TOC pointer. A call of what is undefined and weak needs none.
 fn lacks_stub(context: &RelaxContext<'_>, relocation: &Rela) -> bool
     ensures { result ≡ spec.lacks_stub context.now.architecture context.now.symbols.now
         context.now.values.now relocation.now }
@@ -148,7 +140,10 @@ fn lacks_stub(context: &RelaxContext<'_>, relocation: &Rela) -> bool
     }
     let index = relocation.symbol as usize;
     match (context.symbols.get(index), context.values.get(index)) {
-        (Some(facts), Some(symbol)) => needs_stub(facts, symbol),
+        (Some(facts), Some(symbol)) => {
+            let is_imported = !(facts.is_local || facts.is_undefined_weak);
+            is_imported && symbol.stub == 0 && !symbol.is_undefined_weak
+        }
         _ => false,
     }
 }
