@@ -1,6 +1,6 @@
 -- What an `r_type`, a choice and a candidate are is one thing.
-use Rattle.std.proofs.Common.{◌≡◌, ℕ, refl, sym, ap, subst, ◌∙◌, List, [], ◌∷◌, Option, Some, None, Bool, true, false, true≢false, ◌⊎◌, inl, inr, slice_get, ◌&&◌, ◌==◌, ◌+◌, zero, suc, is_some, not}
-use Rattle.linker_rewriting.proofs.Imports.{AArch64, AArch64Relocation, Architecture, Choice, ElfName, Entry, IsAArch64Choice, IsArchitectureChoice, IsChosenBy, IsFirst, IsLoongArchChoice, IsNameOf, IsNamed, IsPpc64Choice, IsUnchanged, LinkFacts, LoongArch64, LoongArch64Relocation, NotRelaxable, Phase, Ppc64, Ppc64Relocation, Rela, Relaxation, RiscV, Scope, SymbolFacts, X86_64, X86_64Relocation, aarch64_name, choice, r_type_of, loongarch_name, ppc64_name, relaxation_deleted, relaxation_skipped, relocation_at, relocation_in}
+use Rattle.std.proofs.Common.{◌≡◌, ℕ, refl, sym, ap, subst, ◌∙◌, List, [], ◌∷◌, Option, Some, None, Bool, true, false, true≢false, ◌⊎◌, inl, inr, slice_get, ◌&&◌, ◌==◌, ◌+◌, is_some}
+use Rattle.linker_rewriting.proofs.Imports.{AArch64, AArch64Relocation, Architecture, Choice, ElfName, Entry, IsAArch64Choice, IsArchitectureChoice, IsChosenBy, IsFirst, IsLoongArchChoice, IsNameOf, IsNamed, IsPpc64Choice, IsUnchanged, LinkFacts, LoongArch64, LoongArch64Relocation, NotRelaxable, Phase, Ppc64, Ppc64Relocation, Rela, Relaxation, RiscV, Scope, SymbolFacts, X86_64, X86_64Relocation, aarch64_name, choice, r_type_of, loongarch_name, ppc64_name, relaxation_deleted, relaxation_skipped, relocation_at}
 use Rattle.linker_elf.specs.ElfNames.{named, unnamed}
 use Rattle.linker_elf.specs.RiscVRelocations.{riscv_name}
 use Rattle.linker_elf.specs.X86Relocations.{x86_64_name}

@@ -1,10 +1,10 @@
 //! Relocations that no rewrite takes along, in the bytes that one writes or deletes.
 
-ghost use Rattle.std.specs.Prelude.{◌≡◌, ◌≢◌, ◌<◌, ◌≤◌, ◌/◌, length, true, false};
+ghost use Rattle.std.specs.Prelude.{◌≡◌, ◌<◌, ◌≤◌, ◌/◌, length, true, false};
 ghost use Rattle.linker_elf.specs.declared.elf.RowInfo.{RowInfo};
 ghost use Rattle.linker_rewriting.specs.Numbers.{decisions_in};
 ghost use Rattle.linker_rewriting.specs.Decisions.{AllCanBeMade, AreApart, IsFirstCovered};
-ghost use Rattle.linker_rewriting.specs.Decisions.{decision_at, start_at, end_at};
+ghost use Rattle.linker_rewriting.specs.Decisions.{start_at, end_at};
 ghost use Rattle.linker_rewriting.specs.Inner.Places.{IsBounded, AreBounded, AreBelow, IsPlace};
 ghost use Rattle.linker_rewriting.specs.Inner.Places.{IsPlaceBeside};
 ghost use Rattle.linker_section.specs.Fields.{IsField, field_end};

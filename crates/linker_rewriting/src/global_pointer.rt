@@ -3,7 +3,7 @@
 //! `lui` and no `auipc`: each low part takes x3 or x0 as its base, all of a symbol or none. `gp` is
 //! the address of `__global_pointer$`. For other architectures nothing is noted or rewritten.
 
-ghost use Rattle.std.specs.Prelude.{◌≡◌, ◌↔◌, ◌+◌, ◌<◌, ◌≤◌, ◌/◌, ℕ, length, map, take, drop};
+ghost use Rattle.std.specs.Prelude.{◌≡◌, ◌↔◌, ◌+◌, ◌<◌, ◌≤◌, ◌/◌, ℕ, length, take, drop};
 ghost use Rattle.std.specs.Prelude.{IfSome, IfErr, IfOk, OnOk, OnErr, IsTrue, ◌&&◌};
 ghost use Rattle.std.specs.Prelude.{◌==◌, true, MatchOption, None, ⊤};
 ghost use Rattle.std.specs.Int.{w32, from_le_bytes};
@@ -140,8 +140,8 @@ fn address_of(addresses: &Addresses, relocation: &Rela, value: &Symbol) -> u64
     address_in(addresses, value).wrapping_add(addend)
 }
 
-/// Whether x3 or x0 reaches what a relocation refers to: data or code, which nothing replaces at run
-/// time.
+/// Whether x3 or x0 reaches what a relocation refers to: data or code, which nothing replaces at
+/// run time.
 fn is_reached(context: &RelaxContext<'_>, gp: u64, relocation: &Rela) -> bool
     ensures { result ≡ spec.is_reached (context_of context.now) gp relocation.now }
 {
@@ -173,13 +173,6 @@ fn window_at(section: &[u8], offset: u64) -> u32
     u32_from_slice(&section[offset as usize..])
 }
 
-/// Whether an instruction has an opcode, and is of another register than x0 and x3.
-fn is_high_word(expected: u32, word: u32) -> bool
-    ensures { result ≡ spec.is_high_word expected word }
-{
-    opcode(word) == expected && destination(word) != 0 && destination(word) != 3
-}
-
 /// Whether an instruction adds 12 bits to a register.
 fn adds_low(section: &[u8], offset: u64) -> bool
     requires { offset + 4 ≤ length section.now }
@@ -204,7 +197,8 @@ fn is_low_at(section: &[u8], offset: u64) -> bool
         && (writes_none || destination(word) != 3)
 }
 
-/// Whether the instruction of a relocation is one of such a part.
+/// Whether the instruction of a relocation is one of such a part. A high part writes another
+/// register than x0 and x3.
 fn is_expected(section: &[u8], relocation: &Rela, part: Part, subject: &Rela) -> bool
     ensures { result ≡ spec.is_expected section.now relocation.now part subject.now }
 {
@@ -213,7 +207,10 @@ fn is_expected(section: &[u8], relocation: &Rela, part: Part, subject: &Rela) ->
         return false;
     }
     match part {
-        Part::High(r_type) => is_high_word(r_type, word_at(section, offset)),
+        Part::High(expected) => {
+            let word = word_at(section, offset);
+            opcode(word) == expected && destination(word) != 0 && destination(word) != 3
+        }
         Part::Low(_) => is_low_at(section, offset),
         Part::Labelled(_) => {
             is_low_at(section, offset)
@@ -558,20 +555,6 @@ fn low_r_type(r_type: u32) -> Option<u32>
     }
 }
 
-/// The base register that reaches an address, x0 or x3, and the address that it has.
-fn base_for(gp: u64, address: u64) -> Option<(u32, u64)>
-    ensures base { result ≡ spec.base_for gp address }
-    ensures register { IfSome result (λ base. base.0 ≤ 3) }
-{
-    if is_near(0, address) {
-        Some((0, 0))
-    } else if is_near(gp, address) {
-        Some((3, gp))
-    } else {
-        None
-    }
-}
-
 #[derive(Clone, Copy)]
 struct Bases<'a> {
     addresses: &'a Addresses,
@@ -579,14 +562,22 @@ struct Bases<'a> {
     gp: u64,
 }
 
-/// The base of what a relocation refers to.
+/// The base register that reaches what a relocation refers to, x0 or x3, and the address that it
+/// has.
 fn base_of(bases: &Bases<'_>, relocation: &Rela) -> Option<(u32, u64)>
     ensures base { result ≡ spec.base_of bases.now.addresses.now bases.now.values.now bases.now.gp
         relocation.now }
     ensures register { IfSome result (λ base. base.0 ≤ 3) }
 {
     let value = bases.values.get(relocation.symbol as usize)?;
-    base_for(bases.gp, address_of(bases.addresses, relocation, value))
+    let address = address_of(bases.addresses, relocation, value);
+    if is_near(0, address) {
+        Some((0, 0))
+    } else if is_near(bases.gp, address) {
+        Some((3, bases.gp))
+    } else {
+        None
+    }
 }
 
 /// Whether a relocation is of no low part without a base, or its instruction is in the section and

@@ -1,7 +1,7 @@
 //! The loop that decides what becomes of a section's relocations and of their instructions, by any
 //! rule.
 
-ghost use Rattle.std.specs.Prelude.{◌≡◌, ◌<◌, ◌≤◌, ◌+◌, ◌/◌, ℕ, List, Bool, length, map};
+ghost use Rattle.std.specs.Prelude.{◌≡◌, ◌<◌, ◌≤◌, ◌+◌, ◌/◌, ℕ, List, Bool, length};
 ghost use Rattle.std.specs.Prelude.{IfErr, IfNone, IfSome, OnOk, true, false};
 ghost use Rattle.linker_rewriting.specs.Numbers.{decisions_in, IsWrittenDecision};
 ghost use Rattle.linker_rewriting.specs.declared.decisions.Decision.{Decision as decisions};

@@ -7,7 +7,7 @@
 //! the same. In `PreLayout` no load is tested to be in reach, and `has_near_symbols` of the output
 //! decides in its place.
 
-ghost use Rattle.std.specs.Prelude.{◌≡◌, ◌⊎◌, ◌↔◌, ◌+◌, ◌<◌, ◌≤◌, ◌/◌, ℕ, length, map};
+ghost use Rattle.std.specs.Prelude.{◌≡◌, ◌⊎◌, ◌↔◌, ◌+◌, ◌<◌, ◌≤◌, ◌/◌, ℕ, length};
 ghost use Rattle.std.specs.Prelude.{IfSome, IfErr, OnOk, OnErr, true, ⊤};
 ghost use Rattle.linker_rewriting.specs.Numbers.{decisions_in, IsWrittenDecision};
 ghost use Rattle.linker_rewriting.specs.Agreement.{Agree, IsContradiction};
