@@ -38,7 +38,7 @@ pub use Rattle.linker_elf.specs.declared.loongarch64.relocations.LoongArch64Relo
 pub use Rattle.linker_elf.specs.declared.riscv64.forms.RiscVInstruction.TheVariants.{BType, CbType, CjType, IType, JType, SType, UType, UiType}
 pub use Rattle.linker_elf.specs.declared.riscv64.relocations.RiscVRelocation.{RiscVRelocation}
 pub use Rattle.linker_final.specs.Branches.{Goes, LoongArchBranchesGo, RiscVBranchesGo, final_number}
-pub use Rattle.linker_final.specs.Final.{AreBytes, AreInTurn, AreLinked, AreListed, ArePhases, AreRewritten, HasRewritten, IsLinked, IsOutside, IsRewrittenByNoOther, IsWrittenByNoOther, Keeps, Linked, OtherBytes, OtherFields, RewritesNone, RewritingPhase, Takes, UntouchedByOthers, UntouchedBytes, UntouchedBytesAreTheSame, UntouchedInPhase, UntouchedInstruction, UntouchedInstructions, count, count_of, instruction_at, linked, linked_by, rewriting_phase, two_at}
+pub use Rattle.linker_final.specs.Final.{AreBytes, AreInTurn, AreLinked, AreListed, ArePhases, AreRewritten, deletions_in, HasRewritten, IsLinked, IsOutside, IsRewrittenByNoOther, IsWrittenByNoOther, Keeps, Linked, OtherBytes, OtherFields, RewritesNone, RewritingPhase, Takes, UntouchedByOthers, UntouchedBytes, UntouchedBytesAreTheSame, UntouchedInPhase, UntouchedInstruction, UntouchedInstructions, count, count_of, instruction_at, linked, linked_by, rewriting_phase, two_at}
 pub use Rattle.linker_final.specs.Joined.{IsKeptInstruction, IsRewrittenAndPacked, final_instruction}
 pub use Rattle.linker_final.specs.Packed.{AreDeleted, DeletedBytesAreGone, InstructionsAreRelocated, IsBefore, IsPackCause, IsPacked, IsSiteOf, IsUnwritten, ItemsAreDeleted, KeptBytesStay, Packed, PaddingIsNops, PlacesAreRelocated, PlacesHaveAddresses, StayTogether, Stays, address_at, architecture_of, place_of, site_after, site_bytes, site_len, site_offset, site_place, site_target}
 pub use Rattle.linker_final.specs.Relaxed.{AlignmentsHold, AreRelaxedAndPacked, HoldsIn, IsAligned, IsOfRun, IsSkipped, Run, SectionsAreAligned, packed_of, padding_at, padding_len}
