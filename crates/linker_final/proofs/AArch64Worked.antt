@@ -1,12 +1,15 @@
 -- The groups of AArch64's program that the calls link.
-use Rattle.linker_final.proofs.AArch64Imports.{IsPhase, Rewrites, span, ◌≡◌, ℕ, zero, suc, ◌+◌, ◌/◌, ◌<◌, ◌≤◌, ◌⊎◌, inl, inr, List, [], ◌∷◌, length, Bool, true, false, eqb, eqb-true, refl, sym, ap, subst, ◌∙◌, arith, lit<, lit≤, pos, Some, slice_get, replicate, cases_lt, ints, window_of_rewrite, aarch64_name, entry, IsNamed, IsNameOf, r_type_of, sum_64, AArch64Relocation, AArch64, Operands, Has, following, word_of, put, with_register, loaded, Kinds, State, half, in_phase, sequences_are_whole, IsGroupDecision, decision_at, window_of, group_stays, IsLoadRewritten, IsRewrittenBy, Decision, Kept, Rewritten, relocation_in, operands_with, Addresses, Symbol, Rela, AArch64Entry, halves_to_local_exec, relaxation_rewrite, All-nil, All-cons, AreLinked, IsLinked, IsOutside, IsRewrittenByNoOther, Linked, RewritingPhase, UntouchedInPhase, UntouchedInstruction, count, instruction_at, linked_by, AARCH64_OBJECT, AARCH64_RELOCATIONS, same, named_at, Phase, IsScopeDecision, Grouped, aarch64_scope_in, and_parts, Begins, ComesTo, HasFinal, IsRewrittenOf, at_high, at_load, at_low, high, load, low, object, register, rewriting, Section, offset_of, all_below, HasGroups, IsGroupOf, IsPhaseOf, code_at, halves, none_stays, addresses as small, relocated, known, starting, IsRelocated, RewriteKind, same_windows, rela}
+use Rattle.linker_final.proofs.Imports.{AARCH64_OBJECT, AARCH64_RELOCATIONS, AArch64, AArch64Entry, AArch64Relocation, Addresses, All-cons, All-nil, AreAddresses, AreLinked, Begins, Bool, ComesTo, Decision, Grouped, HasGroups, IsGroupDecision, IsLinked, IsLoadRewritten, IsNameOf, IsNamed, IsOutside, IsPhase, IsPhaseOf, IsRelocated, IsRewrittenBy, IsRewrittenByNoOther, IsRewrittenOf, IsScopeDecision, Kept, Kinds, Linked, List, Operands, Phase, Rela, RewriteKind, Rewrites, RewritingPhase, Rewritten, Section, Some, State, Symbol, UntouchedInPhase, UntouchedInstruction, [], aarch64_name, aarch64_scope_in, all_below, and_parts, ap, arith, at_high, at_load, at_low, cases_lt, code_at, count, decision_at, entry, eqb, eqb-true, false, following, group_stays, half, halves, halves_to_local_exec, high, in_phase, inl, inr, instruction_at, ints, length, linked_by, lit<, lit≤, load, loaded, low, named_at, none_stays, object, offset_of, operands_with, pos, put, r_type_of, refl, register, relaxation_rewrite, relocation_in, replicate, same, sequences_are_whole, slice_get, span, subst, suc, sum_64, sym, true, window_of, window_of_rewrite, with_register, word_of, zero, ℕ, ◌+◌, ◌/◌, ◌<◌, ◌∙◌, ◌∷◌, ◌≡◌, ◌≤◌, ◌⊎◌}
 use Rattle.linker_base.specs.Form.{place_sum}
-use Rattle.linker_laws.specs.Schemes.{AreAddresses}
+use Rattle.linker_final.proofs.AArch64.{IsNew, IsOfEntry, got_row, high_after as left_high, named_after, of_entry}
+use Rattle.linker_final.proofs.Written.{rela, same_windows}
+use Rattle.linker_final.specs.AArch64Section.{HasFinal, rewriting}
+use Rattle.linker_final.specs.Worked.{IsGroupOf}
+use Rattle.linker_laws.proofs.Relocated.{addresses as small, relocated}
+use Rattle.linker_laws.specs.AArch64Groups.{Has}
+use Rattle.linker_laws.specs.AArch64GroupsWorked.{known, starting}
 use Rattle.linker_rewriting.specs.declared.groups.Group.{Group}
 use Rattle.linker_elf.specs.declared.aarch64.relocations.AArch64Relocation.TheVariants as names
-use Rattle.linker_final.proofs.AArch64Alone.{high_after as left_high}
-use Rattle.linker_final.proofs.AArch64Loads.{got_row}
-use Rattle.linker_final.proofs.AArch64Written.{IsNew, IsOfEntry, named_after, of_entry}
 use Rattle.linker_rewriting.specs.declared.groups.Group.TheVariants as groups
 use Rattle.linker_rewriting.specs.declared.phases.Phase.TheVariants as phases
 use Rattle.linker_utils.specs.declared.aarch64.rewrites.RewriteKind.TheVariants as kinds

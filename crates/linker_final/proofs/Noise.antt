@@ -1,7 +1,6 @@
 -- The numbers before a row's instruction, with the powers of 2 written out, since `2 ^ n` takes n
 -- steps.
-use Rattle.linker_final.proofs.Imports.{◌≡◌, ℕ, ◌+◌, ◌*◌, ◌/◌, ◌%◌, ◌^◌, ◌==◌, Bool, List, sym, subst, if◌then◌else◌, AllPass, Executed, Numbers, at, pc}
-use Rattle.linker_final.specs.Steps.{Group}
+use Rattle.linker_final.proofs.Imports.{AllPass, Bool, Executed, Group, List, Numbers, at, if◌then◌else◌, pc, subst, sym, ℕ, ◌%◌, ◌*◌, ◌+◌, ◌/◌, ◌==◌, ◌^◌, ◌≡◌}
 
 abbrev pub noise_64 : ℕ → ℕ
 noise_64 k =

@@ -1,8 +1,31 @@
--- The final bytes of a packed section: those that stay, padding, and where each is.
-use Rattle.linker_final.proofs.Imports.{◌≡◌, ℕ, zero, suc, ◌+◌, ◌-◌, ◌^◌, ◌<◌, ◌≤◌, List, length, take, drop, get_or, false, refl, sym, ap, subst, ◌∙◌, inl, inr, arith, cases_lt, cases_Bool, All-from_get_or, IsTrue, rank-mono, rank, sum_64, ItemBecomes, is_fixed, kept_len, packed_offset, Item, Aligned, rank_kept, rank_gone, rank_all_kept, selected_once, is_kept, AreBytes, Packed, AreDeleted, address_at, IsPacked, Stays, StayTogether, IsUnwritten, place_of, KeptBytesStay, PaddingIsNops, DeletedBytesAreGone, ItemsAreDeleted, PlacesHaveAddresses, IsInside, nops}
-use Rattle.linker_runs.specs.Relaxing.{offset_of, end_of}
+-- The final bytes of a section that was packed.
+use Rattle.linker_final.proofs.Imports.{Addresses, Adds, Aligned, All-drop, All-from_get_or, All-take, AnyForm, Architecture, AreAddresses, AreBytes, AreDeleted, BType, BitMasking, BitRange, Branch21, Branch26, CbType, CjType, DeletedBytesAreGone, InstructionsAreRelocated, IsAddress, IsApplied, IsInside, IsKeptInstruction, IsPacked, IsRewrittenAndPacked, IsRow, IsSiteOf, IsSomeAnd, IsSound, IsTrue, IsUnwritten, Item, ItemBecomes, ItemsAreDeleted, JType, KeptBytesStay, Linked, List, LoongArch64Relocation, Machine, MatchOption, None, Ok, Operands, Option, Packed, PaddingIsNops, PlacesAreRelocated, PlacesHaveAddresses, RecordsDeletions, Rela, RiscVRelocation, RowInfo, Shift10, Shift5, Site as sites, SiteBecomes, Some, StayTogether, Stays, Symbol, UntouchedBytes, UntouchedInstruction, address_at, address_of, ap, architecture_of, arith, bytes_row, cases_Bool, cases_lt, count, deletions_of_run, div-add-mod', drop, end_of, false, freed_before, get_or, has_value, here, inl, inr, instruction_at, is_fixed, item_at, kept_len, length, loongarch_form, loongarch_row, mod-mul-add, names_label, needed, nops, offset_at, operands_in, operands_of as operands_by_symbols, operands_with, packed_offset, place, place_of, plt_address, pos, refl, relocation_in, riscv_form, riscv_row, site_bytes, site_len, site_offset, slice_get, some_window, subst, suc, sum_64, sym, symbol_address, take, true, value_of, window_len, zero, ℕ, ℤ, ⊤, ◌%◌, ◌*ℤ◌, ◌*◌, ◌+ℤ◌, ◌+◌, ◌-◌, ◌/◌, ◌<◌, ◌^◌, ◌∙◌, ◌≡◌, ◌≢◌, ◌≤◌, ◌⊎◌}
+use Rattle.linker_base.proofs.Rank.{rank-le, rank-mono, rank_all_kept, rank_gone, rank_kept, selected_once}
+use Rattle.linker_base.specs.Deletions.{IsValid, is_kept, rank}
+use Rattle.linker_base.specs.Listed.{AreValidDeltas}
+use Rattle.linker_base.specs.declared.relaxation.RelaxDelta.{RelaxDelta}
+use Rattle.linker_elf.specs.declared.elf.RelocationKind.TheVariants.{None as NoValue}
+use Rattle.linker_final.proofs.Written.{IsOfInstruction, applied as applied_there, applied_to_window as applied, later_as_many, later_bytes, later_keep, later_length, rela, same_windows, some_value, window_length, windows, with_operands}
+use Rattle.linker_final.specs.Branches.{Goes, LoongArchBranchesGo, RiscVBranchesGo, final_number}
+use Rattle.linker_final.specs.Relaxed.{AlignmentsHold, AreRelaxedAndPacked, HoldsIn, IsAligned, IsOfRun, IsSkipped, Run, SectionsAreAligned, packed_of, padding_at, padding_len}
+use Rattle.linker_final.specs.declared.packed.RunSection.{RunSection}
+use Rattle.linker_runs.proofs.First.{first_bytes}
+use Rattle.linker_runs.proofs.Layouts.{freed_fits}
+use Rattle.linker_runs.proofs.Multiples.{needed_fills, no_rest}
+use Rattle.linker_runs.proofs.Translations.{translations_exact}
+use Rattle.linker_runs.specs.Choosing.{AreItems, IsExact, IsExactItem, IsRelaxation}
 use Rattle.linker_runs.specs.Packing.{Section}
-use Rattle.linker_final.proofs.PutBack.{same_windows, window_length, windows}
+use Rattle.linker_runs.specs.Relaxing.{choice_of, offset_of}
+use Rattle.linker_runs.specs.Sites.{operands_of}
+use Rattle.linker_runs.specs.declared.packing.Machine.TheVariants.{LoongArch64, RiscV}
+use Rattle.linker_runs.specs.declared.relaxation.Alignment.{Alignment}
+use Rattle.linker_runs.specs.declared.relaxation.Item.TheVariants.{Site}
+use Rattle.std.proofs.Math.Nat.{mod-eq_of_lt, mod-lt, mod_self}
+use Rattle.linker_final.specs.Packed as packed
+use Rattle.linker_elf.specs.declared.loongarch64.relocations.LoongArch64Relocation.TheVariants as loongarch_names
+use Rattle.linker_elf.specs.declared.riscv64.relocations.RiscVRelocation.TheVariants as riscv_names
+use Rattle.linker_laws.specs.LoongArchRelocationLaws as loongarch_laws
+use Rattle.linker_laws.specs.RiscVRelocationLaws as riscv_laws
 
 -- ---- lists
 
@@ -178,3 +201,358 @@ deleted_items p item from none k below =
           absurd (omega (arith, rank_kept d q kept, low, high, none))
       | inr gone ↦ gone
     ]
+
+-- ---- relocated instructions that stay
+
+pub places : PlacesAreRelocated
+places p is i row operands of inside =
+    let has : IsSomeAnd (value_of row operands) (λ _. ⊤) = rw of.value_is tt in
+    let there = applied (architecture_of p.machine) p.addresses p.relocations_after p.symbols p.packed p.final
+    is.written i of.within row of.bits of.insn of.size of.has of.unlabelled of.is_row operands of.taken has in
+    rw (← ((is.moved i of.within).offset inside)) there
+
+pub instructions : InstructionsAreRelocated
+instructions p is i row operands of stays =
+    let n = window_len row in
+    let o = offset_at p.relocations i in
+    let some : 0 < n = rw of.size (some_window of.insn) in
+    rw (← (same_there p is o n some stays)) (places p is i row operands of (omega (arith, (stays 0 some).inside)))
+
+-- ---- sites
+
+-- in the section before
+pub site_inside : (p : Packed) (i : ℕ) (here : sites) → IsSiteOf p i here
+    → site_offset p here + 8 ≤ length p.section.bytes
+site_inside p i here of = omega (arith, of.there.1, of.there.2)
+
+-- what a site's value is computed from
+pub are_addresses : (place target : ℕ) → place < 2 ^ 64 → target < 2 ^ 64 → AreAddresses (operands_of place target)
+are_addresses place target small reach =
+    let none : 0 < 2 ^ 64 = omega arith in
+    record { symbol = reach; place = small; got_entry = none; got_base = none; plt_entry = reach; tls_base = none }
+
+module _ (p : Packed) (is : IsPacked p) where
+  pub site_small : (here : sites) → AreBytes (site_bytes p here)
+  site_small here =
+      All-take (λ b. b < 2 ^ 8) (site_len p here) (drop (packed_offset p.section here.offset) p.final)
+      (All-drop (λ b. b < 2 ^ 8) (packed_offset p.section here.offset) p.final is.final_bytes)
+
+  module _ (i : ℕ) (here : sites) (of : IsSiteOf p i here) where
+    pub site_length : length (site_bytes p here) ≡ site_len p here
+    site_length =
+        let fits = item_inside p is (Site here) (of.there.1, omega (arith, of.there.2, of.there.0)) in
+        window_length (packed_offset p.section here.offset) (site_len p here) p.final (omega (arith, fits, is.written.same_length))
+
+    pub site_becomes : SiteBecomes p.machine p.section here (site_bytes p here)
+    site_becomes =
+        let s = p.section in
+        let d = s.deletions in
+        let kept = site_len p here in
+        let place = packed_offset s here.offset in
+        let made = subst (λ y. is_fixed y ≡ false
+        → ItemBecomes p.machine s y (take (kept_len d y) (drop (packed_offset s (offset_of y)) p.packed)))
+        of.item (is.run.written i of.below) of.short in
+        subst (SiteBecomes p.machine s here) (sym (packed_there p is place kept of.unwritten)) made
+
+-- ---- instructions that were rewritten, and stay
+
+-- an instruction that stays, in which no relocation has a field
+pub unwritten_there : (l : Linked) (p : Packed) → IsRewrittenAndPacked l p → (i o : ℕ) → UntouchedBytes l i o 4
+    → StayTogether p o 4 → IsUnwritten p (place_of p o) 4
+    → instruction_at p.final (place_of p o) ≡ instruction_at l.rewritten o
+unwritten_there l p joined i o left stay free =
+    let is = joined.packed in
+    cc (
+      packed_there p is (place_of p o) 4 free,
+      same_there p is o 4 (omega arith) stay,
+      joined.bytes,
+      later_bytes l joined.later i o 4 left,
+    )
+
+module _ (l : Linked) (p : Packed) (joined : IsRewrittenAndPacked l p) (i : ℕ) (below : i < count l)
+    (code symbol : ℕ) (addend : ℤ)
+    (after_is : relocation_in l.relocations_after i ≡ rela (relocation_in l.relocations i).offset code symbol addend)
+    (kept : IsKeptInstruction p i) (left : UntouchedInstruction l i) where
+  abbrev o : ℕ
+  o = (relocation_in l.relocations i).offset
+
+  abbrev after : Rela
+  after = relocation_in p.relocations_after i
+
+  pub within : i < packed.count p
+  within =
+      rw (joined.packed.as_many ∙ (ap length joined.relocations_are ∙ (later_as_many l joined.later ∙ joined.as_many))) below
+
+  before_is : relocation_in p.relocations i ≡ rela o code symbol addend
+  before_is =
+      cc (joined.relocations_are, later_keep l joined.later i o 4 left (subst (λ n. i < n / 24) (sym joined.as_many) below))
+
+  -- the relocation in the packed section
+  pub r_type_is : after.r_type ≡ code
+  r_type_is = kept.r_type ∙ ap (λ (x : Rela). x.r_type) before_is
+
+  offset_is : offset_at p.relocations i ≡ o
+  offset_is = ap (λ (x : Rela). x.offset) before_is
+
+  pub place_is : offset_at p.relocations_after i ≡ place_of p o
+  place_is = (joined.packed.moved i within).offset (omega (arith, (kept.bytes 0 (omega arith)).inside)) ∙ ap (place_of p) offset_is
+
+  stay : StayTogether p o 4
+  stay = subst (λ n. StayTogether p n 4) offset_is kept.bytes
+
+  -- its instruction, and where it is
+  pub rewritten_inside : o + 4 ≤ length l.rewritten
+  rewritten_inside =
+      let inside = stay_inside p joined.packed o 4 (omega arith) stay in
+      omega (arith, inside, ap length joined.bytes, later_length l joined.later)
+
+  pub final_inside : place_of p o + 4 ≤ length p.final
+  final_inside =
+      omega (arith, places_inside p joined.packed o 4 (omega arith) stay, joined.packed.written.same_length)
+
+  pub same_kept : instruction_at p.packed (place_of p o) ≡ instruction_at l.rewritten o
+  same_kept =
+      cc (same_there p joined.packed o 4 (omega arith) stay, joined.bytes, later_bytes l joined.later i o 4 left)
+
+  -- what is written there, is written to what was rewritten
+  kept_there : (row : RowInfo) (y : Operands)
+      → IsApplied row y (instruction_at p.packed (offset_at p.relocations_after i)) (instruction_at p.final (offset_at p.relocations_after i))
+      → IsApplied row y (instruction_at l.rewritten o) (instruction_at p.final (place_of p o))
+  kept_there row y there = rw (← same_kept, ← place_is) there
+
+  -- so is the value of its own symbol
+  pub own_there : (row : RowInfo) (of : IsOfInstruction 4 row)
+      → IsRow (architecture_of p.machine) after.r_type (Some row)
+      → (architecture : Architecture) → architecture_of p.machine ≡ architecture → (here : Symbol) (got : ℕ)
+      → operands_in architecture p.addresses row after (Some here) ≡ Ok (operands_with architecture p.addresses row here after got)
+      → slice_get p.symbols after.symbol ≡ Some here → (y : Operands)
+      → value_of row y ≡ value_of row (operands_with architecture p.addresses row here after got)
+      → IsApplied row y (instruction_at l.rewritten o) (instruction_at p.final (place_of p o))
+  own_there row of is_row architecture is here got taken is_here y same =
+      let mine = operands_with architecture p.addresses row here after got in
+      with_operands row mine y _ _ same
+      (kept_there row mine
+      (applied_there (architecture_of p.machine) p.addresses p.relocations_after p.symbols p.packed p.final joined.packed.written
+      i within 4 (omega arith) row of is_row mine
+      (rw is (ap (operands_in architecture p.addresses row after) is_here ∙ taken))))
+
+-- ---- what an alignment needs
+
+-- is needed, and fewer bytes don't do
+needed_least : (power address n : ℕ) → 0 < power → n < needed power address
+    → (address + n) % power ≢ 0
+needed_least power address n some fewer none =
+    let r = address % power in
+    let below = mod-lt address some in
+    elim (cases_lt 0 r) [
+      | inl rest ↦
+          let need : needed power address ≡ power - r = mod-eq_of_lt (omega (arith, rest, below)) in
+          let split : address + n ≡ address / power * power + (r + n) = omega (arith, div-add-mod' address power) in
+          let is : (address + n) % power ≡ r + n =
+          ap (λ m. m % power) split
+          ∙ mod-mul-add (address / power) power (r + n) (omega (arith, fewer, need, below)) in
+          omega (arith, none, is, rest)
+      | inr nothing ↦
+          let at : r ≡ 0 = omega (arith, nothing) in
+          let need : needed power address ≡ 0 =
+          ap (λ m. (power - m) % power) at
+          ∙ ap (λ m. m % power) (let e : power - 0 ≡ power = omega arith in e) ∙ mod_self power in
+          omega (arith, fewer, need)
+    ]
+
+needed_multiple : (power address : ℕ) → 0 < power → (address + needed power address) % power ≡ 0
+needed_multiple power address some =
+    ap (λ n. n % power) (let e : address + needed power address ≡ needed power address + address = omega arith in e)
+    ∙ no_rest power (needed power address + address) (needed_fills power address some)
+
+aligned : (power address padding : ℕ) → 0 < power → padding ≡ needed power address
+    → IsAligned power address padding
+aligned power address padding some e =
+    record {
+      multiple = ap (λ n. (address + n) % power) e ∙ needed_multiple power address some;
+      least = λ n fewer. needed_least power address n some (omega (arith, fewer, e));
+    }
+
+-- what `relax` keeps of an alignment is what it requires
+by_limit : (power address padding : ℕ) (limit : Option ℕ) → 0 < power
+    → MatchOption limit (padding ≡ needed power address)
+    (λ most. (needed power address ≤ most → padding ≡ needed power address)
+    × (most < needed power address → padding ≡ 0))
+    → MatchOption limit (IsAligned power address padding)
+    (λ most. (IsAligned power address padding × (padding ≤ most)) ⊎ IsSkipped power address padding most)
+by_limit power address padding None some exact = aligned power address padding some exact
+by_limit power address padding (Some most) some exact =
+    elim (cases_lt most (needed power address)) [
+      | inl more ↦
+          inr (record {
+            none = exact.1 more;
+            far = λ n few. needed_least power address n some (omega (arith, few, more));
+          })
+      | inr few ↦
+          let e = exact.0 few in
+          inl (aligned power address padding some e, omega (arith, few, e))
+    ]
+
+-- ---- one alignment of the run
+
+module _ (p : Packed) (is : IsPacked p) (run : Run) (of : IsOfRun p run) (i : ℕ) (alignment : Alignment)
+    (below : i < length run.items) (here : item_at run.items i ≡ Aligned alignment) where
+  abbrev freed : ℕ
+  freed = freed_before p.section.start run.items (choice_of run.shapes) i
+
+  fits : p.section.start + end_of (Aligned alignment) < 2 ^ 64
+  fits = subst (λ x. p.section.start + end_of x < 2 ^ 64) here (of.accepted.in_order.ends i below)
+
+  freed_few : freed ≤ alignment.offset
+  freed_few =
+      subst (λ x. freed ≤ offset_of x) here
+      (freed_fits p.section.start run.items (choice_of run.shapes) of.accepted.in_order i below)
+
+  translated : rank p.section.deletions alignment.offset ≡ alignment.offset - freed
+  translated =
+      subst (λ d. rank d alignment.offset ≡ alignment.offset - freed) (sym of.lost)
+      (subst (λ x. rank (deletions_of_run run.items run.kept) (offset_of x) ≡ offset_of x - freed) here
+      (translations_exact p.section.start run.items run.shapes run.kept run.freed of.accepted of.relaxed i below).0)
+
+  kept : padding_len p alignment ≡ get_or run.kept i 0
+  kept =
+      subst (λ d. kept_len d (Aligned alignment) ≡ get_or run.kept i 0) (sym of.lost)
+      (subst (λ x. kept_len (deletions_of_run run.items run.kept) x ≡ get_or run.kept i 0) here
+      (first_bytes p.section.start run.items run.shapes run.kept run.freed of.accepted of.relaxed i below).0)
+
+  begins : padding_at p alignment ≡ p.section.start + alignment.offset - freed
+  begins = omega (arith, ap (sum_64 p.section.start) translated, freed_few, fits)
+
+  exact : IsExact alignment (needed alignment.alignment (padding_at p alignment)) (padding_len p alignment)
+  exact =
+      subst (λ a. IsExact alignment (needed alignment.alignment a) (padding_len p alignment)) (sym begins)
+      (subst (IsExact alignment (needed alignment.alignment (p.section.start + alignment.offset - freed))) (sym kept)
+      (subst (λ x. IsExactItem x p.section.start freed (get_or run.kept i 0)) here (of.relaxed.aligned i below)))
+
+  holds : HoldsIn p alignment
+  holds =
+      let s = p.section in
+      let low = rank-mono s.deletions alignment.offset (end_of (Aligned alignment)) (omega arith) in
+      record {
+        holds = by_limit alignment.alignment (padding_at p alignment) (padding_len p alignment) alignment.max_skip
+            (subst IsSound here (of.accepted.in_order.sound i below)) exact;
+        next = let high = rank-le s.deletions (end_of (Aligned alignment)) in omega (arith, low, high, fits);
+        inside = λ leads.
+            let first = rank-mono s.deletions s.base (end_of (Aligned alignment)) leads.lower in
+            let last = rank-mono s.deletions (end_of (Aligned alignment)) (s.base + length s.bytes) leads.upper in
+            omega (arith, first, last, is.run.len, is.written.same_length);
+        there = λ leads.
+            let lower = leads.lower in
+            let e : s.base + (end_of (Aligned alignment) - s.base) ≡ end_of (Aligned alignment) = omega (arith, lower) in
+            rw (← e) (addresses p is (end_of (Aligned alignment) - s.base));
+        next_there = λ lower.
+            let first = rank-mono s.deletions s.base alignment.offset lower in omega (arith, low, first);
+      }
+
+pub alignments : AlignmentsHold
+alignments = holds
+
+-- ---- the first byte of a section
+
+unlimited : (power address padding : ℕ) (limit : Option ℕ) → limit ≡ None
+    → MatchOption limit (IsAligned power address padding)
+    (λ most. (IsAligned power address padding × (padding ≤ most)) ⊎ IsSkipped power address padding most)
+    → IsAligned power address padding
+unlimited power address padding None e is = is
+unlimited power address padding (Some most) e is = absurd (cc)
+
+pub sections : SectionsAreAligned
+sections p is run of i alignment below here no_limit ends =
+    let in_final = holds p is run of i alignment below here in
+    let full = unlimited alignment.alignment (padding_at p alignment) (padding_len p alignment) alignment.max_skip no_limit in_final.holds in
+    let begin : p.addresses.section ≡ padding_at p alignment + padding_len p alignment =
+    is.address ∙ ap (address_of p.section) (sym ends) ∙ in_final.next in
+    ap (λ n. n % alignment.alignment) begin ∙ full.multiple
+
+-- ---- both calls
+
+-- what the deltas of deletions are
+pub listed_deltas : (lost : List (ℕ × ℕ)) (deltas : List RelaxDelta) → IsValid lost
+    → RecordsDeletions lost deltas → AreValidDeltas deltas
+listed_deltas lost deltas valid listing =
+    let same = sym listing.same in
+    record {
+      valid = subst IsValid same valid;
+      listing = subst (λ ds. RecordsDeletions ds deltas) same listing;
+    }
+
+pub packed_run : (s : RunSection) (items : List Item) (start : ℕ) (before after : List ℕ) (places : Addresses) (symbols : List Symbol)
+    (shapes stays gone : List ℕ) (deletions : List (ℕ × ℕ)) → AreItems start items → IsRelaxation start items shapes stays gone
+    → deletions ≡ deletions_of_run items stays → (final : List ℕ)
+    → ((packed : List ℕ) × IsPacked (packed_of s deletions start packed before after places symbols final))
+    → AreRelaxedAndPacked s items start before after places symbols final
+packed_run s items start before after places symbols shapes stays gone deletions are relaxed of_run final made =
+    record {
+      run = record { items = items; shapes = shapes; kept = stays; freed = gone };
+      of_items = refl;
+      packed = made.0;
+      is_packed = subst (λ d. IsPacked (packed_of s d start made.0 before after places symbols final)) of_run made.1;
+      of_run = record { accepted = are; relaxed = relaxed; lost = refl };
+    }
+
+-- ---- branches that stay
+
+-- by a row of an instruction that takes no entry
+goes : (machine : Machine) (row : RowInfo) (bits : BitRange) (insn : AnyForm)
+    (reads : ℕ → ℤ) (unit : ℕ) (target : Operands → ℕ)
+    → row.size ≡ BitMasking bits insn → has_value row.kind ≡ true → names_label row.size row.kind ≡ false
+    → ((a : Addresses) (symbol : Symbol) (r : Rela) → operands_in (architecture_of machine) a row r (Some symbol)
+    ≡ Ok (operands_with (architecture_of machine) a row symbol r 0))
+    → ((y : Operands) → IsSomeAnd (value_of row y) (λ _. ⊤))
+    → Adds (here (Some row)) place reads unit target → Goes machine (Some row) reads unit target
+goes machine row bits insn reads unit target size has unlabelled taken valued law p is machine_is i of symbol symbol_is small =
+    let r = relocation_in p.relocations_after i in
+    let o = offset_at p.relocations i in
+    let n = window_len row in
+    let y = operands_with (architecture_of machine) p.addresses row symbol r 0 in
+    let there = sym (ap architecture_of machine_is) in
+    let value = some_value (value_of row y) (valued y) in
+    let applied = places p is i row y
+    (record {
+      within = of.within;
+      is_row = of.is_row;
+      bits = bits;
+      insn = insn;
+      size = size;
+      has = has;
+      unlabelled = unlabelled;
+      taken = subst (λ a. operands_by_symbols a p.addresses p.symbols row r ≡ Ok y) there
+          (ap (operands_in (architecture_of machine) p.addresses row r) symbol_is ∙ taken p.addresses symbol r);
+      value = value.0;
+      value_is = value.1;
+    }) of.inside in
+    let placed : sum_64 p.addresses.section r.offset ≡ address_at p o =
+    ap (sum_64 p.addresses.section) ((is.moved i of.within).offset of.inside) ∙ addresses p is o in
+    subst (λ a. IsAddress (pos a +ℤ (reads (final_number p i row) *ℤ pos unit)) (target y)) placed
+    (law y small 0 (take n (drop (place_of p o) p.packed)) (take n (drop (place_of p o) p.final)) applied tt)
+
+abbrev pub the_row : Option RowInfo → RowInfo
+the_row (Some row) = row
+the_row None = bytes_row NoValue 0
+
+abbrev riscv : RiscVRelocation → RowInfo
+riscv name = the_row (riscv_row name)
+
+abbrev loongarch : LoongArch64Relocation → RowInfo
+loongarch name = the_row (loongarch_row name)
+
+pub riscv_branches : riscv_laws.Jumps → RiscVBranchesGo
+riscv_branches law = (
+  λ is_32. goes (RiscV is_32) (riscv riscv_names.R_RISCV_JAL) _ _ (riscv_form JType).machine 1 symbol_address refl refl refl (λ a symbol r. refl) (λ y. tt) law.0,
+  λ is_32. goes (RiscV is_32) (riscv riscv_names.R_RISCV_BRANCH) _ _ (riscv_form BType).machine 1 symbol_address refl refl refl (λ a symbol r. refl) (λ y. tt) law.1,
+  λ is_32. goes (RiscV is_32) (riscv riscv_names.R_RISCV_RVC_JUMP) _ _ (riscv_form CjType).machine 1 symbol_address refl refl refl (λ a symbol r. refl) (λ y. tt) law.2,
+  λ is_32. goes (RiscV is_32) (riscv riscv_names.R_RISCV_RVC_BRANCH) _ _ (riscv_form CbType).machine 1 symbol_address refl refl refl (λ a symbol r. refl) (λ y. tt) law.3,
+)
+
+pub loongarch_branches : loongarch_laws.Branches → LoongArchBranchesGo
+loongarch_branches law = (
+  goes LoongArch64 (loongarch loongarch_names.R_LARCH_B16) _ _ (loongarch_form Shift10).machine 4 symbol_address refl refl refl (λ a symbol r. refl) (λ y. tt) law.0,
+  goes LoongArch64 (loongarch loongarch_names.R_LARCH_B21) _ _ (loongarch_form Branch21).machine 4 symbol_address refl refl refl (λ a symbol r. refl) (λ y. tt) law.1,
+  goes LoongArch64 (loongarch loongarch_names.R_LARCH_B26) _ _ (loongarch_form Branch26).machine 4 plt_address refl refl refl (λ a symbol r. refl) (λ y. tt) law.2,
+  goes LoongArch64 (loongarch loongarch_names.R_LARCH_PCREL20_S2) _ _ (loongarch_form Shift5).machine 4 symbol_address refl refl refl (λ a symbol r. refl) (λ y. tt) law.3,
+)

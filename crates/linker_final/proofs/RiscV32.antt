@@ -1,7 +1,20 @@
--- RV32: values once addends are wrapped.
-use Rattle.linker_final.proofs.RiscVImports.{◌≡◌, ℕ, suc, ℤ, pos, negsuc, ◌+◌, ◌-◌, ◌/◌, ◌%◌, ◌^◌, ◌<◌, refl, sym, ap, subst, ◌∙◌, arith, Bool, true, false, ltb, List, length, Option, Some, None, Result, Ok, Err, ◌+ℤ◌, neg_ℤ, ◌≤ℤ◌, ◌<ℤ◌, FitsSigned, unsigned_abs, sfits_to_z, lt-ltb, to_z-of_z, le_z, ◌==◌, le_yes, reach_of, riscv_pair_bounds, Bounds, formula, is_offset, RowSize, ByteSize, and_parts, cond-true, ints, of_z-to_z, w64, cast_signed, cast_unsigned, int_rem_euclid, if◌then◌else◌, slice_get, ◌&&◌, IsRow, IsWithin, riscv_relocation, sum_64, difference_64, value_of, loads_plt_word, RelocationKind, RowInfo, BitMasking, RiscV, Operands, RiscVRelocation, one_row, entry_of, relocation_in, IsValueBy, IsValueIn, entry_address, has_value, lacks_origin, names_label, operands_by, operands_in, operands_of, operands_with, value_by, Addresses, Symbol, Rela, ValueError, sum_below, when_true, When, relocation_at, AreWrapped, IsLeastFrom, IsWrapped, IsWrappedBy, IsWrappedTo, least_in, with_value, IsHighPartAt, IsLowValue, IsNoHighPart, IsValue, is_high_part, low_by, low_operands, low_value, own_value, NoSymbol, Addends, HasWrappedAddend, IsSame32, IsWrappedValue, IsWrappedWithin, PairsReachAll, Values, there_is}
+-- RV32: values once addends are wrapped, and its instructions by RV64's laws: a sum modulo 2^64 is
+-- one modulo 2^32.
+use Rattle.linker_final.proofs.Imports.{Addresses, AreAddresses, BType, BitMasking, Bool, Bounds, ByteSize, CbType, CjType, CluiType, Computed, Err, FitsSigned, HoldsDistance, IType, IsHighPartAt, IsLowValue, IsNoHighPart, IsRow, IsValue, IsValueBy, IsValueIn, IsWithin, JType, Law, List, NoSymbol, None, Ok, Operands, Option, Reaches, Rela, RelocationKind, Result, RiscV, RiscVRelocation, RowInfo, RowSize, SType, Some, Step, Symbol, UType, UiType, ValueError, [], and_parts, ap, arith, cast_signed, cast_unsigned, clui_row, cond-true, difference_64, entry_address, entry_and_addend, entry_of, even, false, formula, has_value, here, if◌then◌else◌, int_rem_euclid, ints, is_high_part, is_offset, lacks_origin, length, loads_plt_word, low_by, low_load, low_operands, low_store, low_value, lt-ltb, ltb, names_label, neg_ℤ, negsuc, number_at, number_of_bytes, of_z-to_z, one_row, operands_by, operands_in, operands_of, operands_with, own_value, place, plt_address, pos, reach_of, refl, relocation_at, relocation_in, riscv_form, riscv_pair_bounds, riscv_relocation, riscv_row, slice_get, subst, suc, sum_64, sum_below, sym, symbol_address, tls_base, to_z-of_z, true, unsigned_abs, upper_and_low, value_by, value_of, w64, without_bit_0, ℕ, ℤ, ◌%◌, ◌&&◌, ◌*ℤ◌, ◌+ℤ◌, ◌+◌, ◌-◌, ◌/◌, ◌<ℤ◌, ◌<◌, ◌==◌, ◌^◌, ◌∙◌, ◌∷◌, ◌≡◌, ◌≤ℤ◌}
+use Rattle.linker_elf.proofs.Agreement.{le_yes, rem_rem}
+use Rattle.linker_elf.specs.declared.riscv64.forms.RiscVInstruction.{RiscVInstruction}
+use Rattle.linker_final.proofs.Written.{mapped, there_is}
+use Rattle.linker_final.specs.RiscV32.{AbsoluteAddresses, Addends, Branches, Call, Descriptor, DescriptorAddresses, Entries, HasWrappedAddend, IsSame32, IsWrappedValue, IsWrappedWithin, Jump, Law32, Pairs, PairsReachAll, Reaches32, RelativeAddresses, ThreadAddresses, Values, Word, Words}
+use Rattle.linker_laws.specs.RiscVRelocationLaws.{of_entry}
+use Rattle.linker_laws.specs.Schemes.{zero}
+use Rattle.linker_section.proofs.QuickValues.{when_true}
+use Rattle.linker_section.specs.Inner.Facts.{When}
+use Rattle.linker_section.specs.RiscV32.{AreWrapped, IsLeastFrom, IsWrapped, IsWrappedBy, IsWrappedTo, least_in, with_value}
+use Rattle.std.proofs.Math.Facts.{sfits_to_z}
+use Rattle.std.specs.Int.Signed.{le_z}
 use Rattle.linker_elf.specs.declared.elf.RelocationKind.TheVariants as kinds
 use Rattle.linker_elf.specs.declared.riscv64.relocations.RiscVRelocation.TheVariants as riscv64
+use Rattle.linker_laws.specs.RiscVRelocationLaws as laws
 
 -- ---- numbers
 
@@ -459,3 +472,122 @@ values addresses symbols before after are n below row of result value =
     let same : value.0 ≡ Some row = one_row RiscV r.r_type value.0 (Some row) now of in
     by_kind addresses symbols before after are n below row of (names_label row.size row.kind) refl result
     (subst (λ x. IsValueIn RiscV addresses after symbols (relocation_in after n) x result) same value.2)
+
+-- ---- instructions: a sum modulo 2^64 is one modulo 2^32
+
+weaker : (steps : List Step) (o : Operands) (c : Computed steps) (t t' : ℕ) → t' % 2 ^ 32 ≡ t % 2 ^ 32
+    → Reaches steps o c t' → Reaches32 steps o c t
+weaker [] o c t t' same is = sym (rem_rem c t' 64 32 (omega arith) (sym is)) ∙ ap pos same
+weaker (step ∷ steps) o c t t' same is =
+    mapped (λ row law at before after applied holds.
+    weaker steps o (c (number_at row.size after)) t t' same (law at before after applied holds)) step.row is
+
+pub with_addend_sum : (o : Operands) (a : ℤ) → AreAddresses o → AreAddresses (record o { addend = a })
+with_addend_sum o a small = record {
+  symbol = small.symbol;
+  place = small.place;
+  got_entry = small.got_entry;
+  got_base = small.got_base;
+  plt_entry = small.plt_entry;
+  tls_base = small.tls_base;
+}
+
+-- a target that changes with its addend by multiples of 2^32
+abbrev IsTarget32 : (Operands → ℕ) → Type 0
+IsTarget32 target =
+    (o : Operands) (a : ℤ) → IsSame32 a o.addend → target (record o { addend = a }) % 2 ^ 32 ≡ target o % 2 ^ 32
+
+pub symbol_32 : IsTarget32 symbol_address
+symbol_32 o a same = omega (arith, same)
+
+entry_32 : IsTarget32 entry_and_addend
+entry_32 o a same = omega (arith, same)
+
+law_32 : (steps : List Step) (computed : Operands → Computed steps) (target : Operands → ℕ)
+    → IsTarget32 target → Law steps computed target → Law32 steps computed target
+law_32 steps computed target moves law = λ o a small same.
+    let p : Operands = record o { addend = a } in
+    weaker steps p (computed p) (target o) (target p) (moves o a same) (law p (with_addend_sum o a small))
+
+pairs : (begin : Operands → ℕ) (upper : RiscVInstruction) (high : Option RowInfo) (load store : Step)
+    (target : Operands → ℕ) → IsTarget32 target
+    → laws.Pairs begin upper high load store target → Pairs begin upper high load store target
+pairs begin upper high load store target moves law = (
+  law_32 (here high ∷ load ∷ []) (upper_and_low begin upper IType) target moves law.0,
+  law_32 (here high ∷ store ∷ []) (upper_and_low begin upper SType) target moves law.1,
+)
+
+entries : (name : RiscVRelocation) → laws.Entries name → Entries name
+entries name = pairs place UType (riscv_row name) (of_entry low_load) (of_entry low_store) entry_and_addend entry_32
+
+pub absolute : laws.AbsoluteAddresses → AbsoluteAddresses
+absolute law = (upper UType (riscv_row riscv64.R_RISCV_HI20) law.0, upper CluiType (Some clui_row) law.1)
+  where
+    load : Step
+    load = here (riscv_row riscv64.R_RISCV_LO12_I)
+
+    store : Step
+    store = here (riscv_row riscv64.R_RISCV_LO12_S)
+
+    upper : (f : RiscVInstruction) (high : Option RowInfo) → laws.Pairs zero f high load store symbol_address
+        → Pairs zero f high load store symbol_address
+    upper f high = pairs zero f high load store symbol_address symbol_32
+
+pub relative : laws.RelativeAddresses → laws.EntryAddresses → RelativeAddresses
+relative law of_entries = (
+  pairs place UType (riscv_row riscv64.R_RISCV_PCREL_HI20) low_load low_store symbol_address symbol_32 law,
+  entries riscv64.R_RISCV_GOT_HI20 of_entries.0,
+  entries riscv64.R_RISCV_TLS_GOT_HI20 of_entries.1,
+  entries riscv64.R_RISCV_TLS_GD_HI20 of_entries.2,
+)
+
+descriptor : (low : RiscVRelocation) → laws.Descriptor low → Descriptor low
+descriptor low =
+    law_32 (here ((riscv_relocation riscv64.R_RISCV_TLSDESC_HI20).row) ∷ here ((riscv_relocation low).row) ∷ [])
+    (upper_and_low place UType IType) entry_and_addend entry_32
+
+pub descriptors : laws.DescriptorAddresses → DescriptorAddresses
+descriptors law = (
+  descriptor riscv64.R_RISCV_TLSDESC_LOAD_LO12 law.0,
+  descriptor riscv64.R_RISCV_TLSDESC_ADD_LO12 law.1,
+)
+
+pub thread : laws.ThreadAddresses → ThreadAddresses
+thread law =
+    pairs tls_base UType (riscv_row riscv64.R_RISCV_TPREL_HI20) (here (riscv_row riscv64.R_RISCV_TPREL_LO12_I))
+    (here (riscv_row riscv64.R_RISCV_TPREL_LO12_S)) symbol_address symbol_32 law
+
+call : (name : RiscVRelocation) → laws.Call name → Call name
+call name =
+    law_32 (here (riscv_row name) ∷ []) (λ o x. without_bit_0 (pos o.place +ℤ (riscv_form UiType).machine x))
+    (even plt_address) (λ o a same. omega (arith, same))
+
+jump : (name : RiscVRelocation) (f : RiscVInstruction) → laws.Jump name f → Jump name f
+jump name f =
+    law_32 (here (riscv_row name) ∷ []) (λ o x. pos o.place +ℤ ((riscv_form f).machine x *ℤ pos 1)) symbol_address symbol_32
+
+pub branches : laws.Calls → laws.Jumps → Branches
+branches calls jumps = (
+  call riscv64.R_RISCV_CALL calls.0,
+  call riscv64.R_RISCV_CALL_PLT calls.1,
+  jump riscv64.R_RISCV_JAL JType jumps.0,
+  jump riscv64.R_RISCV_BRANCH BType jumps.1,
+  jump riscv64.R_RISCV_RVC_JUMP CjType jumps.2,
+  jump riscv64.R_RISCV_RVC_BRANCH CbType jumps.3,
+)
+
+word : (name : RiscVRelocation) (begin target : Operands → ℕ)
+    → ((o : Operands) (a : ℤ) → begin (record o { addend = a }) ≡ begin o) → IsTarget32 target
+    → HoldsDistance 4 (riscv_row name) begin target → Word name begin target
+word name begin target keeps moves =
+    mapped (λ row is o a small same before after applied.
+    ap (λ b. (b + number_of_bytes 4 after) % 2 ^ 32) (sym (keeps o a))
+    ∙ (is (record o { addend = a }) (with_addend_sum o a small) before after applied ∙ moves o a same)) (riscv_row name)
+
+pub words : laws.Fields → Words
+words law = (
+  word riscv64.R_RISCV_32 zero symbol_address (λ o a. refl) symbol_32 law.0,
+  word riscv64.R_RISCV_32_PCREL place symbol_address (λ o a. refl) symbol_32 law.2,
+  word riscv64.R_RISCV_PLT32 place plt_address (λ o a. refl) (λ o a same. omega (arith, same)) law.3,
+  word riscv64.R_RISCV_GOT32_PCREL place entry_and_addend (λ o a. refl) entry_32 law.4,
+)

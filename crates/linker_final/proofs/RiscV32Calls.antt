@@ -5,7 +5,7 @@ use Rattle.std.specs.Int.{w16, w32, from_le_bytes}
 use Rattle.linker_base.specs.Bits.{field}
 use Rattle.linker_elf.specs.declared.elf.RelocationKind.TheVariants.{PltRelative}
 use Rattle.linker_elf.specs.declared.riscv64.relocations.RiscVRelocation.TheVariants as names
-use Rattle.linker_final.proofs.RiscV32Sums.{symbol_32, with_addend}
+use Rattle.linker_final.proofs.RiscV32.{symbol_32, with_addend_sum}
 use Rattle.linker_final.proofs.RiscVImports.{CjType, IType, IsApplied, IsSame32, Operands, RiscVRelocation, UType, UiType, after_rewrite, moved, pair_row, plt_address, rd_of, register, riscv_form, riscv_row, rs1_of, sum_64, symbol_address, word_of}
 use Rattle.linker_final.specs.RiscV32Calls.{Calls, HasCalled, LongCall, ShortCall, executed_32, fetched_32, is_cjal, modulo_32, step_32}
 use Rattle.linker_laws.proofs.Imports.{ap₂, ints, jump_row}
@@ -99,7 +99,7 @@ short_call o addend small same call code matches relocated h at =
     (sym (ap (λ i. executed_32 i h) is))
     (record {
       goes = ap (λ m. m % 2 ^ 32) (ap (λ a. moved a j) at
-          ∙ short_jump_leads p jump code applied len quadrant function (with_addend o addend small))
+          ∙ short_jump_leads p jump code applied len quadrant function (with_addend_sum o addend small))
           ∙ symbol_32 o addend same;
       links = ap (λ a. sum_64 a 2 % 2 ^ 32) at
           ∙ (let e : sum_64 o.place 2 % 2 ^ 32 ≡ (o.place + 2) % 2 ^ 32 = omega arith in e);
@@ -142,7 +142,7 @@ long_call name row_is o addend small same call code matches relocated h at =
     (high_long p call code applied old new len pair) (let after = length-drop 4 code in omega (arith, after, inside, len))
     (high_decodes p call code applied old new len pair))
     ∙ ap₂ (λ m r. Some (modulo_32 (goes_to (moved m i - moved m i % 2) (with_integer r (sum_64 middle.pc 4) middle)))) v link_is in
-    let leads = pair_leads p call code applied old new len pair (with_addend o addend small) in
+    let leads = pair_leads p call code applied old new len pair (with_addend_sum o addend small) in
     subst (λ s. IsSomeAnd s (λ m. (m.pc ≡ (o.place + 4) % 2 ^ 32)
     × IsSomeAnd (step_32 (drop 4 code) m) (HasCalled 8 o.place (even plt_address o) base h)))
     (sym first_is) (

@@ -1,8 +1,15 @@
 -- RISC-V: low parts over x3 and x0, and what is deleted before them.
-use Rattle.linker_final.proofs.RiscVImports.{◌≡◌, ℕ, pos, ◌+ℤ◌, ◌+◌, ◌-◌, ◌%◌, ◌^◌, ◌<◌, ◌≤◌, ◌⊎◌, Bool, true, false, true≢false, refl, sym, ◌∙◌, ap, subst, arith, List, drop, ℤ, Option, Some, None, if◌then◌else◌, ◌&&◌, IsTrue, w32, w64, cast_signed, cast_unsigned, from_le_bytes, ints, of_z-to_z, ltb-true, signed, riscv_form, pair_row, sum_64, difference_64, RelocationKind, Absolute, Relative, RelativeRiscVLow12, RowInfo, Operands, IType, UType, opcode_of, funct3_of, adds_low12, address_in, Relocated, wrapped, symbol_address, IsAddress, unsigned_abs, lo12, moved, sum_zero, word_at, Action, register, auipc, goes_to, lui, with_integer, stores, rs1_of, rd_of, base_by, base_for, base_of, based_relocation, is_near, relocation_over, low_row, word_of, IsFormulaOf, of_address, lui_word, upper_long, upper_word, absolute_rows, based_group, below_32, nothing_left, puts, row_of, word_goes, based_there, i_stands, low_sum, some_action, moved_twice, written, Has, machine, seen, AuipcGoes, LowPartsFromBase, LuiGoes, PartsFromBase, ValuesAreDistances, after_base, distance, labelled_row, same_Some}
-use Rattle.linker_laws.specs.RiscVRelocationLaws.{AbsoluteAddresses, RelativeAddresses}
-use Rattle.linker_rewriting.specs.GlobalPointer.{address_of}
+use Rattle.linker_final.proofs.Imports.{Absolute, AbsoluteAddresses, Action, Bool, Has, IType, IsAddress, IsTrue, List, None, Operands, Option, Relative, RelativeAddresses, RelativeRiscVLow12, Relocated, RelocationKind, RowInfo, Some, UType, absolute_rows, address_in, adds_low12, ap, arith, auipc, based_group, below_32, cast_signed, cast_unsigned, difference_64, drop, false, from_le_bytes, funct3_of, goes_to, if◌then◌else◌, ints, lo12, ltb-true, lui, machine, moved, moved_twice, nothing_left, of_z-to_z, opcode_of, pair_row, pos, puts, rd_of, refl, riscv_form, row_of, rs1_of, seen, signed, stores, subst, sum_64, sum_zero, sym, symbol_address, true, true≢false, unsigned_abs, w32, w64, with_integer, word_goes, word_of, wrapped, written, ℕ, ℤ, ◌%◌, ◌&&◌, ◌+ℤ◌, ◌+◌, ◌-◌, ◌<◌, ◌^◌, ◌∙◌, ◌≡◌, ◌≤◌, ◌⊎◌}
 use Rattle.linker_elf.proofs.Entries.{sum_below}
+use Rattle.linker_final.specs.RiscVNear.{AuipcGoes, LowPartsFromBase, LuiGoes, PartsFromBase, ValuesAreDistances, after_base, distance, labelled_row}
+use Rattle.linker_laws.proofs.RiscVDescriptors.{lui_word, upper_long, upper_word}
+use Rattle.linker_laws.proofs.RiscVHighParts.{IsFormulaOf, of_address}
+use Rattle.linker_laws.proofs.RiscVLowParts.{based_there, i_stands, low_sum, some_action}
+use Rattle.linker_laws.specs.RiscVMachine.{register}
+use Rattle.linker_laws.specs.RiscVRewriteLaws.{low_row}
+use Rattle.linker_rewriting.specs.GlobalPointer.{address_of, base_by, base_for, base_of, based_relocation, is_near, relocation_over}
+use Rattle.linker_riscv64.specs.RiscVCalls.{word_at}
+use Rattle.std.proofs.lemmas.Option.{same_Some}
 
 -- ---- low parts
 

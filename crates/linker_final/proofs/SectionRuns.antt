@@ -1,6 +1,9 @@
--- What stands at each place of a section, and runs of its code, of any architecture.
-use Rattle.linker_final.proofs.Imports.{◌≡◌, ◌≢◌, ℕ, zero, suc, ◌+◌, ◌-◌, ◌<◌, ◌≤◌, ◌⊎◌, inl, inr, List, [], ◌∷◌, ap, sym, subst, arith, refl, Bool, true, false, cases_eq, cases_lt, Architecture, Choice, Kinds, State, chosen_or_labelled, AreDecidedIn, decision_at, IsScopeIn, Decision, Kept, Rewritten, RewrittenWithSymbol, Subject, Scope, Labelled, Phase, relocation_in, Addresses, Relaxation, AreInTurn, Linked, RewritingPhase, count, linked_by, Comparison, Next, Simulates, by_group, uncovered, AreCalled, AreLeft, EachPlace, IsBeside, IsBesideAll, IsFollowed, IsPhase, IsPhaseIn, Known, Knows, Place, Rewriting, RewritesAreGroups, RunsAreFollowed, Section, comparison, elsewhere, offset_of, unchanged, within}
-use Rattle.linker_final.specs.SectionRuns.{begins, rewritten}
+-- What stands at each place of a section, and runs of its code, of any architecture; and what the
+-- calls leave.
+use Rattle.linker_final.proofs.Imports.{Addresses, Architecture, AreCalled, AreDecidedIn, AreInTurn, AreLeft, AreListed, ArePhases, AreWritten, Bool, Choice, Comparison, Decision, EachPlace, HasRewritten, IsBeside, IsBesideAll, IsFollowed, IsLinked, IsLinkedAs, IsOfCalls, IsPackedRun, IsPhase, IsPhaseIn, IsRewrittenAs, IsScopeIn, Item, Kept, Kinds, Known, Knows, Labelled, Linked, List, Machine, Next, Phase, Place, RelaxContext, Relaxation, RewritesAreGroups, Rewriting, RewritingPhase, Rewritten, RewrittenWithSymbol, RunsAreFollowed, Scope, Section, Simulates, State, Subject, Symbol, UnrelaxableGroups, [], ap, arith, begins, by_group, cases_eq, cases_lt, chosen_or_labelled, code_at, comparison, count, decision_at, deletions_in, drop, elsewhere, false, get_or, inl, inr, length, linked_by, offset_of, pairs_in, refl, relocation_in, rewriting_phase, rewritten, section_of, subst, suc, sym, take, true, unchanged, uncovered, within, zero, ℕ, ◌+◌, ◌-◌, ◌<◌, ◌^◌, ◌∙◌, ◌∷◌, ◌≡◌, ◌≢◌, ◌≤◌, ◌⊎◌}
+use Rattle.linker_final.proofs.PackedBytes.{are_bytes}
+use Rattle.linker_rewriting.specs.declared.decisions.Deletion.{Deletion}
+use Rattle.linker_runs.specs.Moved.{AreMoved}
 
 -- all below a limit, or what one of them shows
 pub each_or : {Q : Type 0} (P : ℕ → Type 0) (m : ℕ) → ((i : ℕ) → i < m → P i ⊎ Q)
@@ -189,3 +192,99 @@ module _ (r : Rewriting) where
 
   pub runs_are_followed : RewritesAreGroups r → ((c : r.Code) → Simulates (comparison r c)) → RunsAreFollowed r
   runs_are_followed groups simulates x c called k s knows m = followed groups x called c (simulates c) k s knows m
+
+-- ---- what a call of a phase leaves
+
+pub has_rewritten : (s : RelaxContext) (kept : List UnrelaxableGroups) (before section : List ℕ) (ds : List Decision)
+    (after bytes : List ℕ) → IsRewrittenAs s kept before after section bytes ds
+    → length after ≡ length before → length bytes ≡ length section
+    → HasRewritten (rewriting_phase s kept before section ds after bytes)
+has_rewritten s kept before section ds after bytes made as_many same_length =
+    record {
+      made = record {
+        decided = made.decided;
+        relocations = made.relocations;
+        done = made.done;
+        others = made.others;
+        same_length = same_length;
+      };
+      as_many = as_many;
+    }
+
+-- by what is known of slices
+pub linked_by_slices : (l : Linked) → HasRewritten l.phase
+    → ArePhases l.later l.relocations_after l.rewritten l.relocations_last l.last
+    → AreWritten l.context.architecture l.addresses l.relocations_last l.symbols l.last l.final
+    → ((i : ℕ) → get_or l.relocations i 0 < 2 ^ 8) → ((i : ℕ) → get_or l.section i 0 < 2 ^ 8)
+    → ((i : ℕ) → get_or l.final i 0 < 2 ^ 8) → IsLinked l
+linked_by_slices l first later written relocations section final =
+    record {
+      first = first;
+      later = later;
+      written = written;
+      relocation_bytes = are_bytes l.relocations relocations;
+      section_bytes = are_bytes l.section section;
+      final_bytes = are_bytes l.final final;
+    }
+
+pub listed_so : (p : RewritingPhase) (before after : List Deletion) (len : ℕ)
+    → take len (pairs_in after) ≡ deletions_in p
+    → drop len after ≡ drop len before → AreListed p before after
+listed_so p before after len listed others = record { len = len; listed = listed; others = others }
+
+-- ---- programs that the calls link
+
+abbrev pub of_calls : (r : Rewriting) (phase : Phase) (addresses : Addresses) (symbols : List Symbol)
+    (relocations object final : List ℕ) (old new : ℕ → ℕ) → ((l : Linked) → IsLinked l → r.Ensured l)
+    → AreWritten r.architecture addresses relocations symbols object (code_at old addresses.section (length object))
+    → final ≡ code_at new addresses.section (length final)
+    → IsLinkedAs r.architecture phase addresses symbols relocations object final
+    → IsOfCalls r object relocations old new
+of_calls r phase addresses symbols relocations object final old new ensured written new_is by =
+    let are = by.linked in
+    let x : Section = record {
+      phases = by.first ∷ by.second ∷ [];
+      relocations = relocations;
+      section = object;
+      relocations_last = by.relocations_last;
+      last = by.last;
+      addresses = addresses;
+      symbols = symbols;
+      final = final;
+    } in
+    record {
+      section = x;
+      is_object = refl;
+      are_relocations = refl;
+      called = record {
+        linked = (are.0, ensured _ are.1, (are.2.0, ensured _ are.2.1, tt));
+        architecture = λ l is. elim is [
+          | inl first ↦ ap (λ (l : Linked). l.context.architecture) first ∙ by.first_is.architecture_is
+          | inr later ↦ elim later [
+            | inl second ↦ ap (λ (l : Linked). l.context.architecture) second ∙ by.second_is.architecture_is
+            | inr none ↦ absurd none
+          ]
+        ];
+      };
+      old_is = written;
+      new_is = new_is;
+    }
+
+-- the same with equal deletions, and over equal bytes
+pub packed_with : (machine : Machine) (section : List ℕ) (base start : ℕ) (items : List Item) (d e : List (ℕ × ℕ)) (packed : List ℕ)
+    → d ≡ e → IsPackedRun machine (section_of section base d start) items packed
+    → IsPackedRun machine (section_of section base e start) items packed
+packed_with machine section base start items d e packed is =
+    subst (λ d. IsPackedRun machine (section_of section base d start) items packed) is
+
+pub moved_with : (machine : Machine) (section : List ℕ) (base start : ℕ) (items : List Item) (d e : List (ℕ × ℕ)) (before after : List ℕ)
+    → d ≡ e → AreMoved machine (section_of section base d start) items before after
+    → AreMoved machine (section_of section base e start) items before after
+moved_with machine section base start items d e before after is =
+    subst (λ d. AreMoved machine (section_of section base d start) items before after) is
+
+pub written_over : (architecture : Architecture) (addresses : Addresses) (relocations : List ℕ) (symbols : List Symbol)
+    (xs ys final : List ℕ) → xs ≡ ys → AreWritten architecture addresses relocations symbols xs final
+    → AreWritten architecture addresses relocations symbols ys final
+written_over architecture addresses relocations symbols xs ys final is =
+    subst (λ bytes. AreWritten architecture addresses relocations symbols bytes final) is

@@ -1,10 +1,10 @@
 -- The words of LoongArch: by computation.
-use Rattle.linker_final.proofs.Imports.{ℕ, ◌+◌, ◌*◌, ◌==◌, ◌&&◌, if◌then◌else◌, nat_le, nat_lt, refl, AllPass, Numbers}
+use Rattle.linker_final.proofs.Imports.{AllPass, Numbers, if◌then◌else◌, nat_le, nat_lt, refl, ℕ, ◌&&◌, ◌*◌, ◌+◌, ◌==◌}
 use Rattle.linker_base.specs.Form.{place_sum}
-use Rattle.linker_final.specs.LoongArchTable.{shift5_words, shift10_words, low12_words, branch21_words, branch26_words, call36_words, reach_words, parts_words, address_words, upper_words, four_words, near_words}
-use Rattle.linker_final.specs.LoongArchSteps.{loongarch_groups}
-use Rattle.linker_final.specs.LoongArchExecuted.{made, passes}
 use Rattle.linker_final.proofs.Noise.{all_pass, noise_256, quick_low}
+use Rattle.linker_final.specs.LoongArchExecuted.{made, passes}
+use Rattle.linker_final.specs.LoongArchSteps.{loongarch_groups}
+use Rattle.linker_final.specs.LoongArchTable.{address_words, branch21_words, branch26_words, call36_words, four_words, low12_words, near_words, parts_words, reach_words, shift10_words, shift5_words, upper_words}
 use Rattle.linker_final.proofs.emulated.loongarch64.Goals as goal
 
 abbrev quick : ℕ → Numbers

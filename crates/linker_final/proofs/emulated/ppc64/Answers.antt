@@ -1,11 +1,11 @@
 -- The words of PowerPC64: by computation.
-use Rattle.linker_final.proofs.Imports.{refl, AllPass, made_low}
+use Rattle.linker_final.proofs.Imports.{AllPass, made_low, refl}
 use Rattle.linker_base.specs.Form.{place_sum}
-use Rattle.linker_final.specs.Ppc64Table.{d_words, ds_words, dq_words, branch14_words, branch24_words, prefixed_words, halves_words, unadjusted_words, dunsigned_words, quarters_words}
-use Rattle.linker_final.specs.Ppc64Steps.{ppc64_groups}
-use Rattle.linker_final.specs.Ppc64Executed.{passes}
-use lib.Count.{count_leading_zeros}
 use Rattle.linker_final.proofs.Noise.{all_pass, quick_low}
+use Rattle.linker_final.specs.Ppc64Executed.{passes}
+use Rattle.linker_final.specs.Ppc64Steps.{ppc64_groups}
+use Rattle.linker_final.specs.Ppc64Table.{branch14_words, branch24_words, d_words, dq_words, ds_words, dunsigned_words, halves_words, prefixed_words, quarters_words, unadjusted_words}
+use lib.Count.{count_leading_zeros}
 use Rattle.linker_final.proofs.emulated.ppc64.Goals as goal
 
 pass : AllPass quick_low passes ppc64_groups

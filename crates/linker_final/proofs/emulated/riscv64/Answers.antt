@@ -1,9 +1,10 @@
 -- The words of RISC-V: by computation.
-use Rattle.linker_final.proofs.Imports.{ℕ, ◌==◌, if◌then◌else◌, refl, made, passes, AllPass, Numbers}
+use Rattle.linker_final.proofs.Imports.{AllPass, Numbers, if◌then◌else◌, refl, ℕ, ◌==◌}
 use Rattle.linker_base.specs.Form.{place_sum}
-use Rattle.linker_final.specs.RiscVTable.{utype_words, itype_words, stype_words, btype_words, jtype_words, cbtype_words, cjtype_words, cluitype_words, uitype_words, call_words}
-use Rattle.linker_final.specs.RiscVSteps.{riscv_groups}
 use Rattle.linker_final.proofs.Noise.{all_pass, quick_high}
+use Rattle.linker_final.specs.RiscVExecuted.{made, passes}
+use Rattle.linker_final.specs.RiscVSteps.{riscv_groups}
+use Rattle.linker_final.specs.RiscVTable.{btype_words, call_words, cbtype_words, cjtype_words, cluitype_words, itype_words, jtype_words, stype_words, uitype_words, utype_words}
 use Rattle.linker_final.proofs.emulated.riscv64.Goals as goal
 
 abbrev quick : ℕ → Numbers

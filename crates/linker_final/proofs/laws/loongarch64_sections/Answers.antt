@@ -1,9 +1,9 @@
-use Rattle.linker_final.proofs.LoongArchSection.{are_in, relocations_are_left, rewrites_are_groups}
-use Rattle.linker_final.proofs.SectionRuns.{each_place, runs_are_followed}
-use Rattle.linker_final.proofs.laws.loongarch64_sections.Goals as goal
 use Rattle.linker_final.proofs.Imports.{one}
+use Rattle.linker_final.proofs.LoongArch.{are_in, relocations_are_left, rewrites_are_groups}
+use Rattle.linker_final.proofs.SectionRuns.{each_place, runs_are_followed}
 use Rattle.linker_final.specs.LoongArchSection.{rewriting}
 use Rattle.linker_laws.specs.LoongArchGroups.{link}
+use Rattle.linker_final.proofs.laws.loongarch64_sections.Goals as goal
 
 pub returns : goal.returns
 returns c =

@@ -1,4 +1,4 @@
-use Rattle.linker_final.proofs.Others.{bytes, fields}
+use Rattle.linker_final.proofs.Written.{bytes, fields}
 use Rattle.linker_final.proofs.laws.others.Goals as goal
 
 pub returns : goal.returns

@@ -1,10 +1,9 @@
-use Rattle.linker_final.proofs.Ppc64Again.{rewritten_again}
-use Rattle.linker_final.proofs.Ppc64Section.{are_in, names_are_left, rewrites_are_groups}
-use Rattle.linker_final.proofs.SectionRuns.{each_place, runs_are_followed}
-use Rattle.linker_final.proofs.laws.ppc64_sections.Goals as goal
 use Rattle.linker_final.proofs.Imports.{one}
+use Rattle.linker_final.proofs.Ppc64.{are_in, names_are_left, rewrites_are_groups, rewritten_again}
+use Rattle.linker_final.proofs.SectionRuns.{each_place, runs_are_followed}
 use Rattle.linker_final.specs.Ppc64Section.{rewriting}
 use Rattle.linker_laws.specs.Ppc64Groups.{link}
+use Rattle.linker_final.proofs.laws.ppc64_sections.Goals as goal
 
 pub returns : goal.returns
 returns c =

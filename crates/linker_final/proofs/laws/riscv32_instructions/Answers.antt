@@ -1,4 +1,4 @@
-use Rattle.linker_final.proofs.RiscV32Sums.{absolute, branches, descriptors, relative, thread, words}
+use Rattle.linker_final.proofs.RiscV32.{absolute, branches, descriptors, relative, thread, words}
 use Rattle.linker_final.proofs.laws.riscv32_instructions.Goals as goal
 
 pub returns : goal.returns

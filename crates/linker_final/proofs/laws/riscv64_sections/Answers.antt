@@ -1,10 +1,8 @@
-use Rattle.linker_final.proofs.RiscVNops.{nops}
-use Rattle.linker_final.proofs.RiscVSection.{are_in, relocations_are_left, rewrites_are_groups}
-use Rattle.linker_final.proofs.RiscVTested.{none_is_initial_exec, offsets_are_low}
+use Rattle.linker_final.proofs.Imports.{link, one}
+use Rattle.linker_final.proofs.RiscV.{are_in, none_is_initial_exec, nops, offsets_are_low, relocations_are_left, rewrites_are_groups}
 use Rattle.linker_final.proofs.SectionRuns.{each_place, runs_are_followed}
+use Rattle.linker_final.specs.RiscVSection.{rewriting}
 use Rattle.linker_final.proofs.laws.riscv64_sections.Goals as goal
-use Rattle.linker_final.proofs.Imports.{rewriting, one}
-use Rattle.linker_laws.specs.RiscVGroups.{link}
 
 pub returns : goal.returns
 returns c =

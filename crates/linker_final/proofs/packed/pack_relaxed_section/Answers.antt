@@ -1,7 +1,6 @@
+use Rattle.linker_final.proofs.Imports.{IfErr, IsPackCause, deletions_of, deletions_of_run, items_in, length, packed_offset, refl, section_of, subst, sym, ◌+◌, ◌∙◌, ◌≡◌}
+use Rattle.linker_final.proofs.PackedBytes.{listed_deltas, packed_run}
 use Rattle.std.proofs.lemmas.Result.{on_ok_weaker}
-use Rattle.linker_final.proofs.Imports.{◌≡◌, ◌∙◌, ◌+◌, length, refl, subst, sym, deletions_of, deletions_of_run, packed_offset, section_of, IfErr, IsPackCause}
-use Rattle.linker_final.specs.Imports.{items_in}
-use Rattle.linker_final.proofs.Relaxed.{listed_deltas, packed_run}
 use Rattle.linker_final.proofs.packed.pack_relaxed_section.Goals as goal
 
 pub pack_section-requires-clause-room : goal.pack_section-requires-clause-room

@@ -1,5 +1,4 @@
-use Rattle.linker_final.proofs.Imports.{◌≡◌, ℕ, ◌^◌, ◌/◌, ◌<◌, get_or, subst, sym, rules, deletions_of, IsPackedRun, section_of, AreWritten, architecture_of, IsFirstFault}
-use Rattle.linker_final.specs.Imports.{items_in}
+use Rattle.linker_final.proofs.Imports.{AreWritten, IsFirstFault, IsPackedRun, architecture_of, deletions_of, get_or, items_in, rules, section_of, subst, sym, ℕ, ◌/◌, ◌<◌, ◌^◌, ◌≡◌}
 use Rattle.linker_final.proofs.PackedBytes.{are_bytes}
 use Rattle.linker_final.proofs.packed.pack_section.Goals as goal
 

@@ -1,7 +1,5 @@
-use Rattle.linker_final.proofs.Branches.{loongarch_branches}
-use Rattle.linker_final.proofs.LoongArchPackedSites.{calls, addresses, loaded_addresses}
-use Rattle.linker_final.proofs.LoongArchPackedStays.{long_calls, long_addresses, long_loaded_addresses}
-use Rattle.linker_final.proofs.LoongArchPackedDeletions.{high_part, sums}
+use Rattle.linker_final.proofs.LoongArchPacked.{addresses, calls, high_part, loaded_addresses, long_addresses, long_calls, long_loaded_addresses, sums}
+use Rattle.linker_final.proofs.PackedBytes.{loongarch_branches}
 use Rattle.linker_final.proofs.packed.shorter_loongarch64.Goals as goal
 
 pub returns : goal.returns

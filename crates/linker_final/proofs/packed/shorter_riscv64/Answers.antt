@@ -1,6 +1,5 @@
-use Rattle.linker_final.proofs.Branches.{riscv_branches}
-use Rattle.linker_final.proofs.RiscVPackedDeletions.{high_parts, sums}
-use Rattle.linker_final.proofs.RiscVPackedCalls.{sites, long_calls}
+use Rattle.linker_final.proofs.PackedBytes.{riscv_branches}
+use Rattle.linker_final.proofs.RiscVPacked.{high_parts, long_calls, sites, sums}
 use Rattle.linker_final.proofs.packed.shorter_riscv64.Goals as goal
 
 pub returns : goal.returns

@@ -1,6 +1,4 @@
-use Rattle.linker_final.proofs.PackedBytes.{kept_bytes, padding, deleted_bytes, deleted_items, addresses}
-use Rattle.linker_final.proofs.PackedInstructions.{instructions, places}
-use Rattle.linker_final.proofs.Relaxed.{alignments, sections}
+use Rattle.linker_final.proofs.PackedBytes.{addresses, alignments, deleted_bytes, deleted_items, instructions, kept_bytes, padding, places, sections}
 use Rattle.linker_final.proofs.packed.shorter_sections.Goals as goal
 
 pub returns : goal.returns

@@ -1,6 +1,5 @@
-use Rattle.linker_final.proofs.SameDecisions.{has_rewritten, is_linked}
-use Rattle.linker_final.proofs.Imports.{refl, subst, sym, rules, pre_layout, IsWritingCause, HasRewritten, rewriting_phase, linked}
-use Rattle.linker_final.specs.Imports.{decisions_in}
+use Rattle.linker_final.proofs.Imports.{HasRewritten, IsWritingCause, decisions_in, linked, pre_layout, refl, rewriting_phase, rules, subst, sym}
+use Rattle.linker_final.proofs.SectionRuns.{has_rewritten, linked_by_slices as is_linked}
 use Rattle.linker_final.proofs.sections.link_section.Goals as goal
 
 pub returns-in-Err-clause-cause : goal.returns-in-Err-clause-cause

@@ -1,6 +1,5 @@
-use Rattle.linker_final.proofs.SameDecisions.{has_rewritten, is_linked, listed_so}
-use Rattle.linker_final.proofs.Imports.{List, length, refl, sym, subst, rules, pre_layout, context, IsWritingCause, AreListed, HasRewritten, RewritingPhase, rewriting_phase, IsRejectedPlaced, ◌∷◌, [], linked_by, Takes, ℕ}
-use Rattle.linker_final.specs.Imports.{decisions_in}
+use Rattle.linker_final.proofs.Imports.{AreListed, HasRewritten, IsRejectedPlaced, IsWritingCause, List, RewritingPhase, Takes, [], context, decisions_in, length, linked_by, pre_layout, refl, rewriting_phase, rules, subst, sym, ℕ, ◌∷◌}
+use Rattle.linker_final.proofs.SectionRuns.{has_rewritten, linked_by_slices as is_linked, listed_so}
 use Rattle.linker_final.proofs.sections.link_section_in_two_phases.Goals as goal
 
 pub returns-in-Err-clause-cause : goal.returns-in-Err-clause-cause

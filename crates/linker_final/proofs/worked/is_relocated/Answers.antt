@@ -1,4 +1,6 @@
-use Rattle.linker_final.proofs.Imports.{subst, Decides-eqb, slice_eq-Decides, AreWritten}
+use Rattle.linker_final.proofs.Imports.{AreWritten, subst}
+use Rattle.std.proofs.lemmas.Bool.Decides.{Decides-eqb}
+use Rattle.std.proofs.lemmas.Slice.Eq.{slice_eq-Decides}
 use Rattle.linker_final.proofs.worked.is_relocated.Goals as goal
 
 pub returns-in-Ok : goal.returns-in-Ok

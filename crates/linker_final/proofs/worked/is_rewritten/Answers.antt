@@ -1,6 +1,5 @@
-use Rattle.linker_final.proofs.Imports.{refl, rules, replicate, context, OUTPUT}
-use Rattle.linker_final.proofs.SameDecisions.{has_rewritten}
-use Rattle.linker_final.specs.Imports.{decisions_in}
+use Rattle.linker_final.proofs.Imports.{OUTPUT, context, decisions_in, refl, replicate, rules}
+use Rattle.linker_final.proofs.SectionRuns.{has_rewritten}
 use Rattle.linker_final.proofs.worked.is_rewritten.Goals as goal
 
 pub returns-in-Ok : goal.returns-in-Ok

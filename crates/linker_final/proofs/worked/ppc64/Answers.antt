@@ -1,6 +1,6 @@
 use Rattle.linker_final.proofs.Imports.{refl}
+use Rattle.linker_final.proofs.SectionRuns.{of_calls}
 use Rattle.linker_final.specs.Ppc64Section.{rewriting}
-use Rattle.linker_final.proofs.OfCalls.{of_calls}
 use Rattle.linker_final.proofs.worked.ppc64.Goals as goal
 
 pub returns : goal.returns

@@ -1,4 +1,4 @@
-use Rattle.linker_final.proofs.Imports.{◌≡◌, ℕ, pos, negsuc, false, refl, subst, ap, ◌∙◌, List, Some, lit<, IsSomeAnd, IsApplied, IsNamed, IsRow, RowInfo, RiscV, RiscVRelocation, Operands, r_type_of, riscv_name, riscv_relocation}
+use Rattle.linker_final.proofs.Imports.{IsApplied, IsNamed, IsRow, IsSomeAnd, List, Operands, RiscV, RiscVRelocation, RowInfo, Some, ap, false, lit<, negsuc, pos, r_type_of, refl, riscv_name, riscv_relocation, subst, ℕ, ◌∙◌, ◌≡◌}
 use Rattle.linker_elf.specs.declared.riscv64.relocations.RiscVRelocation.TheVariants as names
 use Rattle.linker_final.proofs.worked.riscv32.Goals as goal
 

@@ -1,7 +1,6 @@
-use Rattle.std.proofs.Common.{refl, ◌∙◌}
-use Rattle.linker_final.proofs.OfCalls.{moved_with, packed_with, written_over}
-use Rattle.linker_final.proofs.Relaxed.{listed_deltas}
-use Rattle.linker_final.specs.Imports.{decisions_in}
+use Rattle.linker_final.proofs.Imports.{decisions_in, refl, ◌∙◌}
+use Rattle.linker_final.proofs.PackedBytes.{listed_deltas}
+use Rattle.linker_final.proofs.SectionRuns.{moved_with, packed_with, written_over}
 use Rattle.linker_final.proofs.worked.riscv64.Goals as goal
 
 pub returns : goal.returns

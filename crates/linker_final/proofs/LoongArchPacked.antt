@@ -1,38 +1,69 @@
--- LoongArch: what sites do in the final bytes of a packed section.
-use Rattle.linker_final.proofs.LoongArchImports.{◌≡◌, ◌≢◌, ℕ, ◌+◌, ◌/◌, ◌^◌, ◌<◌, ◌≤◌, inl, inr, Bool, true, false, not, eqb, if◌then◌else◌, List, [], ◌∷◌, length, take, drop, IsSomeAnd, refl, sym, ap, subst, ◌∙◌, arith, pos, ◌+ℤ◌, ◌*ℤ◌, ℤ, Some, or_parts, drop-drop, length-drop, All-drop, All-take, field, signed, IsApplied, loongarch_form, loongarch_row, IsWritten, sum_64, AbsoluteLowPart, BitMasking, Operands, Branch26, Shift10, word_below, Fits32, IsRelocated, IsRewritten, pair, Relocated, loaded, wrapped, AreAddresses, IsAddress, plt_address, symbol_address, IsLd, rd_of, rj_of, destination, SiteBecomes, word_of_front, ne_eqb, ◌==◌, ValueIsWithin, pcalau12i, InstructionWritten, is_jirl, AreBytes, CallsTheSame, AddressesAreMade, LoadedAddressesAreMade, words_in, Packed, IsPacked, IsSiteOf, site_after, site_bytes, site_len, site_offset, site_place, site_target, entry_and_addend, IsBranch, IsCall36At, IsFarCall, IsPcalaAt, IsPcaddi, LoongArchBecomes, plain_written, word_made, address_is, call_is, new_first, new_second, target_is, decodes_far, decodes_jirl, decodes_b, decodes_bl, Loads, adds, loads, nears, ends_so, loaded_of, read_back, run_pair, set, high_after, low_after, HaveCalled, HaveMade, LoadsEntry, following, no_register, word_of, AreOfOneRegister, IsAddi, IsCall, signed_32, word_at, jump, call, far_call, address, far_address as far_pair, are_addresses, site_becomes, site_inside, site_length, site_small, window_length, back_of_pair, front_of_pair}
+-- LoongArch: calls and addresses in the final bytes of a packed section, and what is deleted of it.
+use Rattle.linker_final.proofs.Imports.{AbsoluteLowPart, All-drop, All-take, AnyForm, AreAddresses, AreBytes, AreDeleted as IsGone, BitMasking, BitRange, Bool, Branch26, Fits32, HaveCalled, HaveMade, InstructionWritten, IsAddi, IsAddress, IsApplied, IsBefore, IsCall, IsPacked, IsSiteOf, IsSomeAnd, IsWritten, List, LoadsEntry, LoongArch64Relocation, Ok, Operands, Packed, Relocated, RowInfo, Shift10, Site as sites, SiteBecomes, Some, State, Symbol, ValueIsWithin, [], ap, architecture_of, arith, drop, drop-drop, entry_and_addend, eqb, false, field, following, has_value, if◌then◌else◌, inl, inr, is_jirl, length, length-drop, loaded, loongarch_form, loongarch_row, names_label, ne_eqb, no_register, not, offset_at, operands_in, or_parts, pair, pcalau12i, place_of, plt_address, pos, refl, relocation_in, rj_of, signed, signed_32, site_after, site_bytes, site_len, site_offset, site_place, site_target, slice_get, subst, sum_64, sym, symbol_address, take, true, value_of, window_len, word_at, word_below, word_of, word_of_front, wrapped, ℕ, ℤ, ⊤, ◌*ℤ◌, ◌+ℤ◌, ◌+◌, ◌/◌, ◌<◌, ◌==◌, ◌^◌, ◌∙◌, ◌∷◌, ◌≡◌, ◌≢◌, ◌≤◌}
+use Rattle.linker_elf.proofs.Relocated.{plain_written}
 use Rattle.linker_elf.specs.declared.elf.AnyForm.TheVariants.{LoongArch64 as of_loongarch}
-use Rattle.linker_laws.specs.LoongArchMachine.{AreAlikeBut, EndSo, State, branch_target, execute, far_address, go_to, near_address, next_pc, page_address, read, register_target, run, step, sum_of, with_register, write}
+use Rattle.linker_final.proofs.PackedBytes.{are_addresses, instructions, no_place, place_after, places_inside, site_becomes, site_inside, site_length, site_small, stay_inside, the_row}
+use Rattle.linker_final.proofs.Written.{back_of_pair, front_of_pair, some_value, window_length}
+use Rattle.linker_final.specs.LoongArchPacked.{AddressesAreMade, CallsTheSame, HighPartIsLeftOut, IsPairOf, LoadedAddressesAreMade, LongAddressesStay, LongCallsStay, LongLoadedAddressesStay, StaysAs, SumIsLeftOut, operands_at, words_in}
+use Rattle.linker_laws.proofs.AArch64Pairs.{word_made}
+use Rattle.linker_laws.proofs.AArch64Steps.{address_is}
+use Rattle.linker_laws.proofs.LoongArchCalls.{call_is, decodes_b, decodes_bl, decodes_far, decodes_jirl, new_first, new_second, target_is}
+use Rattle.linker_laws.proofs.LoongArchPairs.{Loads, adds, loads, nears}
+use Rattle.linker_laws.proofs.LoongArchSteps.{ends_so, loaded_of, read_back, run_pair, set}
+use Rattle.linker_laws.proofs.LoongArchWords.{high_after, low_after}
+use Rattle.linker_laws.specs.LoongArchGroups.{AreDeleted, Code, Groups}
+use Rattle.linker_laws.specs.LoongArchMachine.{AreAlikeBut, EndSo, State as Processor, branch_target, execute, far_address, go_to, near_address, next_pc, page_address, read, register_target, run, step, sum_of, with_register, write}
+use Rattle.linker_laws.specs.LoongArchRewriteLaws.{IsRelocated, IsRewritten}
+use Rattle.linker_runs.specs.LoongArchSites.{IsBranch, IsCall36At, IsFarCall, IsPcaddi, IsPcalaAt, LoongArchBecomes, destination}
+use Rattle.linker_runs.specs.LoongArchSites.LoongArchBecomes.{address, call, far_address as far_pair, far_call, jump}
 use Rattle.linker_runs.specs.Sites.{operands_of}
 use Rattle.linker_runs.specs.declared.packing.Machine.TheVariants.{LoongArch64}
-use Rattle.linker_runs.specs.declared.relaxation.Site.{Site as sites}
+use Rattle.linker_utils.specs.LoongArchRewrites.{AreOfOneRegister, IsLd, rd_of}
 use Rattle.linker_elf.specs.declared.loongarch64.relocations.LoongArch64Relocation.TheVariants as names
 use Rattle.linker_laws.specs.LoongArchRelocationLaws as relocation_laws
 use Rattle.linker_utils.specs.declared.loongarch64.rewrites.RewriteKind.TheVariants as kinds
+use Rattle.linker_elf.specs.declared.elf.architecture.Architecture.TheVariants as architectures
+
+-- new has nothing of the bytes
+gone_in : (p : Packed) (o : ℕ) (c : Code) (s : State) → IsGone p o 4 → IsBefore p o c.moved s.pc → AreDeleted c 4 s
+gone_in p o c s gone before =
+    record {
+      small = before.small;
+      moved = before.place ∙ sym (no_place p o 4 gone) ∙ sym before.next;
+    }
+
+pub high_part : Groups → HighPartIsLeftOut
+high_part groups p is machine o gone word x small low c k s before at has =
+    groups.high_offsets c x k s (take 4 (drop o p.section.bytes)) (gone_in p o c s gone before) small at word low has
+
+pub sums : Groups → SumIsLeftOut
+sums groups p is machine o gone word c k s before zero below stands =
+    groups.sums c k s (drop o p.section.bytes) (gone_in p o c s gone before) word zero below stands
 
 -- ---- registers
 
-write_back : (n v : ℕ) (s : State) → n ≢ 0 → read n (write n v s) ≡ v
+write_back : (n v : ℕ) (s : Processor) → n ≢ 0 → read n (write n v s) ≡ v
 write_back n v s some = cc (ne_eqb n 0 some, read_back n v n s refl some)
 
 -- the others stay, and what is no register
-write_is : {A : Type 0} (f : State → A) (n v : ℕ) (s : State) → f (with_register n v s) ≡ f s → f (write n v s) ≡ f s
+write_is : {A : Type 0} (f : Processor → A) (n v : ℕ) (s : Processor) → f (with_register n v s) ≡ f s → f (write n v s) ≡ f s
 write_is f n v s same = both (n == 0)
   where
     both : (zero : Bool) → f (if zero then s else with_register n v s) ≡ f s
     both true = refl
     both false = same
 
-set_others : (n v m : ℕ) (s : State) → (m == n) ≡ false → read m (set n v s) ≡ read m s
+set_others : (n v m : ℕ) (s : Processor) → (m == n) ≡ false → read m (set n v s) ≡ read m s
 set_others n v m s other = cc
 
-write_others : (n v m : ℕ) (s : State) → (m == n) ≡ false → read m (write n v s) ≡ read m s
+write_others : (n v m : ℕ) (s : Processor) → (m == n) ≡ false → read m (write n v s) ≡ read m s
 write_others n v m s other = write_is (read m) n v s (set_others n v m s other)
 
 -- ---- one run
 
 -- A run of words calls what is at the target.
-pub record Called (words : List ℕ) (link base back target : ℕ) (s : State) : Type 0 where
-  pub end : State
+pub record Called (words : List ℕ) (link base back target : ℕ) (s : Processor) : Type 0 where
+  pub end : Processor
   pub runs : run words s ≡ Some end
   pub keeps : (m : ℕ) → (m == link) ≡ false → (m == base) ≡ false → read m end ≡ read m s
   pub floats : end.floats ≡ s.floats
@@ -40,7 +71,7 @@ pub record Called (words : List ℕ) (link base back target : ℕ) (s : State) :
   pub links : link ≢ 0 → read link end ≡ back
   pub at_target : end.pc ≡ target
 
-pub both_call : (old new : List ℕ) (link base back new_back target new_target : ℕ) (s t : State)
+pub both_call : (old new : List ℕ) (link base back new_back target new_target : ℕ) (s t : Processor)
     → AreAlikeBut no_register s t → Called old link base back target s
     → Called new link base new_back new_target t
     → EndSo old s new t (HaveCalled link base back new_back target new_target)
@@ -62,8 +93,8 @@ both_call old new link base back new_back target new_target s t alike one other 
     })
 
 -- A run of words makes an address, and goes on after them.
-pub record Made (words : List ℕ) (n value following : ℕ) (s : State) : Type 0 where
-  pub end : State
+pub record Made (words : List ℕ) (n value following : ℕ) (s : Processor) : Type 0 where
+  pub end : Processor
   pub runs : run words s ≡ Some end
   pub keeps : (m : ℕ) → (m == n) ≡ false → read m end ≡ read m s
   pub floats : end.floats ≡ s.floats
@@ -71,7 +102,7 @@ pub record Made (words : List ℕ) (n value following : ℕ) (s : State) : Type 
   pub made : read n end ≡ value
   pub next : end.pc ≡ following
 
-pub both_make : (old new : List ℕ) (n value new_value following new_after : ℕ) (s t : State)
+pub both_make : (old new : List ℕ) (n value new_value following new_after : ℕ) (s t : Processor)
     → AreAlikeBut no_register s t → Made old n value following s → Made new n new_value new_after t
     → EndSo old s new t (HaveMade n value new_value following new_after)
 both_make old new n value new_value following new_after s t alike one other =
@@ -93,7 +124,7 @@ both_make old new n value new_value following new_after s t alike one other =
 
 far : relocation_laws.Calls → (link : ℕ) (x : Operands) (before code : List ℕ) → IsCall link before 0
     → Relocated (loongarch_row names.R_LARCH_CALL36) x before code → AreAddresses x
-    → (s : State) → s.pc ≡ x.place
+    → (s : Processor) → s.pc ≡ x.place
     → Called (pair code (drop 4 code)) link (rd_of (word_of before)) (sum_64 x.place 8) (plt_address x) s
 far calls link x before code is r small s at =
     let n = rd_of (word_of before) in
@@ -110,8 +141,8 @@ far calls link x before code is r small s at =
       end = go_to (register_target q u) (write link (next_pc u) u);
       runs = run_pair p q s u _ first refl second;
       keeps = λ m e f. write_others link (next_pc u) m u e ∙ set_others n (far_address p s) m s f;
-      floats = write_is (λ (x : State). x.floats) link (next_pc u) u refl;
-      memory = write_is (λ (x : State). x.memory) link (next_pc u) u refl;
+      floats = write_is (λ (x : Processor). x.floats) link (next_pc u) u refl;
+      memory = write_is (λ (x : Processor). x.memory) link (next_pc u) u refl;
       links = λ some.
           write_back link (next_pc u) u some
           ∙ ap (λ a. sum_64 (sum_64 a 4) 4) at
@@ -125,7 +156,7 @@ module _ (code : List ℕ) (bytes : AreBytes code) (len : length code ≡ 4) (pl
   below : word_of code < 2 ^ 32
   below = word_below code bytes (omega (arith, len))
 
-  near_jump : IsBranch 0x14 (word_of code) place target → (base back : ℕ) (t : State) → t.pc ≡ place
+  near_jump : IsBranch 0x14 (word_of code) place target → (base back : ℕ) (t : Processor) → t.pc ≡ place
       → Called (word_of code ∷ []) 0 base back target t
   near_jump is base back t at =
       let word = word_of code in
@@ -139,7 +170,7 @@ module _ (code : List ℕ) (bytes : AreBytes code) (len : length code ≡ 4) (pl
         at_target = ap (λ a. wrapped (pos a +ℤ ((loongarch_form Branch26).machine word *ℤ pos 4))) at ∙ address_is _ _ is.goes;
       }
 
-  near_call : IsBranch 0x15 (word_of code) place target → (base : ℕ) (t : State) → t.pc ≡ place
+  near_call : IsBranch 0x15 (word_of code) place target → (base : ℕ) (t : Processor) → t.pc ≡ place
       → Called (word_of code ∷ []) 1 base (sum_64 place 4) target t
   near_call is base t at =
       let word = word_of code in
@@ -154,7 +185,7 @@ module _ (code : List ℕ) (bytes : AreBytes code) (len : length code ≡ 4) (pl
       }
 
   -- `pcaddi`
-  near_pcaddi : (n : ℕ) → n ≢ 0 → IsPcaddi (word_of code) n place target → (t : State) → t.pc ≡ place
+  near_pcaddi : (n : ℕ) → n ≢ 0 → IsPcaddi (word_of code) n place target → (t : Processor) → t.pc ≡ place
       → Made (word_of code ∷ []) n target (sum_64 place 4) t
   near_pcaddi n some is t at =
       let word = word_of code in
@@ -184,7 +215,7 @@ low_written v before after op w =
     (no_jirl (word_of before) op) w
 
 -- two instructions that set a register, the second one to a value
-two_set : (x : Operands) (n v w value : ℕ) (high low : List ℕ) (s : State) → n ≢ 0 → s.pc ≡ x.place
+two_set : (x : Operands) (n v w value : ℕ) (high low : List ℕ) (s : Processor) → n ≢ 0 → s.pc ≡ x.place
     → step (word_of high) s ≡ Some (set n v s) → step (word_of low) (set n v s) ≡ Some (set n w (set n v s)) → w ≡ value
     → Made (pair high low) n value (sum_64 x.place 8) s
 two_set x n v w value high low s some at first second value_is =
@@ -200,7 +231,7 @@ two_set x n v w value high low s some at first second value_is =
           ∙ (let e : sum_64 (sum_64 x.place 4) 4 ≡ sum_64 x.place 8 = omega arith in e);
     }
 
-pub load_run : (x : Operands) (n value : ℕ) (high low : List ℕ) (s : State) → n ≢ 0 → s.pc ≡ x.place
+pub load_run : (x : Operands) (n value : ℕ) (high low : List ℕ) (s : Processor) → n ≢ 0 → s.pc ≡ x.place
     → Loads n (word_of high) (word_of low) (loaded 8 s.memory (entry_and_addend x)) s
     → loaded 8 s.memory (entry_and_addend x) ≡ value
     → Made (pair high low) n value (sum_64 x.place 8) s
@@ -215,7 +246,7 @@ pub sum_run : (x y : Operands) (n target : ℕ) (old_high old_low high low : Lis
     → IsSomeAnd (loongarch_row names.R_LARCH_PCALA_HI20) (λ row. IsApplied row x old_high high)
     → IsSomeAnd (loongarch_row names.R_LARCH_PCALA_LO12) (λ row. IsApplied row y old_low low)
     → IsAddress (pcalau12i x.place (word_of high) +ℤ signed 12 (field (word_of low) 10 22)) target
-    → (s : State) → s.pc ≡ x.place → Made (pair high low) n target (sum_64 x.place 8) s
+    → (s : Processor) → s.pc ≡ x.place → Made (pair high low) n target (sum_64 x.place 8) s
 sum_run x y n target old_high old_low high low one op rd a d leads s at =
     let some : n ≢ 0 = λ none. one.into_own_source.not_zero (rd ∙ none) in
     let sum = adds x n (word_of high) (word_of low) target s
@@ -266,7 +297,7 @@ module _ (calls : relocation_laws.Calls) (section : List ℕ) (o : ℕ) (bytes :
   linked : (l : ℕ) → IsCall l section o → (before : List ℕ) → 8 ≤ length before
       → word_of before ≡ word_at section o → word_of (drop 4 before) ≡ word_at section (o + 4)
       → (x : Operands) (code : List ℕ) → Relocated (loongarch_row names.R_LARCH_CALL36) x before code
-      → AreAddresses x → (s : State) → s.pc ≡ x.place
+      → AreAddresses x → (s : Processor) → s.pc ≡ x.place
       → Called (pair code (drop 4 code)) link base (sum_64 x.place 8) (plt_address x) s
   linked l is before long first second x code r small s at =
       rw (is.links, ← (ap rd_of first))
@@ -275,7 +306,7 @@ module _ (calls : relocation_laws.Calls) (section : List ℕ) (o : ℕ) (bytes :
   pub either : IsCall36At section o → (before : List ℕ) → 8 ≤ length before
       → word_of before ≡ word_at section o → word_of (drop 4 before) ≡ word_at section (o + 4)
       → (x : Operands) (code : List ℕ) → Relocated (loongarch_row names.R_LARCH_CALL36) x before code
-      → AreAddresses x → (s : State) → s.pc ≡ x.place
+      → AreAddresses x → (s : Processor) → s.pc ≡ x.place
       → Called (pair code (drop 4 code)) link base (sum_64 x.place 8) (plt_address x) s
   either (inl is) = linked 1 is
   either (inr is) = linked 0 is
@@ -283,7 +314,7 @@ module _ (calls : relocation_laws.Calls) (section : List ℕ) (o : ℕ) (bytes :
   -- the object's call
   pub from_there : IsCall36At section o → (x : Operands) (code : List ℕ)
       → Relocated (loongarch_row names.R_LARCH_CALL36) x (drop o section) code → AreAddresses x
-      → (s : State) → s.pc ≡ x.place
+      → (s : Processor) → s.pc ≡ x.place
       → Called (pair code (drop 4 code)) link base (sum_64 x.place 8) (plt_address x) s
   from_there is =
       either is (drop o section) (omega (arith, length-drop o section, inside)) refl (second_at section o)
@@ -291,7 +322,7 @@ module _ (calls : relocation_laws.Calls) (section : List ℕ) (o : ℕ) (bytes :
   -- that of 8 bytes which go to a target
   of_window : (place target : ℕ) (code : List ℕ) → place < 2 ^ 64 → target < 2 ^ 64 → AreBytes code
       → length code ≡ 8 → IsCall36At section o → IsFarCall section o place target code
-      → (t : State) → t.pc ≡ place
+      → (t : Processor) → t.pc ≡ place
       → Called (pair code (drop 4 code)) link base (sum_64 place 8) target t
   of_window place target code small reach new len is goes t at =
       let there = drop o section in
@@ -314,7 +345,7 @@ module _ (calls : relocation_laws.Calls) (section : List ℕ) (o : ℕ) (bytes :
   -- what a call becomes
   becomes_call : (place target : ℕ) (code : List ℕ) → place < 2 ^ 64 → target < 2 ^ 64
       → AreBytes code → IsCall36At section o → LoongArchBecomes section o place target code
-      → (t : State) → t.pc ≡ place
+      → (t : Processor) → t.pc ≡ place
       → Called (words_in (length code) code) link base (sum_64 place (length code)) target t
   becomes_call place target code small reach new is (jump links len branch) t at =
       rw (len, links.links) (near_jump code new len place target branch base (sum_64 place 4) t at)
@@ -327,7 +358,7 @@ module _ (calls : relocation_laws.Calls) (section : List ℕ) (o : ℕ) (bytes :
 
   -- what an address becomes
   becomes_address : (place target : ℕ) (code : List ℕ) → AreBytes code → IsPcalaAt section o
-      → LoongArchBecomes section o place target code → (t : State) → t.pc ≡ place
+      → LoongArchBecomes section o place target code → (t : Processor) → t.pc ≡ place
       → Made (words_in (length code) code) link target (sum_64 place (length code)) t
   becomes_address place target code new pcala (jump links len branch) t at = absurd (no_pair pcala (inr links))
   becomes_address place target code new pcala (call links len branch) t at = absurd (no_pair pcala (inl links))
@@ -355,7 +386,7 @@ module _ (relative : relocation_laws.RelativeAddresses) (section : List ℕ) (o 
   pub by_addi : (pcala addi : List ℕ) → Fits32 names.R_LARCH_PCALA_HI20 x
       → IsRelocated names.R_LARCH_PCALA_HI20 x high_there pcala
       → IsRelocated names.R_LARCH_PCALA_LO12 (following 4 x) low_there addi
-      → (s : State) → s.pc ≡ x.place
+      → (s : Processor) → s.pc ≡ x.place
       → Made (pair pcala addi) (destination section o) (symbol_address x) (sum_64 x.place 8) s
   by_addi pcala addi fits high low s hs =
       let second = word_of_front (drop (o + 4) section) in
@@ -369,7 +400,7 @@ module _ (relative : relocation_laws.RelativeAddresses) (section : List ℕ) (o 
   pub by_ld : (ld pcala_of ld_of : List ℕ) → IsLd (word_of ld)
       → IsRewritten kinds.LdToAddi ld low_there
       → LoadsEntry names.R_LARCH_GOT_PC_HI20 names.R_LARCH_GOT_PC_LO12 x high_there ld pcala_of ld_of
-      → (s : State) → loaded 8 s.memory (entry_and_addend x) ≡ symbol_address x → s.pc ≡ x.place
+      → (s : Processor) → loaded 8 s.memory (entry_and_addend x) ≡ symbol_address x → s.pc ≡ x.place
       → Made (pair pcala_of ld_of) (destination section o) (symbol_address x) (sum_64 x.place 8) s
   by_ld ld pcala_of ld_of load made old s holds hs =
       let n = destination section o in
@@ -411,7 +442,7 @@ calls law p is machine i here of at x small original relocated s t hs ht alike =
 module _ (law : relocation_laws.Calls) (p : Packed) (is : IsPacked p) (machine : p.machine ≡ LoongArch64)
     (i : ℕ) (here : sites) (of : IsSiteOf p i here)
     (at : IsPcalaAt p.section.bytes (site_offset p here)) where
-  made_there : (t : State) → t.pc ≡ site_place p here
+  made_there : (t : Processor) → t.pc ≡ site_place p here
       → Made (words_in (site_len p here) (site_bytes p here)) (destination p.section.bytes (site_offset p here))
       (site_target p here) (site_after p here) t
   made_there t ht =
@@ -443,3 +474,131 @@ loaded_addresses law relative p is machine i here of at x small ld pcala_of ld_o
     (symbol_address x) (site_target p here) (sum_64 x.place 8) (site_after p here) s t alike
     (by_ld relative section o at x small ld pcala_of ld_of load made old s holds hs)
     (made_there law p is machine i here of at t ht)
+
+-- ---- calls and addresses that stay
+
+abbrev call_row : RowInfo
+call_row = the_row (loongarch_row names.R_LARCH_CALL36)
+
+abbrev high_row : RowInfo
+high_row = the_row (loongarch_row names.R_LARCH_PCALA_HI20)
+
+abbrev low_row : RowInfo
+low_row = the_row (loongarch_row names.R_LARCH_PCALA_LO12)
+
+-- The relocation of an instruction that stays is applied to it.
+module _ (p : Packed) (is : IsPacked p) (machine : p.machine ≡ LoongArch64) (i : ℕ)
+    (name : LoongArch64Relocation) (n : ℕ) (stays : StaysAs p i name n) (row : RowInfo)
+    (bits : BitRange) (insn : AnyForm) (row_is : loongarch_row name ≡ Some row)
+    (size : row.size ≡ BitMasking bits insn) (wide : window_len row ≡ n)
+    (has : has_value row.kind ≡ true) (unlabelled : names_label row.size row.kind ≡ false)
+    (symbol : Symbol)
+    (symbol_is : slice_get p.symbols (relocation_in p.relocations_after i).symbol ≡ Some symbol)
+    (y : Operands)
+    (taken : operands_in architectures.LoongArch64 p.addresses row (relocation_in p.relocations_after i) (Some symbol) ≡ Ok y)
+    (valued : IsSomeAnd (value_of row y) (λ _. ⊤)) where
+  applied : IsApplied row y (take n (drop (offset_at p.relocations i) p.section.bytes))
+      (take n (drop (place_of p (offset_at p.relocations i)) p.final))
+  applied =
+      let r = relocation_in p.relocations_after i in
+      let there : architectures.LoongArch64 ≡ architecture_of p.machine = sym (ap architecture_of machine) in
+      let value = some_value (value_of row y) valued in
+      rw (← wide) (instructions p is i row y
+      (record {
+        within = stays.within;
+        is_row = rw (← there) (record { name = name; is_name = stays.is_name; value_is = sym row_is });
+        bits = bits;
+        insn = insn;
+        size = size;
+        has = has;
+        unlabelled = unlabelled;
+        taken = rw (← there) (ap (operands_in architectures.LoongArch64 p.addresses row r) symbol_is ∙ taken);
+        value = value.0;
+        value_is = value.1;
+      })
+      (λ k below. stays.stays k (rw (← wide) below)))
+
+pub long_calls : relocation_laws.Calls → LongCallsStay
+long_calls law p is machine i stays at symbol symbol_is small x small_x original relocated s t hs ht alike =
+    let section = p.section.bytes in
+    let o = offset_at p.relocations i in
+    let y = operands_at p i call_row symbol in
+    let link = destination section o in
+    let base = rd_of (word_at section o) in
+    let there = drop o section in
+    let code = take 8 (drop (place_of p o) p.final) in
+    let inside = stay_inside p is o 8 (omega arith) stays.stays in
+    let fits = places_inside p is o 8 (omega arith) stays.stays in
+    let wide = window_length o 8 section inside in
+    both_call (pair original (drop 4 original)) (pair code (drop 4 code)) link base
+    (sum_64 x.place 8) (sum_64 y.place 8) (plt_address x) (plt_address y) s t alike
+    (from_there law section o is.section_bytes inside at x original relocated small_x s hs)
+    (either law section o is.section_bytes inside at (take 8 there) (omega (arith, wide)) (front_of_pair there)
+    (back_of_pair there ∙ second_at section o) y code
+    (record {
+      applied = applied p is machine i names.R_LARCH_CALL36 8 stays call_row _ _ refl refl refl refl refl symbol symbol_is y refl tt;
+      len = window_length (place_of p o) 8 p.final (omega (arith, fits, is.written.same_length)) ∙ sym wide;
+      old_bytes = All-take (λ byte. byte < 2 ^ 8) 8 there (All-drop (λ byte. byte < 2 ^ 8) o section is.section_bytes);
+      bytes = All-take (λ byte. byte < 2 ^ 8) 8 (drop (place_of p o) p.final) (All-drop (λ byte. byte < 2 ^ 8) (place_of p o) p.final is.final_bytes);
+    }) small t ht)
+
+-- ---- pairs
+
+module _ (relative : relocation_laws.RelativeAddresses) (p : Packed) (is : IsPacked p)
+    (machine : p.machine ≡ LoongArch64) (i j : ℕ) (of : IsPairOf p i j) (symbol : Symbol)
+    (symbol_is : slice_get p.symbols (relocation_in p.relocations_after i).symbol ≡ Some symbol)
+    (small : AreAddresses (operands_at p i high_row symbol))
+    (fits : Fits32 names.R_LARCH_PCALA_HI20 (operands_at p i high_row symbol)) where
+  abbrev o : ℕ
+  o = offset_at p.relocations i
+
+  abbrev y : Operands
+  y = operands_at p i high_row symbol
+
+  -- where the second instruction goes
+  next_place : place_of p (o + 4) ≡ place_of p o + 4
+  next_place = place_after p is o 4 (omega arith) of.high.stays
+
+  low_place : sum_64 p.addresses.section (offset_at p.relocations_after j) ≡ sum_64 y.place 4
+  low_place =
+      let first = (is.moved i of.high.within).offset (omega (arith, (of.high.stays 0 (omega arith)).inside)) in
+      let second = (is.moved j of.low.within).offset (omega (arith, (of.low.stays 0 (omega arith)).inside)) in
+      omega (arith, first, second, next_place, ap (place_of p) of.next)
+
+  low_applied : IsApplied low_row (following 4 y) (take 4 (drop (o + 4) p.section.bytes))
+      (take 4 (drop (place_of p o + 4) p.final))
+  low_applied =
+      let own = applied p is machine j names.R_LARCH_PCALA_LO12 4 of.low low_row _ _ refl refl refl refl refl symbol
+      (ap (slice_get p.symbols) of.same_symbol ∙ symbol_is) (operands_at p j low_row symbol) refl tt in
+      let there : IsApplied low_row (operands_at p j low_row symbol) (take 4 (drop (o + 4) p.section.bytes)) (take 4 (drop (place_of p (o + 4)) p.final)) =
+      rw (← of.next) own in
+      rw (← next_place, ← low_place, ← of.same_addend) there
+
+  final_pair : (t : Processor) → t.pc ≡ y.place
+      → Made (pair (take 4 (drop (place_of p o) p.final)) (take 4 (drop (place_of p o + 4) p.final)))
+      (destination p.section.bytes o) (symbol_address y) (sum_64 y.place 8) t
+  final_pair t ht =
+      by_addi relative p.section.bytes o of.pair y small (take 4 (drop (place_of p o) p.final))
+      (take 4 (drop (place_of p o + 4) p.final)) fits
+      (applied p is machine i names.R_LARCH_PCALA_HI20 4 of.high high_row _ _ refl refl refl refl refl symbol symbol_is y refl tt)
+      low_applied t ht
+
+pub long_addresses : relocation_laws.RelativeAddresses → LongAddressesStay
+long_addresses relative p is machine i j of symbol symbol_is small fits x small_x pcala addi fits_x high low s t hs ht alike =
+    let section = p.section.bytes in
+    let o = offset_at p.relocations i in
+    let y = operands_at p i high_row symbol in
+    both_make (pair pcala addi) (pair (take 4 (drop (place_of p o) p.final)) (take 4 (drop (place_of p o + 4) p.final)))
+    (destination section o) (symbol_address x) (symbol_address y) (sum_64 x.place 8) (sum_64 y.place 8) s t alike
+    (by_addi relative section o of.pair x small_x pcala addi fits_x high low s hs)
+    (final_pair relative p is machine i j of symbol symbol_is small fits t ht)
+
+pub long_loaded_addresses : relocation_laws.RelativeAddresses → LongLoadedAddressesStay
+long_loaded_addresses relative p is machine i j of symbol symbol_is small fits x small_x ld pcala_of ld_of load made old s t holds hs ht alike =
+    let section = p.section.bytes in
+    let o = offset_at p.relocations i in
+    let y = operands_at p i high_row symbol in
+    both_make (pair pcala_of ld_of) (pair (take 4 (drop (place_of p o) p.final)) (take 4 (drop (place_of p o + 4) p.final)))
+    (destination section o) (symbol_address x) (symbol_address y) (sum_64 x.place 8) (sum_64 y.place 8) s t alike
+    (by_ld relative section o of.pair x small_x ld pcala_of ld_of load made old s holds hs)
+    (final_pair relative p is machine i j of symbol symbol_is small fits t ht)

@@ -1,9 +1,21 @@
--- RISC-V: where calls go in the final bytes of a packed section.
-use Rattle.linker_laws.specs.RiscVRelocationLaws.{even}
+-- RISC-V: calls in the final bytes of a packed section, and what is deleted of it.
+use Rattle.linker_final.proofs.Imports.{All-drop, All-take, AreAddresses, AreBytes, AreDeleted as IsGone, CallStays, Code, DeletedLui, Groups, HasWord, IsApplied, IsBefore, IsCallPair, IsLow12, IsLowOffset, IsLui, IsSomeAnd, List, Operands, Packed, RiscV, RiscVRelocation, SiteBecomes, Some, State, address_is, ap, architecture_of, arith, cases_Bool, cj_goes, drop, drop-drop, eqb-true, even, false, false≢true, field, from_le_bytes, if◌then◌else◌, inl, inr, jal_goes, jump_group, length, length-drop, link_register, offset_at, operands_with, place_of, plt_address, rd_of, refl, relocation_in, riscv_matches, riscv_relocation, site_bytes, site_len, site_offset, site_place, site_target, subst, sym, take, take_all, true, value_of, w16, w32, ℕ, ◌%◌, ◌&&◌, ◌+◌, ◌-◌, ◌<◌, ◌==◌, ◌^◌, ◌||◌, ◌∙◌, ◌≡◌, ◌≢◌, ◌≤◌}
+use Rattle.linker_final.proofs.PackedBytes.{are_addresses, instructions, no_place, places_inside, site_becomes, site_inside, site_length, site_small, stay_inside}
+use Rattle.linker_final.proofs.Written.{back_of_pair, front_of_pair, some_value, window_length}
+use Rattle.linker_final.specs.RiscVPacked.{CallIsAlike, HighPartsAreLeftOut, IsOfCall, LongCallsStay, LuiIsLeftOut, SitesCallTheSame, SumIsLeftOut, call_row, instructions_in, landing}
+use Rattle.linker_laws.specs.RiscVGroups.{AreDeleted}
+use Rattle.linker_riscv64.specs.RiscVCalls.{word_at}
+use Rattle.linker_riscv64.specs.declared.calls.LinkRegister.TheVariants.{OfJalr}
+use Rattle.linker_runs.specs.Origins.{HasItsInstructions}
+use Rattle.linker_runs.specs.RiscVItems.{IsCallAt, links_short}
+use Rattle.linker_runs.specs.RiscVSites.{RiscVBecomes}
+use Rattle.linker_runs.specs.RiscVSites.RiscVBecomes.{call, jump, short_jump}
 use Rattle.linker_runs.specs.Sites.{operands_of}
-use Rattle.linker_final.proofs.RiscVImports.{◌≡◌, ◌≢◌, ℕ, ◌+◌, ◌-◌, ◌%◌, ◌^◌, ◌<◌, ◌≤◌, inl, inr, List, length, take, drop, refl, sym, ap, subst, ◌∙◌, arith, Some, IsSomeAnd, drop-drop, All-drop, All-take, w32, from_le_bytes, riscv_relocation, IsApplied, value_of, Operands, RiscVRelocation, Groups, AreAddresses, plt_address, SiteBecomes, Site, relocation_in, offset_at, operands_with, RiscV, take_all, AreBytes, architecture_of, place_of, site_bytes, site_len, site_offset, site_place, site_target, CallStays, word_at, IsCallPair, link_register, CallIsAlike, IsOfCall, LongCallsStay, SitesCallTheSame, call_row, instructions_in, landing, cj_goes, jal_goes, jump_group, address_is, rd_of, HasItsInstructions, IsCallAt, links_short, RiscVBecomes, short_jump, jump, call, true, false, field, OfJalr, cases_Bool, eqb-true, false≢true, w16, ◌==◌, ◌||◌, ◌&&◌, if◌then◌else◌, some_value, stay_inside, places_inside, instructions, are_addresses, site_becomes, site_inside, site_length, site_small, window_length, back_of_pair, front_of_pair}
+use Rattle.linker_runs.specs.declared.relaxation.Item.TheVariants.{Site}
+use Rattle.linker_utils.specs.declared.riscv64.rewrites.RewriteKind.{RewriteKind}
 use Rattle.linker_elf.specs.declared.riscv64.relocations.RiscVRelocation.TheVariants as names
 use Rattle.linker_section.specs.Values as values
+use Rattle.linker_utils.specs.declared.riscv64.rewrites.RewriteKind.TheVariants as kinds
 
 -- on RV64 only a call that links x0 becomes two bytes long
 links_none : (link : ℕ) → links_short false link ≡ true → (link == 0) ≡ true
@@ -137,3 +149,36 @@ long_calls groups p is riscv i name stays symbol symbol_is small other_name of =
     long groups s.bytes o is.section_bytes stays.call inside y (even plt_address y) final small refl applied
     (All-take (λ b. b < 2 ^ 8) 8 final (All-drop (λ b. b < 2 ^ 8) (place_of p o) p.final is.final_bytes))
     (window_length (place_of p o) 8 p.final (omega (arith, fits, is.written.same_length))) other_name of
+
+-- ---- instructions that are deleted
+
+-- new has nothing of the bytes
+gone_in : (p : Packed) (o : ℕ) (c : Code) (s : State) → IsGone p o 4 → IsBefore p o c.moved s.pc → AreDeleted c 4 s
+gone_in p o c s gone before =
+    record {
+      small = before.small;
+      moved = before.place ∙ sym (no_place p o 4 gone) ∙ sym before.next;
+    }
+
+-- a `lui` of a number of 12 bits
+left_out : (kind : RewriteKind) (name : RiscVRelocation) (IsLow : Operands → Type 0)
+    → ((section : List ℕ) (o : ℕ) → HasWord section o IsLui → riscv_matches kind (drop o section) 0)
+    → DeletedLui kind name IsLow → LuiIsLeftOut name IsLow
+left_out kind name IsLow matches group p is riscv o word gone x low c k s before has =
+    group c x k s (drop o p.section.bytes) (gone_in p o c s gone before) (matches p.section.bytes o word)
+    word.1 low has
+
+inside : (section : List ℕ) (o : ℕ) → o + 4 ≤ length section → 4 ≤ length (drop o section)
+inside section o long = omega (arith, long, length-drop o section)
+
+pub high_parts : Groups → HighPartsAreLeftOut
+high_parts groups = (
+  left_out kinds.Hi20Delete names.R_RISCV_HI20 IsLow12 (λ section o word. (inside section o word.0, word.1))
+      groups.no_high_parts,
+  left_out kinds.Delete names.R_RISCV_TPREL_HI20 IsLowOffset (λ section o word. (inside section o word.0, tt))
+      groups.high_offsets,
+)
+
+pub sums : Groups → SumIsLeftOut
+sums groups p is riscv o word gone c k s before none below stands =
+    groups.sums c k s (drop o p.section.bytes) (gone_in p o c s gone before) word.1 none below stands
