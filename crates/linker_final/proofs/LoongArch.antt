@@ -1,10 +1,11 @@
 -- LoongArch: each rewrite of a section is of one instruction or of a load, which is a group.
-use Rattle.linker_final.proofs.Imports.{AbsoluteLowPart, Addresses, Architecture, AreDecidedIn, AreOf, AreRewritten, BeginsRewritten, Bool, CallOfDescriptor, Choice, Consumed, Decision, GotRelative, GotTpOff, GotTpOffGot, Grouped, HasEntry, Independent, IsAlone, IsApplied, IsArchitectureChoice, IsCallOfDescriptor, IsCandidate, IsCandidateWith, IsChosen, IsDecidedAfter, IsDecidedAlone, IsFinal, IsGroupDecision, IsKept, IsKeptInstruction, IsLeft, IsLinked, IsLoad, IsLoadAt, IsLoadOfDescriptor, IsLowOfDescriptor, IsLu12i, IsNameOf, IsNamed, IsNew, IsOfEntry, IsOfOne, IsPageOfDescriptor, IsPcalau12i, IsRewritten as PairIsRewritten, IsRewrittenAndPacked, IsRewrittenByNoOther, IsRow, IsScopeDecision, IsScopeIn, IsSomeAnd, IsTrue, IsWrittenByNoOther, Kept, Labelled, LinkFacts, Linked, List, LoadOfDescriptor, LoadsTheSame, LoongArch64, LoongArch64Relocation, LoongArchApplies, LoongArchEntry, None, NotRelaxable, Ok, Operands, Option, Packed, Phase, Ppc64, Rela, Relative, RelaxContext, Relaxation, RelocationsAreLeft, RewritesAreGroups, Rewritten, RewrittenWithSymbol, RowInfo, Scope, Some, Symbol, TpOff, UntouchedInstruction, UntouchedInstructions, [], addend_after, anywhere, ap, architecture_of, arith, by_itself, bytes_row, cases_Bool, chosen_at, cond, count, decision_at, decision_of, entry_pages, false, field, final, final_instruction, following, group_stays, high_row, inl, inr, instruction_at, is_some, is_taken, link_facts, loongarch_entries, loongarch_name, loongarch_rewrite, loongarch_row, loongarch_scope_in, low_row, named_as, of_one, offset_after, offset_of, operands_by, operands_in, operands_with, packed, paged_row, place_pages, pre_layout, r_type_of, refl, relaxation_rewrite, relaxation_skipped, relocation_in, rj_of, rounded_row, slice_get, subst, suc, sym, takes_next, true, value_of, without_law, word_of, zero, ℕ, ℤ, ⊤, ◌*◌, ◌+◌, ◌-◌, ◌/◌, ◌<◌, ◌^◌, ◌∙◌, ◌∷◌, ◌≡◌, ◌≢◌, ◌≤◌, ◌⊎◌}
+use Rattle.linker_final.proofs.Imports.{AbsoluteLowPart, Addresses, Architecture, AreDecidedIn, AreOf, AreRewritten, BeginsRewritten, Bool, CallOfDescriptor, Choice, Consumed, Decision, GotRelative, GotTpOff, GotTpOffGot, Grouped, HasEntry, Independent, IsAlone, IsApplied, IsArchitectureChoice, IsCallOfDescriptor, IsCandidate, IsCandidateWith, IsChosen, IsDecidedAfter, IsDecidedAlone, IsFinal, IsGroupDecision, IsKept, IsKeptInstruction, IsLeft, IsLinked, IsLoad, IsLoadAt, IsLoadOfDescriptor, IsLowOfDescriptor, IsLu12i, IsNameOf, IsNamed, IsNew, IsOfEntry, IsOfOne, IsPageOfDescriptor, IsPcalau12i, IsRewritten as PairIsRewritten, IsRewrittenAndPacked, IsRewrittenByNoOther, IsRow, IsScopeDecision, IsScopeIn, IsSomeAnd, IsTrue, IsWrittenByNoOther, Kept, Labelled, Left, LinkFacts, Linked, List, LoadOfDescriptor, LoadsTheSame, LoongArch64, LoongArch64Relocation, LoongArchApplies, LoongArchEntry, None, NotRelaxable, Ok, Operands, Option, Packed, Phase, Ppc64, Rela, Relative, RelaxContext, Relaxation, RewritesAreGroups, Rewritten, RewrittenWithSymbol, RowInfo, Scope, Some, Symbol, TpOff, UntouchedInstruction, UntouchedInstructions, [], addend_after, ap, applied, architecture_of, arith, by_itself, bytes_row, cases_Bool, chosen_at, cond, count, decision_at, decision_of, entry_by as entry_of_name, entry_pages, false, field, final_instruction, following, group_stays, high_row, inl, inr, instruction_at, is_some, is_taken, law_of, link_facts, loongarch_entries, loongarch_name, loongarch_rewrite, loongarch_row, loongarch_scope_in, none, of_one, offset_after, offset_of, operands_by, operands_in, operands_with, paged_row, place_pages, pre_layout, r_type_of, refl, relaxation_rewrite, relaxation_skipped, relocation_in, rj_of, rounded_row, slice_get, subst, suc, sym, takes_next, true, value_of, without_law, word_of, zero, ℕ, ℤ, ⊤, ◌*◌, ◌+◌, ◌-◌, ◌/◌, ◌<◌, ◌^◌, ◌∙◌, ◌∷◌, ◌≡◌, ◌≢◌, ◌≤◌, ◌⊎◌}
+use Rattle.linker_elf.specs.LoongArchRelocations.{low_row}
 use Rattle.linker_elf.specs.declared.elf.RelocationKind.TheVariants.{None as NoValue}
 use Rattle.linker_final.proofs.PackedBytes.{own_there, r_type_is, unwritten_there, within}
 use Rattle.linker_final.proofs.SectionRuns.{AreIn, IsIn, beside_or, is_linked, without_label}
 use Rattle.linker_final.proofs.Written.{IsOfInstruction, IsRowOf, applied_after, by_name, made_there, of_bits, rela, relocation_named, row_in, stays, unwritten_without, word_same}
-use Rattle.linker_final.specs.LoongArchSection.{IsMade, Law, Left, applied, entry_by as entry_of_name, law_of, load, none, rewriting}
+use Rattle.linker_final.specs.LoongArchSection.{IsMade, Law, RelocationsAreLeft, anywhere, final, load, named_as, packed, rewriting}
 use Rattle.linker_laws.specs.LoongArchGroups.{Groups}
 use Rattle.linker_laws.specs.LoongArchRewriteLaws.{IsPair, IsRelocated, IsRewritten}
 use Rattle.linker_rewriting.proofs.LoongArchLoads.{loads_are_whole}

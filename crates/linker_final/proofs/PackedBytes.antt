@@ -1,13 +1,11 @@
 -- The final bytes of a section that was packed.
-use Rattle.linker_final.proofs.Imports.{Addresses, Adds, Aligned, All-drop, All-from_get_or, All-take, AnyForm, Architecture, AreAddresses, AreBytes, AreDeleted, BType, BitMasking, BitRange, Branch21, Branch26, CbType, CjType, DeletedBytesAreGone, InstructionsAreRelocated, IsAddress, IsApplied, IsInside, IsKeptInstruction, IsPacked, IsRewrittenAndPacked, IsRow, IsSiteOf, IsSomeAnd, IsSound, IsTrue, IsUnwritten, Item, ItemBecomes, ItemsAreDeleted, JType, KeptBytesStay, Linked, List, LoongArch64Relocation, Machine, MatchOption, None, Ok, Operands, Option, Packed, PaddingIsNops, PlacesAreRelocated, PlacesHaveAddresses, RecordsDeletions, Rela, RiscVRelocation, RowInfo, Shift10, Shift5, Site as sites, SiteBecomes, Some, StayTogether, Stays, Symbol, UntouchedBytes, UntouchedInstruction, address_at, address_of, ap, architecture_of, arith, bytes_row, cases_Bool, cases_lt, count, deletions_of_run, div-add-mod', drop, end_of, false, freed_before, get_or, has_value, here, inl, inr, instruction_at, is_fixed, item_at, kept_len, length, loongarch_form, loongarch_row, mod-mul-add, names_label, needed, nops, offset_at, operands_in, operands_of as operands_by_symbols, operands_with, packed_offset, place, place_of, plt_address, pos, refl, relocation_in, riscv_form, riscv_row, site_bytes, site_len, site_offset, slice_get, some_window, subst, suc, sum_64, sym, symbol_address, take, true, value_of, window_len, zero, ℕ, ℤ, ⊤, ◌%◌, ◌*ℤ◌, ◌*◌, ◌+ℤ◌, ◌+◌, ◌-◌, ◌/◌, ◌<◌, ◌^◌, ◌∙◌, ◌≡◌, ◌≢◌, ◌≤◌, ◌⊎◌}
+use Rattle.linker_final.proofs.Imports.{Addresses, Adds, Aligned, AlignmentsHold, All-drop, All-from_get_or, All-take, AnyForm, Architecture, AreAddresses, AreBytes, AreDeleted, AreRelaxedAndPacked, BType, BitMasking, BitRange, Branch21, Branch26, CbType, CjType, DeletedBytesAreGone, Goes, HoldsIn, InstructionsAreRelocated, IsAddress, IsAligned, IsApplied, IsInside, IsKeptInstruction, IsOfRun, IsPacked, IsRewrittenAndPacked, IsRow, IsSiteOf, IsSkipped, IsSomeAnd, IsSound, IsTrue, IsUnwritten, Item, ItemBecomes, ItemsAreDeleted, JType, KeptBytesStay, Linked, List, LoongArch64Relocation, LoongArchBranchesGo, Machine, MatchOption, None, Ok, Operands, Option, Packed, PaddingIsNops, PlacesAreRelocated, PlacesHaveAddresses, RecordsDeletions, Rela, RiscVBranchesGo, RiscVRelocation, RowInfo, Run, SectionsAreAligned, Shift10, Shift5, Site, SiteBecomes, Some, StayTogether, Stays, Symbol, UntouchedBytes, UntouchedInstruction, address_at, address_of, ap, architecture_of, arith, bytes_row, cases_Bool, cases_lt, count, deletions_of_run, div-add-mod', drop, end_of, false, final_number, freed_before, get_or, has_value, here, inl, inr, instruction_at, is_fixed, item_at, kept_len, length, loongarch_form, loongarch_row, mod-mul-add, names_label, needed, nops, offset_at, operands_in, operands_of as operands_by_symbols, operands_with, packed_of, packed_offset, padding_at, padding_len, place, place_of, plt_address, pos, refl, relocation_in, riscv_form, riscv_row, site_bytes, site_len, site_offset, slice_get, some_window, subst, suc, sum_64, sym, symbol_address, take, true, value_of, window_len, zero, ℕ, ℤ, ⊤, ◌%◌, ◌*ℤ◌, ◌*◌, ◌+ℤ◌, ◌+◌, ◌-◌, ◌/◌, ◌<◌, ◌^◌, ◌∙◌, ◌≡◌, ◌≢◌, ◌≤◌, ◌⊎◌}
 use Rattle.linker_base.proofs.Rank.{rank-le, rank-mono, rank_all_kept, rank_gone, rank_kept, selected_once}
 use Rattle.linker_base.specs.Deletions.{IsValid, is_kept, rank}
 use Rattle.linker_base.specs.Listed.{AreValidDeltas}
 use Rattle.linker_base.specs.declared.relaxation.RelaxDelta.{RelaxDelta}
 use Rattle.linker_elf.specs.declared.elf.RelocationKind.TheVariants.{None as NoValue}
 use Rattle.linker_final.proofs.Written.{IsOfInstruction, applied as applied_there, applied_to_window as applied, later_as_many, later_bytes, later_keep, later_length, rela, same_windows, some_value, window_length, windows, with_operands}
-use Rattle.linker_final.specs.Branches.{Goes, LoongArchBranchesGo, RiscVBranchesGo, final_number}
-use Rattle.linker_final.specs.Relaxed.{AlignmentsHold, AreRelaxedAndPacked, HoldsIn, IsAligned, IsOfRun, IsSkipped, Run, SectionsAreAligned, packed_of, padding_at, padding_len}
 use Rattle.linker_final.specs.declared.packed.RunSection.{RunSection}
 use Rattle.linker_runs.proofs.First.{first_bytes}
 use Rattle.linker_runs.proofs.Layouts.{freed_fits}
@@ -19,7 +17,7 @@ use Rattle.linker_runs.specs.Relaxing.{choice_of, offset_of}
 use Rattle.linker_runs.specs.Sites.{operands_of}
 use Rattle.linker_runs.specs.declared.packing.Machine.TheVariants.{LoongArch64, RiscV}
 use Rattle.linker_runs.specs.declared.relaxation.Alignment.{Alignment}
-use Rattle.linker_runs.specs.declared.relaxation.Item.TheVariants.{Site}
+use Rattle.linker_runs.specs.declared.relaxation.Site.{Site as sites}
 use Rattle.std.proofs.Math.Nat.{mod-eq_of_lt, mod-lt, mod_self}
 use Rattle.linker_final.specs.Packed as packed
 use Rattle.linker_elf.specs.declared.loongarch64.relocations.LoongArch64Relocation.TheVariants as loongarch_names

@@ -1,11 +1,11 @@
 -- AArch64: the instructions of `linker_laws`, and BR, STP and BTI of `linker_output`, compared with
 -- an emulator. Register 31 is the stack pointer.
 use Rattle.std.specs.Prelude.{Bool, false, Option, Some, None}
+use Rattle.linker_final.specs.AArch64Steps.{aarch64_groups}
+use Rattle.linker_final.specs.Steps.{AllPass, Executed, Group, Numbers, at, bytes_from, is_left}
+use Rattle.linker_final.specs.Steps.{made_high, memory_in, pc}
 use Rattle.linker_laws.specs.AArch64Machine.{State}
 use Rattle.linker_output.specs.AArch64LazyPlt.{step}
-use Rattle.linker_final.specs.Steps.{AllPass, Executed, Group, Numbers, at, pc, made_high}
-use Rattle.linker_final.specs.Steps.{memory_in, bytes_from, is_left}
-use Rattle.linker_final.specs.AArch64Steps.{aarch64_groups}
 
 abbrev pub begun : Numbers → State
 begun n =

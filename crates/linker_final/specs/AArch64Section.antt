@@ -1,23 +1,24 @@
 -- AArch64: what the rewrites of a section are, and where they begin in a run of old.
 use Rattle.std.specs.Prelude.{◌≡◌, ℕ, ◌+◌, ◌<◌, ◌≤◌, List, length, ◌≢◌, ◌*◌, ◌^◌, ◌⊎◌, Some}
 use Rattle.std.specs.Prelude.{IsSomeAnd, false, slice_get}
+use Rattle.linker_final.specs.Imports.{Addresses, Agree, AreAddresses, Choice, IsNameOf, Kinds}
+use Rattle.linker_final.specs.Imports.{Operands, Relaxation, Rewritten, State, Symbol, anything}
+use Rattle.linker_final.specs.Imports.{decision_at, following, go_to, half, loaded, operands_with}
+use Rattle.linker_final.specs.Imports.{plt_address, put, rd_of, relocation_in, same, sum_64}
+use Rattle.linker_final.specs.Imports.{symbol_address, thread_offset, with_register, word_of}
 use Rattle.linker_elf.specs.AArch64Relocations.{aarch64_name, aarch64_row}
-use Rattle.linker_final.specs.Imports.{IsNameOf, sum_64, Choice, Operands, put, with_register}
-use Rattle.linker_final.specs.Imports.{loaded, AreAddresses, plt_address, symbol_address, Agree}
-use Rattle.linker_final.specs.Imports.{Kinds, State, anything, half, same, decision_at, Rewritten}
-use Rattle.linker_final.specs.Imports.{relocation_in, operands_with, Addresses, Symbol, Relaxation}
-use Rattle.linker_final.specs.Imports.{page, AArch64, go_to, IsAddressRewritten}
-use Rattle.linker_final.specs.Imports.{IsDescriptorRewritten, IsLoadRewritten}
+use Rattle.linker_elf.specs.LoongArch.{page}
 use Rattle.linker_elf.specs.declared.aarch64.relocations.AArch64Relocation.{AArch64Relocation}
-use Rattle.linker_elf.specs.declared.aarch64.relocations.AArch64Relocation.TheVariants as names
-use Rattle.linker_final.specs.Final.{IsLinked, IsRewrittenByNoOther, Linked, count, instruction_at}
-use Rattle.linker_final.specs.Final.{IsWrittenByNoOther, UntouchedInstruction}
-use Rattle.linker_final.specs.Final.{UntouchedInstructions, two_at}
-use Rattle.linker_final.specs.SectionRuns.{IsBesideAll, IsPhase, Rewriting, Section, offset_of}
+use Rattle.linker_elf.specs.declared.elf.architecture.Architecture.TheVariants.{AArch64}
+use Rattle.linker_final.specs.Final.{IsBesideAll, IsLinked, IsPhase, IsRewrittenByNoOther}
+use Rattle.linker_final.specs.Final.{IsWrittenByNoOther, Linked, Rewriting, Section}
+use Rattle.linker_final.specs.Final.{UntouchedInstruction, UntouchedInstructions, count}
+use Rattle.linker_final.specs.Final.{instruction_at, offset_of, two_at}
 use Rattle.linker_laws.specs.AArch64Groups.{Code, Descriptor, Has, go_and_link, link}
 use Rattle.linker_laws.specs.AArch64Machine.{load_64}
-use Rattle.linker_laws.specs.AArch64RewriteLaws.{word_of, following, thread_offset}
-use Rattle.linker_utils.specs.AArch64Rewrites.{rd_of}
+use Rattle.linker_rewriting.specs.Rewritten.{IsAddressRewritten, IsDescriptorRewritten}
+use Rattle.linker_rewriting.specs.Rewritten.{IsLoadRewritten}
+use Rattle.linker_elf.specs.declared.aarch64.relocations.AArch64Relocation.TheVariants as names
 use Rattle.linker_utils.specs.declared.aarch64.rewrites.RewriteKind.TheVariants as kinds
 
 -- ---- what is rewritten

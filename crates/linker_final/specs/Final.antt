@@ -1,24 +1,27 @@
 -- A section of code of an object as a linker rewrites it, in one phase or in several, and then
--- writes its values.
-use Rattle.std.specs.Prelude.{◌≡◌, ◌≢◌, ◌⊎◌, ℕ, ◌+◌, ◌/◌, ◌^◌, ◌<◌, ◌≤◌, List, [], ◌∷◌}
-use Rattle.std.specs.Prelude.{length, take, drop, get_or, ℤ, Some}
+-- writes its values; what stands at each place of its code, and runs of it. What is of one
+-- architecture is a parameter (`Rewriting`).
+use Rattle.std.specs.Prelude.{◌≡◌, ◌≢◌, ◌⊎◌, ℕ, ◌+◌, ◌/◌, ◌^◌, ◌<◌, ◌≤◌, List, [], ◌∷◌, length}
+use Rattle.std.specs.Prelude.{take, drop, get_or, ℤ, Some, IsSomeAnd}
 use Rattle.std.specs.List.{All}
-use Rattle.linker_final.specs.Imports.{RowInfo, decision_at, RelaxContext, pre_layout}
-use Rattle.linker_final.specs.Imports.{Decision, Kept, UnrelaxableGroups, relocation_in, offset_at}
-use Rattle.linker_final.specs.Imports.{AreWritten, Addresses, Symbol, Architecture, IsRejected}
-use Rattle.linker_final.specs.Imports.{IsRejectedIn, IsRejectedPlaced, AreDecidedIn, start_at}
-use Rattle.linker_final.specs.Imports.{written_end_at, deletions_by, AreRelocationsAfter, AreDone}
-use Rattle.linker_final.specs.Imports.{Deletion, pairs_in}
-use Rattle.linker_final.specs.Imports.{OthersStay, IsHeld}
+use Rattle.linker_final.specs.Imports.{Addresses, Agree, Architecture, AreDecidedIn, AreWritten}
+use Rattle.linker_final.specs.Imports.{Decision, Group, IsHeld, IsRejected, IsRejectedIn}
+use Rattle.linker_final.specs.Imports.{IsRejectedPlaced, Kept, Kinds, RelaxContext, RowInfo, State}
+use Rattle.linker_final.specs.Imports.{Symbol, UnrelaxableGroups, decision_at, deletions_by}
+use Rattle.linker_final.specs.Imports.{of_link, offset_at, pairs_in, pre_layout, relocation_in}
+use Rattle.linker_final.specs.Imports.{start_at, written_end_at}
 use Rattle.linker_final.specs.declared.sections.LinkError.{LinkError}
-use Rattle.linker_final.specs.declared.sections.LinkError.TheVariants.{Rewriting, Writing}
 use Rattle.linker_final.specs.declared.sections.PhaseError.{PhaseError}
-use Rattle.linker_final.specs.declared.sections.PhaseError.TheVariants as phase_errors
+use Rattle.linker_laws.specs.Simulation.{Comparison, Covered, Link, Next, Stops, run, uncovered}
 use Rattle.linker_rewriting.specs.Kept.{IsWritingCause}
+use Rattle.linker_rewriting.specs.Rewritten.{AreDone, AreRelocationsAfter, OthersStay}
+use Rattle.linker_rewriting.specs.declared.decisions.Deletion.{Deletion}
 use Rattle.linker_rewriting.specs.declared.facts.OutputFacts.{OutputFacts}
 use Rattle.linker_rewriting.specs.declared.facts.SymbolFacts.{SymbolFacts}
 use Rattle.linker_rewriting.specs.declared.kept.FactsSnapshot.{FactsSnapshot}
 use Rattle.linker_section.specs.Fields.{IsField, field_end, field_len}
+use Rattle.linker_final.specs.declared.sections.LinkError.TheVariants as link_errors
+use Rattle.linker_final.specs.declared.sections.PhaseError.TheVariants as phase_errors
 
 -- ---- phases
 
@@ -188,11 +191,11 @@ abbrev pub IsLinkCause : Architecture → OutputFacts → List SymbolFacts → L
     → List FactsSnapshot → Addresses → List Symbol → List ℕ → List ℕ → List Decision → List ℕ → List ℕ
     → LinkError → Type 0
 IsLinkCause architecture output facts groups kept addresses symbols relocations section decisions
-    relocations_after bytes (Rewriting error) =
+    relocations_after bytes (link_errors.Rewriting error) =
     IsRejected architecture output facts groups relocations section decisions error
     × (relocations_after ≡ relocations) × (bytes ≡ section)
 IsLinkCause architecture output facts groups kept addresses symbols relocations section decisions
-    relocations_after bytes (Writing error) =
+    relocations_after bytes (link_errors.Writing error) =
     HasRewritten
     (rewriting_phase (pre_layout architecture output facts) groups relocations section decisions
     relocations_after bytes)
@@ -307,3 +310,129 @@ OtherFields =
     × ((row : RowInfo) (v : ℤ) → linked.written.can.found i ≡ Some (row, v)
     → 0 < field_len row (drop (offset_at l.relocations_last i) l.last)
     → IsHeld linked.written.can.found l.relocations_last l.last l.final (count l) i row v)
+
+-- ---- the code of a section: what is passed to the calls, and what they leave
+
+-- ---- a section
+
+-- What is passed to the calls for a section, in one phase or in several, and what they leave.
+pub record Section : Type 0 where
+  pub phases : List RewritingPhase
+  pub relocations : List ℕ
+  pub section : List ℕ
+  pub relocations_last : List ℕ
+  pub last : List ℕ
+  pub addresses : Addresses
+  pub symbols : List Symbol
+  pub final : List ℕ
+
+-- one of some phases, with those after it as later ones
+abbrev pub IsPhaseIn : List RewritingPhase → Section → Linked → Type 0
+IsPhaseIn [] x l = ⊥
+IsPhaseIn (p ∷ later) x l =
+    (l ≡ linked_by p later x.relocations_last x.last x.addresses x.symbols x.final)
+    ⊎ IsPhaseIn later x l
+
+abbrev pub IsPhase : Section → Linked → Type 0
+IsPhase x = IsPhaseIn x.phases x
+
+abbrev pub offset_of : Linked → ℕ → ℕ
+offset_of l i = (relocation_in l.relocations i).offset
+
+-- a byte that the instruction of a relocation, of 4 bytes, doesn't have unless the relocation stays
+abbrev pub IsBeside : Linked → ℕ → ℕ → Type 0
+IsBeside l b i =
+    decision_at l.decisions i ≢ Kept → (b < offset_of l i) ⊎ (offset_of l i + 4 ≤ b)
+
+abbrev pub IsBesideAll : Linked → ℕ → Type 0
+IsBesideAll l b = (i : ℕ) → i < count l → IsBeside l b i
+
+-- ---- an architecture
+
+pub record Rewriting : Type 1 where
+  pub architecture : Architecture
+  -- old's code and new's
+  pub Code : Type 0
+  pub link : Code → Link
+  -- what the calls ensure of a phase
+  pub Ensured : Linked → Type 0
+  -- in a phase the byte at an offset stays
+  pub Stays : Linked → ℕ → Type 0
+  -- Instructions that are rewritten together: the offset of their first byte, and that of the first
+  -- after them.
+  pub Rewrites : Linked → Type 0
+  pub span : (l : Linked) → Rewrites l → ℕ × ℕ
+  -- Old comes to them, new has what became of them, and the premises of their law hold. So new
+  -- executes a number of instructions, and they leave kinds and a state.
+  pub Begins : Section → (l : Linked) → Code → Kinds → State → Rewrites l → ℕ → Kinds → State
+      → Type 0
+
+abbrev pub comparison : (r : Rewriting) → r.Code → Comparison
+comparison r c = of_link (r.link c)
+
+-- All calls returned OK.
+pub record AreCalled (r : Rewriting) (x : Section) : Type 0 where
+  pub linked : AreInTurn r.Ensured x.phases x.relocations x.section x.relocations_last x.last
+      x.addresses x.symbols x.final
+  pub architecture : (l : Linked) → IsPhase x l → l.context.architecture ≡ r.architecture
+
+-- ---- what stands at a place
+
+-- n bytes stay
+abbrev pub AreLeft : Rewriting → ℕ → ℕ → Linked → Type 0
+AreLeft r at n l = (b : ℕ) → at ≤ b → b < at + n → r.Stays l b
+
+-- An instruction of n bytes stays in all phases, or in one it is the first of what is rewritten
+-- together, or has another byte of that.
+pub data Place (r : Rewriting) (x : Section) (at n : ℕ) : Type 0 where
+  unchanged : ((l : Linked) → IsPhase x l → AreLeft r at n l) → Place r x at n
+  begins : (l : Linked) → IsPhase x l → (g : r.Rewrites l) → at ≡ (r.span l g).0 → Place r x at n
+  within : (l : Linked) → IsPhase x l → (g : r.Rewrites l) → (r.span l g).0 < at + n
+      → at < (r.span l g).1 → Place r x at n
+
+-- ---- runs
+
+-- What is known at a state of old's run: that old comes to instructions that are rewritten
+-- together; elsewhere, as at one that stays or outside the section, anything, also nothing.
+pub data Known (r : Rewriting) (x : Section) (c : r.Code) (k : Kinds) (s : State) : Type 0 where
+  rewritten : (l : Linked) → IsPhase x l → (g : r.Rewrites l) (n : ℕ) (k' : Kinds) (s' : State)
+      → r.Begins x l c k s g n k' s' → Known r x c k s
+  elsewhere : Next (comparison r c) k s → Known r x c k s
+
+abbrev pub Knows : (r : Rewriting) → Section → r.Code → Kinds → State → Type 0
+Knows r x c k s =
+    (q n : ℕ) (k' : Kinds) (s' : State) → Covered (comparison r c) q n k s k' s'
+    → Known r x c k' s'
+
+-- Old's run is covered for m other instructions and groups, or until both stop, or up to where
+-- nothing is known. There every run of new agrees that agrees at the beginning.
+pub record IsFollowed (r : Rewriting) (x : Section) (c : r.Code) (k : Kinds) (s : State)
+    (knows : Knows r x c k s) (m : ℕ) : Type 0 where
+  pub q : ℕ
+  pub n : ℕ
+  pub kinds_then : Kinds
+  pub state : State
+  pub covered : Covered (comparison r c) q n k s kinds_then state
+  pub far : (m ≤ q) ⊎ (Stops (comparison r c) kinds_then state
+      ⊎ (knows q n kinds_then state covered ≡ elsewhere uncovered))
+  pub agrees : (t : State) → Agree (r.link c) k s t
+      → IsSomeAnd (run n (comparison r c).new t) (Agree (r.link c) kinds_then state)
+
+-- ---- the theorem
+
+-- Something stands at each place of a section.
+abbrev pub EachPlace : Rewriting → Type 0
+EachPlace r = (x : Section) → AreCalled r x → (at n : ℕ) → Place r x at n
+
+-- What old comes to is a group.
+abbrev pub RewritesAreGroups : Rewriting → Type 0
+RewritesAreGroups r =
+    (x : Section) (c : r.Code) → AreCalled r x → (l : Linked) → IsPhase x l → (k : Kinds) (s : State)
+    (g : r.Rewrites l) (n : ℕ) (k' : Kinds) (s' : State) → r.Begins x l c k s g n k' s'
+    → Group (comparison r c) n k s k' s'
+
+-- Each run of old is followed.
+abbrev pub RunsAreFollowed : Rewriting → Type 0
+RunsAreFollowed r =
+    (x : Section) (c : r.Code) → AreCalled r x → (k : Kinds) (s : State) (knows : Knows r x c k s)
+    (m : ℕ) → IsFollowed r x c k s knows m

@@ -1,12 +1,12 @@
 -- LoongArch: the instructions of `linker_laws`, and those of lazy PLTs in `linker_output`, compared
 -- with an emulator. Registers 32 to 63 are those of vectors.
-use Rattle.std.specs.Prelude.{ℕ, ◌+◌, ◌-◌, ◌*◌, ◌/◌, ◌^◌, ◌==◌, ◌&&◌, nat_le, nat_lt}
-use Rattle.std.specs.Prelude.{if◌then◌else◌, Bool, false, Option, Some, None}
-use Rattle.linker_laws.specs.LoongArchMachine.{State, Floats, read}
-use Rattle.linker_output.specs.LoongArchLazyPlt.{step}
-use Rattle.linker_final.specs.Steps.{AllPass, Executed, Group, Numbers, at, pc, noise, made_low}
-use Rattle.linker_final.specs.Steps.{memory_in, bytes_from, is_left}
+use Rattle.std.specs.Prelude.{ℕ, ◌+◌, ◌-◌, ◌*◌, ◌/◌, ◌^◌, ◌==◌, ◌&&◌, nat_le, nat_lt, if◌then◌else◌}
+use Rattle.std.specs.Prelude.{Bool, false, Option, Some, None}
 use Rattle.linker_final.specs.LoongArchSteps.{loongarch_groups}
+use Rattle.linker_final.specs.Steps.{AllPass, Executed, Group, Numbers, at, bytes_from, is_left}
+use Rattle.linker_final.specs.Steps.{made_low, memory_in, noise, pc}
+use Rattle.linker_laws.specs.LoongArchMachine.{Floats, State, read}
+use Rattle.linker_output.specs.LoongArchLazyPlt.{step}
 
 -- Register 0 is 0, and vectors have 256 bits.
 abbrev pub made : ℕ → Numbers

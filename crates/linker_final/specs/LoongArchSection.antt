@@ -1,31 +1,43 @@
 -- LoongArch: what the rewrites of a section are, and where they begin in a run of old (LoongArch
 -- ELF psABI, relaxation and the sequences of thread-local storage).
 use Rattle.std.specs.Prelude.{◌≡◌, ◌≢◌, ℕ, pos, ◌+◌, ◌<◌, ◌^◌, true, List, Some, ⊤, IsSomeAnd}
-use Rattle.std.specs.Prelude.{slice_get}
-use Rattle.linker_final.specs.Imports.{RowIsWithin, IsNameOf, r_type_of, loongarch_name}
-use Rattle.linker_final.specs.Imports.{loongarch_row, sum_64, RowInfo, Choice, Operands}
-use Rattle.linker_final.specs.Imports.{LoongArch64Relocation, Fits32, IsRelocated, word_of}
-use Rattle.linker_final.specs.Imports.{AreAddresses, symbol_address, Group, Kinds, State, of_link}
-use Rattle.linker_final.specs.Imports.{decision_at, pre_layout, Rewritten, NotRelaxable}
-use Rattle.linker_final.specs.Imports.{relocation_in, operands_with, Addresses, Symbol, Rela, rj_of}
-use Rattle.linker_final.specs.Imports.{signed_12, tp, Relaxation, loongarch_scope_in, is_there}
+use Rattle.std.specs.Prelude.{slice_get, ◌==◌, [], ◌∷◌, take, drop, if◌then◌else◌}
+use Rattle.linker_final.specs.Imports.{Addresses, AreAddresses, Choice, Group, IsNameOf, Kinds}
+use Rattle.linker_final.specs.Imports.{LoongArch64 as loongarch64, LoongArch64Relocation}
+use Rattle.linker_final.specs.Imports.{NotRelaxable, Operands, Rela, Relaxation, Relocated}
+use Rattle.linker_final.specs.Imports.{Rewritten, RowInfo, Site as site, State, Symbol, decision_at}
+use Rattle.linker_final.specs.Imports.{entry_and_addend, following, is_there, loaded}
+use Rattle.linker_final.specs.Imports.{loongarch_name, loongarch_row, of_link, offset_at}
+use Rattle.linker_final.specs.Imports.{operands_with, plt_address, pre_layout, r_type_of}
+use Rattle.linker_final.specs.Imports.{relocation_in, sum_64, symbol_address, word_of}
+use Rattle.linker_elf.specs.Choices.{RowIsWithin}
 use Rattle.linker_elf.specs.declared.elf.architecture.Architecture.TheVariants.{LoongArch64}
-use Rattle.linker_elf.specs.declared.loongarch64.relocations.LoongArch64Relocation.TheVariants as names
-use Rattle.linker_final.specs.Final.{AreRewritten, IsLinked, IsRewrittenByNoOther}
-use Rattle.linker_final.specs.Final.{IsWrittenByNoOther, Linked, UntouchedInstruction}
-use Rattle.linker_final.specs.Final.{UntouchedInstructions, count, instruction_at}
-use Rattle.linker_final.specs.Joined.{IsKeptInstruction, IsRewrittenAndPacked, final_instruction}
-use Rattle.linker_final.specs.Packed.{IsUnwritten, Packed, StayTogether, place_of}
-use Rattle.linker_final.specs.SectionRuns.{IsBesideAll, Rewriting, Section, offset_of}
+use Rattle.linker_final.specs.Final.{AreRewritten, IsBesideAll, IsLinked, IsRewrittenByNoOther}
+use Rattle.linker_final.specs.Final.{IsWrittenByNoOther, Linked, Rewriting, Section}
+use Rattle.linker_final.specs.Final.{UntouchedInstruction, UntouchedInstructions, count}
+use Rattle.linker_final.specs.Final.{instruction_at, offset_of}
+use Rattle.linker_final.specs.Packed.{IsBefore, IsKeptInstruction, IsPacked, IsRewrittenAndPacked}
+use Rattle.linker_final.specs.Packed.{IsSiteOf, IsUnwritten, Packed, StayTogether}
+use Rattle.linker_final.specs.Packed.{final_instruction, place_of, site_after, site_bytes, site_len}
+use Rattle.linker_final.specs.Packed.{site_offset, site_place, site_target}
 use Rattle.linker_laws.specs.LoongArchGroups.{AreDeleted, CallOfDescriptor, Code, Has, HighEntry}
 use Rattle.linker_laws.specs.LoongArchGroups.{HighOffset, IsLeftOut, LoadOfDescriptor, Loads}
 use Rattle.linker_laws.specs.LoongArchGroups.{LoadsOffset, LowHalf, LowOfDescriptor, LowPart, Makes}
 use Rattle.linker_laws.specs.LoongArchGroups.{MakesOffset, Stands, deleted_by, link, register}
-use Rattle.linker_runs.specs.declared.packing.Machine.TheVariants.{LoongArch64 as loongarch64}
+use Rattle.linker_laws.specs.LoongArchMachine.{AreAlikeBut, EndSo}
+use Rattle.linker_laws.specs.LoongArchRewriteLaws.{Fits32, HaveCalled, HaveMade, IsRelocated}
+use Rattle.linker_laws.specs.LoongArchRewriteLaws.{IsRewritten, LoadsEntry, no_register, pair}
+use Rattle.linker_rewriting.specs.Groups.{loongarch_scope_in}
+use Rattle.linker_runs.specs.LoongArchSites.{IsCall36At, IsPcalaAt, destination}
 use Rattle.linker_section.specs.declared.needed.EntryClass.TheVariants.{ThreadOffset}
-use Rattle.linker_utils.specs.LoongArchRewrites.{rd_of}
+use Rattle.linker_utils.specs.LoongArchRewrites.{IsAddTp, IsLd, IsLu12i, rd_of, rj_of, signed_12}
+use Rattle.linker_utils.specs.LoongArchRewrites.{tp, word_at}
+use Rattle.linker_elf.specs.declared.loongarch64.relocations.LoongArch64Relocation.TheVariants as names
 use Rattle.linker_utils.specs.declared.architecture.Relaxation.TheVariants as relaxations
 use Rattle.linker_utils.specs.declared.loongarch64.rewrites.RewriteKind.TheVariants as kinds
+use Rattle.linker_final.specs.Packed as shorter
+use Rattle.linker_laws.specs.LoongArchMachine as machine
+use Rattle.linker_elf.specs.declared.elf.architecture.Architecture.TheVariants as architectures
 
 -- ---- what is rewritten
 
@@ -242,3 +254,172 @@ abbrev pub RelocationsAreLeft : Type 0
 RelocationsAreLeft =
     (l : Linked) → AreRewritten l → l.context.architecture ≡ LoongArch64 → (g : Rewrites l)
     → IsLeft (law_at l g).left l g.i
+
+-- ---- a section that was packed (psABI, linker relaxation)
+
+-- the words of n bytes of a site: one instruction, or both
+abbrev pub words_in : ℕ → List ℕ → List ℕ
+words_in kept bytes = if kept == 8 then pair bytes (drop 4 bytes) else word_of bytes ∷ []
+
+-- the final words of a site
+abbrev pub site_words : Packed → site → List ℕ
+site_words p here = words_in (site_len p here) (site_bytes p here)
+
+-- ---- calls
+
+-- From states that are alike, each before its own call, the object's `pcaddu18i` and `jirl` with
+-- the value of their relocation and the final call, `b`, `bl` or both, go to the target of their
+-- layout.
+abbrev pub CallsTheSame : Type 0
+CallsTheSame =
+    (p : Packed) → IsPacked p → p.machine ≡ loongarch64 → (i : ℕ) (here : site) → IsSiteOf p i here
+    → let o = site_offset p here in
+    IsCall36At p.section.bytes o
+    → (x : Operands) → AreAddresses x → (original : List ℕ)
+    → Relocated (loongarch_row names.R_LARCH_CALL36) x (drop o p.section.bytes) original
+    → (s t : machine.State) → s.pc ≡ x.place → t.pc ≡ site_place p here → AreAlikeBut no_register s t
+    → EndSo (pair original (drop 4 original)) s (site_words p here) t
+    (HaveCalled (destination p.section.bytes o) (rd_of (word_at p.section.bytes o))
+    (sum_64 x.place 8) (site_after p here) (plt_address x) (site_target p here))
+
+-- ---- addresses
+
+-- Each run has made the address of its layout.
+abbrev pub HaveMadeAddress : Packed → site → Operands → machine.State → machine.State → Type 0
+HaveMadeAddress p here x =
+    HaveMade (destination p.section.bytes (site_offset p here)) (symbol_address x)
+    (site_target p here) (sum_64 x.place 8) (site_after p here)
+
+-- From states that are alike, each before its own instructions, words end so: the object's
+-- `pcalau12i` and `addi.d` at an offset, with the values of their relocations, and final ones.
+abbrev pub SumsEnd : Packed → ℕ → ℕ → List ℕ → (Operands → machine.State → machine.State → Type 0) → Type 0
+SumsEnd p o at final P =
+    (x : Operands) → AreAddresses x → (pcala addi : List ℕ) → Fits32 names.R_LARCH_PCALA_HI20 x
+    → IsRelocated names.R_LARCH_PCALA_HI20 x (take 4 (drop o p.section.bytes)) pcala
+    → IsRelocated names.R_LARCH_PCALA_LO12 (following 4 x)
+    (take 4 (drop (o + 4) p.section.bytes)) addi
+    → (s t : machine.State) → s.pc ≡ x.place → t.pc ≡ at → AreAlikeBut no_register s t
+    → EndSo (pair pcala addi) s final t (P x)
+
+-- The same where the object had an `ld.d` of a GOT entry, which holds the address of the symbol,
+-- and `LdToAddi` has made the `addi.d` of it.
+abbrev pub LoadsEnd : Packed → ℕ → ℕ → List ℕ → (Operands → machine.State → machine.State → Type 0) → Type 0
+LoadsEnd p o at final P =
+    (x : Operands) → AreAddresses x → (ld pcala_of_entry ld_of_entry : List ℕ)
+    → IsLd (word_of ld)
+    → IsRewritten kinds.LdToAddi ld (take 4 (drop (o + 4) p.section.bytes))
+    → LoadsEntry names.R_LARCH_GOT_PC_HI20 names.R_LARCH_GOT_PC_LO12 x
+    (take 4 (drop o p.section.bytes)) ld pcala_of_entry ld_of_entry
+    → (s t : machine.State) → loaded 8 s.memory (entry_and_addend x) ≡ symbol_address x
+    → s.pc ≡ x.place → t.pc ≡ at → AreAlikeBut no_register s t
+    → EndSo (pair pcala_of_entry ld_of_entry) s final t (P x)
+
+abbrev pub EachPcala : (Packed → ℕ → site → Type 0) → Type 0
+EachPcala Holds =
+    (p : Packed) → IsPacked p → p.machine ≡ loongarch64 → (i : ℕ) (here : site) → IsSiteOf p i here
+    → let o = site_offset p here in IsPcalaAt p.section.bytes o → Holds p o here
+
+-- The final `pcaddi`, or both instructions, make the address that the object's make.
+abbrev pub AddressesAreMade : Type 0
+AddressesAreMade =
+    EachPcala (λ p o here.
+    SumsEnd p o (site_place p here) (site_words p here) (HaveMadeAddress p here))
+
+abbrev pub LoadedAddressesAreMade : Type 0
+LoadedAddressesAreMade =
+    EachPcala (λ p o here.
+    LoadsEnd p o (site_place p here) (site_words p here) (HaveMadeAddress p here))
+
+-- ---- what stays
+
+-- The relocation at an index has a name, and is of n bytes that stay.
+pub record StaysAs (p : Packed) (i : ℕ) (name : LoongArch64Relocation) (len : ℕ) : Type 0 where
+  pub within : i < shorter.count p
+  pub is_name : IsNameOf loongarch_name (relocation_in p.relocations_after i).r_type name
+  pub stays : StayTogether p (offset_at p.relocations i) len
+
+-- what its formula takes
+abbrev pub operands_at : Packed → ℕ → RowInfo → Symbol → Operands
+operands_at p i row symbol =
+    operands_with architectures.LoongArch64 p.addresses row symbol
+    (relocation_in p.relocations_after i) 0
+
+-- A call at which nothing changes goes in the final section where the formula of its relocation
+-- says.
+abbrev pub LongCallsStay : Type 0
+LongCallsStay =
+    IsSomeAnd (loongarch_row names.R_LARCH_CALL36) (λ row.
+    (p : Packed) → IsPacked p → p.machine ≡ loongarch64 → (i : ℕ)
+    → StaysAs p i names.R_LARCH_CALL36 8 → let o = offset_at p.relocations i in
+    IsCall36At p.section.bytes o
+    → (symbol : Symbol)
+    → slice_get p.symbols (relocation_in p.relocations_after i).symbol ≡ Some symbol
+    → let y = operands_at p i row symbol in AreAddresses y
+    → (x : Operands) → AreAddresses x → (original : List ℕ)
+    → Relocated (loongarch_row names.R_LARCH_CALL36) x (drop o p.section.bytes) original
+    → (s t : machine.State) → s.pc ≡ x.place → t.pc ≡ y.place → AreAlikeBut no_register s t
+    → let final = take 8 (drop (place_of p o) p.final) in
+    EndSo (pair original (drop 4 original)) s (pair final (drop 4 final)) t
+    (HaveCalled (destination p.section.bytes o) (rd_of (word_at p.section.bytes o))
+    (sum_64 x.place 8) (sum_64 y.place 8) (plt_address x) (plt_address y)))
+
+-- `pcalau12i` and `addi.d` next to each other stay, whose relocations are of one symbol and addend.
+pub record IsPairOf (p : Packed) (i j : ℕ) : Type 0 where
+  pub high : StaysAs p i names.R_LARCH_PCALA_HI20 4
+  pub low : StaysAs p j names.R_LARCH_PCALA_LO12 4
+  pub next : offset_at p.relocations j ≡ offset_at p.relocations i + 4
+  pub same_symbol : (relocation_in p.relocations_after j).symbol
+      ≡ (relocation_in p.relocations_after i).symbol
+  pub same_addend : (relocation_in p.relocations_after j).addend
+      ≡ (relocation_in p.relocations_after i).addend
+  pub pair : IsPcalaAt p.section.bytes (offset_at p.relocations i)
+
+abbrev pub EachLongPair : (Packed → ℕ → Operands → Type 0) → Type 0
+EachLongPair Holds =
+    IsSomeAnd (loongarch_row names.R_LARCH_PCALA_HI20) (λ row.
+    (p : Packed) → IsPacked p → p.machine ≡ loongarch64 → (i j : ℕ) → IsPairOf p i j
+    → let o = offset_at p.relocations i in
+    (symbol : Symbol)
+    → slice_get p.symbols (relocation_in p.relocations_after i).symbol ≡ Some symbol
+    → let y = operands_at p i row symbol in
+    AreAddresses y → Fits32 names.R_LARCH_PCALA_HI20 y → Holds p o y)
+
+-- the final pair
+abbrev pub final_pair : Packed → ℕ → List ℕ
+final_pair p o =
+    let at = place_of p o in pair (take 4 (drop at p.final)) (take 4 (drop (at + 4) p.final))
+
+-- Each run has made the address of its layout by then.
+abbrev pub PairMakes : Packed → ℕ → Operands → Operands → machine.State → machine.State → Type 0
+PairMakes p o y x =
+    HaveMade (destination p.section.bytes o) (symbol_address x) (symbol_address y)
+    (sum_64 x.place 8) (sum_64 y.place 8)
+
+abbrev pub LongAddressesStay : Type 0
+LongAddressesStay = EachLongPair (λ p o y. SumsEnd p o y.place (final_pair p o) (PairMakes p o y))
+
+abbrev pub LongLoadedAddressesStay : Type 0
+LongLoadedAddressesStay =
+    EachLongPair (λ p o y. LoadsEnd p o y.place (final_pair p o) (PairMakes p o y))
+
+-- ---- deleted instructions (thread-local storage)
+
+-- A `lu12i.w` of an offset from the thread pointer of 12 bits is a group, of which new has nothing.
+abbrev pub HighPartIsLeftOut : Type 0
+HighPartIsLeftOut =
+    (p : Packed) → IsPacked p → p.machine ≡ loongarch64 → (o : ℕ) → shorter.AreDeleted p o 4
+    → let lu12i = take 4 (drop o p.section.bytes) in
+    IsLu12i (word_of lu12i) → (x : Operands) → AreAddresses x
+    → RowIsWithin (loongarch_row names.R_LARCH_TLS_LE_LO12_R) signed_12 x
+    → (c : Code) (k : Kinds) (s : State) → IsBefore p o c.moved s.pc → s.pc ≡ x.place
+    → Has c.old names.R_LARCH_TLS_LE_HI20_R x lu12i → IsLeftOut c k s (rd_of (word_of lu12i)) 0
+
+-- So is an `add.d` of the thread pointer to a register with 0.
+abbrev pub SumIsLeftOut : Type 0
+SumIsLeftOut =
+    (p : Packed) → IsPacked p → p.machine ≡ loongarch64 → (o : ℕ) → shorter.AreDeleted p o 4
+    → let add = word_at p.section.bytes o in
+    IsAddTp add → (c : Code) (k : Kinds) (s : State) → IsBefore p o c.moved s.pc
+    → register s (rj_of add) ≡ 0 → s.registers tp < 2 ^ 64
+    → Stands c.old s.pc (drop o p.section.bytes)
+    → IsLeftOut c k s (rd_of add) (s.registers tp)

@@ -1,28 +1,46 @@
 -- Sections that get shorter between their rewrites and their values: a section of a relaxed run is
 -- packed, and then its values are written. What its final bytes are of the section before.
-use Rattle.std.specs.Prelude.{◌≡◌, ◌≢◌, ℕ, ◌+◌, ◌-◌, ◌/◌, ◌^◌, ◌<◌, ◌≤◌, List, length}
-use Rattle.std.specs.Prelude.{take, drop, slice_index, IsTrue, Ok, Some, true, false, ℤ}
+use Rattle.std.specs.Prelude.{◌≡◌, ◌≢◌, ℕ, ◌+◌, ◌-◌, ◌/◌, ◌^◌, ◌<◌, ◌≤◌, List, length, take, drop}
+use Rattle.std.specs.Prelude.{slice_index, IsTrue, Ok, Some, true, false, ℤ, ◌⊎◌, ◌%◌, MatchOption}
+use Rattle.std.specs.Prelude.{None, pos, ◌+ℤ◌, ◌*ℤ◌, slice_get, IsSomeAnd, Option, Bool}
+use Rattle.linker_final.specs.Imports.{Addresses, Architecture, AreAddresses, AreItems, AreMoved}
+use Rattle.linker_final.specs.Imports.{AreWritten, BType, CbType, CjType, IsApplied, IsFirstFault}
+use Rattle.linker_final.specs.Imports.{IsMoved, IsPackedRun, IsRelaxation, IsRow, Item, JType}
+use Rattle.linker_final.specs.Imports.{LoongArch64, LoongArch64Relocation, Operands}
+use Rattle.linker_final.specs.Imports.{RiscVInstruction, RiscVRelocation, RowInfo, Site as site}
+use Rattle.linker_final.specs.Imports.{Symbol, deletions_of_run, loongarch_row, number_at}
+use Rattle.linker_final.specs.Imports.{offset_at, operands_with, plt_address, relocation_in}
+use Rattle.linker_final.specs.Imports.{riscv_form, riscv_row, section_of, sum_64, symbol_address}
+use Rattle.linker_final.specs.Imports.{value_of, window_len}
 use Rattle.linker_base.specs.Deletions.{is_kept}
 use Rattle.linker_base.specs.declared.bit_misc.BitRange.{BitRange}
-use Rattle.linker_elf.specs.Applied.{IsApplied}
-use Rattle.linker_final.specs.Imports.{window_len, sum_64, value_of, RowInfo, Operands, AreMoved}
-use Rattle.linker_final.specs.Imports.{packed_offset, address_of, kept_len, IsPackedRun, item_at}
-use Rattle.linker_final.specs.Imports.{Machine, LoongArch64, Alignment, Item, Aligned}
-use Rattle.linker_final.specs.Imports.{relocation_in, offset_at, AreWritten, Addresses, Symbol}
-use Rattle.linker_final.specs.Imports.{IsRow, Architecture, IsMoved, Section, is_fixed, nops}
-use Rattle.linker_final.specs.Imports.{IsFirstRejected, IsInside, IsNotIn, len_of, offset_of, Site}
-use Rattle.linker_final.specs.Imports.{IsFirstFault}
+use Rattle.linker_elf.specs.LoongArch.{loongarch_form}
 use Rattle.linker_elf.specs.declared.elf.AnyForm.{AnyForm}
 use Rattle.linker_elf.specs.declared.elf.RowSize.TheVariants.{BitMasking}
-use Rattle.linker_final.specs.Final.{AreBytes}
+use Rattle.linker_elf.specs.declared.loongarch64.forms.LoongArch64Instruction.{LoongArch64Instruction}
+use Rattle.linker_elf.specs.declared.loongarch64.forms.LoongArch64Instruction.TheVariants.{Branch21}
+use Rattle.linker_elf.specs.declared.loongarch64.forms.LoongArch64Instruction.TheVariants.{Branch26}
+use Rattle.linker_elf.specs.declared.loongarch64.forms.LoongArch64Instruction.TheVariants.{Shift10}
+use Rattle.linker_elf.specs.declared.loongarch64.forms.LoongArch64Instruction.TheVariants.{Shift5}
+use Rattle.linker_final.specs.Final.{AreBytes, ArePhases, HasRewritten, Linked, instruction_at}
 use Rattle.linker_final.specs.declared.packed.PackError.{PackError}
 use Rattle.linker_final.specs.declared.packed.PackError.TheVariants.{Misplaced, Packing, Writing}
+use Rattle.linker_final.specs.declared.packed.RunSection.{RunSection}
+use Rattle.linker_laws.specs.Schemes.{IsAddress}
 use Rattle.linker_runs.specs.Origins.{HasItsInstructions}
-use Rattle.linker_runs.specs.declared.relaxation.Site.{Site as site}
+use Rattle.linker_runs.specs.Packing.{IsFirstRejected, IsInside, IsNotIn, Section, address_of}
+use Rattle.linker_runs.specs.Packing.{is_fixed, kept_len, nops, packed_offset}
+use Rattle.linker_runs.specs.Relaxing.{end_of, item_at, items_in, len_of, offset_of}
+use Rattle.linker_runs.specs.declared.packing.Machine.{Machine}
+use Rattle.linker_runs.specs.declared.packing.Machine.TheVariants.{RiscV}
+use Rattle.linker_runs.specs.declared.relaxation.Alignment.{Alignment}
+use Rattle.linker_runs.specs.declared.relaxation.Item.TheVariants.{Aligned, Site}
 use Rattle.linker_section.specs.Sections.{IsInNoField}
 use Rattle.linker_section.specs.Values.{has_value, names_label, operands_of}
 use Rattle.linker_runs.specs.declared.packing.Machine.TheVariants as machines
 use Rattle.linker_elf.specs.declared.elf.architecture.Architecture.TheVariants as architectures
+use Rattle.linker_elf.specs.declared.loongarch64.relocations.LoongArch64Relocation.TheVariants as loongarch_names
+use Rattle.linker_elf.specs.declared.riscv64.relocations.RiscVRelocation.TheVariants as riscv_names
 
 -- What is passed to `pack_run` and then to `relocate_section`, and what they leave.
 pub record Packed : Type 0 where
@@ -253,3 +271,191 @@ InstructionsAreRelocated =
     StayTogether p o (window_len row)
     → IsApplied row operands (take (window_len row) (drop o p.section.bytes))
     (take (window_len row) (drop (place_of p o) p.final))
+
+-- ---- sections that are rewritten, in one phase or in several, and then packed
+
+-- All calls succeeded, and the one that packs took what the last phase left.
+pub record IsRewrittenAndPacked (l : Linked) (p : Packed) : Type 0 where
+  pub first : HasRewritten l.phase
+  pub open first use *
+  pub later : ArePhases l.later l.relocations_after l.rewritten l.relocations_last l.last
+  pub packed : IsPacked p
+  pub architecture : l.context.architecture ≡ architecture_of p.machine
+  pub bytes : p.section.bytes ≡ l.last
+  pub relocations_are : p.relocations ≡ l.relocations_last
+
+-- The instruction of the relocation at an index stays as it was rewritten, and its relocation is
+-- written.
+pub record IsKeptInstruction (p : Packed) (i : ℕ) : Type 0 where
+  pub bytes : StayTogether p (offset_at p.relocations i) 4
+  pub r_type : (relocation_in p.relocations_after i).r_type ≡ (relocation_in p.relocations i).r_type
+
+-- the final bytes of an instruction at an offset of the section before
+abbrev pub final_instruction : Packed → ℕ → List ℕ
+final_instruction p o = instruction_at p.final (place_of p o)
+
+-- ---- sections that are packed with what `relax` returned of their run
+
+-- What `relax` was passed and returned.
+pub record Run : Type 0 where
+  pub items : List Item
+  pub shapes : List ℕ
+  pub kept : List ℕ
+  pub freed : List ℕ
+
+-- The run was relaxed where it begins, as the contract of `relax` requires and ensures, and the
+-- section is packed with what the run loses then.
+pub record IsOfRun (p : Packed) (run : Run) : Type 0 where
+  pub accepted : AreItems p.section.start run.items
+  pub relaxed : IsRelaxation p.section.start run.items run.shapes run.kept run.freed
+  pub lost : p.section.deletions ≡ deletions_of_run run.items run.kept
+
+-- ---- alignments
+
+-- N bytes from an address on lead to a multiple of a number, and no fewer do.
+pub record IsAligned (power address padding : ℕ) : Type 0 where
+  pub multiple : (address + padding) % power ≡ 0
+  pub least : (n : ℕ) → n < padding → (address + n) % power ≢ 0
+
+-- There are none, since more than a limit would be needed.
+pub record IsSkipped (power address padding most : ℕ) : Type 0 where
+  pub none : padding ≡ 0
+  pub far : (n : ℕ) → n ≤ most → (address + n) % power ≢ 0
+
+-- N bytes of padding from an address on are what an alignment requires there. One with a
+-- limit has at most as many, or none.
+abbrev pub AlignmentHolds : Alignment → ℕ → ℕ → Type 0
+AlignmentHolds alignment address padding =
+    MatchOption alignment.max_skip (IsAligned alignment.alignment address padding)
+    (λ most. (IsAligned alignment.alignment address padding × (padding ≤ most))
+    ⊎ IsSkipped alignment.alignment address padding most)
+
+-- ---- in the final section
+
+-- the address where the first nop of an alignment goes, how many bytes of them stay, and the
+-- address where the code after them goes
+abbrev pub padding_at : Packed → Alignment → ℕ
+padding_at p alignment = address_of p.section alignment.offset
+
+abbrev pub padding_len : Packed → Alignment → ℕ
+padding_len p alignment = kept_len p.section.deletions (Aligned alignment)
+
+abbrev pub code_at : Packed → Alignment → ℕ
+code_at p alignment = address_of p.section (end_of (Aligned alignment))
+
+-- the indexes of both in the final section
+abbrev pub padding_index : Packed → Alignment → ℕ
+padding_index p alignment = packed_offset p.section alignment.offset
+
+abbrev pub code_index : Packed → Alignment → ℕ
+code_index p alignment = packed_offset p.section (end_of (Aligned alignment))
+
+-- The code after an alignment is of the section, or begins where the section ends. That of an
+-- alignment between two sections begins where the second one does.
+pub record LeadsInto (p : Packed) (alignment : Alignment) : Type 0 where
+  pub lower : p.section.base ≤ end_of (Aligned alignment)
+  pub upper : end_of (Aligned alignment) ≤ p.section.base + length p.section.bytes
+
+-- An alignment has the padding that it requires where that goes. The code after it goes next to
+-- that, and is in the final section at this address.
+pub record HoldsIn (p : Packed) (alignment : Alignment) : Type 0 where
+  pub holds : AlignmentHolds alignment (padding_at p alignment) (padding_len p alignment)
+  pub next : code_at p alignment ≡ padding_at p alignment + padding_len p alignment
+  pub inside : LeadsInto p alignment → code_index p alignment ≤ length p.final
+  pub there : LeadsInto p alignment
+      → sum_64 p.addresses.section (code_index p alignment) ≡ code_at p alignment
+  pub next_there : p.section.base ≤ alignment.offset
+      → code_index p alignment ≡ padding_index p alignment + padding_len p alignment
+
+-- Each alignment of the run holds in the final section: the code after it is at a multiple of the
+-- alignment, and its padding is the least that leads there, or none where the limit is passed. It
+-- may be one of the items that `pack_run` was passed, whose padding is nops (`PaddingIsNops`). One
+-- that loses no bytes may be left out there.
+abbrev pub AlignmentsHold : Type 0
+AlignmentsHold =
+    (p : Packed) → IsPacked p → (run : Run) → IsOfRun p run → (i : ℕ) (alignment : Alignment)
+    → i < length run.items → item_at run.items i ≡ Aligned alignment → HoldsIn p alignment
+
+-- A section before whose first byte the run has an alignment without a limit is aligned.
+abbrev pub SectionsAreAligned : Type 0
+SectionsAreAligned =
+    (p : Packed) → IsPacked p → (run : Run) → IsOfRun p run → (i : ℕ) (alignment : Alignment)
+    → i < length run.items → item_at run.items i ≡ Aligned alignment → alignment.max_skip ≡ None
+    → end_of (Aligned alignment) ≡ p.section.base
+    → p.addresses.section % alignment.alignment ≡ 0
+
+-- ---- both calls
+
+-- A section as it is packed with what its run loses, and the final bytes.
+abbrev pub packed_of : RunSection → List (ℕ × ℕ) → ℕ → List ℕ → List ℕ → List ℕ → Addresses
+    → List Symbol → List ℕ → Packed
+packed_of s deletions start packed before after addresses symbols final =
+    packed_as s.machine (section_of s.bytes.now s.base deletions start) (items_in s.items.now) packed
+    before after addresses symbols final
+
+-- `relax` of the items, in a run that begins at an address, and then `pack_section` left the final
+-- bytes.
+pub record AreRelaxedAndPacked (s : RunSection) (items : List Item) (start : ℕ)
+    (before after : List ℕ) (addresses : Addresses) (symbols : List Symbol) (final : List ℕ)
+    : Type 0 where
+  pub run : Run
+  pub of_items : run.items ≡ items
+  pub packed : List ℕ
+  pub is_packed : IsPacked (packed_of s (deletions_of_run run.items run.kept) start packed before
+      after addresses symbols final)
+  pub of_run : IsOfRun (packed_of s (deletions_of_run run.items run.kept) start packed before after
+      addresses symbols final) run
+
+-- The relocation at an index, whose place is in the section, has a row where it is written.
+pub record IsOfRow (p : Packed) (i : ℕ) (row : RowInfo) : Type 0 where
+  pub within : i < count p
+  pub inside : offset_at p.relocations i ≤ length p.section.bytes
+  pub is_row : IsRow (architecture_of p.machine) (relocation_in p.relocations_after i).r_type
+      (Some row)
+
+-- the number of the instruction's final bytes
+abbrev pub final_number : Packed → ℕ → RowInfo → ℕ
+final_number p i row =
+    number_at row.size
+    (take (window_len row) (drop (place_of p (offset_at p.relocations i)) p.final))
+
+-- What the machine reads of a final branch, in units of n bytes, and adds to the address
+-- where the branch goes, leads to the target of its relocation's formula.
+abbrev pub Goes : Machine → Option RowInfo → (ℕ → ℤ) → ℕ → (Operands → ℕ) → Type 0
+Goes machine row reads unit target =
+    IsSomeAnd row (λ row.
+    (p : Packed) → IsPacked p → p.machine ≡ machine → (i : ℕ) → IsOfRow p i row
+    → (symbol : Symbol)
+    → slice_get p.symbols (relocation_in p.relocations_after i).symbol ≡ Some symbol
+    → let y = operands_with (architecture_of machine) p.addresses row symbol
+    (relocation_in p.relocations_after i) 0 in
+    AreAddresses y
+    → IsAddress
+    (pos (address_at p (offset_at p.relocations i))
+    +ℤ (reads (final_number p i row) *ℤ pos unit)) (target y))
+
+-- RISC-V (RISC-V unprivileged ISA, "JAL", "Conditional Branches", "Control Transfer Instructions")
+abbrev pub RiscVGoes : RiscVRelocation → RiscVInstruction → Type 0
+RiscVGoes name f =
+    (is_32 : Bool)
+    → Goes (RiscV is_32) (riscv_row name) (riscv_form f).machine 1 symbol_address
+
+-- each jump and branch of RISC-V that has a relocation, but for calls by two instructions
+abbrev pub RiscVBranchesGo : Type 0
+RiscVBranchesGo =
+    RiscVGoes riscv_names.R_RISCV_JAL JType × RiscVGoes riscv_names.R_RISCV_BRANCH BType
+    × RiscVGoes riscv_names.R_RISCV_RVC_JUMP CjType
+    × RiscVGoes riscv_names.R_RISCV_RVC_BRANCH CbType
+
+-- LoongArch (LoongArch Reference Manual, volume 1, "B", "BEQZ", "BEQ", "PCADDI")
+abbrev pub LoongArchGoes : LoongArch64Relocation → LoongArch64Instruction → (Operands → ℕ) → Type 0
+LoongArchGoes name f = Goes LoongArch64 (loongarch_row name) (loongarch_form f).machine 4
+
+-- Each branch of LoongArch that has a relocation, but for calls by two instructions. `pcaddi`
+-- computes the target.
+abbrev pub LoongArchBranchesGo : Type 0
+LoongArchBranchesGo =
+    LoongArchGoes loongarch_names.R_LARCH_B16 Shift10 symbol_address
+    × LoongArchGoes loongarch_names.R_LARCH_B21 Branch21 symbol_address
+    × LoongArchGoes loongarch_names.R_LARCH_B26 Branch26 plt_address
+    × LoongArchGoes loongarch_names.R_LARCH_PCREL20_S2 Shift5 symbol_address

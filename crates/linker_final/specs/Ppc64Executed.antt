@@ -1,16 +1,16 @@
 -- PowerPC64: the instructions of `linker_laws`, and those of stubs of `linker_output`, compared
 -- with an emulator. Registers 32 to 63 are those of floating-point numbers, 64 is the link
 -- register, and 65 the count register.
-use Rattle.std.specs.Prelude.{ℕ, ◌+◌, ◌-◌, ◌*◌, ◌/◌, ◌^◌, ◌==◌, nat_lt, if◌then◌else◌}
-use Rattle.std.specs.Prelude.{Bool, false, Option, Some, None}
+use Rattle.std.specs.Prelude.{ℕ, ◌+◌, ◌-◌, ◌*◌, ◌/◌, ◌^◌, ◌==◌, nat_lt, if◌then◌else◌, Bool, false}
+use Rattle.std.specs.Prelude.{Option, Some, None}
 use Rattle.std.specs.Int.{w64, leading_zeros}
-use Rattle.linker_final.specs.Imports.{field, Counted, lifted}
+use Rattle.linker_final.specs.Imports.{Counted, field, lifted}
+use Rattle.linker_final.specs.Ppc64Steps.{ppc64_groups}
+use Rattle.linker_final.specs.Steps.{AllPass, Executed, Group, Numbers, at, bytes_from, is_left}
+use Rattle.linker_final.specs.Steps.{made_low, memory_in, pc}
 use Rattle.linker_laws.specs.Ppc64Machine.{Formats, step_prefixed}
 use Rattle.linker_output.specs.Ppc64LazyPlt.{step}
 use Rattle.linker_output.specs.Ppc64Saves as saves
-use Rattle.linker_final.specs.Steps.{AllPass, Executed, Group, Numbers, at, pc, made_low}
-use Rattle.linker_final.specs.Steps.{memory_in, bytes_from, is_left}
-use Rattle.linker_final.specs.Ppc64Steps.{ppc64_groups}
 
 -- ---- single and double precision
 

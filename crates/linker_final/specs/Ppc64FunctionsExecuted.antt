@@ -2,18 +2,18 @@
 -- first instruction until they have returned. Registers are as in `Ppc64VectorsExecuted`.
 use Rattle.std.specs.Prelude.{ℕ, ◌≡◌, ◌+◌, ◌*◌, ◌==◌, ◌&&◌, length, Bool, true, false, slice_get}
 use Rattle.std.specs.Prelude.{List, [], ◌∷◌, Option, Some, None, IsSomeAnd}
-use Rattle.linker_final.specs.Imports.{sum_64, Counted, Vectored, Memory, run_vectored, vector_code}
+use Rattle.linker_final.specs.Imports.{Counted, Memory, Vectored, run_vectored, sum_64, vector_code}
+use Rattle.linker_final.specs.Ppc64Executed.{formats, register}
+use Rattle.linker_final.specs.Ppc64Steps.{ppc64_restfpr, ppc64_restgpr0, ppc64_restgpr1}
+use Rattle.linker_final.specs.Ppc64Steps.{ppc64_restvr, ppc64_savefpr, ppc64_savegpr0}
+use Rattle.linker_final.specs.Ppc64Steps.{ppc64_savegpr1, ppc64_savevr}
+use Rattle.linker_final.specs.Ppc64VectorsExecuted.{are_vectors_left, numbers, with_vectors}
+use Rattle.linker_final.specs.Steps.{Executed, Functions, Numbers, after, all_below, are_bytes, at}
+use Rattle.linker_final.specs.Steps.{bytes_of, listed_or, memory_from, pc}
 use Rattle.linker_output.specs.Layout.{Run}
 use Rattle.linker_output.specs.Ppc64Output.{ppc64_output}
 use Rattle.linker_output.specs.Ppc64Saves.{code_for}
-use Rattle.linker_final.specs.Ppc64Executed.{formats, register}
 use Rattle.linker_final.specs.Ppc64Executed as ordinary
-use Rattle.linker_final.specs.Ppc64VectorsExecuted.{are_vectors_left, numbers, with_vectors}
-use Rattle.linker_final.specs.Steps.{Executed, Functions, Numbers, at, pc, after, listed_or}
-use Rattle.linker_final.specs.Steps.{memory_from, bytes_of, all_below, are_bytes}
-use Rattle.linker_final.specs.Ppc64Steps.{ppc64_savegpr0, ppc64_restgpr0, ppc64_savegpr1}
-use Rattle.linker_final.specs.Ppc64Steps.{ppc64_restgpr1, ppc64_savefpr, ppc64_restfpr}
-use Rattle.linker_final.specs.Ppc64Steps.{ppc64_savevr, ppc64_restvr}
 
 -- Memory has 208 bytes, at places 160 to 185.
 abbrev pub memory_in : Numbers → ℕ

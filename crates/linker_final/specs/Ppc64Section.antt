@@ -1,23 +1,23 @@
 -- PowerPC64: what the rewrites of a section are, and where they begin in a run of old (64-bit ELF
 -- V2 ABI for Power, "TOC Optimizations" and "TLS Linkage Optimizations").
-use Rattle.std.specs.Prelude.{◌≡◌, ◌⊎◌, ℕ, ◌+◌, ◌-◌, ◌*◌, ◌<◌, ◌≤◌, IsSomeAnd}
-use Rattle.std.specs.Prelude.{List, take, drop, get_or, slice_get, Some}
-use Rattle.linker_final.specs.Imports.{IsNameOf, r_type_of, sum_64, Choice, Group, Kinds, State}
-use Rattle.linker_final.specs.Imports.{of_link, decision_at, Decision, Rewritten, Phase}
-use Rattle.linker_final.specs.Imports.{relocation_in, operands_with, Symbol, Relaxation, Ppc64}
+use Rattle.std.specs.Prelude.{◌≡◌, ◌⊎◌, ℕ, ◌+◌, ◌-◌, ◌*◌, ◌<◌, ◌≤◌, IsSomeAnd, List, take, drop}
+use Rattle.std.specs.Prelude.{get_or, slice_get, Some}
+use Rattle.linker_final.specs.Imports.{Choice, Decision, Group, IsNameOf, Kinds, Phase, Ppc64}
+use Rattle.linker_final.specs.Imports.{Relaxation, Rewritten, State, Symbol, decision_at, of_link}
+use Rattle.linker_final.specs.Imports.{operands_with, r_type_of, relocation_in, sum_64}
 use Rattle.linker_elf.specs.Ppc64Relocations.{ppc64_name, ppc64_row}
 use Rattle.linker_elf.specs.declared.ppc64.relocations.Ppc64Relocation.{Ppc64Relocation}
-use Rattle.linker_elf.specs.declared.ppc64.relocations.Ppc64Relocation.TheVariants as names
-use Rattle.linker_final.specs.Final.{AreRewritten, IsLinked, IsRewrittenByNoOther, Linked, count}
-use Rattle.linker_final.specs.Final.{UntouchedBytes, UntouchedByOthers}
-use Rattle.linker_final.specs.SectionRuns.{Rewriting, Section, offset_of}
-use Rattle.linker_laws.specs.Ppc64Groups as groups
+use Rattle.linker_final.specs.Final.{AreRewritten, IsLinked, IsRewrittenByNoOther, Linked}
+use Rattle.linker_final.specs.Final.{Rewriting, Section, UntouchedByOthers, UntouchedBytes, count}
+use Rattle.linker_final.specs.Final.{offset_of}
 use Rattle.linker_laws.specs.Ppc64Groups.{AreGroup, CallTo, Code, Has, LowOverBase, Stands}
 use Rattle.linker_laws.specs.Ppc64Groups.{WordOverBase, link}
 use Rattle.linker_laws.specs.Ppc64RewriteLaws.{from_thread, from_toc}
+use Rattle.linker_utils.specs.declared.ppc64.rewrites.RewriteKind.{RewriteKind}
+use Rattle.linker_elf.specs.declared.ppc64.relocations.Ppc64Relocation.TheVariants as names
+use Rattle.linker_laws.specs.Ppc64Groups as groups
 use Rattle.linker_rewriting.specs.declared.phases.Phase.TheVariants as phases
 use Rattle.linker_utils.specs.declared.architecture.Relaxation.TheVariants as relaxations
-use Rattle.linker_utils.specs.declared.ppc64.rewrites.RewriteKind.{RewriteKind}
 use Rattle.linker_utils.specs.declared.ppc64.rewrites.RewriteKind.TheVariants as kinds
 
 -- ---- what is rewritten

@@ -3,11 +3,11 @@
 use Rattle.std.specs.Prelude.{ℕ, ◌≡◌, ◌+◌, ◌*◌, ◌==◌, ◌&&◌, Bool, true, false, Option, Some, None}
 use Rattle.std.specs.List.{list_all}
 use Rattle.linker_final.specs.Imports.{Counted, Vectored, step_vectored}
-use Rattle.linker_final.specs.Ppc64Executed as ordinary
 use Rattle.linker_final.specs.Ppc64Executed.{formats}
-use Rattle.linker_final.specs.Steps.{Executed, Group, Numbers, all_below, before}
-use Rattle.linker_final.specs.Steps.{listed_or, made_low, noise}
 use Rattle.linker_final.specs.Ppc64Steps.{ppc64_vector_groups}
+use Rattle.linker_final.specs.Steps.{Executed, Group, Numbers, all_below, before, listed_or}
+use Rattle.linker_final.specs.Steps.{made_low, noise}
+use Rattle.linker_final.specs.Ppc64Executed as ordinary
 
 -- ---- vector registers
 

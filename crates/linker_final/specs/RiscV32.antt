@@ -3,27 +3,22 @@
 use Rattle.std.specs.Prelude.{◌≡◌, ◌≢◌, ℕ, ◌<◌, ◌+◌, ◌%◌, ◌^◌, ◌/◌, ℤ, pos, ◌+ℤ◌, ◌*ℤ◌, ⊤, List, []}
 use Rattle.std.specs.Prelude.{◌∷◌, length, Option, Some, Result, Ok, IsSomeAnd}
 use Rattle.std.specs.Int.{w64, cast_unsigned, int_rem_euclid}
-use Rattle.linker_elf.specs.Applied.{IsApplied}
+use Rattle.linker_final.specs.Imports.{Addresses, AreAddresses, BType, CbType, CjType, IsApplied}
+use Rattle.linker_final.specs.Imports.{IsRow, IsValue, JType, Operands, Rela, RiscV}
+use Rattle.linker_final.specs.Imports.{RiscVInstruction, RiscVRelocation, RowInfo, Symbol, UiType}
+use Rattle.linker_final.specs.Imports.{clui_row, entry_and_addend, even, number_at, number_of_bytes}
+use Rattle.linker_final.specs.Imports.{plt_address, relocation_in, riscv_form, riscv_relocation}
+use Rattle.linker_final.specs.Imports.{riscv_row, symbol_address, without_bit_0, zero}
 use Rattle.linker_elf.specs.Elf.{IsWithin}
 use Rattle.linker_elf.specs.Reach.{reach_of, riscv_pair_bounds}
-use Rattle.linker_elf.specs.Relocate.{number_of_bytes}
 use Rattle.linker_elf.specs.Rows.{Bounds}
-use Rattle.linker_elf.specs.declared.riscv64.forms.RiscVInstruction.{RiscVInstruction}
-use Rattle.linker_elf.specs.declared.riscv64.forms.RiscVInstruction.TheVariants.{IType, SType}
-use Rattle.linker_elf.specs.declared.riscv64.forms.RiscVInstruction.TheVariants.{UType, CluiType}
-use Rattle.linker_elf.specs.RiscVRelocations.{clui_row, riscv_relocation}
-use Rattle.linker_elf.specs.declared.riscv64.relocations.RiscVRelocation.TheVariants as names
-use Rattle.linker_final.specs.Imports.{IsRow, riscv_row, riscv_form, RowInfo, RiscV}
-use Rattle.linker_final.specs.Imports.{Operands, BType, CbType, CjType, JType, UiType}
-use Rattle.linker_final.specs.Imports.{RiscVRelocation, AreAddresses, entry_and_addend, plt_address}
-use Rattle.linker_final.specs.Imports.{symbol_address, relocation_in, Addresses, Symbol, Rela}
-use Rattle.linker_laws.specs.RiscVRelocationLaws.{upper_and_low, low_load, low_store, of_entry}
-use Rattle.linker_laws.specs.RiscVRelocationLaws.{without_bit_0, even}
-use Rattle.linker_laws.specs.Schemes.{Step, Computed, PremiseHolds, here, number_at, zero, place}
-use Rattle.linker_laws.specs.Schemes.{tls_base}
+use Rattle.linker_elf.specs.declared.riscv64.forms.RiscVInstruction.TheVariants.{CluiType, IType}
+use Rattle.linker_elf.specs.declared.riscv64.forms.RiscVInstruction.TheVariants.{SType, UType}
+use Rattle.linker_laws.specs.RiscVRelocationLaws.{low_load, low_store, of_entry, upper_and_low}
+use Rattle.linker_laws.specs.Schemes.{Computed, PremiseHolds, Step, here, place, tls_base}
 use Rattle.linker_section.specs.RiscV32.{AreWrapped}
-use Rattle.linker_section.specs.Values.{IsValue}
 use Rattle.linker_section.specs.declared.values.ValueError.{ValueError}
+use Rattle.linker_elf.specs.declared.riscv64.relocations.RiscVRelocation.TheVariants as names
 
 -- two numbers of 64 bits are the same modulo 2^32
 abbrev pub IsSame32 : ℤ → ℤ → Type 0

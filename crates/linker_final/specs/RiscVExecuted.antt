@@ -1,14 +1,14 @@
 -- RISC-V: the instructions of `linker_laws`, and those of lazy PLTs in `linker_output`,
 -- compared with an emulator. Registers 32 to 63 are those of floating-point numbers, which
 -- have 64 bits in the emulator.
-use Rattle.std.specs.Prelude.{ℕ, ◌+◌, ◌-◌, ◌%◌, ◌^◌, ◌==◌, nat_lt, if◌then◌else◌, List, take}
-use Rattle.std.specs.Prelude.{Bool, false, Option, Some, None}
+use Rattle.std.specs.Prelude.{ℕ, ◌+◌, ◌-◌, ◌%◌, ◌^◌, ◌==◌, nat_lt, if◌then◌else◌, List, take, Bool}
+use Rattle.std.specs.Prelude.{false, Option, Some, None}
 use Rattle.std.specs.Int.{w32, to_le_bytes}
-use Rattle.linker_laws.specs.RiscVMachine.{Hart, register, step}
-use Rattle.linker_output.specs.RiscVLazyPlt.{further}
-use Rattle.linker_final.specs.Steps.{AllPass, Executed, Group, Numbers, at, pc, made_high}
-use Rattle.linker_final.specs.Steps.{memory_in, bytes_from, is_left}
+use Rattle.linker_final.specs.Imports.{Hart, register, step}
 use Rattle.linker_final.specs.RiscVSteps.{riscv_groups}
+use Rattle.linker_final.specs.Steps.{AllPass, Executed, Group, Numbers, at, bytes_from, is_left}
+use Rattle.linker_final.specs.Steps.{made_high, memory_in, pc}
+use Rattle.linker_output.specs.RiscVLazyPlt.{further}
 
 -- Register 0 is 0.
 abbrev pub made : ℕ → Numbers

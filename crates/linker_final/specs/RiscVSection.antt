@@ -1,26 +1,234 @@
--- RISC-V: what the rewrites of a section are, and where they begin in a run of old.
-use Rattle.std.specs.Prelude.{◌≡◌, ◌≢◌, ℕ, ◌+◌, ◌<◌, IsSomeAnd, List, Option, Some, slice_get}
-use Rattle.linker_final.specs.Imports.{IsNameOf, riscv_name, riscv_row, difference_64, sum_64}
-use Rattle.linker_final.specs.Imports.{value_of, RowInfo, RiscV, Choice, Operands}
-use Rattle.linker_final.specs.Imports.{RiscVRelocation, Code, Has, Stands, link, Action, IsLow12}
-use Rattle.linker_final.specs.Imports.{IsLowOffset, action_at, offset_row, AreAddresses, Group}
-use Rattle.linker_final.specs.Imports.{Kinds, State, of_link, decision_at, Decision, Kept}
-use Rattle.linker_final.specs.Imports.{Rewritten, RewrittenWithSymbol, Subject, NotRelaxable}
-use Rattle.linker_final.specs.Imports.{relocation_in, operands_with, Addresses, Symbol}
-use Rattle.linker_final.specs.Imports.{Relaxation, riscv_scope_in, Grouped}
-use Rattle.linker_elf.specs.declared.riscv64.relocations.RiscVRelocation.TheVariants as names
-use Rattle.linker_final.specs.Final.{AreRewritten, IsLinked, Linked, count, instruction_at}
-use Rattle.linker_final.specs.Final.{IsRewrittenByNoOther, IsWrittenByNoOther, UntouchedInstruction}
-use Rattle.linker_final.specs.Joined.{IsKeptInstruction, IsRewrittenAndPacked, final_instruction}
-use Rattle.linker_final.specs.Packed.{IsUnwritten, Packed, StayTogether, architecture_of, place_of}
-use Rattle.linker_final.specs.RiscVFinal.{IsRewrittenOf}
-use Rattle.linker_final.specs.RiscVFinal.{AddressIsAlike, AreOfPair, IsOfDescriptor, LowPartIsAlike}
-use Rattle.linker_final.specs.RiscVFinal.{HighPartGoes, IsAddiOfLoad, IsLuiOfLoad, OffsetIsAlike}
-use Rattle.linker_final.specs.RiscVFinal.{IsDeleted, IsNop, LoadIsAlike, SumGoes, named_as}
-use Rattle.linker_final.specs.SectionRuns.{IsBesideAll, Rewriting, Section, offset_of}
+-- RISC-V: what the rewrites of a section are, and where they begin in a run of old: old has the
+-- object's instructions, with the values of their relocations, and new what became of them (RISC-V
+-- ELF psABI, "PC-Relative Symbol Addresses", "Local-Exec TLS Relaxation", "TLS Descriptors -> Local
+-- Exec Relaxation").
+use Rattle.std.specs.Prelude.{◌≡◌, ◌≢◌, ℕ, ◌+◌, ◌*◌, ◌<◌, ◌^◌, List, Some, IsSomeAnd, slice_get}
+use Rattle.std.specs.Prelude.{true, Option, ◌≤◌, drop, length, ◌⊎◌, ◌-◌, ◌%◌, ◌==◌, take}
+use Rattle.std.specs.Prelude.{if◌then◌else◌}
+use Rattle.linker_final.specs.Imports.{Action, Addresses, Agree, AreAddresses, AreOf, Choice}
+use Rattle.linker_final.specs.Imports.{Decision, Group, Grouped, IsNameOf, Kept, Kind, Kinds}
+use Rattle.linker_final.specs.Imports.{NotRelaxable, Operands, Rela, Relaxation, Relocated}
+use Rattle.linker_final.specs.Imports.{Rewritten, RiscV, RiscV64, RiscVRelocation, RowInfo}
+use Rattle.linker_final.specs.Imports.{Site as site, State, Symbol, UiType, anything, decision_at}
+use Rattle.linker_final.specs.Imports.{deleted_of, difference_64, entry_and_addend, even, loaded}
+use Rattle.linker_final.specs.Imports.{moved, of_link, offset_at, operands_with, plt_address, put}
+use Rattle.linker_final.specs.Imports.{r_type_of, register, relocation_in, riscv_row, same, stores}
+use Rattle.linker_final.specs.Imports.{stores_float, sum_64, symbol_address, thread_offset}
+use Rattle.linker_final.specs.Imports.{value_of, with_register, word_of}
+use Rattle.linker_base.specs.Rewrite.{rewritten}
+use Rattle.linker_elf.specs.Originals.{HasWord}
+use Rattle.linker_elf.specs.RiscVRelocations.{pair_row, riscv_name}
+use Rattle.linker_elf.specs.declared.elf.RelocationKind.TheVariants.{PltRelative}
+use Rattle.linker_final.specs.Final.{AreRewritten, IsBesideAll, IsLinked, IsRewrittenByNoOther}
+use Rattle.linker_final.specs.Final.{IsWrittenByNoOther, Linked, Rewriting, Section}
+use Rattle.linker_final.specs.Final.{UntouchedInstruction, count, instruction_at, offset_of}
+use Rattle.linker_final.specs.Packed.{IsBefore, IsKeptInstruction, IsPacked, IsRewrittenAndPacked}
+use Rattle.linker_final.specs.Packed.{IsSiteOf, IsUnwritten, Packed, StayTogether, architecture_of}
+use Rattle.linker_final.specs.Packed.{final_instruction, place_of, site_bytes, site_len}
+use Rattle.linker_final.specs.Packed.{site_offset, site_place, site_target}
+use Rattle.linker_laws.specs.RiscVGroups.{AreBefore, AreDeleted, AreNops, Code, Descriptor, Has}
+use Rattle.linker_laws.specs.RiscVGroups.{IsCall, IsLeftOut, LeavesAddress, LoadFromGot, LowPartBy}
+use Rattle.linker_laws.specs.RiscVGroups.{Stands, link, seen, upper, upper_from, uses}
+use Rattle.linker_laws.specs.RiscVRewriteLaws.{HaveOneOffset, HaveOneTarget, IsLow12, IsLowOffset}
+use Rattle.linker_laws.specs.RiscVRewriteLaws.{action_at, after_rewrite, low_row, of_entry}
+use Rattle.linker_laws.specs.RiscVRewriteLaws.{offset_row}
+use Rattle.linker_rewriting.specs.GlobalPointer.{address_of, base_for, based_relocation}
+use Rattle.linker_rewriting.specs.GlobalPointer.{is_low_word, low_r_type}
+use Rattle.linker_rewriting.specs.Groups.{riscv_scope_in}
+use Rattle.linker_rewriting.specs.RiscVPcrelGroups.{IsHighIn}
+use Rattle.linker_rewriting.specs.declared.decisions.Decision.TheVariants.{RewrittenWithSymbol}
+use Rattle.linker_rewriting.specs.declared.decisions.Subject.{Subject}
 use Rattle.linker_rewriting.specs.declared.groups.Scope.{Scope}
-use Rattle.linker_utils.specs.declared.architecture.Relaxation.TheVariants as relaxations
+use Rattle.linker_riscv64.specs.RiscVCalls.{word_at}
+use Rattle.linker_riscv64.specs.RiscVFields.{rd_of, rs1_of}
+use Rattle.linker_runs.specs.RiscVItems.{IsCallAt}
+use Rattle.linker_runs.specs.Sites.{operands_of}
+use Rattle.linker_utils.specs.RiscVRewrites.{IsAddTp, IsAuipc, IsLui, deleted_from, lo12}
+use Rattle.linker_utils.specs.RiscVRewrites.{rewrites_word, riscv_matches, tp, with_rs1}
+use Rattle.linker_utils.specs.declared.riscv64.rewrites.RewriteKind.{RewriteKind}
+use Rattle.linker_elf.specs.declared.riscv64.relocations.RiscVRelocation.TheVariants as names
 use Rattle.linker_utils.specs.declared.riscv64.rewrites.RewriteKind.TheVariants as kinds
+use Rattle.linker_utils.specs.declared.architecture.Relaxation.TheVariants as relaxations
+use Rattle.linker_final.specs.Packed as shorter
+
+-- the relocation at an index has a name, and its instruction is rewritten
+pub record IsRewrittenOf (l : Linked) (name : RiscVRelocation) (i : ℕ) : Type 0 where
+  pub below : i < count l
+  pub is_name : IsNameOf riscv_name (relocation_in l.relocations i).r_type name
+  pub chosen : Choice Relaxation ℕ
+  pub decided : decision_at l.decisions i ≡ Rewritten chosen
+
+-- ---- loads of addresses from the GOT
+
+-- The relocations at two indexes are those of an `auipc` and of the `ld` after it, and both are
+-- rewritten to those of the distance.
+pub record AreOfPair (l : Linked) (i j : ℕ) : Type 0 where
+  pub first : IsRewrittenOf l names.R_RISCV_GOT_HI20 i
+  pub second : IsRewrittenOf l names.R_RISCV_PCREL_LO12_I j
+  pub next : (relocation_in l.relocations j).offset ≡ (relocation_in l.relocations i).offset + 4
+  pub high_becomes : first.chosen.relocation ≡ r_type_of (riscv_name names.R_RISCV_PCREL_HI20)
+  pub low_becomes : second.chosen.relocation ≡ r_type_of (riscv_name names.R_RISCV_PCREL_LO12_I)
+
+-- The pair is a group, with what new has. The entry holds S + A, and both addresses are of a kind.
+abbrev pub LoadIsAlike : Linked → ℕ → (Operands → Code → Type 0) → Type 0
+LoadIsAlike l i NewHas =
+    let o = (relocation_in l.relocations i).offset in
+    let auipc = instruction_at l.section o in
+    let ld = instruction_at l.section (o + 4) in
+    let base = rd_of (word_of auipc) in
+    let rd = rd_of (word_of ld) in
+    rs1_of (word_of ld) ≡ base → base ≢ 0
+    → (c : Code) (x y : Operands) (k : Kinds) (kind : Kind) (s : State)
+    → AreAddresses x → AreAddresses y → AreBefore c 8 8 x y s → loaded 8 s.memory (entry_and_addend x) ≡ symbol_address x
+    → AreOf (link c) 8 kind (symbol_address x) (symbol_address y)
+    → (old : Has 4 c.old x.place (riscv_row names.R_RISCV_GOT_HI20) x auipc)
+    → Has 4 c.old (sum_64 x.place 4) (riscv_row names.R_RISCV_PCREL_LO12_I) (of_entry x) ld
+    → NewHas y c
+    → Group (of_link (link c)) 2 k s (with_register rd kind (with_register base anything k))
+    (put rd (symbol_address x) (sum_64 x.place 8)
+    (put base (upper_from x.place old.relocated) (sum_64 x.place 4) s))
+
+-- ---- low parts of offsets from the thread pointer
+
+-- An instruction adds the low part of an offset to a register with the thread pointer's number. It
+-- is a group, with what new has.
+abbrev pub LowPartIsAlike : Linked → ℕ → (Operands → Code → Type 0) → Action → Type 0
+LowPartIsAlike l i NewHas =
+    LowPartBy offset_row thread_offset (λ s. s.registers tp) (λ k. k.registers tp ≡ same) NewHas
+    (instruction_at l.section (relocation_in l.relocations i).offset)
+
+-- In the context by which rewrites were chosen, the offset of a thread-local symbol is a number of
+-- 12 bits.
+abbrev pub OffsetIsLow : Linked → ℕ → RowInfo → Type 0
+OffsetIsLow l i row =
+    let r = relocation_in l.relocations i in
+    (symbol : Symbol) → slice_get l.context.values r.symbol ≡ Some symbol
+    → symbol.is_thread_local ≡ true
+    → IsLowOffset (operands_with RiscV l.context.addresses row symbol r 0)
+
+-- ---- what is deleted before them
+
+-- the four bytes of an instruction
+abbrev pub IsDeleted : Linked → ℕ → Type 0
+IsDeleted l i = deleted_of (decision_at l.decisions i) ≡ deleted_from 0 4
+
+-- A `lui` of a number of 12 bits is deleted, which is a group.
+abbrev pub HighPartGoes : Linked → ℕ → Type 0
+HighPartGoes l i =
+    let lui = instruction_at l.section (relocation_in l.relocations i).offset in
+    (x : Operands) (c : Code) (k : Kinds) (s : State) → AreDeleted c 4 s → IsLowOffset x
+    → Has 4 c.old s.pc (riscv_row names.R_RISCV_TPREL_HI20) x lui
+    → IsLeftOut c k s (rd_of (word_of lui)) 0
+
+-- So is an `add` of the thread pointer to a register with 0.
+abbrev pub SumGoes : Linked → ℕ → Type 0
+SumGoes l i =
+    let add = instruction_at l.section (relocation_in l.relocations i).offset in
+    (c : Code) (k : Kinds) (s : State) → AreDeleted c 4 s
+    → register (seen s) (rs1_of (word_of add)) ≡ 0 → s.registers tp < 2 ^ 64
+    → Stands 4 c.old s.pc add → IsLeftOut c k s (rd_of (word_of add)) (s.registers tp)
+
+-- ---- TLS descriptors
+
+-- The relocation at an index has a name, and is n bytes after the high part of a TLS descriptor or
+-- of a load from the GOT, that at another index, which its symbol labels. It is rewritten by a
+-- kind, and gets the symbol of the high part.
+pub record IsOfDescriptor (l : Linked) (high : ℕ) (name : RiscVRelocation) (distance : ℕ)
+    (kind : RewriteKind) (n : ℕ) : Type 0 where
+  pub below : n < count l
+  pub name_is : IsNameOf riscv_name (relocation_in l.relocations n).r_type name
+  pub following : (relocation_in l.relocations n).offset
+      ≡ (relocation_in l.relocations high).offset + distance
+  pub labels : IsHighIn l.context l.relocations (relocation_in l.relocations n) (Some high)
+  pub chosen : Choice Relaxation ℕ
+  pub subject : Subject
+  pub decided : decision_at l.decisions n ≡ RewrittenWithSymbol chosen subject
+  pub kind_is : chosen.kind ≡ relaxations.RiscV kind
+
+-- The object's sequence, whose high part is at an index, is a group. New has n nops where the first
+-- instructions were, and then m others from an address on. What is said of the operands holds.
+abbrev pub OffsetIsAlike : Linked → ℕ → ℕ → (Operands → Type 0) → (Operands → Code → ℕ → Type 0)
+    → Type 0
+OffsetIsAlike l high m Said NewHas =
+    let o = (relocation_in l.relocations high).offset in
+    (c : Code) (n at : ℕ) (x y : Operands) (k k' : Kinds) (s s' : State)
+    → Descriptor c x (thread_offset x) k s k' s' (instruction_at l.section o)
+    (instruction_at l.section (o + 4)) (instruction_at l.section (o + 8))
+    (instruction_at l.section (o + 12))
+    → HaveOneOffset x y → Said y → AreNops c n m x at → NewHas y c at
+    → Group (of_link (link c)) (n + m) k s k' s'
+
+-- The bytes of an instruction that became a nop of four bytes are one.
+abbrev pub IsNop : List ℕ → List ℕ → Type 0
+IsNop before nop =
+    riscv_matches kinds.ReplaceWithLongNop before 0
+    × (nop ≡ after_rewrite kinds.ReplaceWithLongNop before 0)
+
+-- what a relocation becomes that gets a name, and the symbol and the addend of another
+abbrev pub named_as : RiscVRelocation → Rela → Rela → Rela
+named_as name r subject =
+    record {
+      offset = r.offset;
+      r_type = r_type_of (riscv_name name);
+      symbol = subject.symbol;
+      addend = subject.addend;
+    }
+
+-- ---- loads of fixed addresses from the GOT
+
+-- The relocation at an index is that of an `auipc`, which became a `lui`.
+pub record IsLuiOfLoad (l : Linked) (high : ℕ) : Type 0 where
+  pub of : IsRewrittenOf l names.R_RISCV_GOT_HI20 high
+  pub open of use *
+  pub kind_is : of.chosen.kind ≡ relaxations.RiscV kinds.AuipcToLui
+
+-- The one at another index is that of the `ld` after it, which became an `addi` of the address.
+pub record IsAddiOfLoad (l : Linked) (high low : ℕ) : Type 0 where
+  pub rewritten : IsOfDescriptor l high names.R_RISCV_PCREL_LO12_I 4 kinds.LdToAddi low
+  pub becomes : rewritten.chosen.relocation ≡ r_type_of (riscv_name names.R_RISCV_LO12_I)
+
+-- The object's pair is a group, in whose place new has n instructions, where S + A is the same in
+-- both layouts, and what is said of the operands holds.
+abbrev pub AddressIsAlike : Linked → ℕ → ℕ → (Operands → Type 0) → (Operands → Code → Type 0)
+    → Type 0
+AddressIsAlike l high n Said NewHas =
+    let o = (relocation_in l.relocations high).offset in
+    let auipc = instruction_at l.section o in
+    let ld = instruction_at l.section (o + 4) in
+    (c : Code) (x y : Operands) (k : Kinds) (s : State) → AreBefore c 8 (4 * n) x y s
+    → (load : LoadFromGot c x s auipc ld) → HaveOneTarget x y → Said y → NewHas y c
+    → LeavesAddress n c x k s auipc ld load
+
+-- ---- of what is left by the call that rewrites
+
+-- of every instruction of such an offset: the choice tested it
+abbrev pub OffsetsAreLowOf : RiscVRelocation → Type 0
+OffsetsAreLowOf name =
+    (l : Linked) → AreRewritten l → l.context.architecture ≡ RiscV
+    → (i : ℕ) (chosen : Choice Relaxation ℕ) → i < count l
+    → IsNameOf riscv_name (relocation_in l.relocations i).r_type name
+    → decision_at l.decisions i ≡ Rewritten chosen
+    → IsSomeAnd (riscv_row names.R_RISCV_TPREL_LO12_I) (OffsetIsLow l i)
+
+abbrev pub OffsetsAreLow : Type 0
+OffsetsAreLow =
+    OffsetsAreLowOf names.R_RISCV_TPREL_HI20 × OffsetsAreLowOf names.R_RISCV_TPREL_LO12_I
+    × OffsetsAreLowOf names.R_RISCV_TPREL_LO12_S
+
+-- No instruction of a TLS descriptor becomes one of initial-exec, whose entry of the GOT is out of
+-- reach when rewrites are chosen.
+abbrev pub IsNotRewrittenBy : RiscVRelocation → RewriteKind → Type 0
+IsNotRewrittenBy name kind =
+    (l : Linked) → AreRewritten l → l.context.architecture ≡ RiscV
+    → (i : ℕ) (chosen : Choice Relaxation ℕ) (subject : Subject) → i < count l
+    → IsNameOf riscv_name (relocation_in l.relocations i).r_type name
+    → decision_at l.decisions i ≡ RewrittenWithSymbol chosen subject
+    → chosen.kind ≢ relaxations.RiscV kind
+
+abbrev pub NoneIsInitialExec : Type 0
+NoneIsInitialExec =
+    IsNotRewrittenBy names.R_RISCV_TLSDESC_ADD_LO12 kinds.AddiToAuipc
+    × IsNotRewrittenBy names.R_RISCV_TLSDESC_CALL kinds.CallToLd
 
 -- ---- what is rewritten
 
@@ -217,3 +425,185 @@ rewriting =
       span = λ l g. (offset_of l g.i, offset_of l g.i + 4);
       Begins = Begins;
     }
+
+-- ---- low parts over x3 or x0, and their high parts (psABI, "Global-pointer Relaxation")
+
+-- A register has what the high part of an address leaves: with the low part of its value it is the
+-- address.
+abbrev pub HasHighPart : State → ℕ → ℕ → ℕ → Type 0
+HasHighPart s r value address = moved (register (seen s) r) (lo12 value) ≡ address
+
+-- the relocation of a low part whose high part is an `auipc`: stores have their own
+abbrev pub labelled_row : Action → Option RowInfo
+labelled_row (stores f) = riscv_row names.R_RISCV_PCREL_LO12_S
+labelled_row (stores_float f) = riscv_row names.R_RISCV_PCREL_LO12_S
+labelled_row action = riscv_row names.R_RISCV_PCREL_LO12_I
+
+-- its value: S + A, less the place of the `auipc`
+abbrev pub distance : Operands → ℕ
+distance x = difference_64 (symbol_address x) x.place
+
+-- the section with another base register in the instruction at an offset
+abbrev pub after_base : ℕ → List ℕ → ℕ → List ℕ
+after_base register section o = rewritten (Some (rewrites_word (with_rs1 register))) section o
+
+-- A low part is a group. Old's base has what the high part leaves, and its relocation has a row and
+-- a number as its value. New's base has its address, and the value is the distance of S + A from
+-- it. What the instruction does with S + A keeps agreement.
+abbrev pub FromBase : (Action → Option RowInfo) → (Operands → ℕ) → List ℕ → ℕ → ℕ → Action → Type 0
+FromBase row number section o gp action =
+    let word = word_at section o in
+    (c : Code) (x y : Operands) (base : ℕ × ℕ) (k k' : Kinds) (s : State)
+    → base_for gp (symbol_address x) ≡ Some base
+    → symbol_address y ≡ difference_64 (symbol_address x) (base.1)
+    → AreBefore c 4 4 (record x { place = s.pc }) y s
+    → HasHighPart s (rs1_of word) (number x) (symbol_address x)
+    → ((t : State) → Agree (link c) k s t → register (seen t) (base.0) ≡ base.1)
+    → Has 4 c.old s.pc (row action) x (drop o section)
+    → Has 4 c.new y.place (low_row action) y (drop o (after_base (base.0) section o))
+    → let after = uses action word (symbol_address x) in
+    ((t : State) → Agree (link c) k s t → Agree (link c) k' (after s) (after t))
+    → Group (of_link (link c)) 1 k s k' (after s)
+
+-- of every instruction that `rewrite_global_pointer` takes for a low part, of a `lui` or of an
+-- `auipc`
+abbrev pub PartsFromBase : (Action → Option RowInfo) → (Operands → ℕ) → Type 0
+PartsFromBase row number =
+    (section : List ℕ) (o gp : ℕ) → gp < 2 ^ 64 → o + 4 ≤ length section
+    → is_low_word (word_at section o) ≡ true
+    → IsSomeAnd (action_at section o) (FromBase row number section o gp)
+
+abbrev pub LowPartsFromBase : Type 0
+LowPartsFromBase = PartsFromBase low_row symbol_address × PartsFromBase labelled_row distance
+
+-- The relocation that `finish_gp_relaxation` leaves of such a low part has the distance of S + A
+-- from its base as its own S + A.
+abbrev pub ValuesAreDistances : Type 0
+ValuesAreDistances =
+    (addresses : Addresses) (values : List Symbol) (gp : ℕ) (r : Rela) (value : Symbol) (r_type : ℕ)
+    (base : ℕ × ℕ) → gp < 2 ^ 64 → slice_get values r.symbol ≡ Some value
+    → low_r_type r.r_type ≡ Some r_type → base_for gp (address_of addresses r value) ≡ Some base
+    → let after = based_relocation addresses values gp r in
+    (after.r_type ≡ r_type) × (after.symbol ≡ r.symbol)
+    × (address_of addresses after value ≡ difference_64 (address_of addresses r value) (base.1))
+
+-- ---- high parts
+
+-- An instruction that leaves a number in a register is deleted, which is a group of which new has
+-- nothing. Old's register has the high part of an address then.
+pub record IsHighPart (c : Code) (k : Kinds) (s : State) (rd number value address : ℕ) : Type 0 where
+  pub group : IsLeftOut c k s rd number
+  pub leaves : HasHighPart (put rd number (s.pc + 4) s) rd value address
+
+-- a `lui` with the value of its relocation, where a low part holds that of the same operands
+abbrev pub LuiGoes : Type 0
+LuiGoes =
+    (c : Code) (x : Operands) (k : Kinds) (s : State) (lui before_low low : List ℕ) → AreAddresses x
+    → AreDeleted c 4 s → IsLui (word_of lui) → rd_of (word_of lui) ≢ 0
+    → (has : Has 4 c.old s.pc (riscv_row names.R_RISCV_HI20) x lui)
+    → Relocated (riscv_row names.R_RISCV_LO12_I) x before_low low
+    → IsHighPart c k s (rd_of (word_of lui)) (upper has.relocated) (symbol_address x)
+    (symbol_address x)
+
+-- and an `auipc`
+abbrev pub AuipcGoes : Type 0
+AuipcGoes =
+    (c : Code) (x : Operands) (k : Kinds) (s : State) (auipc before_low low : List ℕ)
+    → AreAddresses x → s.pc ≡ x.place → AreDeleted c 4 s → IsAuipc (word_of auipc)
+    → rd_of (word_of auipc) ≢ 0
+    → (has : Has 4 c.old s.pc (riscv_row names.R_RISCV_PCREL_HI20) x auipc)
+    → Relocated (riscv_row names.R_RISCV_PCREL_LO12_I) x before_low low
+    → IsHighPart c k s (rd_of (word_of auipc)) (upper_from s.pc has.relocated) (distance x)
+    (symbol_address x)
+
+-- ---- a section that was packed (psABI, "Function Call Relaxation")
+
+-- ---- calls
+
+-- the row of both relocations of calls
+abbrev pub call_row : RowInfo
+call_row = pair_row PltRelative 64 UiType
+
+abbrev pub IsOfCall : RiscVRelocation → Type 0
+IsOfCall name = (name ≡ names.R_RISCV_CALL) ⊎ (name ≡ names.R_RISCV_CALL_PLT)
+
+-- Old has a call, `auipc` and `jalr`, with the value of its relocation, in a layout of its own. New
+-- has n bytes of final ones, which are m instructions, and leads to a target. They are a group.
+abbrev pub CallIsAlike : List ℕ → Operands → ℕ → ℕ → ℕ → List ℕ → RiscVRelocation → Type 0
+CallIsAlike call y n m target final name =
+    (c : Code) (x : Operands) (k : Kinds) (s : State) → AreAddresses x → AreBefore c 8 n x y s
+    → target ≡ c.moved (even plt_address x) → (old : Has 8 c.old x.place (riscv_row name) x call)
+    → Stands n c.new y.place final → IsCall c m x k s call old.relocated
+
+-- the call at an offset of the section
+abbrev pub call_at : Packed → ℕ → List ℕ
+call_at p o = take 8 (drop o p.section.bytes)
+
+-- ---- calls of sites
+
+-- how many instructions n bytes of a call are: `c.j` and `jal` alone, or both
+abbrev pub instructions_in : ℕ → ℕ
+instructions_in kept = if kept == 8 then 2 else 1
+
+-- where n bytes of a call go: `jalr` clears bit 0
+abbrev pub landing : ℕ → ℕ → ℕ
+landing kept target = if kept == 8 then target - target % 2 else target
+
+-- RV64: each call that a run may make shorter goes in the final section to the address where its
+-- target goes, whichever instruction it has become. RV32's `c.jal` is no instruction of RV64.
+abbrev pub SitesCallTheSame : Type 0
+SitesCallTheSame =
+    (p : Packed) → IsPacked p → p.machine ≡ RiscV64 → (i : ℕ) (call : site) → IsSiteOf p i call
+    → let n = site_len p call in
+    (name : RiscVRelocation) → IsOfCall name
+    → CallIsAlike (call_at p (site_offset p call))
+    (operands_of (site_place p call) (site_target p call)) n (instructions_in n)
+    (landing n (site_target p call)) (site_bytes p call) name
+
+-- ---- calls that stay
+
+-- A relocation of a call at which nothing changes goes in the final section where its formula says.
+pub record StaysCall (p : Packed) (i : ℕ) (name : RiscVRelocation) : Type 0 where
+  pub within : i < shorter.count p
+  pub of_call : IsOfCall name
+  pub is_name : IsNameOf riscv_name (relocation_in p.relocations_after i).r_type name
+  pub call : IsCallAt p.section.bytes (offset_at p.relocations i)
+  pub stays : StayTogether p (offset_at p.relocations i) 8
+
+abbrev pub LongCallsStay : Type 0
+LongCallsStay =
+    (p : Packed) → IsPacked p → architecture_of p.machine ≡ RiscV → (i : ℕ) (name : RiscVRelocation)
+    → StaysCall p i name → let r = relocation_in p.relocations_after i in
+    (symbol : Symbol) → slice_get p.symbols r.symbol ≡ Some symbol
+    → let y = operands_with RiscV p.addresses call_row symbol r 0 in
+    AreAddresses y
+    → let o = offset_at p.relocations i in
+    (name : RiscVRelocation) → IsOfCall name
+    → CallIsAlike (call_at p o) y 8 2 (even plt_address y) (take 8 (drop (place_of p o) p.final))
+    name
+
+-- ---- deleted instructions (psABI, "Zero-page Relaxation"; thread-local storage)
+
+-- A `lui` of a number of 12 bits, or of an offset from the thread pointer of 12 bits, is a group,
+-- of which new has nothing.
+abbrev pub LuiIsLeftOut : RiscVRelocation → (Operands → Type 0) → Type 0
+LuiIsLeftOut name IsLow =
+    (p : Packed) → IsPacked p → architecture_of p.machine ≡ RiscV → (o : ℕ)
+    → HasWord p.section.bytes o IsLui
+    → shorter.AreDeleted p o 4 → (x : Operands) → IsLow x → (c : Code) (k : Kinds) (s : State)
+    → IsBefore p o c.moved s.pc → Has 4 c.old s.pc (riscv_row name) x (drop o p.section.bytes)
+    → IsLeftOut c k s (rd_of (word_at p.section.bytes o)) 0
+
+-- So is an `add` of the thread pointer to a register with 0.
+abbrev pub SumIsLeftOut : Type 0
+SumIsLeftOut =
+    (p : Packed) → IsPacked p → architecture_of p.machine ≡ RiscV → (o : ℕ)
+    → HasWord p.section.bytes o IsAddTp
+    → shorter.AreDeleted p o 4 → (c : Code) (k : Kinds) (s : State) → IsBefore p o c.moved s.pc
+    → register (seen s) (rs1_of (word_at p.section.bytes o)) ≡ 0 → s.registers tp < 2 ^ 64
+    → Stands 4 c.old s.pc (drop o p.section.bytes)
+    → IsLeftOut c k s (rd_of (word_at p.section.bytes o)) (s.registers tp)
+
+abbrev pub HighPartsAreLeftOut : Type 0
+HighPartsAreLeftOut =
+    LuiIsLeftOut names.R_RISCV_HI20 IsLow12 × LuiIsLeftOut names.R_RISCV_TPREL_HI20 IsLowOffset

@@ -3,12 +3,13 @@
 use Rattle.std.specs.Prelude.{ℕ, ◌+◌, ◌*◌, ◌++◌, ℤ, pos, false}
 use Rattle.std.specs.Int.{w64, to_le_bytes}
 use Rattle.std.specs.Option.{unwrap_or}
-use Rattle.linker_final.specs.Imports.{field, riscv_form, Operands, UiType, zero}
-use Rattle.linker_final.specs.Imports.{Add, upper_and_lower_value, five_instructions, without_bit_0}
-use Rattle.linker_utils.specs.AArch64Rewrites.{moved4, rd_of}
+use Rattle.linker_final.specs.Imports.{Operands, UiType, field, moved4, rd_of, riscv_form}
+use Rattle.linker_final.specs.Imports.{without_bit_0, zero}
+use Rattle.linker_elf.specs.LoongArch.{five_instructions, upper_and_lower_value}
 use Rattle.linker_elf.specs.Ppc64.{pair}
+use Rattle.linker_elf.specs.declared.aarch64.forms.AArch64Instruction.TheVariants.{Add}
 use Rattle.linker_laws.specs.AArch64RelocationLaws.{page_and_offset}
-use Rattle.linker_laws.specs.LoongArchRelocationLaws.{upper_and_or, four, page_and_low}
+use Rattle.linker_laws.specs.LoongArchRelocationLaws.{four, page_and_low, upper_and_or}
 use Rattle.linker_laws.specs.Ppc64RelocationLaws.{unadjusted, unadjusted_quarters}
 
 abbrev pub word : ℕ → ℕ → ℕ

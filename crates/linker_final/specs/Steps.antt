@@ -1,11 +1,11 @@
 -- Single instructions that an emulator executed, and when a state of the definitions is what it
 -- left. The tables have the instructions, and what the emulator changed. The numbers before are
 -- defined here, and `tools/oracle steps` gives the emulator the same ones.
-use Rattle.std.specs.Prelude.{ℕ, zero, suc, ◌+◌, ◌*◌, ◌/◌, ◌%◌, ◌^◌, ◌==◌, ◌&&◌, Bool, true}
-use Rattle.std.specs.Prelude.{◌≡◌, nat_lt, if◌then◌else◌, List, [], ◌∷◌, bit_and}
-use Rattle.std.specs.List.{list_all}
+use Rattle.std.specs.Prelude.{ℕ, zero, suc, ◌+◌, ◌*◌, ◌/◌, ◌%◌, ◌^◌, ◌==◌, ◌&&◌, Bool, true, ◌≡◌}
+use Rattle.std.specs.Prelude.{nat_lt, if◌then◌else◌, List, [], ◌∷◌, bit_and}
 use Rattle.std.specs.Int.{byte_at}
-use Rattle.linker_final.specs.Imports.{sum_64, difference_64}
+use Rattle.std.specs.List.{list_all}
+use Rattle.linker_final.specs.Imports.{difference_64, sum_64}
 
 -- ---- rows
 

@@ -1,17 +1,16 @@
 -- Programs that the calls link: words of which every premise of the laws of runs holds.
 use Rattle.std.specs.Prelude.{◌≡◌, ℕ, zero, suc, ◌+◌, ◌/◌, List, [], ◌∷◌, length, false, replicate}
-use Rattle.linker_final.specs.Imports.{Architecture, RiscV, put, with_register, Kinds, State, half}
-use Rattle.linker_final.specs.Imports.{same, RelaxContext, Decision, UnrelaxableGroups, Phase}
-use Rattle.linker_final.specs.Imports.{IsRelaxation, deletions_of_run, AreMoved, IsPackedRun}
-use Rattle.linker_final.specs.Imports.{section_of, RiscV64, Item, AreWritten, Addresses, Symbol}
-use Rattle.linker_final.specs.AArch64Section as aarch64
-use Rattle.linker_final.specs.Final.{AreLinked, HasRewritten, Linked, RewritingPhase}
-use Rattle.linker_final.specs.Final.{rewriting_phase}
-use Rattle.linker_final.specs.SectionRuns.{AreCalled, IsPhase, Rewriting, Section}
-use Rattle.linker_laws.specs.AArch64Groups as aarch64_groups
-use Rattle.linker_laws.specs.AArch64GroupsWorked as aarch64_worked
+use Rattle.linker_final.specs.Imports.{Addresses, Architecture, AreMoved, AreWritten, Decision}
+use Rattle.linker_final.specs.Imports.{IsPackedRun, IsRelaxation, Item, Kinds, Phase, RelaxContext}
+use Rattle.linker_final.specs.Imports.{RiscV, RiscV64, State, Symbol, UnrelaxableGroups}
+use Rattle.linker_final.specs.Imports.{deletions_of_run, half, put, same, section_of, with_register}
+use Rattle.linker_final.specs.Final.{AreCalled, AreLinked, HasRewritten, IsPhase, Linked, Rewriting}
+use Rattle.linker_final.specs.Final.{RewritingPhase, Section, rewriting_phase}
 use Rattle.linker_rewriting.specs.GlobalPointer.{AreBased, AreRelocationsBy, section_based}
 use Rattle.linker_rewriting.specs.declared.phases.Phase.TheVariants.{PreLayout}
+use Rattle.linker_final.specs.AArch64Section as aarch64
+use Rattle.linker_laws.specs.AArch64Groups as aarch64_groups
+use Rattle.linker_laws.specs.AArch64GroupsWorked as aarch64_worked
 
 -- n bytes of code from an address on
 abbrev pub code_at : (ℕ → ℕ) → ℕ → ℕ → List ℕ

@@ -1,14 +1,14 @@
 -- x86-64: the instructions of `linker_laws`, and PUSH and ENDBR64 of `linker_output`, compared with
 -- an emulator. Register 16 is where the FS segment begins.
-use Rattle.std.specs.Prelude.{ℕ, ◌==◌, Bool, false, Option, Some, None, if◌then◌else◌}
-use Rattle.std.specs.Prelude.{List, [], length}
+use Rattle.std.specs.Prelude.{ℕ, ◌==◌, Bool, false, Option, Some, None, if◌then◌else◌, List, []}
+use Rattle.std.specs.Prelude.{length}
 use Rattle.std.specs.Int.{bit_at}
-use Rattle.linker_laws.specs.X86Examples.{bytes_before, flags_number}
-use Rattle.linker_laws.specs.X86Machine.{State, Flags}
-use Rattle.linker_output.specs.X86LazyPlt.{step}
-use Rattle.linker_final.specs.Steps.{AllPass, Executed, Group, Numbers, at, flags, pc, made_high}
-use Rattle.linker_final.specs.Steps.{memory_in, bytes_from, is_left}
+use Rattle.linker_final.specs.Steps.{AllPass, Executed, Group, Numbers, at, bytes_from, flags}
+use Rattle.linker_final.specs.Steps.{is_left, made_high, memory_in, pc}
 use Rattle.linker_final.specs.X86Steps.{x86_groups}
+use Rattle.linker_laws.specs.X86Examples.{bytes_before, flags_number}
+use Rattle.linker_laws.specs.X86Machine.{Flags, State}
+use Rattle.linker_output.specs.X86LazyPlt.{step}
 
 -- EFLAGS: CF is bit 0, PF 2, AF 4, ZF 6, SF 7 and OF 11
 abbrev pub flags_in : ℕ → Flags

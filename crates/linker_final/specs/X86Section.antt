@@ -2,20 +2,21 @@
 -- "Optimize GOTPCRELX Relocations" and "ELF Handling For Thread-Local Storage").
 use Rattle.std.specs.Prelude.{◌≡◌, ℕ, ◌+◌, ◌-◌, ◌^◌, ◌<◌, ◌≤◌, false, ⊤, List, get_or, length, take}
 use Rattle.std.specs.Prelude.{drop, ◌++◌, Option, Some, None, IsSomeAnd, slice_get}
-use Rattle.linker_final.specs.Imports.{IsRow, IsNameOf, difference_64, sum_64, RowInfo}
-use Rattle.linker_final.specs.Imports.{Choice, Operands, AreAddresses, Group, Kinds, State, of_link}
-use Rattle.linker_final.specs.Imports.{decision_at, Rewritten, relocation_in, operands_with}
-use Rattle.linker_final.specs.Imports.{Addresses, Symbol, Relaxation, number_of_bytes, X86_64}
+use Rattle.linker_final.specs.Imports.{Addresses, AreAddresses, Choice, Group, IsNameOf, IsRow}
+use Rattle.linker_final.specs.Imports.{Kinds, Operands, Relaxation, Rewritten, RowInfo, State}
+use Rattle.linker_final.specs.Imports.{Symbol, decision_at, difference_64, number_of_bytes, of_link}
+use Rattle.linker_final.specs.Imports.{operands_with, relocation_in, sum_64}
 use Rattle.linker_elf.specs.X86Relocations.{x86_64_name, x86_64_row}
+use Rattle.linker_elf.specs.declared.elf.architecture.Architecture.TheVariants.{X86_64}
 use Rattle.linker_elf.specs.declared.x86_64.relocations.X86_64Relocation.{X86_64Relocation}
-use Rattle.linker_elf.specs.declared.x86_64.relocations.X86_64Relocation.TheVariants as names
-use Rattle.linker_final.specs.Final.{IsLinked, Linked, UntouchedByOthers, UntouchedBytes, count}
-use Rattle.linker_final.specs.SectionRuns.{Rewriting, Section, offset_of}
+use Rattle.linker_final.specs.Final.{IsLinked, Linked, Rewriting, Section, UntouchedByOthers}
+use Rattle.linker_final.specs.Final.{UntouchedBytes, count, offset_of}
 use Rattle.linker_laws.specs.X86Groups.{AddsOffset, Code, IsCall, IsDescriptorCall, IsGroup, IsJump}
 use Rattle.linker_laws.specs.X86Groups.{IsLea, IsModuleCall, IsThreadCall, LoadsNumber, MakesOffset}
 use Rattle.linker_laws.specs.X86Groups.{Stands, link, reg_after_rex, reg_after_rex2}
 use Rattle.linker_laws.specs.X86Machine.{extended}
 use Rattle.linker_laws.specs.X86RewriteLaws.{IsRelocated, address, thread_offset}
+use Rattle.linker_elf.specs.declared.x86_64.relocations.X86_64Relocation.TheVariants as names
 use Rattle.linker_utils.specs.declared.architecture.Relaxation.TheVariants as relaxations
 use Rattle.linker_utils.specs.declared.x86_64.rewrites.RewriteKind.TheVariants as kinds
 

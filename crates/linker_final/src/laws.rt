@@ -9,10 +9,7 @@ ghost use Rattle.linker_final.specs.LoongArchSection as loongarch64_section;
 ghost use Rattle.linker_final.specs.Ppc64Section as ppc64_section;
 ghost use Rattle.linker_final.specs.RiscV32 as riscv32;
 ghost use Rattle.linker_final.specs.RiscV32Calls as riscv32_calls;
-ghost use Rattle.linker_final.specs.RiscVFinal as riscv64_final;
-ghost use Rattle.linker_final.specs.RiscVNear as riscv64_near;
 ghost use Rattle.linker_final.specs.RiscVSection as riscv64_section;
-ghost use Rattle.linker_final.specs.SectionRuns as section_runs;
 ghost use Rattle.linker_final.specs.X86Section as x86_64_section;
 
 /// All architectures: what no rewrite took. Each byte that neither a rewrite nor a field has is the
@@ -37,9 +34,9 @@ pub fn phases()
 /// offsets in a module's block that became offsets from the thread pointer lead from there to the
 /// same addresses.
 pub fn x86_64_sections()
-    ensures places { section_runs.EachPlace x86_64_section.rewriting }
-    ensures groups { section_runs.RewritesAreGroups x86_64_section.rewriting }
-    ensures runs { section_runs.RunsAreFollowed x86_64_section.rewriting }
+    ensures places { final_bytes.EachPlace x86_64_section.rewriting }
+    ensures groups { final_bytes.RewritesAreGroups x86_64_section.rewriting }
+    ensures runs { final_bytes.RunsAreFollowed x86_64_section.rewriting }
     ensures offsets { x86_64_section.Offsets }
 {
     linker_laws::simulation::x86_64();
@@ -59,9 +56,9 @@ pub fn x86_64_sections()
 /// relocations. So each run of old is followed up to where nothing is known, as at a group of which
 /// a premise doesn't hold: new's run agrees there.
 pub fn aarch64_sections()
-    ensures places { section_runs.EachPlace aarch64_section.rewriting }
-    ensures groups { section_runs.RewritesAreGroups aarch64_section.rewriting }
-    ensures runs { section_runs.RunsAreFollowed aarch64_section.rewriting }
+    ensures places { final_bytes.EachPlace aarch64_section.rewriting }
+    ensures groups { final_bytes.RewritesAreGroups aarch64_section.rewriting }
+    ensures runs { final_bytes.RunsAreFollowed aarch64_section.rewriting }
 {
     linker_laws::simulation::aarch64();
     linker_laws::simulation::runs();
@@ -80,13 +77,13 @@ pub fn aarch64_sections()
 /// wherever that goes. Or it has the section's final bytes, or those of the section that was packed
 /// after its phases. What became a nop of a descriptor is one in each.
 pub fn riscv64_sections()
-    ensures places { section_runs.EachPlace riscv64_section.rewriting }
-    ensures groups { section_runs.RewritesAreGroups riscv64_section.rewriting }
-    ensures runs { section_runs.RunsAreFollowed riscv64_section.rewriting }
+    ensures places { final_bytes.EachPlace riscv64_section.rewriting }
+    ensures groups { final_bytes.RewritesAreGroups riscv64_section.rewriting }
+    ensures runs { final_bytes.RunsAreFollowed riscv64_section.rewriting }
     ensures relocations { riscv64_section.RelocationsAreLeft }
     ensures nops { riscv64_section.Nops }
-    ensures offsets_are_low { riscv64_final.OffsetsAreLow }
-    ensures none_is_initial_exec { riscv64_final.NoneIsInitialExec }
+    ensures offsets_are_low { riscv64_section.OffsetsAreLow }
+    ensures none_is_initial_exec { riscv64_section.NoneIsInitialExec }
 {
     linker_laws::simulation::riscv64();
     linker_laws::simulation::runs();
@@ -98,10 +95,10 @@ pub fn riscv64_sections()
 /// which new has nothing, and leaves this; what x3 has is a premise. The relocations that
 /// `finish_gp_relaxation` leaves have these distances as their values.
 pub fn riscv64_global_pointer()
-    ensures low_parts { riscv64_near.LowPartsFromBase }
-    ensures values { riscv64_near.ValuesAreDistances }
-    ensures lui { riscv64_near.LuiGoes }
-    ensures auipc { riscv64_near.AuipcGoes }
+    ensures low_parts { riscv64_section.LowPartsFromBase }
+    ensures values { riscv64_section.ValuesAreDistances }
+    ensures lui { riscv64_section.LuiGoes }
+    ensures auipc { riscv64_section.AuipcGoes }
 {
     linker_laws::relocations::riscv64();
 }
@@ -151,9 +148,9 @@ pub fn riscv32_calls()
 /// others also wherever a linker applies their relocations, and in a section that was packed. Parts
 /// of a load that stand apart have no law.
 pub fn loongarch64_sections()
-    ensures places { section_runs.EachPlace loongarch64_section.rewriting }
-    ensures groups { section_runs.RewritesAreGroups loongarch64_section.rewriting }
-    ensures runs { section_runs.RunsAreFollowed loongarch64_section.rewriting }
+    ensures places { final_bytes.EachPlace loongarch64_section.rewriting }
+    ensures groups { final_bytes.RewritesAreGroups loongarch64_section.rewriting }
+    ensures runs { final_bytes.RunsAreFollowed loongarch64_section.rewriting }
     ensures relocations { loongarch64_section.RelocationsAreLeft }
 {
     linker_laws::simulation::loongarch64();
@@ -167,9 +164,9 @@ pub fn loongarch64_sections()
 /// rewrite is a group of both (`linker_laws::simulation::runs`). Which relocation a rewrite leaves
 /// is a law, too, and which phase alone rewrites it again.
 pub fn ppc64_sections()
-    ensures places { section_runs.EachPlace ppc64_section.rewriting }
-    ensures groups { section_runs.RewritesAreGroups ppc64_section.rewriting }
-    ensures runs { section_runs.RunsAreFollowed ppc64_section.rewriting }
+    ensures places { final_bytes.EachPlace ppc64_section.rewriting }
+    ensures groups { final_bytes.RewritesAreGroups ppc64_section.rewriting }
+    ensures runs { final_bytes.RunsAreFollowed ppc64_section.rewriting }
     ensures names { ppc64_section.NamesAreLeft }
     ensures rewritten_again { ppc64_section.RewrittenAgain }
 {

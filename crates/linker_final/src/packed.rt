@@ -6,17 +6,14 @@ ghost use Rattle.linker_base.specs.Deletions.{rank};
 ghost use Rattle.linker_base.specs.Deltas.{deletions_of};
 ghost use Rattle.linker_base.specs.Listed.{AreValidDeltas};
 ghost use Rattle.linker_elf.specs.Value.{sum_64};
-ghost use Rattle.linker_final.specs.Branches.{LoongArchBranchesGo, RiscVBranchesGo};
 ghost use Rattle.linker_final.specs.Packed.{architecture_of, packed_as, IsPackCause, IsPacked};
-ghost use Rattle.linker_final.specs.Relaxed.{AreRelaxedAndPacked};
 ghost use Rattle.linker_runs.specs.Choosing.{AreItems, IsRelaxation};
 ghost use Rattle.linker_runs.specs.Deleting.{deletions_of_run};
 ghost use Rattle.linker_runs.specs.Packing.{packed_offset, section_of};
 ghost use Rattle.linker_runs.specs.Relaxing.{items_in};
-ghost use Rattle.linker_final.specs.LoongArchPacked as loongarch_packed;
+ghost use Rattle.linker_final.specs.LoongArchSection as loongarch_section;
 ghost use Rattle.linker_final.specs.Packed as packed;
-ghost use Rattle.linker_final.specs.Relaxed as relaxed;
-ghost use Rattle.linker_final.specs.RiscVPacked as riscv_packed;
+ghost use Rattle.linker_final.specs.RiscVSection as riscv_section;
 
 use linker_base::relaxation::{DeltaSlice, RelaxDelta};
 use linker_runs::items::ItemNumbers;
@@ -166,7 +163,7 @@ pub fn pack_relaxed_section(
         (deletions_of_run (items_in items.now) plan.now.kept.items) start)
         (section.now.base + length section.now.bytes.now) }
     requires memory { length relocations.old / 24 ≤ length memory.old }
-    ensures packed { OnOk result (AreRelaxedAndPacked section.now (items_in items.now) start relocations.old
+    ensures packed { OnOk result (packed.AreRelaxedAndPacked section.now (items_in items.now) start relocations.old
         relocations.new addresses.now symbols.now out.new) }
     ensures cause { IfErr result (IsPackCause section.now.machine
         (section_of section.now.bytes.now section.now.base
@@ -201,8 +198,8 @@ pub fn shorter_sections()
     ensures addresses { packed.PlacesHaveAddresses }
     ensures places { packed.PlacesAreRelocated }
     ensures instructions { packed.InstructionsAreRelocated }
-    ensures alignments { relaxed.AlignmentsHold }
-    ensures section_starts { relaxed.SectionsAreAligned }
+    ensures alignments { packed.AlignmentsHold }
+    ensures section_starts { packed.SectionsAreAligned }
 {}
 
 /// RISC-V: on RV64 each call that a run may make shorter, `c.j`, `jal` or still `auipc` and `jalr`,
@@ -211,11 +208,11 @@ pub fn shorter_sections()
 /// Other jumps and branches go where their relocation's formula says. Where a `lui` of 12 bits or
 /// an `add` of the thread pointer is deleted, that is a group of which new has nothing.
 pub fn shorter_riscv64()
-    ensures sites { riscv_packed.SitesCallTheSame }
-    ensures long_calls { riscv_packed.LongCallsStay }
-    ensures high_parts { riscv_packed.HighPartsAreLeftOut }
-    ensures sums { riscv_packed.SumIsLeftOut }
-    ensures branches { RiscVBranchesGo }
+    ensures sites { riscv_section.SitesCallTheSame }
+    ensures long_calls { riscv_section.LongCallsStay }
+    ensures high_parts { riscv_section.HighPartsAreLeftOut }
+    ensures sums { riscv_section.SumIsLeftOut }
+    ensures branches { packed.RiscVBranchesGo }
 {
     linker_laws::relocations::riscv64();
     linker_laws::simulation::riscv64();
@@ -229,15 +226,15 @@ pub fn shorter_riscv64()
 /// A `lu12i.w` of 12 bits or an `add.d` of the thread pointer that is deleted is a group, of which
 /// new has nothing.
 pub fn shorter_loongarch64()
-    ensures calls { loongarch_packed.CallsTheSame }
-    ensures addresses { loongarch_packed.AddressesAreMade }
-    ensures loaded_addresses { loongarch_packed.LoadedAddressesAreMade }
-    ensures long_calls { loongarch_packed.LongCallsStay }
-    ensures long_addresses { loongarch_packed.LongAddressesStay }
-    ensures long_loaded_addresses { loongarch_packed.LongLoadedAddressesStay }
-    ensures high_parts { loongarch_packed.HighPartIsLeftOut }
-    ensures sums { loongarch_packed.SumIsLeftOut }
-    ensures branches { LoongArchBranchesGo }
+    ensures calls { loongarch_section.CallsTheSame }
+    ensures addresses { loongarch_section.AddressesAreMade }
+    ensures loaded_addresses { loongarch_section.LoadedAddressesAreMade }
+    ensures long_calls { loongarch_section.LongCallsStay }
+    ensures long_addresses { loongarch_section.LongAddressesStay }
+    ensures long_loaded_addresses { loongarch_section.LongLoadedAddressesStay }
+    ensures high_parts { loongarch_section.HighPartIsLeftOut }
+    ensures sums { loongarch_section.SumIsLeftOut }
+    ensures branches { packed.LoongArchBranchesGo }
 {
     linker_laws::relocations::loongarch64();
     linker_laws::simulation::loongarch64();
