@@ -4,7 +4,7 @@ use Rattle.linker_elf.specs.LoongArchRelocations.{low_row}
 use Rattle.linker_elf.specs.declared.elf.RelocationKind.TheVariants.{None as NoValue}
 use Rattle.linker_final.proofs.PackedBytes.{own_there, r_type_is, unwritten_there, within}
 use Rattle.linker_final.proofs.SectionRuns.{AreIn, IsIn, beside_or, is_linked, without_label}
-use Rattle.linker_final.proofs.Written.{IsOfInstruction, IsRowOf, applied_after, by_name, made_there, of_bits, rela, relocation_named, row_in, stays, unwritten_without, word_same}
+use Rattle.linker_final.proofs.Written.{IsOfInstruction, IsRowOf, applied_after, by_name, made_there, of_bits, rela, rela_at, relocation_named, row_in, stays, unwritten_without, word_same}
 use Rattle.linker_final.specs.LoongArchSection.{IsMade, Law, RelocationsAreLeft, anywhere, final, load, named_as, packed, rewriting}
 use Rattle.linker_laws.specs.LoongArchGroups.{Groups}
 use Rattle.linker_laws.specs.LoongArchRewriteLaws.{IsPair, IsRelocated, IsRewritten}
@@ -68,18 +68,15 @@ module _ (l : Linked) (linked : IsLinked l) (loongarch : l.context.architecture 
     (below : i < count l) (name : LoongArch64Relocation) (a : IsAfter name)
     (after_is : relocation_in l.relocations_after i ≡ named_as name (relocation_in l.relocations i))
     (left : UntouchedInstruction l i) where
-  abbrev r : Rela
-  r = relocation_in l.relocations i
-
   -- is applied to what the rewrite leaves, by operands with the same value
   pub relocated_there : (symbol : Symbol) (got : ℕ)
-      → operands_in LoongArch64 l.addresses a.row (named_as name r) (Some symbol)
-      ≡ Ok (operands_with LoongArch64 l.addresses a.row symbol (named_as name r) got)
-      → slice_get l.symbols r.symbol ≡ Some symbol → (y : Operands)
-      → value_of a.row y ≡ value_of a.row (operands_with LoongArch64 l.addresses a.row symbol (named_as name r) got)
-      → IsRelocated name y (instruction_at l.rewritten r.offset) (instruction_at l.final r.offset)
+      → operands_in LoongArch64 l.addresses a.row (named_as name (rela_at l i)) (Some symbol)
+      ≡ Ok (operands_with LoongArch64 l.addresses a.row symbol (named_as name (rela_at l i)) got)
+      → slice_get l.symbols (rela_at l i).symbol ≡ Some symbol → (y : Operands)
+      → value_of a.row y ≡ value_of a.row (operands_with LoongArch64 l.addresses a.row symbol (named_as name (rela_at l i)) got)
+      → IsRelocated name y (instruction_at l.rewritten (rela_at l i).offset) (instruction_at l.final (rela_at l i).offset)
   relocated_there symbol got taken is_symbol y same =
-      applied_after l linked i below 4 (omega arith) a.row a.of (named_as name r) after_is left
+      applied_after l linked i below 4 (omega arith) a.row a.of (named_as name (rela_at l i)) after_is left
       (row_of l.context.architecture loongarch name a.named a.row a.is) symbol is_symbol got LoongArch64 loongarch taken y same (loongarch_row name) a.is
 
 -- an instruction that becomes another
@@ -182,32 +179,29 @@ shown {Q} {name} {section} {o} {chosen} by = by_cases (LoongArchApplies name sec
 module _ (l : Linked) (all : AreDecidedIn l.context l.kept l.relocations l.section l.decisions (count l))
     (loongarch : l.context.architecture ≡ LoongArch64) (i : ℕ) (chosen : Choice Relaxation ℕ) (below : i < count l)
     (decided : decision_at l.decisions i ≡ Rewritten chosen) where
-  abbrev r_chosen : Rela
-  r_chosen = relocation_in l.relocations i
-
-  pub is_chosen : IsChosen l.context l.section r_chosen chosen
+  pub is_chosen : IsChosen l.context l.section (rela_at l i) chosen
   is_chosen =
       chosen_at l.context l.kept l.relocations l.section l.decisions (count l) i chosen all below decided
-      (λ scope is. unlabelled l.context.phase r_chosen.r_type scope (subst (λ x. IsScopeIn x l.context.phase r_chosen.r_type scope) loongarch is))
+      (λ scope is. unlabelled l.context.phase (rela_at l i).r_type scope (subst (λ x. IsScopeIn x l.context.phase (rela_at l i).r_type scope) loongarch is))
 
-  pub choice_there : IsArchitectureChoice LoongArch64 r_chosen.r_type l.section r_chosen.offset is_chosen.facts chosen
+  pub choice_there : IsArchitectureChoice LoongArch64 (rela_at l i).r_type l.section (rela_at l i).offset is_chosen.facts chosen
   choice_there =
-      subst (λ x. IsArchitectureChoice x r_chosen.r_type l.section r_chosen.offset is_chosen.facts chosen) loongarch is_chosen.is_choice
+      subst (λ x. IsArchitectureChoice x (rela_at l i).r_type l.section (rela_at l i).offset is_chosen.facts chosen) loongarch is_chosen.is_choice
 
-  pub by_table : (name : LoongArch64Relocation) → IsNamed (loongarch_name name) → IsNameOf loongarch_name r_chosen.r_type name
-      → IsByTable name l.section r_chosen.offset chosen
+  pub by_table : (name : LoongArch64Relocation) → IsNamed (loongarch_name name) → IsNameOf loongarch_name (rela_at l i).r_type name
+      → IsByTable name l.section (rela_at l i).offset chosen
   by_table name named is_name =
       let facts = is_chosen.facts in
-      let listed : IsListed l.context r_chosen =
+      let listed : IsListed l.context (rela_at l i) =
       listed_at l.context l.kept l.relocations l.section l.decisions (count l) i chosen all below decided in
-      let scope = subst (λ x. IsScopeIn x l.context.phase r_chosen.r_type listed.scope) loongarch listed.is_scope in
+      let scope = subst (λ x. IsScopeIn x l.context.phase (rela_at l i).r_type listed.scope) loongarch listed.is_scope in
       let same : scope.name ≡ name = scope.is_name.named name named is_name.r_type_is in
       record {
         facts = facts;
-        one = of_one loongarch_name relaxations.LoongArch64 (LoongArchApplies name l.section r_chosen.offset facts) chosen
-            (λ n. LoongArchApplies n l.section r_chosen.offset facts) loongarch_entries kinds.NoOp refl r_chosen.r_type name named is_name
+        one = of_one loongarch_name relaxations.LoongArch64 (LoongArchApplies name l.section (rela_at l i).offset facts) chosen
+            (λ n. LoongArchApplies n l.section (rela_at l i).offset facts) loongarch_entries kinds.NoOp refl (rela_at l i).r_type name named is_name
             (λ e applies. applies) choice_there is_chosen.changed;
-        early = λ without. are_early l.context l.section r_chosen chosen
+        early = λ without. are_early l.context l.section (rela_at l i) chosen
             (only_early name without l.context.phase
             (λ unlisted. listed.listed (scope.value_is ∙ (ap (loongarch_scope_in l.context.phase) same ∙ unlisted))))
             (λ ppc64. let e : LoongArch64 ≡ Ppc64 = sym loongarch ∙ ppc64 in cc) is_chosen;
@@ -760,9 +754,6 @@ module _ (l : Linked) (p : Packed) (joined : IsRewrittenAndPacked l p) (loongarc
     (i : ℕ) (below : i < count l) (name : LoongArch64Relocation) (a : IsAfter name)
     (after_is : relocation_in l.relocations_after i ≡ named_as name (relocation_in l.relocations i))
     (kept : IsKeptInstruction p i) (left : UntouchedInstruction l i) where
-  abbrev r_packed : Rela
-  r_packed = relocation_in l.relocations i
-
   abbrev after : Rela
   after = relocation_in p.relocations_after i
 
@@ -776,9 +767,9 @@ module _ (l : Linked) (p : Packed) (joined : IsRewrittenAndPacked l p) (loongarc
   row_is =
       let written = joined.packed.written in
       row_in (architecture_of p.machine) p.addresses p.relocations_after p.symbols after a.row
-      (subst (λ c. IsRowOf (architecture_of p.machine) c a.row) (sym (r_type_is l p joined i below code r_packed.symbol r_packed.addend after_is kept left))
+      (subst (λ c. IsRowOf (architecture_of p.machine) c a.row) (sym (r_type_is l p joined i below code (rela_at l i).symbol (rela_at l i).addend after_is kept left))
       (row_of (architecture_of p.machine) is name a.named a.row a.is))
-      (written.can.found i) (written.can.are_found i (within l p joined i below code r_packed.symbol r_packed.addend after_is kept left))
+      (written.can.found i) (written.can.are_found i (within l p joined i below code (rela_at l i).symbol (rela_at l i).addend after_is kept left))
 
   -- the relocation of its name is applied to it, by operands with the same value
   relocated_kept : (symbol : Symbol) (got : ℕ)
@@ -786,10 +777,10 @@ module _ (l : Linked) (p : Packed) (joined : IsRewrittenAndPacked l p) (loongarc
       ≡ Ok (operands_with LoongArch64 p.addresses a.row symbol after got)
       → slice_get p.symbols after.symbol ≡ Some symbol → (y : Operands)
       → value_of a.row y ≡ value_of a.row (operands_with LoongArch64 p.addresses a.row symbol after got)
-      → IsRelocated name y (instruction_at l.rewritten r_packed.offset) (final_instruction p r_packed.offset)
+      → IsRelocated name y (instruction_at l.rewritten (rela_at l i).offset) (final_instruction p (rela_at l i).offset)
   relocated_kept symbol got taken is_symbol y same =
-      as_named name a y (instruction_at l.rewritten r_packed.offset) (final_instruction p r_packed.offset)
-      (own_there l p joined i below code r_packed.symbol r_packed.addend after_is kept left a.row a.of row_is LoongArch64 is symbol got taken is_symbol y same)
+      as_named name a y (instruction_at l.rewritten (rela_at l i).offset) (final_instruction p (rela_at l i).offset)
+      (own_there l p joined i below code (rela_at l i).symbol (rela_at l i).addend after_is kept left a.row a.of row_is LoongArch64 is symbol got taken is_symbol y same)
 
 -- ---- what new has
 

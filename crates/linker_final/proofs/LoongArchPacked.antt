@@ -550,15 +550,12 @@ module _ (relative : relocation_laws.RelativeAddresses) (p : Packed) (is : IsPac
     (symbol_is : slice_get p.symbols (relocation_in p.relocations_after i).symbol ≡ Some symbol)
     (small : AreAddresses (operands_at p i high_row symbol))
     (fits : Fits32 names.R_LARCH_PCALA_HI20 (operands_at p i high_row symbol)) where
-  abbrev o : ℕ
-  o = offset_at p.relocations i
-
   abbrev y : Operands
   y = operands_at p i high_row symbol
 
   -- where the second instruction goes
-  next_place : place_of p (o + 4) ≡ place_of p o + 4
-  next_place = place_after p is o 4 (omega arith) of.high.stays
+  next_place : place_of p ((offset_at p.relocations i) + 4) ≡ place_of p (offset_at p.relocations i) + 4
+  next_place = place_after p is (offset_at p.relocations i) 4 (omega arith) of.high.stays
 
   low_place : sum_64 p.addresses.section (offset_at p.relocations_after j) ≡ sum_64 y.place 4
   low_place =
@@ -566,21 +563,21 @@ module _ (relative : relocation_laws.RelativeAddresses) (p : Packed) (is : IsPac
       let second = (is.moved j of.low.within).offset (omega (arith, (of.low.stays 0 (omega arith)).inside)) in
       omega (arith, first, second, next_place, ap (place_of p) of.next)
 
-  low_applied : IsApplied low_row (following 4 y) (take 4 (drop (o + 4) p.section.bytes))
-      (take 4 (drop (place_of p o + 4) p.final))
+  low_applied : IsApplied low_row (following 4 y) (take 4 (drop ((offset_at p.relocations i) + 4) p.section.bytes))
+      (take 4 (drop (place_of p (offset_at p.relocations i) + 4) p.final))
   low_applied =
       let own = applied p is machine j names.R_LARCH_PCALA_LO12 4 of.low low_row _ _ refl refl refl refl refl symbol
       (ap (slice_get p.symbols) of.same_symbol ∙ symbol_is) (operands_at p j low_row symbol) refl tt in
-      let there : IsApplied low_row (operands_at p j low_row symbol) (take 4 (drop (o + 4) p.section.bytes)) (take 4 (drop (place_of p (o + 4)) p.final)) =
+      let there : IsApplied low_row (operands_at p j low_row symbol) (take 4 (drop ((offset_at p.relocations i) + 4) p.section.bytes)) (take 4 (drop (place_of p ((offset_at p.relocations i) + 4)) p.final)) =
       rw (← of.next) own in
       rw (← next_place, ← low_place, ← of.same_addend) there
 
   final_pair : (t : Processor) → t.pc ≡ y.place
-      → Made (pair (take 4 (drop (place_of p o) p.final)) (take 4 (drop (place_of p o + 4) p.final)))
-      (destination p.section.bytes o) (symbol_address y) (sum_64 y.place 8) t
+      → Made (pair (take 4 (drop (place_of p (offset_at p.relocations i)) p.final)) (take 4 (drop (place_of p (offset_at p.relocations i) + 4) p.final)))
+      (destination p.section.bytes (offset_at p.relocations i)) (symbol_address y) (sum_64 y.place 8) t
   final_pair t ht =
-      by_addi relative p.section.bytes o of.pair y small (take 4 (drop (place_of p o) p.final))
-      (take 4 (drop (place_of p o + 4) p.final)) fits
+      by_addi relative p.section.bytes (offset_at p.relocations i) of.pair y small (take 4 (drop (place_of p (offset_at p.relocations i)) p.final))
+      (take 4 (drop (place_of p (offset_at p.relocations i) + 4) p.final)) fits
       (applied p is machine i names.R_LARCH_PCALA_HI20 4 of.high high_row _ _ refl refl refl refl refl symbol symbol_is y refl tt)
       low_applied t ht
 

@@ -6,7 +6,7 @@ use Rattle.linker_elf.specs.declared.elf.RelocationKind.TheVariants.{None as NoV
 use Rattle.linker_elf.specs.declared.ppc64.forms.Ppc64Form.TheVariants.{Branch24}
 use Rattle.linker_elf.specs.declared.ppc64.relocations.Ppc64Relocation.{Ppc64Relocation}
 use Rattle.linker_final.proofs.SectionRuns.{AreIn, IsIn, each_or, is_linked, without_label}
-use Rattle.linker_final.proofs.Written.{IsOfInstruction, IsRowOf, apart_with, applied_after, by_name, entry_is_there, first_same, left_within, made_there, mapped, of_bits, outside_of, rela, relocation_is, relocation_left, second_same, small_byte, spared, stays, unwritten_but, unwritten_without, window_byte, window_length, word_same}
+use Rattle.linker_final.proofs.Written.{IsOfInstruction, IsRowOf, apart_with, applied_after, by_name, entry_is_there, first_same, left_within, made_there, mapped, of_bits, outside_of, rela, rela_at, relocation_is, relocation_left, second_same, small_byte, spared, stays, unwritten_but, unwritten_without, window_byte, window_length, word_same}
 use Rattle.linker_final.specs.Ppc64Section.{IsMade as IsMadeThere, Law, Left, Rewrites, applied, entry_by, law, law_of, none, rewriting, span}
 use Rattle.linker_laws.specs.Ppc64Groups.{Code, Groups, Has, Rewrites as AreRewritten_so, Stands}
 use Rattle.linker_laws.specs.Ppc64RewriteLaws.{IsRelocated, IsRewritten, from_thread, from_toc}
@@ -178,13 +178,10 @@ marked_offset l i = offset_of l i - 1
 module _ (l : Linked) (rewriting : AreRewritten l) (i : ℕ) (chosen : Choice Relaxation ℕ)
     (below : i < count l) (decided : decision_at l.decisions i ≡ Rewritten chosen)
     (kind : RewriteKind) (kind_is : chosen.kind ≡ relaxations.Ppc64 kind) where
-  abbrev r : Rela
-  r = relocation_in l.relocations i
-
   abbrev after : Ppc64Relocation → Rela
   after name =
-      rela (offset_after (ppc64_rewrite kind) r.offset) (r_type_of (ppc64_name name)) r.symbol
-      (addend_after (ppc64_rewrite kind) r.addend)
+      rela (offset_after (ppc64_rewrite kind) (rela_at l i).offset) (r_type_of (ppc64_name name)) (rela_at l i).symbol
+      (addend_after (ppc64_rewrite kind) (rela_at l i).addend)
 
   pub after_is : (name : Ppc64Relocation) → chosen.relocation ≡ r_type_of (ppc64_name name)
       → relocation_in l.relocations_after i ≡ after name
@@ -195,12 +192,12 @@ module _ (l : Linked) (rewriting : AreRewritten l) (i : ℕ) (chosen : Choice Re
   pub made_after : (name : Ppc64Relocation) → chosen.relocation ≡ r_type_of (ppc64_name name)
       → (made : Rewrite) → ppc64_rewrite kind ≡ Some made
       → relocation_in l.relocations_after i
-      ≡ rela (made.offset r.offset) (r_type_of (ppc64_name name)) r.symbol (made.addend r.addend)
+      ≡ rela (made.offset (rela_at l i).offset) (r_type_of (ppc64_name name)) (rela_at l i).symbol (made.addend (rela_at l i).addend)
   made_after name r_type_is made is = rw is at (after_is name r_type_is)
 
   -- what becomes of the window of a rewrite
   pub becomes : (made : Rewrite) → ppc64_rewrite kind ≡ Some made → made.back ≡ 0
-      → IsRewritten kind (take made.len (drop r.offset l.section)) (take made.len (drop r.offset l.rewritten))
+      → IsRewritten kind (take made.len (drop (rela_at l i).offset l.section)) (take made.len (drop (rela_at l i).offset l.rewritten))
   becomes made is back =
       rw is (made_there l rewriting i chosen below decided made (ap relaxation_rewrite kind_is ∙ is) back)
 
@@ -208,7 +205,7 @@ module _ (l : Linked) (rewriting : AreRewritten l) (i : ℕ) (chosen : Choice Re
   pub becomes_marked : (new : ℕ → ℕ) → ppc64_rewrite kind ≡ Some (rewrites_marked new)
       → IsRewritten kind (instruction_at l.section (marked_offset l i)) (instruction_at l.rewritten (marked_offset l i))
   becomes_marked new is =
-      let o = r.offset in
+      let o = (rela_at l i).offset in
       let made = rewrites_marked new in
       let done : IsMade (relaxation_rewrite chosen.kind) o l.section l.rewritten =
       subst (λ d. IsDone d o l.section l.rewritten) decided (rewriting.done i below) in
@@ -489,9 +486,6 @@ only (inr nothing) = absurd nothing
 
 module _ (l : Linked) (linked : IsLinked l) (ppc64 : l.context.architecture ≡ Ppc64) (i : ℕ)
     (chosen : Choice Relaxation ℕ) (below : i < count l) (decided : decision_at l.decisions i ≡ Rewritten chosen) where
-  abbrev o : ℕ
-  o = offset_of l i
-
   abbrev left_after : Rela
   left_after = relocation_in l.relocations_after i
 
@@ -572,7 +566,7 @@ module _ (l : Linked) (linked : IsLinked l) (ppc64 : l.context.architecture ≡ 
 
   -- no byte outside is of the rewrite
   others_at : (kind : RewriteKind) → chosen.kind ≡ relaxations.Ppc64 kind → (made : Rewrite) → ppc64_rewrite kind ≡ Some made
-      → made.back ≡ 0 → (b : ℕ) → (b < o) ⊎ (o + made.len ≤ b) → IsOutside l.relocations l.decisions i b
+      → made.back ≡ 0 → (b : ℕ) → (b < (offset_of l i)) ⊎ ((offset_of l i) + made.len ≤ b) → IsOutside l.relocations l.decisions i b
   others_at kind kind_is made is back b apart =
       outside_of l i chosen (Some made) decided (ap relaxation_rewrite kind_is ∙ is) b (elim apart [
         | inl before ↦ inl (omega (arith, before, back))
@@ -587,43 +581,43 @@ module _ (l : Linked) (linked : IsLinked l) (ppc64 : l.context.architecture ≡ 
   -- of a word
   word : (kind : RewriteKind) (a : After 1) (conditions : Conditions) (test : ℕ → Bool) (AreSo : AreGroup)
       → AreRewritten_so test kind AreSo → (new : ℕ → ℕ) → ppc64_rewrite kind ≡ Some (rewrites_word new)
-      → (ppc64_matches kind l.section o
-      → (o + 4 ≤ length l.section) × IsTrue (test (word_of (instruction_at l.section o))))
-      → IsOfEntry (entry kind (name_of a.left) conditions) l.section o chosen → IsLawful l i chosen kind o 1 (law a.left AreSo)
+      → (ppc64_matches kind l.section (offset_of l i)
+      → ((offset_of l i) + 4 ≤ length l.section) × IsTrue (test (word_of (instruction_at l.section (offset_of l i)))))
+      → IsOfEntry (entry kind (name_of a.left) conditions) l.section (offset_of l i) chosen → IsLawful l i chosen kind (offset_of l i) 1 (law a.left AreSo)
   word kind a conditions test AreSo so new is meant by =
       let left = made_after l made i chosen below decided kind by.kind_is (name_of a.left) by.r_type_is (rewrites_word new) is in
       record {
         kind_is = by.kind_is;
         r_type_is = by.r_type_is;
         group = λ alone.
-            so (instruction_at l.section o) (instruction_at l.rewritten o) ((meant by.meant).1)
+            so (instruction_at l.section (offset_of l i)) (instruction_at l.rewritten (offset_of l i)) ((meant by.meant).1)
             (becomes l made i chosen below decided kind by.kind_is (rewrites_word new) is refl);
-        final = a.final o (ap (λ (r : Rela). r.offset) left) (ap (λ (r : Rela). r.r_type) left);
+        final = a.final (offset_of l i) (ap (λ (r : Rela). r.offset) left) (ap (λ (r : Rela). r.r_type) left);
         others = λ b apart. inl (others_at kind by.kind_is (rewrites_word new) is refl b apart);
       }
 
   -- of one of a sort
   of_sort : (kind : RewriteKind) (a : After 1) (conditions : Conditions) (test : ℕ → Bool) (AreSo : AreGroup)
       → AreRewritten_so test kind AreSo → (new : ℕ → ℕ) → ppc64_rewrite kind ≡ Some (rewrites_word new)
-      → (ppc64_matches kind l.section o → HasTest test l.section o)
-      → IsOfEntry (entry kind (name_of a.left) conditions) l.section o chosen → IsLawful l i chosen kind o 1 (law a.left AreSo)
+      → (ppc64_matches kind l.section (offset_of l i) → HasTest test l.section (offset_of l i))
+      → IsOfEntry (entry kind (name_of a.left) conditions) l.section (offset_of l i) chosen → IsLawful l i chosen kind (offset_of l i) 1 (law a.left AreSo)
   of_sort kind a conditions test AreSo so new is meant =
-      word kind a conditions test AreSo so new is (λ m. ((meant m).0, test_at l o test (meant m)))
+      word kind a conditions test AreSo so new is (λ m. ((meant m).0, test_at l (offset_of l i) test (meant m)))
 
   load : (AreSo : AreGroup) → AreRewritten_so is_ld kinds.LdToAddisThread AreSo
-      → IsOfEntry (entry kinds.LdToAddisThread names.R_PPC64_TPREL16_HA to_local_exec) l.section o chosen
-      → IsLawful l i chosen kinds.LdToAddisThread o 1 (law (applied names.R_PPC64_TPREL16_HA) AreSo)
+      → IsOfEntry (entry kinds.LdToAddisThread names.R_PPC64_TPREL16_HA to_local_exec) l.section (offset_of l i) chosen
+      → IsLawful l i chosen kinds.LdToAddisThread (offset_of l i) 1 (law (applied names.R_PPC64_TPREL16_HA) AreSo)
   load AreSo so =
-      let w = word_of (instruction_at l.section o) in
+      let w = word_of (instruction_at l.section (offset_of l i)) in
       word kinds.LdToAddisThread (named names.R_PPC64_TPREL16_HA thread_high) to_local_exec is_ld AreSo so
       (λ word. addis_of_thread (rt_of word)) refl
-      (λ m. (m.0, (and_parts (is_ld w) (not (eqb (rt_of w) 0)) (test_at l o (λ word. is_ld word && not (eqb (rt_of word) 0)) m)).0))
+      (λ m. (m.0, (and_parts (is_ld w) (not (eqb (rt_of w) 0)) (test_at l (offset_of l i) (λ word. is_ld word && not (eqb (rt_of word) 0)) m)).0))
 
   kept : (a : After 1) (conditions : Conditions) (AreSo : AreGroup) → groups.Stays AreSo
-      → IsOfEntry (entry kinds.KeepAddis (name_of a.left) conditions) l.section o chosen
-      → IsLawful l i chosen kinds.KeepAddis o 1 (law a.left AreSo)
+      → IsOfEntry (entry kinds.KeepAddis (name_of a.left) conditions) l.section (offset_of l i) chosen
+      → IsLawful l i chosen kinds.KeepAddis (offset_of l i) 1 (law a.left AreSo)
   kept a conditions AreSo so by =
-      let before = instruction_at l.section o in
+      let before = instruction_at l.section (offset_of l i) in
       let left = after_is l made i chosen below decided kinds.KeepAddis by.kind_is (name_of a.left) by.r_type_is in
       let none_is : relaxation_rewrite chosen.kind ≡ None = ap relaxation_rewrite by.kind_is in
       record {
@@ -631,15 +625,15 @@ module _ (l : Linked) (linked : IsLinked l) (ppc64 : l.context.architecture ≡ 
         r_type_is = by.r_type_is;
         group = λ alone.
             subst (AreSo before) (sym (stays l made i chosen below decided none_is alone))
-            (so before (test_at l o is_addis_of_toc by.meant) refl);
-        final = a.final o (ap (λ (r : Rela). r.offset) left) (ap (λ (r : Rela). r.r_type) left);
+            (so before (test_at l (offset_of l i) is_addis_of_toc by.meant) refl);
+        final = a.final (offset_of l i) (ap (λ (r : Rela). r.offset) left) (ap (λ (r : Rela). r.r_type) left);
         others = λ b apart. inl (spared l i (Rewritten chosen) decided (ap window_of_rewrite none_is) b);
       }
 
   -- two words
-  both : (test : ℕ → ℕ → Bool) → HasTwo test l.section o → IsPrefixed test (two_at l.section o)
+  both : (test : ℕ → ℕ → Bool) → HasTwo test l.section (offset_of l i) → IsPrefixed test (two_at l.section (offset_of l i))
   both test meant =
-      let p = o in
+      let p = (offset_of l i) in
       let inside = meant.0 in
       let following = meant.1.0 in
       let first : word_of (two_at l.section p) ≡ word_of (drop p l.section) =
@@ -661,60 +655,60 @@ module _ (l : Linked) (linked : IsLinked l) (ppc64 : l.context.architecture ≡ 
   -- of 8 bytes, by the rewrite of these
   of_two : (kind : RewriteKind) (a : After 2) (conditions : Conditions) (test : ℕ → ℕ → Bool) (AreSo : AreGroup)
       → RewritesBoth test kind AreSo → (bytes : List ℕ → List ℕ) → ppc64_rewrite kind ≡ Some (replaces 0 8 bytes)
-      → (ppc64_matches kind l.section o → HasTwo test l.section o)
-      → IsOfEntry (entry kind (name_of a.left) conditions) l.section o chosen → IsLawful l i chosen kind o 2 (law a.left AreSo)
+      → (ppc64_matches kind l.section (offset_of l i) → HasTwo test l.section (offset_of l i))
+      → IsOfEntry (entry kind (name_of a.left) conditions) l.section (offset_of l i) chosen → IsLawful l i chosen kind (offset_of l i) 2 (law a.left AreSo)
   of_two kind a conditions test AreSo so bytes is meant by =
       let left = made_after l made i chosen below decided kind by.kind_is (name_of a.left) by.r_type_is (replaces 0 8 bytes) is in
       record {
         kind_is = by.kind_is;
         r_type_is = by.r_type_is;
         group = λ alone.
-            so (two_at l.section o) (two_at l.rewritten o) (both test (meant by.meant))
+            so (two_at l.section (offset_of l i)) (two_at l.rewritten (offset_of l i)) (both test (meant by.meant))
             (becomes l made i chosen below decided kind by.kind_is (replaces 0 8 bytes) is refl);
-        final = a.final o (ap (λ (r : Rela). r.offset) left) (ap (λ (r : Rela). r.r_type) left);
+        final = a.final (offset_of l i) (ap (λ (r : Rela). r.offset) left) (ap (λ (r : Rela). r.r_type) left);
         others = λ b apart. inl (others_at kind by.kind_is (replaces 0 8 bytes) is refl b apart);
       }
 
   -- of a call and what follows it
   call : (kind : RewriteKind) (left : Left) (conditions : Conditions) (AreSo : AreGroup)
       → AreRewritten_so groups.is_any kind AreSo → (new : ℕ) → ppc64_rewrite kind ≡ Some (rewrites_call new)
-      → (left_after.offset ≡ o + 4 → left_after.r_type ≡ r_type_of (ppc64_name (name_of left)) → Final l i o 2 left)
-      → IsOfEntry (entry kind (name_of left) conditions) l.section o chosen → IsLawful l i chosen kind o 2 (law left AreSo)
+      → (left_after.offset ≡ (offset_of l i) + 4 → left_after.r_type ≡ r_type_of (ppc64_name (name_of left)) → Final l i (offset_of l i) 2 left)
+      → IsOfEntry (entry kind (name_of left) conditions) l.section (offset_of l i) chosen → IsLawful l i chosen kind (offset_of l i) 2 (law left AreSo)
   call kind left conditions AreSo so new is final by =
       let made = made_after l made i chosen below decided kind by.kind_is (name_of left) by.r_type_is (rewrites_call new) is in
       record {
         kind_is = by.kind_is;
         r_type_is = by.r_type_is;
         group = λ alone.
-            so (two_at l.section o) (two_at l.rewritten o) refl
+            so (two_at l.section (offset_of l i)) (two_at l.rewritten (offset_of l i)) refl
             (becomes l made i chosen below decided kind by.kind_is (rewrites_call new) is refl);
         final = final (ap (λ (r : Rela). r.offset) made) (ap (λ (r : Rela). r.r_type) made);
         others = λ b apart. inl (others_at kind by.kind_is (rewrites_call new) is refl b apart);
       }
 
   -- the low half in its second word
-  low_half : left_after.offset ≡ o + 4 → left_after.r_type ≡ r_type_of (ppc64_name names.R_PPC64_TPREL16_LO)
-      → Final l i o 2 (to_second names.R_PPC64_TPREL16_LO)
+  low_half : left_after.offset ≡ (offset_of l i) + 4 → left_after.r_type ≡ r_type_of (ppc64_name names.R_PPC64_TPREL16_LO)
+      → Final l i (offset_of l i) 2 (to_second names.R_PPC64_TPREL16_LO)
   low_half offset code alone c pc stands symbol any is_symbol = (
-    one_stands c.new pc (drop o l.final) (two_at l.rewritten o)
-        (left_beside l linked ppc64 i below names.R_PPC64_TPREL16_LO thread_low_after code o
-        (left_within l i o 8 o 4 (omega arith) (omega arith) alone.left) (inl (omega (arith, offset)))
-        (unwritten o 8 o (omega arith) (omega arith) alone)
-        ∙ sym (take-take 4 8 (drop o l.rewritten) (omega arith))) (stands.0, tt),
-    subst (λ words. HasApplied names.R_PPC64_TPREL16_LO l i symbol any c 1 (sum_64 pc 4) words) (sym (second_same l.rewritten o))
-        (applied_left 1 4 names.R_PPC64_TPREL16_LO thread_low (o + 4) offset code
-        (left_within l i o 8 (o + 4) 4 (omega arith) (omega arith) alone.left) c (sum_64 pc 4)
-        (one_stands c.new (sum_64 pc 4) (drop 4 (drop o l.final)) (instruction_at l.final (o + 4))
-        (ap (take 4) (drop-drop 4 o l.final) ∙ sym (take-take 4 4 (drop (o + 4) l.final) (omega arith))) (stands.1))
+    one_stands c.new pc (drop (offset_of l i) l.final) (two_at l.rewritten (offset_of l i))
+        (left_beside l linked ppc64 i below names.R_PPC64_TPREL16_LO thread_low_after code (offset_of l i)
+        (left_within l i (offset_of l i) 8 (offset_of l i) 4 (omega arith) (omega arith) alone.left) (inl (omega (arith, offset)))
+        (unwritten (offset_of l i) 8 (offset_of l i) (omega arith) (omega arith) alone)
+        ∙ sym (take-take 4 8 (drop (offset_of l i) l.rewritten) (omega arith))) (stands.0, tt),
+    subst (λ words. HasApplied names.R_PPC64_TPREL16_LO l i symbol any c 1 (sum_64 pc 4) words) (sym (second_same l.rewritten (offset_of l i)))
+        (applied_left 1 4 names.R_PPC64_TPREL16_LO thread_low ((offset_of l i) + 4) offset code
+        (left_within l i (offset_of l i) 8 ((offset_of l i) + 4) 4 (omega arith) (omega arith) alone.left) c (sum_64 pc 4)
+        (one_stands c.new (sum_64 pc 4) (drop 4 (drop (offset_of l i) l.final)) (instruction_at l.final ((offset_of l i) + 4))
+        (ap (take 4) (drop-drop 4 (offset_of l i) l.final) ∙ sym (take-take 4 4 (drop ((offset_of l i) + 4) l.final) (omega arith))) (stands.1))
         symbol any is_symbol),
   )
 
   -- of an instruction that begins before its mark
   marked : (kind : RewriteKind) (test : ℕ → Bool) (AreSo : AreGroup) → AreRewritten_so test kind AreSo
       → (new : ℕ → ℕ) → ppc64_rewrite kind ≡ Some (rewrites_marked new)
-      → (ppc64_matches kind l.section o → HasTest test l.section (marked_offset l i))
-      → IsOfEntry (entry kind names.R_PPC64_NONE to_prefixed_local_exec) l.section o chosen
-      → IsLawful l i chosen kind (o - 1) 1 (law none AreSo)
+      → (ppc64_matches kind l.section (offset_of l i) → HasTest test l.section (marked_offset l i))
+      → IsOfEntry (entry kind names.R_PPC64_NONE to_prefixed_local_exec) l.section (offset_of l i) chosen
+      → IsLawful l i chosen kind ((offset_of l i) - 1) 1 (law none AreSo)
   marked kind test AreSo so new is meant by =
       let there = meant by.meant in
       let left = made_after l made i chosen below decided kind by.kind_is names.R_PPC64_NONE by.r_type_is (rewrites_marked new) is in
@@ -724,14 +718,14 @@ module _ (l : Linked) (linked : IsLinked l) (ppc64 : l.context.architecture ≡ 
         group = λ alone.
             so (instruction_at l.section (marked_offset l i)) (instruction_at l.rewritten (marked_offset l i))
             (test_at l (marked_offset l i) test there) (becomes_marked l made i chosen below decided kind by.kind_is new is);
-        final = one_left (o - 1) (ap (λ (r : Rela). r.r_type) left);
+        final = one_left ((offset_of l i) - 1) (ap (λ (r : Rela). r.r_type) left);
         others = λ b apart. inl (outside_of l i chosen (Some (rewrites_marked new)) decided (ap relaxation_rewrite by.kind_is ∙ is) b apart);
       }
 
   -- of the `nop` after a call that may change the TOC pointer
   restores : RewritesBoth is_call kinds.NopToRestoreToc groups.RestoresToc
-      → IsOfEntry (entry kinds.NopToRestoreToc names.R_PPC64_REL24 (changed_toc ∷ [])) l.section o chosen
-      → IsLawful l i chosen kinds.NopToRestoreToc (o + 4) 1 (law of_call Restores)
+      → IsOfEntry (entry kinds.NopToRestoreToc names.R_PPC64_REL24 (changed_toc ∷ [])) l.section (offset_of l i) chosen
+      → IsLawful l i chosen kinds.NopToRestoreToc ((offset_of l i) + 4) 1 (law of_call Restores)
   restores so by =
       let left = made_after l made i chosen below decided kinds.NopToRestoreToc by.kind_is names.R_PPC64_REL24 by.r_type_is (replaces 0 8 restores_toc) refl in
       let offset = ap (λ (r : Rela). r.offset) left in
@@ -741,21 +735,21 @@ module _ (l : Linked) (linked : IsLinked l) (ppc64 : l.context.architecture ≡ 
         kind_is = by.kind_is;
         r_type_is = by.r_type_is;
         group = λ alone call restored same same_after c k s old new.
-            so (two_at l.section o) (two_at l.rewritten o) (both is_call by.meant) made c k s
-            (subst (Stands 1 c.old s.pc) (same ∙ sym (second_same l.section o)) old)
-            (subst (Stands 1 c.new s.pc) (same_after ∙ sym (second_same l.rewritten o)) new);
+            so (two_at l.section (offset_of l i)) (two_at l.rewritten (offset_of l i)) (both is_call by.meant) made c k s
+            (subst (Stands 1 c.old s.pc) (same ∙ sym (second_same l.section (offset_of l i))) old)
+            (subst (Stands 1 c.new s.pc) (same_after ∙ sym (second_same l.rewritten (offset_of l i))) new);
         final = λ alone c pc stands symbol any is_symbol.
-            one_stands c.new pc (drop (o + 4) l.final) (instruction_at l.rewritten (o + 4))
-            (left_beside l linked ppc64 i below names.R_PPC64_REL24 call_after (ap (λ (r : Rela). r.r_type) left) (o + 4)
+            one_stands c.new pc (drop ((offset_of l i) + 4) l.final) (instruction_at l.rewritten ((offset_of l i) + 4))
+            (left_beside l linked ppc64 i below names.R_PPC64_REL24 call_after (ap (λ (r : Rela). r.r_type) left) ((offset_of l i) + 4)
             alone.left (inr (omega (arith, offset)))
-            (unwritten (o + 4) 4 (o + 4) (omega arith) (omega arith) alone)
-            ∙ sym (take-take 4 4 (drop (o + 4) l.rewritten) (omega arith))) stands;
+            (unwritten ((offset_of l i) + 4) 4 ((offset_of l i) + 4) (omega arith) (omega arith) alone)
+            ∙ sym (take-take 4 4 (drop ((offset_of l i) + 4) l.rewritten) (omega arith))) stands;
         others = λ b outside. elim outside [
-          | inl before ↦ elim (cases_lt b o) [
+          | inl before ↦ elim (cases_lt b (offset_of l i)) [
             | inl ahead ↦ inl (apart b (inl ahead))
-            | inr from ↦ inr (sym (window_byte o 4 b l.rewritten from before)
-                ∙ (ap (λ xs. get_or xs (b - o) 0) (call_stays l.section l.rewritten o linked.section_bytes (by.meant.0) made)
-                ∙ window_byte o 4 b l.section from before))
+            | inr from ↦ inr (sym (window_byte (offset_of l i) 4 b l.rewritten from before)
+                ∙ (ap (λ xs. get_or xs (b - (offset_of l i)) 0) (call_stays l.section l.rewritten (offset_of l i) linked.section_bytes (by.meant.0) made)
+                ∙ window_byte (offset_of l i) 4 b l.section from before))
           ]
           | inr past ↦ inl (apart b (inr (omega (arith, past))))
         ];
@@ -769,7 +763,7 @@ module _ (l : Linked) (linked : IsLinked l) (ppc64 : l.context.architecture ≡ 
       (record { i = i; below = below; name = name; is_name = is_name; chosen = chosen; decided = decided }) refl
 
   pub law_of_name : Groups → (name : Ppc64Relocation) → IsNameOf ppc64_name (relocation_in l.relocations i).r_type name
-      → IsOfOne (ppc64_entries name) l.section o chosen → IsNamed (ppc64_name name) × Lawful l i chosen name
+      → IsOfOne (ppc64_entries name) l.section (offset_of l i) chosen → IsNamed (ppc64_name name) × Lawful l i chosen name
   law_of_name laws names.R_PPC64_REL24 is_name of = (tt, (kinds.NopToRestoreToc, restores laws.toc (only of)))
   law_of_name laws names.R_PPC64_TOC16_HA is_name of =
       (tt, (kinds.AddisToNop, of_sort kinds.AddisToNop gone without_high_part (is_addis_over 2) groups.TocHigh (laws.high_halves.0) (λ _. nop) refl (λ m. m) (only of)))
@@ -828,7 +822,7 @@ module _ (l : Linked) (linked : IsLinked l) (ppc64 : l.context.architecture ≡ 
   law_of_name laws names.R_PPC64_TLSGD is_name (inr (inr (inl by))) =
       (tt, (kinds.CallToAddi, call kinds.CallToAddi (to_second names.R_PPC64_TPREL16_LO) to_local_exec groups.CallToLowHalf laws.call_low_halves 0x38630000 refl low_half by))
   law_of_name laws names.R_PPC64_TLSGD is_name (inr (inr (inr rest))) =
-      (tt, (kinds.CallToAdd, call kinds.CallToAdd none to_initial_exec (CallTo 2 sum_64) (laws.calls.0) 0x7c636a14 refl (λ offset. two_left o) (only rest)))
+      (tt, (kinds.CallToAdd, call kinds.CallToAdd none to_initial_exec (CallTo 2 sum_64) (laws.calls.0) 0x7c636a14 refl (λ offset. two_left (offset_of l i)) (only rest)))
   law_of_name laws names.R_PPC64_GOT_TLSLD16_HA is_name of =
       (tt, (kinds.AddisToNop, of_sort kinds.AddisToNop gone to_module (is_addis_over 2) groups.ModuleHigh (laws.high_halves.4) (λ _. nop) refl (λ m. m) (only of)))
   law_of_name laws names.R_PPC64_GOT_TLSLD16_LO is_name of =
@@ -840,7 +834,7 @@ module _ (l : Linked) (linked : IsLinked l) (ppc64 : l.context.architecture ≡ 
   law_of_name laws names.R_PPC64_TLSLD is_name (inl by) =
       (tt, (kinds.BranchToNop, word kinds.BranchToNop gone called_to_module groups.is_any (CallTo 1 groups.keep_number) (laws.calls.2) (λ _. nop) refl (λ m. (m.0, refl)) by))
   law_of_name laws names.R_PPC64_TLSLD is_name (inr rest) =
-      (tt, (kinds.CallToAddi4096, call kinds.CallToAddi4096 none to_module (CallTo 2 groups.add_block) (laws.calls.1) 0x38631000 refl (λ offset. two_left o) (only rest)))
+      (tt, (kinds.CallToAddi4096, call kinds.CallToAddi4096 none to_module (CallTo 2 groups.add_block) (laws.calls.1) 0x38631000 refl (λ offset. two_left (offset_of l i)) (only rest)))
   law_of_name laws names.R_PPC64_REL16_HA is_name of = absurd (unlisted names.R_PPC64_REL16_HA is_name (of_none names.R_PPC64_REL16_HA tt refl refl refl))
   law_of_name laws names.R_PPC64_REL16_LO is_name of = absurd (unlisted names.R_PPC64_REL16_LO is_name (of_none names.R_PPC64_REL16_LO tt refl refl refl))
   law_of_name laws name is_name of = absurd of

@@ -6,7 +6,7 @@ use Rattle.linker_elf.specs.Relocate.{Reaches}
 use Rattle.linker_elf.specs.declared.elf.RelocationKind.TheVariants.{None as NoValue}
 use Rattle.linker_final.proofs.PackedBytes.{final_inside, place_is, r_type_is, rewritten_inside, same_kept, unwritten_there, within}
 use Rattle.linker_final.proofs.SectionRuns.{AreIn, beside_or, is_linked}
-use Rattle.linker_final.proofs.Written.{IsOfInstruction, IsRowOf, applied, applied_found, by_name, bytes_left, last_length, last_within, later_bytes, low_found, mapped, of_bits, rela, relocation_left, row_in, stays, unwritten_without, with_operands, word_same}
+use Rattle.linker_final.proofs.Written.{IsOfInstruction, IsRowOf, applied, applied_found, by_name, bytes_left, last_length, last_within, later_bytes, low_found, mapped, of_bits, rela, rela_at, relocation_left, row_in, stays, unwritten_without, with_operands, word_same}
 use Rattle.linker_final.specs.RiscVSection.{rewriting}
 use Rattle.linker_rewriting.specs.declared.facts.OutputFacts.{OutputFacts}
 use Rattle.linker_rewriting.specs.declared.facts.SymbolFacts.{SymbolFacts}
@@ -179,25 +179,22 @@ module _ (l : Linked) (made : AreRewritten l) (riscv : l.context.architecture �
     (name : RiscVRelocation) (named : IsNamed (riscv_name name))
     (is_name : IsNameOf riscv_name (relocation_in l.relocations i).r_type name)
   where
-    abbrev r : Rela
-    r = relocation_in l.relocations i
-
-    pub of_some : IsOfSome name (riscv_entries name) l.section r.offset chosen
+    pub of_some : IsOfSome name (riscv_entries name) l.section (rela_at l i).offset chosen
     of_some =
         let c = anyhow l made i decision chosen below decided by in
-        of_table l.context.architecture riscv r.r_type l.section r.offset c.facts chosen c.is_choice c.changed name named is_name
-        (λ e. HasPattern name e.kind l.section r.offset) (λ e applies. applies.0)
+        of_table l.context.architecture riscv (rela_at l i).r_type l.section (rela_at l i).offset c.facts chosen c.is_choice c.changed name named is_name
+        (λ e. HasPattern name e.kind l.section (rela_at l i).offset) (λ e applies. applies.0)
 
     -- the only one
     pub of_riscv_entry : (e : RiscVEntry) → riscv_entries name ≡ (e ∷ [])
-        → IsOfEntry name e l.section r.offset chosen
+        → IsOfEntry name e l.section (rela_at l i).offset chosen
     of_riscv_entry e entries =
-        of_entry_in riscv_name relaxations.RiscV (λ e. HasPattern name e.kind l.section r.offset) chosen e (riscv_entries name) entries of_some
+        of_entry_in riscv_name relaxations.RiscV (λ e. HasPattern name e.kind l.section (rela_at l i).offset) chosen e (riscv_entries name) entries of_some
 
     pub becomes_of : (after : RiscVRelocation) (kind : RewriteKind) → chosen.kind ≡ relaxations.RiscV kind
-        → EachBecomes name kind after (riscv_entries name) → Becomes after l.section r.offset chosen
+        → EachBecomes name kind after (riscv_entries name) → Becomes after l.section (rela_at l i).offset chosen
     becomes_of after kind is each =
-        becomes_by name after kind l.section r.offset chosen is (riscv_entries name) each of_some
+        becomes_by name after kind l.section (rela_at l i).offset chosen is (riscv_entries name) each of_some
 
 -- ---- bytes
 
@@ -222,7 +219,7 @@ long_there bytes o inside =
 -- what a rewrite of a word makes of four bytes
 made_is : (new : ℕ → ℕ) (bytes : List ℕ) → length bytes ≡ 4
     → rewritten (Some (rewrites_word new)) bytes 0 ≡ to_le_bytes w32 (new (from_le_bytes w32 bytes))
-made_is new (p ∷ q ∷ r_written ∷ s ∷ []) long = refl
+made_is new (p ∷ q ∷ r ∷ s ∷ []) long = refl
 made_is new bytes long = absurd (omega (arith, long))
 
 -- ---- what a decision leaves of a relocation
@@ -232,21 +229,18 @@ module _ (l : Linked) (made : AreRewritten l) (i : ℕ) (chosen : Choice Relaxat
     (r_type_is : chosen.relocation ≡ r_type_of (riscv_name name))
     (unmoved : (o : ℕ) → offset_after (riscv_rewrite kind) o ≡ o)
     (same_addend : (a : ℤ) → addend_after (riscv_rewrite kind) a ≡ a) where
-  abbrev r_written : Rela
-  r_written = relocation_in l.relocations i
-
   after_is : (symbol : ℕ) (addend : ℤ)
-      → rela (offset_after (relaxation_rewrite chosen.kind) r_written.offset) chosen.relocation symbol (addend_after (relaxation_rewrite chosen.kind) addend)
-      ≡ rela r_written.offset (r_type_of (riscv_name name)) symbol addend
-  after_is symbol addend = rw (kind_is, unmoved r_written.offset, r_type_is, same_addend addend)
+      → rela (offset_after (relaxation_rewrite chosen.kind) (rela_at l i).offset) chosen.relocation symbol (addend_after (relaxation_rewrite chosen.kind) addend)
+      ≡ rela (rela_at l i).offset (r_type_of (riscv_name name)) symbol addend
+  after_is symbol addend = rw (kind_is, unmoved (rela_at l i).offset, r_type_is, same_addend addend)
 
   pub rewritten_after : decision_at l.decisions i ≡ Rewritten chosen
-      → relocation_in l.relocations_after i ≡ rela r_written.offset (r_type_of (riscv_name name)) r_written.symbol r_written.addend
-  rewritten_after decided = cc (made.relocations i below, after_is r_written.symbol r_written.addend)
+      → relocation_in l.relocations_after i ≡ rela (rela_at l i).offset (r_type_of (riscv_name name)) (rela_at l i).symbol (rela_at l i).addend
+  rewritten_after decided = cc (made.relocations i below, after_is (rela_at l i).symbol (rela_at l i).addend)
 
   pub redirected_after : (subject : Subject) → decision_at l.decisions i ≡ RewrittenWithSymbol chosen subject
       → relocation_in l.relocations_after i
-      ≡ rela r_written.offset (r_type_of (riscv_name name)) subject.symbol subject.addend
+      ≡ rela (rela_at l i).offset (r_type_of (riscv_name name)) subject.symbol subject.addend
   redirected_after subject decided = cc (made.relocations i below, after_is subject.symbol subject.addend)
 
 -- ---- what such a relocation writes
@@ -262,14 +256,14 @@ pub record IsOwn (name : RiscVRelocation) : Type 0 where
   pub after : IsAfter name
   pub of : IsOfInstruction 4 after.row
   pub is_row : riscv_row name ≡ Some after.row
-  pub no_entry : (addresses : Addresses) (r_written : Rela) (symbol : Symbol)
-      → operands_in RiscV addresses after.row r_written (Some symbol)
-      ≡ Ok (operands_with RiscV addresses after.row symbol r_written 0)
+  pub no_entry : (addresses : Addresses) (r : Rela) (symbol : Symbol)
+      → operands_in RiscV addresses after.row r (Some symbol)
+      ≡ Ok (operands_with RiscV addresses after.row symbol r 0)
 
 abbrev pub own_row : (name : RiscVRelocation) (row : RowInfo) → (riscv_relocation name).row ≡ Some row
     → IsNamed (riscv_name name) → IsOfInstruction 4 row → riscv_row name ≡ Some row
-    → ((addresses : Addresses) (r_written : Rela) (symbol : Symbol)
-    → operands_in RiscV addresses row r_written (Some symbol) ≡ Ok (operands_with RiscV addresses row symbol r_written 0))
+    → ((addresses : Addresses) (r : Rela) (symbol : Symbol)
+    → operands_in RiscV addresses row r (Some symbol) ≡ Ok (operands_with RiscV addresses row symbol r 0))
     → IsOwn name
 own_row name row is named of is_row no_entry =
     record { after = record { row = row; is = is; named = named }; of = of; is_row = is_row; no_entry = no_entry }
@@ -283,20 +277,17 @@ module _ (l : Linked) (made : AreRewritten l) (i : ℕ) (below : i < count l) (d
     (rewrites : riscv_rewrite kind ≡ Some (rewrites_word new))
     (by : IsDone decision (relocation_in l.relocations i).offset l.section l.rewritten
     → IsMade (relaxation_rewrite chosen.kind) (relocation_in l.relocations i).offset l.section l.rewritten) where
-  abbrev o : ℕ
-  o = (relocation_in l.relocations i).offset
-
-  word_is : instruction_at l.rewritten o ≡ to_le_bytes w32 (new (from_le_bytes w32 (instruction_at l.section o)))
+  word_is : instruction_at l.rewritten (offset_of l i) ≡ to_le_bytes w32 (new (from_le_bytes w32 (instruction_at l.section (offset_of l i))))
   word_is =
-      cc (subst (λ n. instruction_at l.rewritten n ≡ to_le_bytes w32 (new (from_le_bytes w32 (instruction_at l.section n)))) (let e : o - 0 ≡ o = omega arith in e) (subst (λ q. IsMade q o l.section l.rewritten) (ap relaxation_rewrite kind_is ∙ rewrites) (by (subst (λ d. IsDone d o l.section l.rewritten) decided (made.done i below)))))
+      cc (subst (λ n. instruction_at l.rewritten n ≡ to_le_bytes w32 (new (from_le_bytes w32 (instruction_at l.section n)))) (let e : (offset_of l i) - 0 ≡ (offset_of l i) = omega arith in e) (subst (λ q. IsMade q (offset_of l i) l.section l.rewritten) (ap relaxation_rewrite kind_is ∙ rewrites) (by (subst (λ d. IsDone d (offset_of l i) l.section l.rewritten) decided (made.done i below)))))
 
-  pub becomes : o + 4 ≤ length l.section → instruction_at l.rewritten o ≡ after_rewrite kind (instruction_at l.section o) 0
+  pub becomes : (offset_of l i) + 4 ≤ length l.section → instruction_at l.rewritten (offset_of l i) ≡ after_rewrite kind (instruction_at l.section (offset_of l i)) 0
   becomes inside =
-      word_is ∙ sym (made_is new (instruction_at l.section o) (long_there l.section o inside))
-      ∙ ap (λ q. rewritten q (instruction_at l.section o) 0) (sym rewrites)
+      word_is ∙ sym (made_is new (instruction_at l.section (offset_of l i)) (long_there l.section (offset_of l i) inside))
+      ∙ ap (λ q. rewritten q (instruction_at l.section (offset_of l i)) 0) (sym rewrites)
 
-  pub made_bytes : AreBytes (instruction_at l.rewritten o)
-  made_bytes = subst AreBytes (sym word_is) (word_bytes (new (from_le_bytes w32 (instruction_at l.section o))))
+  pub made_bytes : AreBytes (instruction_at l.rewritten (offset_of l i))
+  made_bytes = subst AreBytes (sym word_is) (word_bytes (new (from_le_bytes w32 (instruction_at l.section (offset_of l i)))))
 
 -- ---- the facts
 
@@ -781,38 +772,35 @@ module _ (l : Linked) (riscv : l.context.architecture ≡ RiscV) where
 
 -- ---- entries
 
-high_of : (section : List ℕ) (o_load : ℕ) (chosen : Choice Relaxation ℕ)
+high_of : (section : List ℕ) (o : ℕ) (chosen : Choice Relaxation ℕ)
     → chosen.relocation ≡ r_type_of (riscv_name names.R_RISCV_PCREL_HI20)
-    → IsOfSome names.R_RISCV_GOT_HI20 (riscv_entries names.R_RISCV_GOT_HI20) section o_load chosen
-    → IsOfEntry names.R_RISCV_GOT_HI20 (entry kinds.NoOp names.R_RISCV_PCREL_HI20 (without_got [])) section o_load chosen
-high_of section o_load chosen code (inl this) =
+    → IsOfSome names.R_RISCV_GOT_HI20 (riscv_entries names.R_RISCV_GOT_HI20) section o chosen
+    → IsOfEntry names.R_RISCV_GOT_HI20 (entry kinds.NoOp names.R_RISCV_PCREL_HI20 (without_got [])) section o chosen
+high_of section o chosen code (inl this) =
     absurd (let e : 0 ≡ 23 = sym this.r_type_is ∙ code in omega (arith, e))
-high_of section o_load chosen code (inr (inl this)) = this
-high_of section o_load chosen code (inr (inr (inl this))) =
+high_of section o chosen code (inr (inl this)) = this
+high_of section o chosen code (inr (inr (inl this))) =
     absurd (let e : 26 ≡ 23 = sym this.r_type_is ∙ code in omega (arith, e))
-high_of section o_load chosen code (inr (inr (inr nothing))) = absurd nothing
+high_of section o chosen code (inr (inr (inr nothing))) = absurd nothing
 
-low_of_load : (section : List ℕ) (o_load : ℕ) (chosen : Choice Relaxation ℕ)
+low_of_load : (section : List ℕ) (o : ℕ) (chosen : Choice Relaxation ℕ)
     → chosen.relocation ≡ r_type_of (riscv_name names.R_RISCV_PCREL_LO12_I)
-    → IsOfSome names.R_RISCV_PCREL_LO12_I (riscv_entries names.R_RISCV_PCREL_LO12_I) section o_load chosen
-    → IsOfEntry names.R_RISCV_PCREL_LO12_I (entry kinds.LdToAddi names.R_RISCV_PCREL_LO12_I (without_got (got_high_part ∷ []))) section o_load chosen
-low_of_load section o_load chosen code (inl this) =
+    → IsOfSome names.R_RISCV_PCREL_LO12_I (riscv_entries names.R_RISCV_PCREL_LO12_I) section o chosen
+    → IsOfEntry names.R_RISCV_PCREL_LO12_I (entry kinds.LdToAddi names.R_RISCV_PCREL_LO12_I (without_got (got_high_part ∷ []))) section o chosen
+low_of_load section o chosen code (inl this) =
     absurd (let e : 27 ≡ 24 = sym this.r_type_is ∙ code in omega (arith, e))
-low_of_load section o_load chosen code (inr (inl this)) = this
-low_of_load section o_load chosen code (inr (inr (inl this))) =
+low_of_load section o chosen code (inr (inl this)) = this
+low_of_load section o chosen code (inr (inr (inl this))) =
     absurd (let e : 27 ≡ 24 = sym this.r_type_is ∙ code in omega (arith, e))
-low_of_load section o_load chosen code (inr (inr (inr nothing))) = absurd nothing
+low_of_load section o chosen code (inr (inr (inr nothing))) = absurd nothing
 
 -- ---- a pair
 
 module _ (groups : Groups) (l : Linked) (rewriting : AreRewritten l) (riscv : l.context.architecture ≡ RiscV)
     (i j : ℕ) (of : AreOfPair l i j) (alone : IsRewrittenByNoOther l i (offset_of l i)) where
-  abbrev o_load : ℕ
-  o_load = offset_of l i
-
-  high_entry : IsOfEntry names.R_RISCV_GOT_HI20 (entry kinds.NoOp names.R_RISCV_PCREL_HI20 (without_got [])) l.section o_load of.first.chosen
+  high_entry : IsOfEntry names.R_RISCV_GOT_HI20 (entry kinds.NoOp names.R_RISCV_PCREL_HI20 (without_got [])) l.section (offset_of l i) of.first.chosen
   high_entry =
-      high_of l.section o_load of.first.chosen of.high_becomes
+      high_of l.section (offset_of l i) of.first.chosen of.high_becomes
       (of_some l rewriting riscv i (Rewritten of.first.chosen) of.first.chosen of.first.below of.first.decided refl names.R_RISCV_GOT_HI20 tt of.first.is_name)
 
   low_entry : IsOfEntry names.R_RISCV_PCREL_LO12_I (entry kinds.LdToAddi names.R_RISCV_PCREL_LO12_I (without_got (got_high_part ∷ []))) l.section (offset_of l j) of.second.chosen
@@ -821,7 +809,7 @@ module _ (groups : Groups) (l : Linked) (rewriting : AreRewritten l) (riscv : l.
       (of_some l rewriting riscv j (Rewritten of.second.chosen) of.second.chosen of.second.below of.second.decided refl names.R_RISCV_PCREL_LO12_I tt of.second.is_name)
 
   -- the `auipc` stays
-  auipc_there : instruction_at l.rewritten o_load ≡ instruction_at l.section o_load
+  auipc_there : instruction_at l.rewritten (offset_of l i) ≡ instruction_at l.section (offset_of l i)
   auipc_there =
       stays l rewriting i of.first.chosen of.first.below of.first.decided (ap relaxation_rewrite high_entry.kind_is) alone
 
@@ -830,9 +818,9 @@ module _ (groups : Groups) (l : Linked) (rewriting : AreRewritten l) (riscv : l.
       record {
         below = of.first.below;
         left = rewritten_after l rewriting i of.first.chosen of.first.below kinds.NoOp names.R_RISCV_PCREL_HI20
-            high_entry.kind_is high_entry.r_type_is (λ o_load. refl) (λ a. refl) of.first.decided;
+            high_entry.kind_is high_entry.r_type_is (λ p. refl) (λ a. refl) of.first.decided;
         inside = high_entry.meant.0;
-        bytes = λ linked. subst AreBytes (sym auipc_there) (bytes_there l.section o_load linked.section_bytes);
+        bytes = λ linked. subst AreBytes (sym auipc_there) (bytes_there l.section (offset_of l i) linked.section_bytes);
       }
 
   pub low_load : MadePart l names.R_RISCV_PCREL_LO12_I j j kinds.LdToAddi (instruction_at l.section (offset_of l j))
@@ -842,9 +830,9 @@ module _ (groups : Groups) (l : Linked) (rewriting : AreRewritten l) (riscv : l.
 
   pub loads : (new : New l) → law l i (load j of alone) new
   loads new over not_zero c x y k kind s small new_small at holds are old old_ld has =
-      let auipc = instruction_at l.section o_load in
-      let ld = instruction_at l.section (o_load + 4) in
-      let is_auipc : IsAuipc (word_of auipc) = subst IsAuipc (word_same l.section o_load) (high_entry.meant.1) in
+      let auipc = instruction_at l.section (offset_of l i) in
+      let ld = instruction_at l.section ((offset_of l i) + 4) in
+      let is_auipc : IsAuipc (word_of auipc) = subst IsAuipc (word_same l.section (offset_of l i)) (high_entry.meant.1) in
       let is_ld : IsLd (word_of ld) =
       subst (λ n. IsLd (word_of (instruction_at l.section n))) of.next (subst IsLd (word_same l.section (offset_of l j)) (low_entry.meant.1)) in
       let together : IsLoadFromGot (word_of auipc) (word_of ld) =
@@ -949,30 +937,27 @@ module _ (groups : Groups) (l : Linked) (rewritten : AreRewritten l) (riscv : l.
 
 abbrev high_tp : IsOwn names.R_RISCV_TPREL_HI20
 high_tp =
-    own_row names.R_RISCV_TPREL_HI20 (pair_row TpOff 32 UType) refl tt (of_bits refl refl refl refl refl (λ o_descriptor. tt)) refl (λ addresses r symbol. refl)
+    own_row names.R_RISCV_TPREL_HI20 (pair_row TpOff 32 UType) refl tt (of_bits refl refl refl refl refl (λ o. tt)) refl (λ addresses r symbol. refl)
 
 module _ (groups : Groups) (l : Linked) (rewriting : AreRewritten l) (riscv : l.context.architecture ≡ RiscV) (high : ℕ)
   where
-    abbrev o_descriptor : ℕ
-    o_descriptor = offset_of l high
-
     pub lui : (add : ℕ) → IsOfDescriptor l high names.R_RISCV_TLSDESC_ADD_LO12 8 kinds.AddiToLui add
-        → MadePart l names.R_RISCV_TPREL_HI20 high add kinds.AddiToLui (instruction_at l.section (o_descriptor + 8))
+        → MadePart l names.R_RISCV_TPREL_HI20 high add kinds.AddiToLui (instruction_at l.section ((offset_of l high) + 8))
     lui add of =
         part_by l rewriting kinds.AddiToLui (λ _. 0x537) refl riscv high 8 names.R_RISCV_TLSDESC_ADD_LO12 tt add of names.R_RISCV_TPREL_HI20
-        (inl (λ e. cc), (inl (λ e. cc), (inr (refl, λ section o_descriptor is. is.0), (inl (λ e. cc), tt))))
+        (inl (λ e. cc), (inl (λ e. cc), (inr (refl, λ section p is. is.0), (inl (λ e. cc), tt))))
 
     pub addi : (call : ℕ) → IsOfDescriptor l high names.R_RISCV_TLSDESC_CALL 12 kinds.CallToAddi call
-        → MadePart l names.R_RISCV_TPREL_LO12_I high call kinds.CallToAddi (instruction_at l.section (o_descriptor + 12))
+        → MadePart l names.R_RISCV_TPREL_LO12_I high call kinds.CallToAddi (instruction_at l.section ((offset_of l high) + 12))
     addi call of =
         part_by l rewriting kinds.CallToAddi (λ _. 0x50513) refl riscv high 12 names.R_RISCV_TLSDESC_CALL tt call of names.R_RISCV_TPREL_LO12_I
-        (inl (λ e. cc), (inr (refl, λ section o_descriptor is. is.0), (inl (λ e. cc), tt)))
+        (inl (λ e. cc), (inr (refl, λ section p is. is.0), (inl (λ e. cc), tt)))
 
     pub addi_alone : (call : ℕ) → IsOfDescriptor l high names.R_RISCV_TLSDESC_CALL 12 kinds.CallToAddiZero call
-        → MadePart l names.R_RISCV_TPREL_LO12_I high call kinds.CallToAddiZero (instruction_at l.section (o_descriptor + 12))
+        → MadePart l names.R_RISCV_TPREL_LO12_I high call kinds.CallToAddiZero (instruction_at l.section ((offset_of l high) + 12))
     addi_alone call of =
         part_by l rewriting kinds.CallToAddiZero (λ _. 0x513) refl riscv high 12 names.R_RISCV_TLSDESC_CALL tt call of names.R_RISCV_TPREL_LO12_I
-        (inr (refl, λ section o_descriptor is. is.0), (inl (λ e. cc), (inl (λ e. cc), tt)))
+        (inr (refl, λ section p is. is.0), (inl (λ e. cc), (inl (λ e. cc), tt)))
 
     pub descriptors : (add call : ℕ) (of_add : IsOfDescriptor l high names.R_RISCV_TLSDESC_ADD_LO12 8 kinds.AddiToLui add)
         (of_call : IsOfDescriptor l high names.R_RISCV_TLSDESC_CALL 12 kinds.CallToAddi call) (new : New l)
@@ -981,7 +966,7 @@ module _ (groups : Groups) (l : Linked) (rewriting : AreRewritten l) (riscv : l.
         let first = lui add of_add in
         let second = addi call of_call in
         groups.descriptor_to_local_exec c n at x y k k' s s'
-        (instruction_at l.section o_descriptor) (instruction_at l.section (o_descriptor + 4)) (instruction_at l.section (o_descriptor + 8)) (instruction_at l.section (o_descriptor + 12))
+        (instruction_at l.section (offset_of l high)) (instruction_at l.section ((offset_of l high) + 4)) (instruction_at l.section ((offset_of l high) + 8)) (instruction_at l.section ((offset_of l high) + 12))
         d addresses one nops first.long second.long
         (has_named l riscv names.R_RISCV_TPREL_HI20 high add first.part high_tp new y c.new at _ first.made (has.0))
         (has_named l riscv names.R_RISCV_TPREL_LO12_I high call second.part low_i new y c.new (sum_64 at 4) _ second.made (has.1))
@@ -991,45 +976,42 @@ module _ (groups : Groups) (l : Linked) (rewriting : AreRewritten l) (riscv : l.
     short_descriptors call of new c n at x y k k' s s' d one is_low nops has =
         let only = addi_alone call of in
         groups.descriptor_to_short_local_exec c n at x y k k' s s'
-        (instruction_at l.section o_descriptor) (instruction_at l.section (o_descriptor + 4)) (instruction_at l.section (o_descriptor + 8)) (instruction_at l.section (o_descriptor + 12))
+        (instruction_at l.section (offset_of l high)) (instruction_at l.section ((offset_of l high) + 4)) (instruction_at l.section ((offset_of l high) + 8)) (instruction_at l.section ((offset_of l high) + 12))
         d one is_low nops only.long
         (has_named l riscv names.R_RISCV_TPREL_LO12_I high call only.part low_i new y c.new at _ only.made has)
 
 -- ---- loads of fixed addresses from the GOT that became `lui` and `addi`, or `addi` alone
 
-ld_inside : (section : List ℕ) (o_address : ℕ) (chosen : Choice Relaxation ℕ)
-    → IsOfSome names.R_RISCV_PCREL_LO12_I (riscv_entries names.R_RISCV_PCREL_LO12_I) section o_address chosen
-    → o_address + 4 ≤ length section
-ld_inside section o_address chosen (inl this) = this.meant.0
-ld_inside section o_address chosen (inr (inl this)) = this.meant.0
-ld_inside section o_address chosen (inr (inr (inl this))) = this.meant.0
-ld_inside section o_address chosen (inr (inr (inr nothing))) = absurd nothing
+ld_inside : (section : List ℕ) (o : ℕ) (chosen : Choice Relaxation ℕ)
+    → IsOfSome names.R_RISCV_PCREL_LO12_I (riscv_entries names.R_RISCV_PCREL_LO12_I) section o chosen
+    → o + 4 ≤ length section
+ld_inside section o chosen (inl this) = this.meant.0
+ld_inside section o chosen (inr (inl this)) = this.meant.0
+ld_inside section o chosen (inr (inr (inl this))) = this.meant.0
+ld_inside section o chosen (inr (inr (inr nothing))) = absurd nothing
 
 -- ---- rows
 
 abbrev high_row : IsOwn names.R_RISCV_HI20
 high_row =
-    own_row names.R_RISCV_HI20 (pair_row Absolute 32 UType) refl tt (of_bits refl refl refl refl refl (λ o_address. tt)) refl (λ addresses r symbol. refl)
+    own_row names.R_RISCV_HI20 (pair_row Absolute 32 UType) refl tt (of_bits refl refl refl refl refl (λ o. tt)) refl (λ addresses r symbol. refl)
 
 abbrev low_row : IsOwn names.R_RISCV_LO12_I
 low_row =
-    own_row names.R_RISCV_LO12_I (pair_row Absolute 32 IType) refl tt (of_bits refl refl refl refl refl (λ o_address. tt)) refl (λ addresses r symbol. refl)
+    own_row names.R_RISCV_LO12_I (pair_row Absolute 32 IType) refl tt (of_bits refl refl refl refl refl (λ o. tt)) refl (λ addresses r symbol. refl)
 
 -- ---- laws
 
 module _ (groups : Groups) (l : Linked) (rewriting : AreRewritten l) (riscv : l.context.architecture ≡ RiscV)
     (high low : ℕ) where
-  abbrev o_address : ℕ
-  o_address = offset_of l high
-
-  pub lui_address : IsLuiOfLoad l high → MadePart l names.R_RISCV_HI20 high high kinds.AuipcToLui (instruction_at l.section o_address)
+  pub lui_address : IsLuiOfLoad l high → MadePart l names.R_RISCV_HI20 high high kinds.AuipcToLui (instruction_at l.section (offset_of l high))
   lui_address of =
       let one = becomes_of l rewriting riscv high (Rewritten of.chosen) of.chosen of.below of.decided refl names.R_RISCV_GOT_HI20 tt of.is_name
-      names.R_RISCV_HI20 kinds.AuipcToLui of.kind_is (inl (λ e. cc), (inl (λ e. cc), (inr (refl, λ section o_address is. is.0), tt))) in
+      names.R_RISCV_HI20 kinds.AuipcToLui of.kind_is (inl (λ e. cc), (inl (λ e. cc), (inr (refl, λ section p is. is.0), tt))) in
       part_alone l rewriting kinds.AuipcToLui (of_destination 0x37) refl high of.chosen of.below of.decided of.kind_is
       names.R_RISCV_HI20 one.r_type_is one.inside
 
-  pub addi_address : IsAddiOfLoad l high low → MadePart l names.R_RISCV_LO12_I high low kinds.LdToAddi (instruction_at l.section (o_address + 4))
+  pub addi_address : IsAddiOfLoad l high low → MadePart l names.R_RISCV_LO12_I high low kinds.LdToAddi (instruction_at l.section ((offset_of l high) + 4))
   addi_address of =
       let is = of.rewritten in
       part_of l rewriting kinds.LdToAddi load_to_addi refl high 4 names.R_RISCV_PCREL_LO12_I low is names.R_RISCV_LO12_I (record {
@@ -1039,22 +1021,22 @@ module _ (groups : Groups) (l : Linked) (rewriting : AreRewritten l) (riscv : l.
       })
 
   pub addi_alone_address : IsOfDescriptor l high names.R_RISCV_PCREL_LO12_I 4 kinds.LdToAddiZero low
-      → MadePart l names.R_RISCV_LO12_I high low kinds.LdToAddiZero (instruction_at l.section (o_address + 4))
+      → MadePart l names.R_RISCV_LO12_I high low kinds.LdToAddiZero (instruction_at l.section ((offset_of l high) + 4))
   addi_alone_address of =
       part_by l rewriting kinds.LdToAddiZero (of_destination 0x13) refl riscv high 4 names.R_RISCV_PCREL_LO12_I tt low of names.R_RISCV_LO12_I
-      (inr (refl, λ section o_address is. is.0), (inl (λ e. cc), (inl (λ e. cc), tt)))
+      (inr (refl, λ section p is. is.0), (inl (λ e. cc), (inl (λ e. cc), tt)))
 
   pub fixed_addresses : (of_high : IsLuiOfLoad l high) (of_low : IsAddiOfLoad l high low) (new : New l)
       → law l high (fixed low of_high of_low) new
   fixed_addresses of_high of_low new c x y k s before load_is one addresses has =
-      groups.got_to_fixed_address c x y k s (instruction_at l.section o_address) (instruction_at l.section (o_address + 4)) before load_is addresses one
+      groups.got_to_fixed_address c x y k s (instruction_at l.section (offset_of l high)) (instruction_at l.section ((offset_of l high) + 4)) before load_is addresses one
       (has_named l riscv names.R_RISCV_HI20 high high (lui_address of_high).part high_row new y c.new y.place _ (lui_address of_high).made (has.0))
       (has_named l riscv names.R_RISCV_LO12_I high low (addi_address of_low).part low_row new y c.new (sum_64 y.place 4) _ (addi_address of_low).made (has.1))
 
   pub low_addresses : (gone : IsDeleted l high) (of : IsOfDescriptor l high names.R_RISCV_PCREL_LO12_I 4 kinds.LdToAddiZero low)
       (new : New l) → law l high (low_address low gone of) new
   low_addresses gone of new c x y k s before load_is one is_low has =
-      groups.got_to_low_address c x y k s (instruction_at l.section o_address) (instruction_at l.section (o_address + 4)) before load_is one is_low
+      groups.got_to_low_address c x y k s (instruction_at l.section (offset_of l high)) (instruction_at l.section ((offset_of l high) + 4)) before load_is one is_low
       (has_named l riscv names.R_RISCV_LO12_I high low (addi_alone_address of).part low_row new y c.new y.place _ (addi_alone_address of).made has)
 
 -- ---- nops of TLS descriptors

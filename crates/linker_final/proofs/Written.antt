@@ -739,6 +739,10 @@ row_in architecture addresses relocations symbols r row only None marked =
 abbrev pub rela : ℕ → ℕ → ℕ → ℤ → Rela
 rela offset code symbol addend = record { offset = offset; r_type = code; symbol = symbol; addend = addend }
 
+-- of the object, at an index
+abbrev pub rela_at : Linked → ℕ → Rela
+rela_at l i = relocation_in l.relocations i
+
 pub with_operands : (row : RowInfo) (o p : Operands) (old new : List ℕ)
     → value_of row p ≡ value_of row o → IsApplied row o old new → IsApplied row p old new
 with_operands row o p old new same is =
@@ -830,29 +834,26 @@ spared l i d is none b =
 
 module _ (l : Linked) (rewriting : AreRewritten l) (i : ℕ) (chosen : Choice Relaxation ℕ)
     (below : i < count l) (decided : decision_at l.decisions i ≡ Rewritten chosen) where
-  abbrev r : Rela
-  r = relocation_in l.relocations i
-
   pub relocation_is : (rewrite : Option Rewrite) (code : ℕ) → relaxation_rewrite chosen.kind ≡ rewrite
       → chosen.relocation ≡ code
       → relocation_in l.relocations_after i
-      ≡ rela (offset_after rewrite r.offset) code r.symbol (addend_after rewrite r.addend)
+      ≡ rela (offset_after rewrite (rela_at l i).offset) code (rela_at l i).symbol (addend_after rewrite (rela_at l i).addend)
   relocation_is rewrite code is r_type_is =
       rw (decided, is, r_type_is) at (rewriting.relocations i below)
 
   -- where neither the offset nor the addend changes
   pub relocation_named : (rewrite : Option Rewrite) (code : ℕ) → relaxation_rewrite chosen.kind ≡ rewrite
       → chosen.relocation ≡ code → ((o : ℕ) → offset_after rewrite o ≡ o) → ((a : ℤ) → addend_after rewrite a ≡ a)
-      → relocation_in l.relocations_after i ≡ rela r.offset code r.symbol r.addend
+      → relocation_in l.relocations_after i ≡ rela (rela_at l i).offset code (rela_at l i).symbol (rela_at l i).addend
   relocation_named rewrite code is r_type_is unmoved same_addend =
-      rw (unmoved r.offset, same_addend r.addend) at (relocation_is rewrite code is r_type_is)
+      rw (unmoved (rela_at l i).offset, same_addend (rela_at l i).addend) at (relocation_is rewrite code is r_type_is)
 
   -- what a rewrite leaves of its window, which begins at the relocation
   pub made_there : (made : Rewrite) → relaxation_rewrite chosen.kind ≡ Some made → made.back ≡ 0
-      → take made.len (take made.len (drop r.offset l.rewritten))
-      ≡ made.bytes (take made.len (take made.len (drop r.offset l.section)))
+      → take made.len (take made.len (drop (rela_at l i).offset l.rewritten))
+      ≡ made.bytes (take made.len (take made.len (drop (rela_at l i).offset l.section)))
   made_there made is back =
-      let o = r.offset in
+      let o = (rela_at l i).offset in
       let done : IsMade (relaxation_rewrite chosen.kind) o l.section l.rewritten =
       subst (λ d. IsDone d o l.section l.rewritten) decided (rewriting.done i below) in
       let there_written : IsMade (Some made) o l.section l.rewritten =
@@ -863,10 +864,10 @@ module _ (l : Linked) (rewriting : AreRewritten l) (i : ℕ) (chosen : Choice Re
       ∙ (here ∙ ap made.bytes (sym (take-take made.len made.len (drop o l.section) (omega arith))))
 
   -- an instruction that isn't changed
-  pub stays : relaxation_rewrite chosen.kind ≡ None → IsRewrittenByNoOther l i r.offset
-      → instruction_at l.rewritten r.offset ≡ instruction_at l.section r.offset
+  pub stays : relaxation_rewrite chosen.kind ≡ None → IsRewrittenByNoOther l i (rela_at l i).offset
+      → instruction_at l.rewritten (rela_at l i).offset ≡ instruction_at l.section (rela_at l i).offset
   stays is alone =
-      cc (same_windows r.offset 4 l.rewritten l.section (sym rewriting.same_length) (λ at from less. rewriting.others at (λ j lj. elim (cases_eq j i) [ inl same ↦ inr (rw same (let end : written_end_at l.relocations l.decisions i ≡ r.offset - 0 + 0 = ap (λ d. written_end_by d r.offset) decided ∙ ap (λ q. r.offset - (window_of_rewrite q).back + (window_of_rewrite q).len) is in omega (arith, end, from))) | inr isnt ↦ alone j at lj isnt from less ])))
+      cc (same_windows (rela_at l i).offset 4 l.rewritten l.section (sym rewriting.same_length) (λ at from less. rewriting.others at (λ j lj. elim (cases_eq j i) [ inl same ↦ inr (rw same (let end : written_end_at l.relocations l.decisions i ≡ (rela_at l i).offset - 0 + 0 = ap (λ d. written_end_by d (rela_at l i).offset) decided ∙ ap (λ q. (rela_at l i).offset - (window_of_rewrite q).back + (window_of_rewrite q).len) is in omega (arith, end, from))) | inr isnt ↦ alone j at lj isnt from less ])))
 
 -- ---- bytes that no relocation writes
 

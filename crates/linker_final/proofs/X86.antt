@@ -7,7 +7,7 @@ use Rattle.linker_elf.specs.declared.elf.RelocationKind.TheVariants.{None as NoV
 use Rattle.linker_elf.specs.declared.elf.Sign.TheVariants.{Signed, Unsigned}
 use Rattle.linker_elf.specs.declared.x86_64.relocations.X86_64Relocation.{X86_64Relocation}
 use Rattle.linker_final.proofs.SectionRuns.{AreIn, IsIn, each_or, final_in, is_linked, without_label}
-use Rattle.linker_final.proofs.Written.{AreLowest, IsPlain, IsRowOf, UntouchedField, back_inside, back_outside, back_rewritten, by_name, byte_left, eight_bytes, entry_is_there, four_bytes, last_as_many, last_length, last_within, left, len_is, no_field, outside_of, plain, put_back_is, rela, relocation_is, relocation_left, row_in, same_windows, small_byte, spared}
+use Rattle.linker_final.proofs.Written.{AreLowest, IsPlain, IsRowOf, UntouchedField, back_inside, back_outside, back_rewritten, by_name, byte_left, eight_bytes, entry_is_there, four_bytes, last_as_many, last_length, last_within, left, len_is, no_field, outside_of, plain, put_back_is, rela, rela_at, relocation_is, relocation_left, row_in, same_windows, small_byte, spared}
 use Rattle.linker_final.specs.X86Section.{window_of}
 use Rattle.linker_laws.proofs.X86Fields.{block_row, long_block_row, long_thread_row, thread_row, tls_got_row, tls_module_row}
 use Rattle.linker_laws.specs.X86Groups.{Code, Groups, Rewritten as IsRewrittenGroup, Stands, seen}
@@ -862,14 +862,8 @@ module _ (l : Linked) (i back end : ℕ) (kind : RewriteKind) (is : HasRewrite l
     abbrev chosen : Choice Relaxation ℕ
     chosen = is.chosen
 
-    abbrev r : Rela
-    r = relocation_in l.relocations i
-
-    abbrev o : ℕ
-    o = r.offset
-
     abbrev start : ℕ
-    start = o - back
+    start = (offset_of l i) - back
 
     abbrev len : ℕ
     len = back + end
@@ -880,15 +874,15 @@ module _ (l : Linked) (i back end : ℕ) (kind : RewriteKind) (is : HasRewrite l
     made_is : relaxation_rewrite is.chosen.kind ≡ Some w.made
     made_is = ap relaxation_rewrite is.kind_is ∙ w.is
 
-    can : IsRewritable w.made l.section o
-    can = subst (λ q. CanRewrite q l.section o) w.is (is.matches.0)
+    can : IsRewritable w.made l.section (offset_of l i)
+    can = subst (λ q. CanRewrite q l.section (offset_of l i)) w.is (is.matches.0)
 
     final_length : length l.final ≡ length l.section
     final_length = linked.written.same_length ∙ (last_length l linked ∙ linked.same_length)
 
     -- the relocation after
     pub r_after : relocation_in l.relocations_last i
-        ≡ rela (w.made.offset o) chosen.relocation r.symbol (w.made.addend r.addend)
+        ≡ rela (w.made.offset (offset_of l i)) chosen.relocation (rela_at l i).symbol (w.made.addend (rela_at l i).addend)
     r_after =
         relocation_left l linked i start len is.alone.left is.below
         ∙ relocation_is l linked.made i chosen is.below is.decided (Some w.made) chosen.relocation made_is refl
@@ -898,10 +892,10 @@ module _ (l : Linked) (i back end : ℕ) (kind : RewriteKind) (is : HasRewrite l
 
     -- the window
     kept : (at : ℕ) → start ≤ at → at < start + len
-        → (at < o - w.inner.back) ⊎ (o - w.inner.back + w.inner.len ≤ at)
+        → (at < (offset_of l i) - w.inner.back) ⊎ ((offset_of l i) - w.inner.back + w.inner.len ≤ at)
         → get_or l.rewritten at 0 ≡ get_or l.section at 0
     kept at from less outside =
-        let window = w.outer o at can.starts is.room.0 from outside in
+        let window = w.outer (offset_of l i) at can.starts is.room.0 from outside in
         linked.others at (λ j lj. elim (cases_eq j i) [
           | inl same ↦ rw same (outside_of l i chosen (Some w.made) is.decided made_is at window)
           | inr isnt ↦ (is.alone.others j at lj isnt from less).0
@@ -916,7 +910,7 @@ module _ (l : Linked) (i back end : ℕ) (kind : RewriteKind) (is : HasRewrite l
     inside_final : start + len ≤ length l.final
     inside_final = let a = is.room.0 in let b = is.room.1 in let c = final_length in omega (arith, a, b, c)
 
-    object_rewritten : rewritten (x86_64_rewrite kind) object o ≡ between
+    object_rewritten : rewritten (x86_64_rewrite kind) object (offset_of l i) ≡ between
     object_rewritten =
         let a = is.room.0 in
         let lo = (put_back_is start len l.section l.final inside_final (sym final_length)).same_len in
@@ -925,11 +919,11 @@ module _ (l : Linked) (i back end : ℕ) (kind : RewriteKind) (is : HasRewrite l
         let fl = final_length in
         cc (
           w.is,
-          w.same object o can.starts (omega (arith, ends, lo, fl)),
-          back_rewritten start len w.inner o l.section l.rewritten l.final inside_final (sym fl) (linked.same_length ∙ sym fl) (omega (arith, low, a)) (omega (arith, low, w.ends, a)) (w.same_made l.section l.rewritten o can.starts ends linked.same_length (subst (λ q. IsMade q o l.section l.rewritten) made_is (subst (λ d. IsDone d o l.section l.rewritten) is.decided (linked.done i is.below)))) kept,
+          w.same object (offset_of l i) can.starts (omega (arith, ends, lo, fl)),
+          back_rewritten start len w.inner (offset_of l i) l.section l.rewritten l.final inside_final (sym fl) (linked.same_length ∙ sym fl) (omega (arith, low, a)) (omega (arith, low, w.ends, a)) (w.same_made l.section l.rewritten (offset_of l i) can.starts ends linked.same_length (subst (λ q. IsMade q (offset_of l i) l.section l.rewritten) made_is (subst (λ d. IsDone d (offset_of l i) l.section l.rewritten) is.decided (linked.done i is.below)))) kept,
         )
 
-    pub object_same : (at : ℕ) → start ≤ at → at < o + end → get_or l.section at 0 ≡ get_or object at 0
+    pub object_same : (at : ℕ) → start ≤ at → at < (offset_of l i) + end → get_or l.section at 0 ≡ get_or object at 0
     object_same at from less =
         let a = is.room.0 in
         sym (back_inside start len l.section l.final inside_final (sym final_length) at from (omega (arith, a, less)))
@@ -938,19 +932,19 @@ module _ (l : Linked) (i back end : ℕ) (kind : RewriteKind) (is : HasRewrite l
     object_length = (put_back_is start len l.section l.final inside_final (sym final_length)).same_len ∙ final_length
 
     -- what stands there in the section does in the object's bytes
-    pub object_has : (rs : List Original) → HaveShape back end rs → IsTrue (is_one_at rs l.section o)
-        → IsTrue (is_one_at rs object o)
+    pub object_has : (rs : List Original) → HaveShape back end rs → IsTrue (is_one_at rs l.section (offset_of l i))
+        → IsTrue (is_one_at rs object (offset_of l i))
     object_has rs shape there =
-        one_same back end o l.section object object_length (is.room.0) object_same rs shape there
+        one_same back end (offset_of l i) l.section object object_length (is.room.0) object_same rs shape there
 
-    pub object_matches : IsTrue (is_one_at (x86_64_originals kind) object o)
-        → x86_64_matches kind object o
+    pub object_matches : IsTrue (is_one_at (x86_64_originals kind) object (offset_of l i))
+        → x86_64_matches kind object (offset_of l i)
     object_matches there = (
-      subst (λ q. CanRewrite q object o) (sym w.is)
+      subst (λ q. CanRewrite q object (offset_of l i)) (sym w.is)
           (record {
             starts = can.starts;
-            ends = subst (λ n. o - w.made.back + w.made.len ≤ n) (sym object_length) can.ends;
-            admitted = w.admits (rewrite_window w.made object o);
+            ends = subst (λ n. (offset_of l i) - w.made.back + w.made.len ≤ n) (sym object_length) can.ends;
+            admitted = w.admits (rewrite_window w.made object (offset_of l i));
           }),
       there,
     )
@@ -963,7 +957,7 @@ module _ (l : Linked) (i back end : ℕ) (kind : RewriteKind) (is : HasRewrite l
         (All-take (λ b. b < 2 ^ 8) len (drop start l.section) (All-drop (λ b. b < 2 ^ 8) start l.section linked.section_bytes)))
         (All-drop (λ b. b < 2 ^ 8) (start + len) l.final linked.final_bytes)
 
-    pub offset_small : o < 2 ^ 64
+    pub offset_small : (offset_of l i) < 2 ^ 64
     offset_small =
         let entry = take 24 (drop (i * 24) l.relocations) in
         small_number entry (small_byte entry
@@ -972,7 +966,7 @@ module _ (l : Linked) (i back end : ℕ) (kind : RewriteKind) (is : HasRewrite l
     -- ---- fields in the window
 
     apart_by : (j : ℕ) → j < length l.relocations_last / 24 → (j ≡ i → ⊥) → (at : ℕ) → start ≤ at
-        → at < o + end → (row : RowInfo)
+        → at < (offset_of l i) + end → (row : RowInfo)
         → IsField l.context.architecture l.relocations_last l.last j row
         → (at < offset_at l.relocations_last j) ⊎ (field_end l.relocations_last l.last j row ≤ at)
     apart_by j lj isnt at from less row is_field =
@@ -980,7 +974,7 @@ module _ (l : Linked) (i back end : ℕ) (kind : RewriteKind) (is : HasRewrite l
         (is.alone.others j at (subst (λ n. j < n / 24) (last_as_many l linked) lj) isnt from (omega (arith, less, back))).1 row is_field
 
     -- a byte that the relocation after has not
-    in_no_field : (at : ℕ) → start ≤ at → at < o + end
+    in_no_field : (at : ℕ) → start ≤ at → at < (offset_of l i) + end
         → ((row : RowInfo) → IsField l.context.architecture l.relocations_last l.last i row
         → (at < offset_at l.relocations_last i) ⊎ (field_end l.relocations_last l.last i row ≤ at))
         → IsInNoField l.context.architecture l.relocations_last l.last (length l.relocations_last / 24) at
@@ -990,7 +984,7 @@ module _ (l : Linked) (i back end : ℕ) (kind : RewriteKind) (is : HasRewrite l
           | inr isnt ↦ apart_by j lj isnt at from less row is_field
         ]
 
-    between_same : (at : ℕ) → (start ≤ at → at < o + end → (row : RowInfo)
+    between_same : (at : ℕ) → (start ≤ at → at < (offset_of l i) + end → (row : RowInfo)
         → IsField l.context.architecture l.relocations_last l.last i row
         → (at < offset_at l.relocations_last i) ⊎ (field_end l.relocations_last l.last i row ≤ at))
         → get_or between at 0 ≡ get_or l.final at 0
@@ -1000,7 +994,7 @@ module _ (l : Linked) (i back end : ℕ) (kind : RewriteKind) (is : HasRewrite l
           | inl ahead ↦ back_outside start len l.rewritten l.final inside_final mid at (inl ahead)
           | inr from ↦ elim (cases_lt at (start + len)) [
             | inl less ↦
-                let below : at < o + end = omega (arith, less, is.room.0) in
+                let below : at < (offset_of l i) + end = omega (arith, less, is.room.0) in
                 back_inside start len l.rewritten l.final inside_final mid at from less
                 ∙ (sym (byte_left l linked i start len is.alone.left at from less)
                 ∙ sym (linked.written.others at (in_no_field at from below (own from below))))
@@ -1014,7 +1008,7 @@ module _ (l : Linked) (i back end : ℕ) (kind : RewriteKind) (is : HasRewrite l
 
     -- ---- with no relocation after
 
-    pub unrelocated : is.chosen.relocation ≡ 0 → rewritten (x86_64_rewrite kind) object o ≡ l.final
+    pub unrelocated : is.chosen.relocation ≡ 0 → rewritten (x86_64_rewrite kind) object (offset_of l i) ≡ l.final
     unrelocated code =
         let none : (relocation_in l.relocations_last i).r_type ≡ 0 = ap (λ (x : Rela). x.r_type) r_after ∙ code in
         object_rewritten
@@ -1029,14 +1023,14 @@ module _ (l : Linked) (i back end : ℕ) (kind : RewriteKind) (is : HasRewrite l
     pub relocated_after : (after : X86_64Relocation) (row : RowInfo) → IsPlain 4 row
         → x86_64_row after ≡ Some row → IsNamed (x86_64_name after)
         → is.chosen.relocation ≡ r_type_of (x86_64_name after) → (taken : Operands)
-        → operands_of X86_64 l.addresses l.symbols row (rela (w.made.offset o) is.chosen.relocation r.symbol (w.made.addend r.addend))
+        → operands_of X86_64 l.addresses l.symbols row (rela (w.made.offset (offset_of l i)) is.chosen.relocation (rela_at l i).symbol (w.made.addend (rela_at l i).addend))
         ≡ Ok taken
-        → start ≤ w.made.offset o → w.made.offset o + 4 ≤ o + end
+        → start ≤ w.made.offset (offset_of l i) → w.made.offset (offset_of l i) + 4 ≤ (offset_of l i) + end
         → (operands : Operands) → value_of row operands ≡ value_of row taken
-        → IsRelocated after operands (offset_after (x86_64_rewrite kind) o)
-        (rewritten (x86_64_rewrite kind) object o) l.final
+        → IsRelocated after operands (offset_after (x86_64_rewrite kind) (offset_of l i))
+        (rewritten (x86_64_rewrite kind) object (offset_of l i)) l.final
     relocated_after after row plain row_is named r_type_is taken taken_is low high operands same_value =
-        let p = w.made.offset o in
+        let p = w.made.offset (offset_of l i) in
         let field : UntouchedField 4 row taken p l.last l.final =
         subst (λ (x : Rela). UntouchedField 4 row taken x.offset l.last l.final) r_after
         (left 4 (omega arith) four_bytes l.context.architecture l.addresses l.relocations_last l.symbols l.last l.final linked.written
@@ -1049,21 +1043,21 @@ module _ (l : Linked) (i back end : ℕ) (kind : RewriteKind) (is : HasRewrite l
         let base = relocated 4 row plain taken operands p l.last l.final between field same_value
         between_length (sym linked.written.same_length)
         (λ at outside. between_same at (λ from less other is_field. own_field at outside other is_field)) in
-        subst (λ q. IsSomeAnd q (λ row. IsRelocatedBy row operands (offset_after (x86_64_rewrite kind) o) (rewritten (x86_64_rewrite kind) object o) l.final)) (sym row_is)
-        (subst (λ xs. IsRelocatedBy row operands (offset_after (x86_64_rewrite kind) o) xs l.final) (sym object_rewritten)
-        (subst (λ q. IsRelocatedBy row operands (offset_after q o) between l.final) (sym w.is) base))
+        subst (λ q. IsSomeAnd q (λ row. IsRelocatedBy row operands (offset_after (x86_64_rewrite kind) (offset_of l i)) (rewritten (x86_64_rewrite kind) object (offset_of l i)) l.final)) (sym row_is)
+        (subst (λ xs. IsRelocatedBy row operands (offset_after (x86_64_rewrite kind) (offset_of l i)) xs l.final) (sym object_rewritten)
+        (subst (λ q. IsRelocatedBy row operands (offset_after q (offset_of l i)) between l.final) (sym w.is) base))
       where
         row_there : IsRow l.context.architecture (relocation_in l.relocations_last i).r_type (Some row)
         row_there =
             row_after l linked is.x86 i is.below after named row row_is
             (ap (λ (x : Rela). x.r_type) r_after ∙ r_type_is)
 
-        own_field : (at : ℕ) → (at < w.made.offset o) ⊎ (w.made.offset o + 4 ≤ at) → (other : RowInfo)
+        own_field : (at : ℕ) → (at < w.made.offset (offset_of l i)) ⊎ (w.made.offset (offset_of l i) + 4 ≤ at) → (other : RowInfo)
             → IsField l.context.architecture l.relocations_last l.last i other
             → (at < offset_at l.relocations_last i) ⊎ (field_end l.relocations_last l.last i other ≤ at)
         own_field at outside other is_field =
             let same : other ≡ row = one_info l.context.architecture (relocation_in l.relocations_last i).r_type other row is_field.is_row row_there in
-            let offset : offset_at l.relocations_last i ≡ w.made.offset o = ap (λ (x : Rela). x.offset) r_after in
+            let offset : offset_at l.relocations_last i ≡ w.made.offset (offset_of l i) = ap (λ (x : Rela). x.offset) r_after in
             let long : field_len other (drop (offset_at l.relocations_last i) l.last) ≡ 4 =
             ap (λ x. field_len x (drop (offset_at l.relocations_last i) l.last)) same
             ∙ len_is 4 row (drop (offset_at l.relocations_last i) l.last) plain in
@@ -1150,33 +1144,33 @@ module _ (l : Linked) (linked : IsLinked l) (i : ℕ) (chosen : Choice Relaxatio
 pub some_and : {A : Type 0} (P : A → Type 0) (q : Option A) (x : A) → q ≡ Some x → IsSomeAnd q P → P x
 some_and {A} P q x is h = subst (λ z. IsSomeAnd z P) is h
 
-pub moved : (base o_got o' : ℕ) → o_got < 2 ^ 64
-    → difference_64 (sum_64 (sum_64 base o_got) o') o_got ≡ sum_64 base o'
-moved base o_got o' small = omega (arith, small)
+pub moved : (base o o' : ℕ) → o < 2 ^ 64
+    → difference_64 (sum_64 (sum_64 base o) o') o ≡ sum_64 base o'
+moved base o o' small = omega (arith, small)
 
 -- ---- the operands after a rewrite
 
 module _ (addresses : Addresses) (after : X86_64Relocation) (a : IsAfterRow after) (symbol : Symbol)
-    (r_got : Rela) (made : Rewrite) (code entry : ℕ) (small : r_got.offset < 2 ^ 64)
-    (before_is : is_of_got X86_64 r_got.r_type ≡ false) (after_is : is_of_got X86_64 code ≡ false) where
+    (r : Rela) (made : Rewrite) (code entry : ℕ) (small : r.offset < 2 ^ 64)
+    (before_is : is_of_got X86_64 r.r_type ≡ false) (after_is : is_of_got X86_64 code ≡ false) where
   abbrev was : Operands
-  was = operands_with X86_64 addresses a.row symbol r_got entry
+  was = operands_with X86_64 addresses a.row symbol r entry
 
   abbrev is : Operands
-  is = operands_with X86_64 addresses a.row symbol (rela (made.offset r_got.offset) code r_got.symbol (made.addend r_got.addend)) 0
+  is = operands_with X86_64 addresses a.row symbol (rela (made.offset r.offset) code r.symbol (made.addend r.addend)) 0
 
-  pub addend_was : was.addend ≡ r_got.addend
-  addend_was = cond-false (loads_plt_word a.row.size a.row.kind) (pos 0) r_got.addend a.unloaded
+  pub addend_was : was.addend ≡ r.addend
+  addend_was = cond-false (loads_plt_word a.row.size a.row.kind) (pos 0) r.addend a.unloaded
 
   -- the formula has the same value
-  pub value_same : value_of a.row (operands_after (Some made) r_got.offset was) ≡ value_of a.row is
+  pub value_same : value_of a.row (operands_after (Some made) r.offset was) ≡ value_of a.row is
   value_same =
       cc (
-        moved addresses.section r_got.offset (made.offset r_got.offset) small,
+        moved addresses.section r.offset (made.offset r.offset) small,
         a.unloaded,
         before_is,
         after_is,
-        a.placeless addresses symbol (sum_64 addresses.section r_got.offset) (sum_64 addresses.section (made.offset r_got.offset)),
+        a.placeless addresses symbol (sum_64 addresses.section r.offset) (sum_64 addresses.section (made.offset r.offset)),
         a.same_value is entry was.plt_entry,
       )
 
@@ -1200,19 +1194,19 @@ pub final_is : (l : Linked) (i back end : ℕ) (kind : RewriteKind) (is : HasRew
     (relocation_in l.relocations i).offset)
     l.final
 final_is l i back end kind is after a before_is r_type_is low high symbol is_symbol entry =
-    let r_got = relocation_in l.relocations i in
+    let r = relocation_in l.relocations i in
     let made = is.window.made in
-    let relocation = rela (made.offset r_got.offset) is.chosen.relocation r_got.symbol (made.addend r_got.addend) in
-    let of_object = operands_with X86_64 l.addresses a.row symbol r_got entry in
-    let value : value_of a.row (operands_after (x86_64_rewrite kind) r_got.offset of_object)
+    let relocation = rela (made.offset r.offset) is.chosen.relocation r.symbol (made.addend r.addend) in
+    let of_object = operands_with X86_64 l.addresses a.row symbol r entry in
+    let value : value_of a.row (operands_after (x86_64_rewrite kind) r.offset of_object)
     ≡ value_of a.row (operands_with X86_64 l.addresses a.row symbol relocation 0) =
-    ap (λ q. value_of a.row (operands_after q r_got.offset of_object)) is.window.is
-    ∙ value_same l.addresses after a symbol r_got made is.chosen.relocation entry (offset_small l i back end kind is)
+    ap (λ q. value_of a.row (operands_after q r.offset of_object)) is.window.is
+    ∙ value_same l.addresses after a symbol r made is.chosen.relocation entry (offset_small l i back end kind is)
     before_is (ap (is_of_got X86_64) r_type_is ∙ a.is_not_of_got) in
     relocated_after l i back end kind is after a.row a.plain a.is a.named r_type_is
     (operands_with X86_64 l.addresses a.row symbol relocation 0)
     (ap (operands_in X86_64 l.addresses a.row relocation) is_symbol ∙ a.alone l.addresses symbol relocation)
-    low high (operands_after (x86_64_rewrite kind) r_got.offset of_object) value
+    low high (operands_after (x86_64_rewrite kind) r.offset of_object) value
 
 -- ---- one instruction
 
@@ -1223,20 +1217,14 @@ module _ (name : X86_64Relocation) (back : ℕ) (held : Operands → ℕ)
     (is_name : IsNameOf x86_64_name (relocation_in l.relocations i).r_type name)
     (served : IsServed back name held l.section (relocation_in l.relocations i).offset (relocation_in l.relocations i).addend chosen)
   where
-    abbrev r_got : Rela
-    r_got = relocation_in l.relocations i
-
-    abbrev o_got : ℕ
-    o_got = r_got.offset
-
     abbrev around : Window
     around = window (in_got held) back 4
 
     abbrev DoesTheSame : RowInfo → Type 0
     DoesTheSame row =
-        (symbol : Symbol) → slice_get l.symbols r_got.symbol ≡ Some symbol → LawAt l i name row around chosen.kind symbol
+        (symbol : Symbol) → slice_get l.symbols (rela_at l i).symbol ≡ Some symbol → LawAt l i name row around chosen.kind symbol
 
-    abbrev law : HasLaw back name held l.section o_got served.named
+    abbrev law : HasLaw back name held l.section (offset_of l i) served.named
     law = served.has_law
 
     abbrev kind : RewriteKind
@@ -1248,42 +1236,42 @@ module _ (name : X86_64Relocation) (back : ℕ) (held : Operands → ℕ)
     abbrev after : X86_64Relocation
     after = served.named.relocation
 
-    room : (back ≤ o_got) × (o_got + 4 ≤ length l.section)
-    room = there_inside back 4 (omega arith) law.instructions l.section o_got law.are_of law.there
+    room : (back ≤ (offset_of l i)) × ((offset_of l i) + 4 ≤ length l.section)
+    room = there_inside back 4 (omega arith) law.instructions l.section (offset_of l i) law.are_of law.there
 
-    module _ (alone : UntouchedByOthers l i (o_got - back) (back + 4)) where
+    module _ (alone : UntouchedByOthers l i ((offset_of l i) - back) (back + 4)) where
       abbrev has : HasRewrite l i back 4 kind
       has = has_rewrite l linked x86 i chosen below decided served.kind_is w_got law.matches room alone
 
       abbrev object_got : List ℕ
-      object_got = put_back (o_got - back) (back + 4) l.section l.final
+      object_got = put_back ((offset_of l i) - back) (back + 4) l.section l.final
 
-      small : o_got < 2 ^ 64
+      small : (offset_of l i) < 2 ^ 64
       small = offset_small l i back 4 kind has
 
-      before_is : is_of_got X86_64 r_got.r_type ≡ false
+      before_is : is_of_got X86_64 (rela_at l i).r_type ≡ false
       before_is = ap (is_of_got X86_64) (sym is_name.r_type_is) ∙ not_of_got
 
-      module _ (a : IsAfterRow after) (symbol : Symbol) (is_symbol : slice_get l.symbols r_got.symbol ≡ Some symbol)
+      module _ (a : IsAfterRow after) (symbol : Symbol) (is_symbol : slice_get l.symbols (rela_at l i).symbol ≡ Some symbol)
           (entry : ℕ) where
         abbrev operands_of_object : Operands
-        operands_of_object = operands_with X86_64 l.addresses a.row symbol r_got entry
+        operands_of_object = operands_with X86_64 l.addresses a.row symbol (rela_at l i) entry
 
-        relocated_got : IsRelocated after (operands_after (x86_64_rewrite kind) o_got operands_of_object)
-            (offset_after (x86_64_rewrite kind) o_got) (rewritten (x86_64_rewrite kind) object_got o_got) l.final
+        relocated_got : IsRelocated after (operands_after (x86_64_rewrite kind) (offset_of l i) operands_of_object)
+            (offset_after (x86_64_rewrite kind) (offset_of l i)) (rewritten (x86_64_rewrite kind) object_got (offset_of l i)) l.final
         relocated_got =
-            let moves = law.within.moves o_got (has.room.0) in
+            let moves = law.within.moves (offset_of l i) (has.room.0) in
             final_is l i back 4 kind has after a before_is served.r_type_is
             (moves.0) (omega (arith, moves.1)) symbol is_symbol entry
 
       does_the_same : (a : IsAfterRow after) → DoesTheSame a.row
       does_the_same a symbol is_symbol entry c s there =
           let operands = operands_of_object a symbol is_symbol entry in
-          let addend = addend_was l.addresses after a symbol r_got w_got.made chosen.relocation entry small
+          let addend = addend_was l.addresses after a symbol (rela_at l i) w_got.made chosen.relocation entry small
           before_is (ap (is_of_got X86_64) served.r_type_is ∙ a.is_not_of_got)
           ∙ served.is_from_end in
           rw served.kind_is (some_and _ (x86_64_relocation_after kind name) after law.after law.law
-          c s object_got there.original l.final o_got operands (before l i back 4 kind has name operands c s there addend)
+          c s object_got there.original l.final (offset_of l i) operands (before l i back 4 kind has name operands c s there addend)
           (object_has l i back 4 kind has law.instructions (shaped_of back 4 law.instructions law.are_of) law.there)
           (object_matches l i back 4 kind has
           (object_has l i back 4 kind has (x86_64_originals kind) law.shaped_too (law.matches.1)))
@@ -1306,9 +1294,9 @@ module _ (name : X86_64Relocation) (back : ℕ) (held : Operands → ℕ)
           window = w_got;
           matches = law.matches;
           room = room;
-          law = λ alone symbol o_got c s final pc object_got.
-              of_field l linked i chosen name around small room symbol o_got c s final pc object_got
-              object_got.row refl (subst DoesTheSame (row_same object_got.row (object_got.by.1)) (does_the_same alone law.row) symbol (object_got.by.0));
+          law = λ alone symbol o c s final pc object.
+              of_field l linked i chosen name around small room symbol o c s final pc object
+              object.row refl (subst DoesTheSame (row_same object.row (object.by.1)) (does_the_same alone law.row) symbol (object.by.0));
         }
 
 -- ---- the GOT entry of an offset, which a rewrite leaves in place of a call or of a descriptor
@@ -1317,24 +1305,21 @@ module _ (l : Linked) (i back end : ℕ) (kind : RewriteKind) (is : HasRewrite l
     (r_type_is : is.chosen.relocation ≡ r_type_of (x86_64_name names.R_X86_64_GOTTPOFF))
     (symbol : Symbol) (is_symbol : slice_get l.symbols (relocation_in l.relocations i).symbol ≡ Some symbol)
   where
-    abbrev r_entry : Rela
-    r_entry = relocation_in l.relocations i
-
     abbrev relocation : Rela
     relocation =
-        rela (is.window.made.offset r_entry.offset) is.chosen.relocation r_entry.symbol (is.window.made.addend r_entry.addend)
+        rela (is.window.made.offset (rela_at l i).offset) is.chosen.relocation (rela_at l i).symbol (is.window.made.addend (rela_at l i).addend)
 
-    pub entry_final : r_entry.offset - back ≤ is.window.made.offset r_entry.offset
-        → is.window.made.offset r_entry.offset + 4 ≤ r_entry.offset + end → (entry : ℕ)
+    pub entry_final : (rela_at l i).offset - back ≤ is.window.made.offset (rela_at l i).offset
+        → is.window.made.offset (rela_at l i).offset + 4 ≤ (rela_at l i).offset + end → (entry : ℕ)
         → IsRelocated names.R_X86_64_GOTTPOFF
-        (record (operands_after (x86_64_rewrite kind) r_entry.offset (operands_with X86_64 l.addresses thread_row symbol r_entry entry)) {
+        (record (operands_after (x86_64_rewrite kind) (rela_at l i).offset (operands_with X86_64 l.addresses thread_row symbol (rela_at l i) entry)) {
           got_entry = symbol.thread_entry;
         })
-        (offset_after (x86_64_rewrite kind) r_entry.offset)
-        (rewritten (x86_64_rewrite kind) (put_back (r_entry.offset - back) (back + end) l.section l.final) r_entry.offset) l.final
+        (offset_after (x86_64_rewrite kind) (rela_at l i).offset)
+        (rewritten (x86_64_rewrite kind) (put_back ((rela_at l i).offset - back) (back + end) l.section l.final) (rela_at l i).offset) l.final
     entry_final low high entry =
         let made = is.window.made in
-        let was = operands_with X86_64 l.addresses thread_row symbol r_entry entry in
+        let was = operands_with X86_64 l.addresses thread_row symbol (rela_at l i) entry in
         let e = symbol.thread_entry in
         relocated_after l i back end kind is names.R_X86_64_GOTTPOFF tls_got_row plain_entry refl tt r_type_is
         (operands_with X86_64 l.addresses tls_got_row symbol relocation e)
@@ -1345,8 +1330,8 @@ module _ (l : Linked) (i back end : ℕ) (kind : RewriteKind) (is : HasRewrite l
         (subst (λ code. IsRowOf l.context.architecture code tls_got_row) (sym r_type_is) (row_of l is.x86 names.R_X86_64_GOTTPOFF tt tls_got_row refl))
         symbol is_symbol (record { class = ThreadOffset; addend = pos 0 }) refl))
         low high
-        (record (operands_after (x86_64_rewrite kind) r_entry.offset was) { got_entry = e })
-        (rw (is.window.is, moved l.addresses.section r_entry.offset (made.offset r_entry.offset) (offset_small l i back end kind is)))
+        (record (operands_after (x86_64_rewrite kind) (rela_at l i).offset was) { got_entry = e })
+        (rw (is.window.is, moved l.addresses.section (rela_at l i).offset (made.offset (rela_at l i).offset) (offset_small l i back end kind is)))
 
 -- ---- fields that overlap none
 
@@ -1382,10 +1367,10 @@ address_is addresses symbol code weak not_of_got strong = cc
 
 -- an offset in the block with that from the thread pointer
 abbrev counted_from : ℕ → Operands → Operands
-counted_from base o_offset = record o_offset { tls_base = base }
+counted_from base o = record o { tls_base = base }
 
 abbrev with_symbol : Operands → ℕ → Operands
-with_symbol o_offset symbol = record o_offset { symbol = symbol }
+with_symbol o symbol = record o { symbol = symbol }
 
 -- The rows of both, where the second is that of the first counted from elsewhere.
 record AreRows (n : ℕ) (block_at thread : RowInfo) : Type 0 where
@@ -1393,15 +1378,15 @@ record AreRows (n : ℕ) (block_at thread : RowInfo) : Type 0 where
   lowest : AreLowest n
   plain : IsPlain n thread
   of : IsOffsetOf thread
-  alone : (addresses : Addresses) (symbol : Symbol) (r_offset : Rela)
-      → operands_by X86_64 addresses thread r_offset symbol (entry_address addresses symbol (entry_of thread r_offset.addend symbol.is_thread_local))
-      ≡ Ok (operands_with X86_64 addresses thread symbol r_offset 0)
-  origin : (addresses : Addresses) (symbol : Symbol) (r_offset : Rela) (entry : ℕ)
-      → (operands_with X86_64 addresses block_at symbol r_offset entry).tls_base ≡ addresses.module_origin
-  same : (addresses : Addresses) (symbol : Symbol) (r_offset : Rela) (code entry : ℕ)
-      → is_of_got X86_64 r_offset.r_type ≡ false → is_of_got X86_64 code ≡ false → symbol.is_undefined_weak ≡ false
-      → value_of thread (counted_from addresses.thread_origin (operands_with X86_64 addresses block_at symbol r_offset entry))
-      ≡ value_of thread (operands_with X86_64 addresses thread symbol (rela r_offset.offset code r_offset.symbol r_offset.addend) 0)
+  alone : (addresses : Addresses) (symbol : Symbol) (r : Rela)
+      → operands_by X86_64 addresses thread r symbol (entry_address addresses symbol (entry_of thread r.addend symbol.is_thread_local))
+      ≡ Ok (operands_with X86_64 addresses thread symbol r 0)
+  origin : (addresses : Addresses) (symbol : Symbol) (r : Rela) (entry : ℕ)
+      → (operands_with X86_64 addresses block_at symbol r entry).tls_base ≡ addresses.module_origin
+  same : (addresses : Addresses) (symbol : Symbol) (r : Rela) (code entry : ℕ)
+      → is_of_got X86_64 r.r_type ≡ false → is_of_got X86_64 code ≡ false → symbol.is_undefined_weak ≡ false
+      → value_of thread (counted_from addresses.thread_origin (operands_with X86_64 addresses block_at symbol r entry))
+      ≡ value_of thread (operands_with X86_64 addresses thread symbol (rela r.offset code r.symbol r.addend) 0)
 
 short_rows : AreRows 4 block_row thread_row
 short_rows =
@@ -1410,11 +1395,11 @@ short_rows =
       lowest = four_bytes;
       plain = tpoff32.plain;
       of = (refl, refl, refl);
-      alone = λ addresses symbol r_offset. refl;
-      origin = λ addresses symbol r_offset entry. refl;
-      same = λ addresses symbol r_offset code entry before after strong.
-          ap (λ x. value_of thread_row (with_symbol (counted_from addresses.thread_origin (operands_with X86_64 addresses block_row symbol r_offset entry)) x))
-          (address_is addresses symbol r_offset.r_type addresses.module_origin before strong
+      alone = λ addresses symbol r. refl;
+      origin = λ addresses symbol r entry. refl;
+      same = λ addresses symbol r code entry before after strong.
+          ap (λ x. value_of thread_row (with_symbol (counted_from addresses.thread_origin (operands_with X86_64 addresses block_row symbol r entry)) x))
+          (address_is addresses symbol r.r_type addresses.module_origin before strong
           ∙ sym (address_is addresses symbol code addresses.thread_origin after strong));
     }
 
@@ -1425,19 +1410,19 @@ long_rows =
       lowest = eight_bytes;
       plain = plain_long_thread;
       of = (refl, refl, refl);
-      alone = λ addresses symbol r_offset. refl;
-      origin = λ addresses symbol r_offset entry. refl;
-      same = λ addresses symbol r_offset code entry before after strong.
-          ap (λ x. value_of long_thread_row (with_symbol (counted_from addresses.thread_origin (operands_with X86_64 addresses long_block_row symbol r_offset entry)) x))
-          (address_is addresses symbol r_offset.r_type addresses.module_origin before strong
+      alone = λ addresses symbol r. refl;
+      origin = λ addresses symbol r entry. refl;
+      same = λ addresses symbol r code entry before after strong.
+          ap (λ x. value_of long_thread_row (with_symbol (counted_from addresses.thread_origin (operands_with X86_64 addresses long_block_row symbol r entry)) x))
+          (address_is addresses symbol r.r_type addresses.module_origin before strong
           ∙ sym (address_is addresses symbol code addresses.thread_origin after strong));
     }
 
 -- ---- one field
 
-rest_is : (row : RowInfo) (o_offset : Operands) (p : ℕ) (before after : List ℕ)
-    (is : IsRelocatedBy row o_offset p before after) → p ≤ length before → drop p after ≡ is.rest
-rest_is row o_offset p before after is inside =
+rest_is : (row : RowInfo) (o : Operands) (p : ℕ) (before after : List ℕ)
+    (is : IsRelocatedBy row o p before after) → p ≤ length before → drop p after ≡ is.rest
+rest_is row o p before after is inside =
     ap (drop p) is.whole ∙ drop_at (take p before) is.rest p (length-take-le p before inside)
 
 module _ (n : ℕ) (read : ℕ → ℕ) (block_row thread_row : RowInfo)
@@ -1453,18 +1438,12 @@ module _ (n : ℕ) (read : ℕ → ℕ) (block_row thread_row : RowInfo)
     (stays : UntouchedBytes l i (relocation_in l.relocations i).offset n)
     (kind_is : chosen.kind ≡ relaxations.X86_64 kinds.NoOp)
     (r_type_is : chosen.relocation ≡ r_type_of (x86_64_name after)) where
-  abbrev r_offset : Rela
-  r_offset = relocation_in l.relocations i
-
-  abbrev o_offset : ℕ
-  o_offset = r_offset.offset
-
   abbrev relocation_offset : Rela
-  relocation_offset = rela o_offset chosen.relocation r_offset.symbol r_offset.addend
+  relocation_offset = rela (offset_of l i) chosen.relocation (rela_at l i).symbol (rela_at l i).addend
 
   r_after_offset : relocation_in l.relocations_last i ≡ relocation_offset
   r_after_offset =
-      relocation_left l linked i o_offset n stays below ∙ rw (decided, kind_is) at (linked.relocations i below)
+      relocation_left l linked i (offset_of l i) n stays below ∙ rw (decided, kind_is) at (linked.relocations i below)
 
   row_there_offset : IsRow l.context.architecture (relocation_in l.relocations_last i).r_type (Some thread_row)
   row_there_offset =
@@ -1509,16 +1488,16 @@ module _ (n : ℕ) (read : ℕ → ℕ) (block_row thread_row : RowInfo)
 
   leads : LeadsToTheSame n read name l i block_row
   leads symbol is_symbol strong entry block_at pointer original addresses small is_block_address was =
-      let operands = operands_with X86_64 l.addresses block_row symbol r_offset entry in
+      let operands = operands_with X86_64 l.addresses block_row symbol (rela_at l i) entry in
       let image = l.addresses.module_origin in
       let pointed = l.addresses.thread_origin in
       let counted = counted_from pointed operands in
       let written = operands_with X86_64 l.addresses thread_row symbol relocation_offset 0 in
-      let origin : operands.tls_base ≡ image = rows.origin l.addresses symbol r_offset entry in
-      let before_is : is_of_got X86_64 r_offset.r_type ≡ false = ap (is_of_got X86_64) (sym is_name.r_type_is) ∙ name_is in
+      let origin : operands.tls_base ≡ image = rows.origin l.addresses symbol (rela_at l i) entry in
+      let before_is : is_of_got X86_64 (rela_at l i).r_type ≡ false = ap (is_of_got X86_64) (sym is_name.r_type_is) ∙ name_is in
       let taken : operands_of X86_64 l.addresses l.symbols thread_row relocation_offset ≡ Ok written =
       ap (operands_in X86_64 l.addresses thread_row relocation_offset) is_symbol ∙ rows.alone l.addresses symbol relocation_offset in
-      let field : UntouchedField n thread_row written o_offset l.last l.final =
+      let field : UntouchedField n thread_row written (offset_of l i) l.last l.final =
       subst (λ (x : Rela). UntouchedField n thread_row written x.offset l.last l.final) r_after_offset
       (left n rows.some rows.lowest l.context.architecture l.addresses l.relocations_last l.symbols l.last l.final linked.written
       (small_byte l.final linked.final_bytes) i within_offset thread_row rows.plain row_there_offset written
@@ -1528,29 +1507,29 @@ module _ (n : ℕ) (read : ℕ → ℕ) (block_row thread_row : RowInfo)
       let final_length : length l.final ≡ length l.section =
       linked.written.same_length ∙ (last_length l linked ∙ linked.same_length) in
       let rl = linked.written.same_length in
-      let inside_final : o_offset + n ≤ length l.final = omega (arith, field.inside, rl) in
-      let object = put_back o_offset n l.section l.final in
+      let inside_final : (offset_of l i) + n ≤ length l.final = omega (arith, field.inside, rl) in
+      let object = put_back (offset_of l i) n l.section l.final in
       let object_length : length object ≡ length l.final =
-      (put_back_is o_offset n l.section l.final inside_final (sym final_length)).same_len in
-      let base : IsRelocatedBy thread_row counted o_offset object l.final =
-      relocated n thread_row rows.plain written counted o_offset l.last l.final object field
-      (rows.same l.addresses symbol r_offset chosen.relocation entry before_is (ap (is_of_got X86_64) r_type_is ∙ after_is) strong)
+      (put_back_is (offset_of l i) n l.section l.final inside_final (sym final_length)).same_len in
+      let base : IsRelocatedBy thread_row counted (offset_of l i) object l.final =
+      relocated n thread_row rows.plain written counted (offset_of l i) l.last l.final object field
+      (rows.same l.addresses symbol (rela_at l i) chosen.relocation entry before_is (ap (is_of_got X86_64) r_type_is ∙ after_is) strong)
       object_length (sym rl)
-      (λ at outside. back_outside o_offset n l.section l.final inside_final (sym final_length) at outside) in
-      let of_object : IsRelocatedBy block_row operands o_offset object original =
-      some_and (λ row. IsRelocatedBy row operands o_offset object original) (x86_64_row name) block_row is_block was in
-      let room : o_offset ≤ length object = omega (arith, inside_final, object_length) in
+      (λ at outside. back_outside (offset_of l i) n l.section l.final inside_final (sym final_length) at outside) in
+      let of_object : IsRelocatedBy block_row operands (offset_of l i) object original =
+      some_and (λ row. IsRelocatedBy row operands (offset_of l i) object original) (x86_64_row name) block_row is_block was in
+      let room : (offset_of l i) ≤ length object = omega (arith, inside_final, object_length) in
       ap (λ zs. sum_64 block_at (read (number_of_bytes n zs)))
-      (rest_is block_row operands o_offset object original of_object room)
+      (rest_is block_row operands (offset_of l i) object original of_object room)
       ∙ (some_and _ (x86_64_row after) thread_row is_thread
       (some_and _ (x86_64_row name) block_row is_block law) image pointed block_at pointer
-      (subst (λ x. x < 2 ^ 64) origin addresses.tls_base) small is_block_address operands (drop o_offset object)
+      (subst (λ x. x < 2 ^ 64) origin addresses.tls_base) small is_block_address operands (drop (offset_of l i) object)
       of_object.rest base.rest addresses
-      (subst (λ x. IsApplied block_row (counted_from x operands) (drop o_offset object) of_object.rest) origin
+      (subst (λ x. IsApplied block_row (counted_from x operands) (drop (offset_of l i) object) of_object.rest) origin
       of_object.applied)
       base.applied
       ∙ ap (λ zs. sum_64 pointer (read (number_of_bytes n zs))) {x = base.rest}
-      (sym (rest_is thread_row counted o_offset object l.final base room)))
+      (sym (rest_is thread_row counted (offset_of l i) object l.final base room)))
 
 -- ---- both lengths
 
@@ -1583,12 +1562,12 @@ Lawful l i chosen name = (w : Window) × IsLawful l i chosen name w
 -- that of a module is a group
 abbrev CallLaw : ℕ → ℕ → ℕ → RewriteKind → Type 0
 CallLaw back its_call count kind =
-    (c : Code) (s : State) (section original : List ℕ) (o_call : ℕ) (operands : Operands)
-    → IsBefore back section o_call operands (seen s)
-    → x86_64_matches kind section o_call
-    → IsRelocated names.R_X86_64_TLSLD operands o_call section original
-    → Stands c.old s.pc (back + 4) (drop (o_call - back) original)
-    → Stands c.new s.pc (back + (4 + its_call)) (drop (o_call - back) (rewritten (x86_64_rewrite kind) section o_call))
+    (c : Code) (s : State) (section original : List ℕ) (o : ℕ) (operands : Operands)
+    → IsBefore back section o operands (seen s)
+    → x86_64_matches kind section o
+    → IsRelocated names.R_X86_64_TLSLD operands o section original
+    → Stands c.old s.pc (back + 4) (drop (o - back) original)
+    → Stands c.new s.pc (back + (4 + its_call)) (drop (o - back) (rewritten (x86_64_rewrite kind) section o))
     → IsModuleCall (back + (4 + its_call)) count c operands s
 
 module _ (l : Linked) (linked : IsLinked l) (x86 : l.context.architecture ≡ X86_64) (i : ℕ)
@@ -1598,17 +1577,11 @@ module _ (l : Linked) (linked : IsLinked l) (x86 : l.context.architecture ≡ X8
     (back its_call : ℕ) (has_window : HasWindow back (4 + its_call) (x86_64_rewrite kind))
     (shape : AreOf back (4 + its_call) (x86_64_originals kind))
     (pattern : HasPattern any kind l.section (relocation_in l.relocations i).offset) where
-  abbrev r_call : Rela
-  r_call = relocation_in l.relocations i
-
-  abbrev o_call : ℕ
-  o_call = r_call.offset
-
   abbrev around_call : Form → Window
   around_call form = window form back (4 + its_call)
 
-  room_call : (back ≤ o_call) × (o_call + (4 + its_call) ≤ length l.section)
-  room_call = there_inside back (4 + its_call) (omega arith) (x86_64_originals kind) l.section o_call shape (pattern.1.1)
+  room_call : (back ≤ (offset_of l i)) × ((offset_of l i) + (4 + its_call) ≤ length l.section)
+  room_call = there_inside back (4 + its_call) (omega arith) (x86_64_originals kind) l.section (offset_of l i) shape (pattern.1.1)
 
   -- of a name with a law
   sequence : (name : X86_64Relocation) (form : Form)
@@ -1617,7 +1590,7 @@ module _ (l : Linked) (linked : IsLinked l) (x86 : l.context.architecture ≡ X8
       → HasObject form l i name chosen.relocation (around_call form) symbol w c s
       → IsObject l i name chosen.relocation (around_call form) symbol w c s)
       → (row : RowInfo)
-      → (UntouchedByOthers l i (o_call - back) (back + (4 + its_call)) → (symbol : Symbol) (other : RowInfo)
+      → (UntouchedByOthers l i ((offset_of l i) - back) (back + (4 + its_call)) → (symbol : Symbol) (other : RowInfo)
       → AreBy form l i chosen.relocation symbol other
       → (row ≡ other) × LawAt l i name row (around_call form) chosen.kind symbol)
       → Lawful l i chosen name
@@ -1631,39 +1604,39 @@ module _ (l : Linked) (linked : IsLinked l) (x86 : l.context.architecture ≡ X8
       matches = pattern.1;
       room = room_call;
       law = λ alone symbol w c s final pc there.
-          let object_call = has_call symbol w c s there in
-          let made = law alone symbol object_call.row object_call.by in
-          of_field l linked i chosen name (around_call form) few room_call symbol w c s final pc object_call row (made.0) (made.1);
+          let object = has_call symbol w c s there in
+          let made = law alone symbol object.row object.by in
+          of_field l linked i chosen name (around_call form) few room_call symbol w c s final pc object row (made.0) (made.1);
     },
   )
 
-  module _ (alone : UntouchedByOthers l i (o_call - back) (back + (4 + its_call))) where
+  module _ (alone : UntouchedByOthers l i ((offset_of l i) - back) (back + (4 + its_call))) where
     abbrev has_call : HasRewrite l i back (4 + its_call) kind
     has_call = has_rewrite l linked x86 i chosen below decided kind_is has_window (pattern.1) room_call alone
 
     abbrev object_call : List ℕ
-    object_call = put_back (o_call - back) (back + (4 + its_call)) l.section l.final
+    object_call = put_back ((offset_of l i) - back) (back + (4 + its_call)) l.section l.final
 
-    matches : x86_64_matches kind object_call o_call
+    matches : x86_64_matches kind object_call (offset_of l i)
     matches =
         object_matches l i back (4 + its_call) kind has_call
         (object_has l i back (4 + its_call) kind has_call (x86_64_originals kind)
         (shaped_of back (4 + its_call) (x86_64_originals kind) shape) (pattern.1.1))
 
     -- of a variable
-    module _ (count : ℕ) (is_name : IsNameOf x86_64_name r_call.r_type names.R_X86_64_TLSGD)
-        (addend : r_call.addend ≡ neg_ℤ (pos 4)) (low : o_call - back ≤ has_window.made.offset o_call)
-        (high : has_window.made.offset o_call + 4 ≤ o_call + (4 + its_call)) where
+    module _ (count : ℕ) (is_name : IsNameOf x86_64_name (rela_at l i).r_type names.R_X86_64_TLSGD)
+        (addend : (rela_at l i).addend ≡ neg_ℤ (pos 4)) (low : (offset_of l i) - back ≤ has_window.made.offset (offset_of l i))
+        (high : has_window.made.offset (offset_of l i) + 4 ≤ (offset_of l i) + (4 + its_call)) where
       to_local : x86_64_relocation_after kind names.R_X86_64_TLSGD ≡ Some names.R_X86_64_TPOFF32
           → groups.Rewritten back (back + (4 + its_call)) (x86_64_originals kind) names.R_X86_64_TLSGD kind
           (λ operands. operands)
-          (IsThreadCall (back + 4) (back + (4 + its_call)) count (λ c k s k' o_call. ⊤))
+          (IsThreadCall (back + 4) (back + (4 + its_call)) count (λ c k s k' o. ⊤))
           → chosen.relocation ≡ r_type_of (x86_64_name names.R_X86_64_TPOFF32)
-          → (symbol : Symbol) → slice_get l.symbols r_call.symbol ≡ Some symbol
+          → (symbol : Symbol) → slice_get l.symbols (rela_at l i).symbol ≡ Some symbol
           → LawAt l i names.R_X86_64_TLSGD thread_row (around_call (variable count)) chosen.kind symbol
       to_local after_is law r_type_is symbol is_symbol entry c s there k k' s' pointer holds returns =
           some_and _ (x86_64_relocation_after kind names.R_X86_64_TLSGD) names.R_X86_64_TPOFF32 after_is law c s
-          object_call there.original l.final o_call (operands_with X86_64 l.addresses thread_row symbol r_call entry)
+          object_call there.original l.final (offset_of l i) (operands_with X86_64 l.addresses thread_row symbol (rela_at l i) entry)
           (before l i back (4 + its_call) kind has_call names.R_X86_64_TLSGD _ c s there addend) (matches.1) matches
           there.applied
           (final_is l i back (4 + its_call) kind has_call names.R_X86_64_TPOFF32 tpoff32
@@ -1675,27 +1648,27 @@ module _ (l : Linked) (linked : IsLinked l) (x86 : l.context.architecture ≡ X8
           → groups.Rewritten back (back + (4 + its_call)) (x86_64_originals kind) names.R_X86_64_TLSGD kind
           (λ operands. record operands { got_entry = held })
           (IsThreadCall (back + 4) (back + (4 + its_call)) count (AddsOffset held)))
-          → ((symbol : Symbol) (c : Code) (k : Kinds) (s : State) (k' : Kinds) (o_call : Operands)
-          → EntryHolds (relaxations.X86_64 kind) symbol c k s k' o_call
-          → (symbol.thread_entry < 2 ^ 64) × AddsOffset symbol.thread_entry c k s k' o_call)
+          → ((symbol : Symbol) (c : Code) (k : Kinds) (s : State) (k' : Kinds) (o : Operands)
+          → EntryHolds (relaxations.X86_64 kind) symbol c k s k' o
+          → (symbol.thread_entry < 2 ^ 64) × AddsOffset symbol.thread_entry c k s k' o)
           → chosen.relocation ≡ r_type_of (x86_64_name names.R_X86_64_GOTTPOFF)
-          → (symbol : Symbol) → slice_get l.symbols r_call.symbol ≡ Some symbol
+          → (symbol : Symbol) → slice_get l.symbols (rela_at l i).symbol ≡ Some symbol
           → LawAt l i names.R_X86_64_TLSGD thread_row (around_call (variable count)) chosen.kind symbol
       to_initial after_is law reads r_type_is symbol is_symbol entry c s there k k' s' pointer holds returns =
-          let operands = operands_with X86_64 l.addresses thread_row symbol r_call entry in
+          let operands = operands_with X86_64 l.addresses thread_row symbol (rela_at l i) entry in
           let held = reads symbol c k s k' operands
           (subst (λ x. EntryHolds x symbol c k s k' operands) kind_is holds) in
           some_and _ (x86_64_relocation_after kind names.R_X86_64_TLSGD) names.R_X86_64_GOTTPOFF after_is
-          (law symbol.thread_entry (held.0)) c s object_call there.original l.final o_call operands
+          (law symbol.thread_entry (held.0)) c s object_call there.original l.final (offset_of l i) operands
           (before l i back (4 + its_call) kind has_call names.R_X86_64_TLSGD _ c s there addend) (matches.1) matches
           there.applied (entry_final l i back (4 + its_call) kind has_call r_type_is symbol is_symbol low high entry)
           there.old there.new k k' s' pointer (held.1) returns
 
     -- of a module
-    module_law : (count : ℕ) → CallLaw back its_call count kind → chosen.relocation ≡ 0 → r_call.addend ≡ neg_ℤ (pos 4)
+    module_law : (count : ℕ) → CallLaw back its_call count kind → chosen.relocation ≡ 0 → (rela_at l i).addend ≡ neg_ℤ (pos 4)
         → (symbol : Symbol) → LawAt l i names.R_X86_64_TLSLD tls_module_row (around_call (block count)) chosen.kind symbol
     module_law count law code addend symbol entry c s there =
-        law c s object_call there.original o_call (operands_with X86_64 l.addresses tls_module_row symbol r_call entry)
+        law c s object_call there.original (offset_of l i) (operands_with X86_64 l.addresses tls_module_row symbol (rela_at l i) entry)
         (before l i back (4 + its_call) kind has_call names.R_X86_64_TLSLD _ c s there addend) matches there.applied
         there.old
         (rw (unrelocated l i back (4 + its_call) kind has_call code) there.new)
@@ -1713,7 +1686,7 @@ module _ (law : groups.GeneralDynamic) (l : Linked) (linked : IsLinked l) (x86 :
       let window = own_window 4 12 (x86_64_rewrite kind) (puts 4 12 _ _ _) refl (λ window. refl) (omega arith) (omega arith) in
       let shape : AreOf 4 12 (x86_64_originals kind) = ((refl, refl), ((refl, refl), tt)) in
       sequence l linked x86 i chosen below decided kind this.kind_is 4 8 window shape this.has_pattern
-      names.R_X86_64_TLSGD (variable 2) refl (omega arith) (λ symbol w c s object_call. object_call) thread_row (λ alone symbol row by. (
+      names.R_X86_64_TLSGD (variable 2) refl (omega arith) (λ symbol w c s object. object) thread_row (λ alone symbol row by. (
         ap (λ q. unwrap_or q row) (by.1),
         to_local l linked x86 i chosen below decided kind this.kind_is 4 8 window shape this.has_pattern alone 2 is_name
             (sym this.same_addend ∙ this.hold.1.1.1.0) (omega arith) (omega arith) refl (law.0) this.r_type_is symbol (by.0),
@@ -1723,7 +1696,7 @@ module _ (law : groups.GeneralDynamic) (l : Linked) (linked : IsLinked l) (x86 :
       let window = own_window 3 19 (x86_64_rewrite kind) (puts 3 22 _ _ _) refl (λ window. refl) (omega arith) (omega arith) in
       let shape : AreOf 3 19 (x86_64_originals kind) = ((refl, refl), ((refl, refl), tt)) in
       sequence l linked x86 i chosen below decided kind this.kind_is 3 15 window shape this.has_pattern
-      names.R_X86_64_TLSGD (variable 3) refl (omega arith) (λ symbol w c s object_call. object_call) thread_row (λ alone symbol row by. (
+      names.R_X86_64_TLSGD (variable 3) refl (omega arith) (λ symbol w c s object. object) thread_row (λ alone symbol row by. (
         ap (λ q. unwrap_or q row) (by.1),
         to_local l linked x86 i chosen below decided kind this.kind_is 3 15 window shape this.has_pattern alone 3 is_name
             (sym this.same_addend ∙ this.hold.1.1.1.0) (omega arith) (omega arith) refl (law.2) this.r_type_is symbol (by.0),
@@ -1733,10 +1706,10 @@ module _ (law : groups.GeneralDynamic) (l : Linked) (linked : IsLinked l) (x86 :
       let window = own_window 4 12 (x86_64_rewrite kind) (puts 4 12 _ _ _) refl (λ window. refl) (omega arith) (omega arith) in
       let shape : AreOf 4 12 (x86_64_originals kind) = ((refl, refl), ((refl, refl), tt)) in
       sequence l linked x86 i chosen below decided kind this.kind_is 4 8 window shape this.has_pattern
-      names.R_X86_64_TLSGD (variable 2) refl (omega arith) (λ symbol w c s object_call. object_call) thread_row (λ alone symbol row by. (
+      names.R_X86_64_TLSGD (variable 2) refl (omega arith) (λ symbol w c s object. object) thread_row (λ alone symbol row by. (
         ap (λ q. unwrap_or q row) (by.1),
         to_initial l linked x86 i chosen below decided kind this.kind_is 4 8 window shape this.has_pattern alone 2 is_name
-            (sym this.same_addend ∙ this.hold.1.1.0) (omega arith) (omega arith) refl (law.1) (λ symbol c k s k' o_call holds. holds) this.r_type_is symbol (by.0),
+            (sym this.same_addend ∙ this.hold.1.1.0) (omega arith) (omega arith) refl (law.1) (λ symbol c k s k' o holds. holds) this.r_type_is symbol (by.0),
       ))
   variable_is_lawful (inr (inr (inr nothing))) = absurd nothing
 
@@ -1752,7 +1725,7 @@ module _ (law : groups.LocalDynamic) (l : Linked) (linked : IsLinked l) (x86 : l
       → Lawful l i chosen names.R_X86_64_TLSLD
   by_kind kind its_call n has_window shape is of this =
       sequence l linked x86 i chosen below decided kind this.kind_is 3 its_call has_window shape this.has_pattern names.R_X86_64_TLSLD
-      (block n) is (omega arith) (λ symbol w c s object_call. object_call) tls_module_row (λ alone symbol row by. (
+      (block n) is (omega arith) (λ symbol w c s object. object) tls_module_row (λ alone symbol row by. (
         ap (λ q. unwrap_or q row) by,
         module_law l linked x86 i chosen below decided kind this.kind_is 3 its_call has_window shape this.has_pattern alone n of
             this.r_type_is (sym this.same_addend ∙ this.hold.1.1.0) symbol,
@@ -1780,10 +1753,10 @@ module _ (n : ℕ) (three : 3 ≤ n) (name : X86_64Relocation) (named : IsNamed 
     (not_of_got : is_of_got X86_64 (r_type_of (x86_64_name name)) ≡ false)
     (register_of : List ℕ → ℕ)
     (shape : AreOf n 4 (lea_of_descriptor n))
-    (of_offset : (bytes : List ℕ) (o_descriptor : ℕ) → IsTrue (is_one_at (lea_of_descriptor n) bytes o_descriptor)
-    → IsTrue (is_one_at (x86_64_originals (kinds.TlsDescToLocalExec n)) bytes o_descriptor))
-    (of_entry : (bytes : List ℕ) (o_descriptor : ℕ) → IsTrue (is_one_at (lea_of_descriptor n) bytes o_descriptor)
-    → IsTrue (is_one_at (x86_64_originals kinds.TlsDescToInitialExec) bytes o_descriptor))
+    (of_offset : (bytes : List ℕ) (o : ℕ) → IsTrue (is_one_at (lea_of_descriptor n) bytes o)
+    → IsTrue (is_one_at (x86_64_originals (kinds.TlsDescToLocalExec n)) bytes o))
+    (of_entry : (bytes : List ℕ) (o : ℕ) → IsTrue (is_one_at (lea_of_descriptor n) bytes o)
+    → IsTrue (is_one_at (x86_64_originals kinds.TlsDescToInitialExec) bytes o))
     (offset_after : x86_64_relocation_after (kinds.TlsDescToLocalExec n) name ≡ Some names.R_X86_64_TPOFF32)
     (entry_after : x86_64_relocation_after kinds.TlsDescToInitialExec name ≡ Some names.R_X86_64_GOTTPOFF)
     (to_offset : LeaToOffset n name register_of) (to_entry : LeaToEntry n name register_of)
@@ -1793,25 +1766,19 @@ module _ (n : ℕ) (three : 3 ≤ n) (name : X86_64Relocation) (named : IsNamed 
     (decided : decision_at l.decisions i ≡ Rewritten chosen)
     (is : window_of name chosen.kind ≡ Some (window (lea register_of) n 4)) (small : n < 2 ^ 64)
   where
-    abbrev r_descriptor : Rela
-    r_descriptor = relocation_in l.relocations i
-
-    abbrev o_descriptor : ℕ
-    o_descriptor = r_descriptor.offset
-
     abbrev object_descriptor : List ℕ
-    object_descriptor = put_back (o_descriptor - n) (n + 4) l.section l.final
+    object_descriptor = put_back ((offset_of l i) - n) (n + 4) l.section l.final
 
-    room_descriptor : IsTrue (is_one_at (lea_of_descriptor n) l.section o_descriptor) → (n ≤ o_descriptor) × (o_descriptor + 4 ≤ length l.section)
-    room_descriptor there = there_inside n 4 (omega arith) (lea_of_descriptor n) l.section o_descriptor shape there
+    room_descriptor : IsTrue (is_one_at (lea_of_descriptor n) l.section (offset_of l i)) → (n ≤ (offset_of l i)) × ((offset_of l i) + 4 ≤ length l.section)
+    room_descriptor there = there_inside n 4 (omega arith) (lea_of_descriptor n) l.section (offset_of l i) shape there
 
     abbrev w_descriptor : Window
     w_descriptor = window (lea register_of) n 4
 
     -- by its rewrite
     lawful : (kind : RewriteKind) → chosen.kind ≡ relaxations.X86_64 kind → HasWindow n 4 (x86_64_rewrite kind)
-        → IsTrue (is_one_at (lea_of_descriptor n) l.section o_descriptor) → x86_64_matches kind l.section o_descriptor
-        → (UntouchedByOthers l i (o_descriptor - n) (n + 4) → (symbol : Symbol) → slice_get l.symbols r_descriptor.symbol ≡ Some symbol
+        → IsTrue (is_one_at (lea_of_descriptor n) l.section (offset_of l i)) → x86_64_matches kind l.section (offset_of l i)
+        → (UntouchedByOthers l i ((offset_of l i) - n) (n + 4) → (symbol : Symbol) → slice_get l.symbols (rela_at l i).symbol ≡ Some symbol
         → LawAt l i name thread_row w_descriptor chosen.kind symbol)
         → IsLawful l i chosen name w_descriptor
     lawful kind kind_is has_window there matches law =
@@ -1822,12 +1789,12 @@ module _ (n : ℕ) (three : 3 ≤ n) (name : X86_64Relocation) (named : IsNamed 
           window = has_window;
           matches = matches;
           room = room_descriptor there;
-          law = λ alone symbol o_descriptor c s final pc object_descriptor.
-              of_field l linked i chosen name w_descriptor small (room_descriptor there) symbol o_descriptor c s final pc object_descriptor
-              thread_row (ap (λ q. unwrap_or q object_descriptor.row) (object_descriptor.by.1)) (law alone symbol (object_descriptor.by.0));
+          law = λ alone symbol o c s final pc object.
+              of_field l linked i chosen name w_descriptor small (room_descriptor there) symbol o c s final pc object
+              thread_row (ap (λ q. unwrap_or q object.row) (object.by.1)) (law alone symbol (object.by.0));
         }
 
-    pub lea_is_lawful : IsOfTable (descriptor_table n) l.section o_descriptor r_descriptor.addend chosen
+    pub lea_is_lawful : IsOfTable (descriptor_table n) l.section (offset_of l i) (rela_at l i).addend chosen
         → IsLawful l i chosen name w_descriptor
     lea_is_lawful (inl this) =
         let kind = kinds.TlsDescToLocalExec n in
@@ -1836,11 +1803,11 @@ module _ (n : ℕ) (three : 3 ≤ n) (name : X86_64Relocation) (named : IsNamed 
         (λ alone symbol is_symbol entry c s at h k descriptor makes.
         let has = has_rewrite l linked x86 i chosen below decided this.kind_is has_window (this.has_pattern.1) (room_descriptor (this.has_pattern.0)) alone in
         let there = object_has l i n 4 kind has (lea_of_descriptor n) (shaped_of n 4 (lea_of_descriptor n) shape) (this.has_pattern.0) in
-        let operands = operands_with X86_64 l.addresses thread_row symbol r_descriptor entry in
+        let operands = operands_with X86_64 l.addresses thread_row symbol (rela_at l i) entry in
         some_and _ (x86_64_relocation_after kind name) names.R_X86_64_TPOFF32 offset_after to_offset c s object_descriptor
-        at.original l.final o_descriptor operands
+        at.original l.final (offset_of l i) operands
         (before l i n 4 kind has name operands c s at (sym this.same_addend ∙ this.hold.1.1.1.0)) there
-        (object_matches l i n 4 kind has (of_offset object_descriptor o_descriptor there)) at.applied
+        (object_matches l i n 4 kind has (of_offset object_descriptor (offset_of l i) there)) at.applied
         (final_is l i n 4 kind has names.R_X86_64_TPOFF32 tpoff32
         (ap (is_of_got X86_64) (sym is_name.r_type_is) ∙ not_of_got) this.r_type_is (omega arith) (omega arith) symbol is_symbol entry)
         at.old at.new h k descriptor
@@ -1852,13 +1819,13 @@ module _ (n : ℕ) (three : 3 ≤ n) (name : X86_64Relocation) (named : IsNamed 
         (λ alone symbol is_symbol entry c s at h k descriptor makes.
         let has = has_rewrite l linked x86 i chosen below decided this.kind_is has_window (this.has_pattern.1) (room_descriptor (this.has_pattern.0)) alone in
         let there = object_has l i n 4 kind has (lea_of_descriptor n) (shaped_of n 4 (lea_of_descriptor n) shape) (this.has_pattern.0) in
-        let operands = operands_with X86_64 l.addresses thread_row symbol r_descriptor entry in
+        let operands = operands_with X86_64 l.addresses thread_row symbol (rela_at l i) entry in
         let made : Makes (relaxations.X86_64 kind) symbol c k s operands (c.new_half h) =
         subst (λ x. Makes x symbol c k s operands (c.new_half h)) this.kind_is makes in
         some_and _ (x86_64_relocation_after kind name) names.R_X86_64_GOTTPOFF entry_after
-        (to_entry symbol.thread_entry (made.0)) c s object_descriptor at.original l.final o_descriptor operands
+        (to_entry symbol.thread_entry (made.0)) c s object_descriptor at.original l.final (offset_of l i) operands
         (before l i n 4 kind has name operands c s at (sym this.same_addend ∙ this.hold.1.1.0)) there
-        (object_matches l i n 4 kind has (of_entry object_descriptor o_descriptor there)) at.applied
+        (object_matches l i n 4 kind has (of_entry object_descriptor (offset_of l i) there)) at.applied
         (entry_final l i n 4 kind has this.r_type_is symbol is_symbol (omega arith) (omega arith) entry)
         at.old at.new h k descriptor (made.1))
     lea_is_lawful (inr (inr nothing)) = absurd nothing
@@ -1879,8 +1846,8 @@ module _ (law : groups.LeaOfDescriptor) (l : Linked) (linked : IsLinked l) (x86 
         → IsLawful l i chosen names.R_X86_64_GOTPC32_TLSDESC (window (lea reg_after_rex) 3 4)
     with_rex_is_lawful is_name =
         lea_is_lawful 3 (omega arith) names.R_X86_64_GOTPC32_TLSDESC tt refl reg_after_rex ((refl, refl), tt)
-        (λ bytes o_descriptor is. is)
-        (λ bytes o_descriptor is. first (is_at (with_rex rex_w 0x8d) bytes o_descriptor) (is_at (with_rex2 rex2_w 0x8d) bytes o_descriptor || false) is)
+        (λ bytes o is. is)
+        (λ bytes o is. first (is_at (with_rex rex_w 0x8d) bytes o) (is_at (with_rex2 rex2_w 0x8d) bytes o || false) is)
         refl refl (law.0) (law.1) l linked x86 i chosen below is_name decided refl (omega arith)
 
     pub with_rex2_is_lawful : IsNameOf x86_64_name it.r_type names.R_X86_64_CODE_4_GOTPC32_TLSDESC
@@ -1888,8 +1855,8 @@ module _ (law : groups.LeaOfDescriptor) (l : Linked) (linked : IsLinked l) (x86 
         → IsLawful l i chosen names.R_X86_64_CODE_4_GOTPC32_TLSDESC (window (lea reg_after_rex2) 4 4)
     with_rex2_is_lawful is_name =
         lea_is_lawful 4 (omega arith) names.R_X86_64_CODE_4_GOTPC32_TLSDESC tt refl reg_after_rex2 ((refl, refl), tt)
-        (λ bytes o_descriptor is. is)
-        (λ bytes o_descriptor is. or_right (is_at (with_rex rex_w 0x8d) bytes o_descriptor) (is_at (with_rex2 rex2_w 0x8d) bytes o_descriptor || false) is)
+        (λ bytes o is. is)
+        (λ bytes o is. or_right (is_at (with_rex rex_w 0x8d) bytes o) (is_at (with_rex2 rex2_w 0x8d) bytes o || false) is)
         refl refl (law.2) (law.3) l linked x86 i chosen below is_name decided refl (omega arith)
 
 -- ---- the call
@@ -1916,17 +1883,17 @@ module _ (law : groups.CallOfDescriptor) (l : Linked) (linked : IsLinked l)
           window = has_window;
           matches = this.has_pattern.1;
           room = room_descriptor;
-          law = λ alone symbol o_descriptor c s final pc old.
+          law = λ alone symbol o c s final pc old.
               let has = has_rewrite l linked x86 i chosen below decided this.kind_is has_window (this.has_pattern.1) room_descriptor alone in
               let high = room_descriptor.1 in
               let long : length l.final ≡ length l.section =
               linked.written.same_length ∙ (last_length l linked ∙ linked.same_length) in
-              let object_descriptor = put_back (at - 0) (0 + 2) l.section l.final in
-              law c s object_descriptor at (object_bytes l i 0 2 skip has)
+              let object = put_back (at - 0) (0 + 2) l.section l.final in
+              law c s object at (object_bytes l i 0 2 skip has)
               (object_matches l i 0 2 skip has
               (object_has l i 0 2 skip has (x86_64_originals skip) (shaped_of 0 2 (x86_64_originals skip) ((refl, refl), tt)) (this.has_pattern.1.1)))
               (old
-              ∙ same_windows at 2 l.section object_descriptor (object_length l i 0 2 skip has)
+              ∙ same_windows at 2 l.section object (object_length l i 0 2 skip has)
               (λ j from less. object_same l i 0 2 skip has j (omega (arith, from)) less))
               (rw (unrelocated l i 0 2 skip has this.r_type_is, ← (let e : at - 0 ≡ at = omega arith in e), pc) (final (at - 0) 2 (omega (arith, high, long))));
         }
