@@ -23,10 +23,10 @@ pub use Rattle.linker_elf.specs.declared.loongarch64.forms.LoongArch64Instructio
 pub use Rattle.linker_elf.specs.declared.riscv64.forms.RiscVInstruction.TheVariants.{BType, CbType, CjType, CluiType, IType, JType, SType, UType, UiType}
 pub use Rattle.linker_final.specs.AArch64Section.{Begins, ComesTo, HoldsOffset, IsDescriptorLeft, IsRewrittenAgain, Rewrites, address, at_address, at_call, at_high, at_initial, at_jump, at_load, at_local, at_low, high, jump, low, object, register, span, to_initial, to_local}
 pub use Rattle.linker_final.specs.Final.{AreBytes, AreCalled, AreInTurn, AreLeft, AreLinked, AreListed, ArePhases, AreRewritten, EachPlace, HasRewritten, IsBeside, IsBesideAll, IsFollowed, IsLinked, IsOutside, IsPhase, IsPhaseIn, IsRewrittenByNoOther, IsWrittenByNoOther, Keeps, Known, Knows, Linked, OtherBytes, OtherFields, Place, RewritesAreGroups, RewritesNone, Rewriting, RewritingPhase, RunsAreFollowed, Section, Takes, UntouchedByOthers, UntouchedBytes, UntouchedBytesAreTheSame, UntouchedInPhase, UntouchedInstruction, UntouchedInstructions, begins, comparison, count, count_of, deletions_in, elsewhere, instruction_at, linked, linked_by, offset_of, rewriting_phase, rewritten, two_at, unchanged, within}
-pub use Rattle.linker_final.specs.Imports.{Addresses, Architecture, Choice, Decision, IsApplied, Item, LoongArch64Relocation, Operands, Phase, Rela, Relaxation, RiscVRelocation, RowInfo, Symbol, UnrelaxableGroups, deletions_of_run, go_to, put, riscv_form, with_register}
+pub use Rattle.linker_final.specs.Imports.{Addresses, Architecture, Choice, Decision, IsApplied, Item, LoongArch64Relocation, Operands, Rela, Relaxation, RiscVRelocation, RowInfo, Symbol, UnrelaxableGroups, deletions_of_run, go_to, put, riscv_form, with_register}
 pub use Rattle.linker_final.specs.LoongArchSection.{AddressesAreMade, AreOf, CallsTheSame, HasEntry, HighPartIsLeftOut, IsAlone, IsFinal, IsKept, IsLeft, IsLoad, IsNew, IsPairOf, Left, LoadedAddressesAreMade, LoadsTheSame, LongAddressesStay, LongLoadedAddressesStay, StaysAs, applied, by_itself, entry_by, law_of, none, operands_at, without_law, words_in}
 pub use Rattle.linker_final.specs.Packed.{AlignmentsHold, AreDeleted, AreRelaxedAndPacked, DeletedBytesAreGone, Goes, HoldsIn, InstructionsAreRelocated, IsAligned, IsBefore, IsKeptInstruction, IsOfRun, IsPackCause, IsPacked, IsRewrittenAndPacked, IsSiteOf, IsSkipped, IsUnwritten, ItemsAreDeleted, KeptBytesStay, LoongArchBranchesGo, Packed, PaddingIsNops, PlacesAreRelocated, PlacesHaveAddresses, RiscVBranchesGo, Run, SectionsAreAligned, StayTogether, Stays, address_at, architecture_of, final_instruction, final_number, packed_of, padding_at, padding_len, place_of, site_after, site_bytes, site_len, site_offset, site_place, site_target}
-pub use Rattle.linker_final.specs.Ppc64Section.{AreLeftAlone, HasApplied, IsOfNoPhase, NamesAreLeft, Restores, RewrittenAgain, kind_at, kind_by, kind_of, name_of, of_call, shape, to_second}
+pub use Rattle.linker_final.specs.Ppc64Section.{AreLeftAlone, HasApplied, NamesAreLeft, Restores, RewrittenAgain, kind_at, kind_by, kind_of, name_of, of_call, shape, to_second}
 pub use Rattle.linker_final.specs.RiscVSection.{AreOfPair, AuipcGoes, BecomesNop, CallIsAlike, Changes, HasLow, HasNamed, HasOwn, HasValue, HighPartGoes, HighPartsAreLeftOut, IsAddiOfLoad, IsDeleted, IsLuiOfLoad, IsNamedAs, IsNop, IsNotRewrittenBy, IsOfCall, IsOfDescriptor, IsRewrittenOf, Lawful, Leaves, LongCallsStay, LowPartsFromBase, LuiGoes, LuiIsLeftOut, New, NoneIsInitialExec, Nops, NopsOf, OffsetsAreLow, OffsetsAreLowOf, PartsFromBase, RelocationsAreLeft, SitesCallTheSame, SumGoes, SumIsLeftOut, ValuesAreDistances, after_base, anywhere, call_row, descriptor, distance, final, fixed, high_part, instructions_in, labelled_row, landing, law, load, low_address, low_law, low_part, low_store, named_as, packed, short_descriptor, sum}
 pub use Rattle.linker_final.specs.Steps.{AllPass, Executed, Group, Numbers, all_below, at, made_high, made_low, pc}
 pub use Rattle.linker_final.specs.Worked.{HasGroups, IsLinkedAs, IsOfCalls, IsPhaseOf, code_at, halves, none_stays}
@@ -66,6 +66,7 @@ pub use Rattle.linker_rewriting.specs.declared.decisions.Decision.TheVariants.{C
 pub use Rattle.linker_rewriting.specs.declared.decisions.Subject.{Subject}
 pub use Rattle.linker_rewriting.specs.declared.groups.Scope.{Scope}
 pub use Rattle.linker_rewriting.specs.declared.groups.Scope.TheVariants.{Grouped, Independent, Labelled, NotRelaxable}
+pub use Rattle.linker_rewriting.specs.declared.phases.Phase.{Phase}
 pub use Rattle.linker_riscv64.specs.RiscVCalls.{IsCallPair, link_register, word_at}
 pub use Rattle.linker_riscv64.specs.RiscVFields.{funct3_of, opcode_of, rd_of, rs1_of}
 pub use Rattle.linker_runs.specs.Packing.{IsInside, IsPackedRun, ItemBecomes, SiteBecomes, address_of, is_fixed, kept_len, nops, packed_offset, section_of}

@@ -1,13 +1,13 @@
 -- PowerPC64: each rewrite of a section is of words that are rewritten together, and these are
 -- groups.
-use Rattle.linker_final.proofs.Imports.{All-drop, All-take, AreBytes, AreGroup, AreLeftAlone, AreRewritten, Bool, CallTo, Choice, Consumed, Decision, Entry, GotTpOff, GotTpOffGotBase, HasApplied, IsArchitectureChoice, IsDecidedAfter, IsDone, IsLinked, IsMade, IsNameOf, IsNamed, IsOfApplied, IsOfEntry as IsOfEntryIn, IsOfNoPhase, IsOfOne as IsOfOneIn, IsOutside, IsPrefixed, IsRewrittenByNoOther, IsRow, IsScopeDecision, IsScopeIn, IsSomeAnd, IsTrue, IsWrittenByNoOther, Kept, Labelled, LinkFacts, Linked, List, LowOverBase, NamesAreLeft, None, NotRelaxable, Ok, Operands, Phase, Ppc64, Rela, Relative, RelaxContext, Relaxation, Restores, Rewrite, RewritesAreGroups, RewritesBoth, Rewritten, RewrittenAgain, RewrittenWithSymbol, RowInfo, Scope, Some, SymRelGotBase, Symbol, ThreadOffset, TpOff, UnrelaxableGroups, UntouchedByOthers, UntouchedBytes, WordOverBase, [], addend_after, and_parts, ap, arith, byte_at, bytes_row, cases_lt, changed_toc, choice, chosen_at, count, decision_at, drop, drop-drop, entry, entry_address, entry_of, eqb, false, from_le_bytes, get_or, inl, inr, instruction_at, is_labelled, is_taken, is_there, kind_at, kind_by, kind_of, le_bytes_4, length, length-drop, name_of, not, of_call, of_first, offset_after, offset_of, operands_by, operands_with, ppc64_none, ppc64_scope_in, r_type_of, refl, relaxation_no_op, relaxation_rewrite, relocation_in, replaces, shape, signed_row, slice_get, subst, sum_64, sym, take, take-take, to_le_bytes, to_second, true, two_at, value_of, w32, window_of_rewrite, word_below, word_of, word_of_front, ℕ, ◌&&◌, ◌*◌, ◌+◌, ◌-◌, ◌<◌, ◌^◌, ◌∙◌, ◌∷◌, ◌≡◌, ◌≤◌, ◌⊎◌}
+use Rattle.linker_final.proofs.Imports.{All-drop, All-take, AreBytes, AreGroup, AreLeftAlone, AreRewritten, Bool, CallTo, Choice, Consumed, Decision, Entry, GotTpOff, GotTpOffGotBase, HasApplied, IsArchitectureChoice, IsDecidedAfter, IsDone, IsLinked, IsMade, IsNameOf, IsNamed, IsOfApplied, IsOfEntry as IsOfEntryIn, IsOfOne as IsOfOneIn, IsOutside, IsPrefixed, IsRewrittenByNoOther, IsRow, IsScopeDecision, IsScopeIn, IsSomeAnd, IsTrue, IsWrittenByNoOther, Kept, Labelled, LinkFacts, Linked, List, LowOverBase, NamesAreLeft, None, NotRelaxable, Ok, Operands, Phase, Ppc64, Rela, Relative, RelaxContext, Relaxation, Restores, Rewrite, RewritesAreGroups, RewritesBoth, Rewritten, RewrittenAgain, RewrittenWithSymbol, RowInfo, Scope, Some, SymRelGotBase, Symbol, ThreadOffset, TpOff, UnrelaxableGroups, UntouchedByOthers, UntouchedBytes, WordOverBase, [], addend_after, and_parts, ap, arith, byte_at, bytes_row, cases_lt, changed_toc, choice, chosen_at, count, decision_at, drop, drop-drop, entry, entry_address, entry_of, eqb, false, from_le_bytes, get_or, inl, inr, instruction_at, is_labelled, is_taken, is_there, kind_at, kind_by, kind_of, le_bytes_4, length, length-drop, name_of, not, of_call, of_first, offset_after, offset_of, operands_by, operands_with, ppc64_none, ppc64_scope_in, r_type_of, refl, relaxation_no_op, relaxation_rewrite, relocation_in, replaces, shape, signed_row, slice_get, subst, sum_64, sym, take, take-take, to_le_bytes, to_second, true, two_at, value_of, w32, window_of_rewrite, word_below, word_of, word_of_front, ℕ, ◌&&◌, ◌*◌, ◌+◌, ◌-◌, ◌<◌, ◌^◌, ◌∙◌, ◌∷◌, ◌≡◌, ◌≤◌, ◌⊎◌}
 use Rattle.linker_elf.specs.Ppc64Relocations.{branch_row, high_adjusted_row, low_ds_row, low_row, ppc64_name, ppc64_row, prefixed_row}
 use Rattle.linker_elf.specs.declared.elf.RelocationKind.TheVariants.{None as NoValue}
 use Rattle.linker_elf.specs.declared.ppc64.forms.Ppc64Form.TheVariants.{Branch24}
 use Rattle.linker_elf.specs.declared.ppc64.relocations.Ppc64Relocation.{Ppc64Relocation}
 use Rattle.linker_final.proofs.SectionRuns.{AreIn, IsIn, each_or, is_linked, without_label}
 use Rattle.linker_final.proofs.Written.{IsOfInstruction, IsRowOf, apart_with, applied_after, by_name, entry_is_there, first_same, left_within, made_there, mapped, of_bits, outside_of, rela, rela_at, relocation_is, relocation_left, second_same, small_byte, spared, stays, unwritten_but, unwritten_without, window_byte, window_length, word_same}
-use Rattle.linker_final.specs.Ppc64Section.{IsMade as IsMadeThere, Law, Left, Rewrites, applied, entry_by, law, law_of, none, rewriting, span}
+use Rattle.linker_final.specs.Ppc64Section.{IsMade as IsMadeThere, Law, Left, applied, entry_by, law, law_of, none, rewriting, span}
 use Rattle.linker_laws.specs.Ppc64Groups.{Code, Groups, Has, Rewrites as AreRewritten_so, Stands}
 use Rattle.linker_laws.specs.Ppc64RewriteLaws.{IsRelocated, IsRewritten, from_thread, from_toc}
 use Rattle.linker_section.specs.declared.needed.Entry.{Entry as GotEntry}
@@ -34,63 +34,21 @@ module _ (s : RelaxContext) (kept : List UnrelaxableGroups) (bytes section : Lis
   of_scope false is = (is.0, is.1, listed (is.0) (is.2))
 
 -- the name has one in the phase that rewrites it
-in_scope : (l : Linked) → AreRewritten l → l.context.architecture ≡ Ppc64 → (g : Rewrites l) (name : Ppc64Relocation)
-    → IsNamed (ppc64_name name) → g.name ≡ name → ppc64_scope_in l.context.phase name ≡ NotRelaxable → ⊥
-in_scope l rewriting ppc64 g name named is_name unlisted =
+pub rewritten_again : RewrittenAgain
+rewritten_again l rewriting ppc64 g named unlisted =
     let code = (relocation_in l.relocations g.i).r_type in
     let there = of_scope l.context l.kept l.relocations l.section g.i (decision_at l.decisions g.i) g.chosen g.decided (is_taken l.decisions g.i) (rewriting.decided g.i g.below) in
     let is = subst (λ x. IsScopeIn x l.context.phase code (there.0)) ppc64 (there.1) in
-    let of_r_type : r_type_of (ppc64_name name) ≡ code = ap (λ n. r_type_of (ppc64_name n)) (sym is_name) ∙ g.is_name.r_type_is in
-    there.2 (is.value_is ∙ (ap (ppc64_scope_in l.context.phase) (is.is_name.named name named of_r_type) ∙ unlisted))
+    there.2 (is.value_is ∙ (ap (ppc64_scope_in l.context.phase) (is.is_name.named g.name named g.is_name.r_type_is) ∙ unlisted))
 
--- ---- phases
-
--- a phase doesn't list a name, or something holds of the phase
-abbrev Unlisted : Ppc64Relocation → (Phase → Type 0) → Phase → Type 0
-Unlisted name P phase = (ppc64_scope_in phase name ≡ NotRelaxable) ⊎ P phase
-
-shown : {A B : Type 0} → A ⊎ B → (A → ⊥) → B
-shown (inl a) none_is = absurd (none_is a)
-shown (inr b) none_is = b
-
-of_name : (name : Ppc64Relocation) → IsNamed (ppc64_name name) → (P : Phase → Type 0) → Unlisted name P phases.PreLayout
-    → Unlisted name P phases.TlsLocalExec → Unlisted name P phases.ShortPcRel → (l : Linked) → AreRewritten l
-    → l.context.architecture ≡ Ppc64 → (g : Rewrites l) → g.name ≡ name → P l.context.phase
-of_name name named P early offsets distances l rewriting ppc64 g is =
-    by l.context.phase (in_scope l rewriting ppc64 g name named is)
-  where
-    by : (phase : Phase) → (ppc64_scope_in phase name ≡ NotRelaxable → ⊥) → P phase
-    by phases.PreLayout listed = shown early listed
-    by phases.TlsLocalExec listed = shown offsets listed
-    by phases.GotToPcRel listed = absurd (listed refl)
-    by phases.ShortPcRel listed = shown distances listed
-
-pub of_none : (name : Ppc64Relocation) → IsNamed (ppc64_name name) → ppc64_scope_in phases.PreLayout name ≡ NotRelaxable
+-- in no phase has a name one
+in_none : (name : Ppc64Relocation) → ppc64_scope_in phases.PreLayout name ≡ NotRelaxable
     → ppc64_scope_in phases.TlsLocalExec name ≡ NotRelaxable → ppc64_scope_in phases.ShortPcRel name ≡ NotRelaxable
-    → IsOfNoPhase name
-of_none name named early offsets distances =
-    of_name name named (λ p. ⊥) (inl early) (inl offsets) (inl distances)
-
-pub rewritten_again : RewrittenAgain
-rewritten_again = (
-  of_name names.R_PPC64_GOT_TPREL16_HA tt (λ p. p ≡ phases.PreLayout) (inr refl) (inl refl) (inl refl),
-  of_name names.R_PPC64_GOT_TPREL16_LO_DS tt (λ p. p ≡ phases.PreLayout) (inr refl) (inl refl) (inl refl),
-  of_name names.R_PPC64_GOT_TPREL16_DS tt (λ p. p ≡ phases.PreLayout) (inr refl) (inl refl) (inl refl),
-  of_name names.R_PPC64_GOT_TPREL_PCREL34 tt (λ p. p ≡ phases.PreLayout) (inr refl) (inl refl) (inl refl),
-  of_name names.R_PPC64_REL24 tt (λ p. p ≡ phases.PreLayout) (inr refl) (inl refl) (inl refl),
-  of_name names.R_PPC64_TPREL16_HA tt (λ p. p ≡ phases.TlsLocalExec) (inl refl) (inr refl) (inl refl),
-  of_name names.R_PPC64_TPREL16_LO tt (λ p. p ≡ phases.TlsLocalExec) (inl refl) (inr refl) (inl refl),
-  of_name names.R_PPC64_TPREL16_LO_DS tt (λ p. p ≡ phases.TlsLocalExec) (inl refl) (inr refl) (inl refl),
-  of_name names.R_PPC64_TOC16_HA tt (λ p. p ≡ phases.ShortPcRel) (inl refl) (inl refl) (inr refl),
-  of_name names.R_PPC64_TOC16_LO tt (λ p. p ≡ phases.ShortPcRel) (inl refl) (inl refl) (inr refl),
-  of_none names.R_PPC64_NONE tt refl refl refl,
-  of_none names.R_PPC64_PCREL34 tt refl refl refl,
-  of_none names.R_PPC64_TPREL34 tt refl refl refl,
-  of_none names.R_PPC64_TOC16 tt refl refl refl,
-  of_none names.R_PPC64_TOC16_DS tt refl refl refl,
-  of_none names.R_PPC64_TPREL16 tt refl refl refl,
-  of_none names.R_PPC64_TPREL16_DS tt refl refl refl,
-)
+    → (phase : Phase) → ppc64_scope_in phase name ≡ NotRelaxable
+in_none name early offsets distances phases.PreLayout = early
+in_none name early offsets distances phases.TlsLocalExec = offsets
+in_none name early offsets distances phases.GotToPcRel = refl
+in_none name early offsets distances phases.ShortPcRel = distances
 
 -- ---- scopes
 
@@ -757,10 +715,11 @@ module _ (l : Linked) (linked : IsLinked l) (ppc64 : l.context.architecture ≡ 
 
   -- ---- by the name
 
-  unlisted : (name : Ppc64Relocation) → IsNameOf ppc64_name (relocation_in l.relocations i).r_type name → IsOfNoPhase name → ⊥
-  unlisted name is_name never =
-      never l made ppc64
-      (record { i = i; below = below; name = name; is_name = is_name; chosen = chosen; decided = decided }) refl
+  unlisted : (name : Ppc64Relocation) → IsNameOf ppc64_name (relocation_in l.relocations i).r_type name
+      → IsNamed (ppc64_name name) → ((phase : Phase) → ppc64_scope_in phase name ≡ NotRelaxable) → ⊥
+  unlisted name is_name named in_each =
+      rewritten_again l made ppc64
+      (record { i = i; below = below; name = name; is_name = is_name; chosen = chosen; decided = decided }) named (in_each l.context.phase)
 
   pub law_of_name : Groups → (name : Ppc64Relocation) → IsNameOf ppc64_name (relocation_in l.relocations i).r_type name
       → IsOfOne (ppc64_entries name) l.section (offset_of l i) chosen → IsNamed (ppc64_name name) × Lawful l i chosen name
@@ -835,8 +794,8 @@ module _ (l : Linked) (linked : IsLinked l) (ppc64 : l.context.architecture ≡ 
       (tt, (kinds.BranchToNop, word kinds.BranchToNop gone called_to_module groups.is_any (CallTo 1 groups.keep_number) (laws.calls.2) (λ _. nop) refl (λ m. (m.0, refl)) by))
   law_of_name laws names.R_PPC64_TLSLD is_name (inr rest) =
       (tt, (kinds.CallToAddi4096, call kinds.CallToAddi4096 none to_module (CallTo 2 groups.add_block) (laws.calls.1) 0x38631000 refl (λ offset. two_left (offset_of l i)) (only rest)))
-  law_of_name laws names.R_PPC64_REL16_HA is_name of = absurd (unlisted names.R_PPC64_REL16_HA is_name (of_none names.R_PPC64_REL16_HA tt refl refl refl))
-  law_of_name laws names.R_PPC64_REL16_LO is_name of = absurd (unlisted names.R_PPC64_REL16_LO is_name (of_none names.R_PPC64_REL16_LO tt refl refl refl))
+  law_of_name laws names.R_PPC64_REL16_HA is_name of = absurd (unlisted names.R_PPC64_REL16_HA is_name tt (in_none names.R_PPC64_REL16_HA refl refl refl))
+  law_of_name laws names.R_PPC64_REL16_LO is_name of = absurd (unlisted names.R_PPC64_REL16_LO is_name tt (in_none names.R_PPC64_REL16_LO refl refl refl))
   law_of_name laws name is_name of = absurd of
 
 -- ---- the law of a rewrite, and what stands at a place

@@ -2,7 +2,7 @@
 pub use Rattle.linker_base.specs.Bits.{field}
 pub use Rattle.linker_elf.specs.Applied.{IsApplied}
 pub use Rattle.linker_elf.specs.Architectures.{IsRow}
-pub use Rattle.linker_elf.specs.ElfNames.{IsNameOf, r_type_of}
+pub use Rattle.linker_elf.specs.ElfNames.{IsNameOf, IsNamed, r_type_of}
 pub use Rattle.linker_elf.specs.LoongArchRelocations.{loongarch_name, loongarch_row}
 pub use Rattle.linker_elf.specs.Relocate.{number_of_bytes, window_len}
 pub use Rattle.linker_elf.specs.RiscV.{riscv_form}
@@ -10,7 +10,7 @@ pub use Rattle.linker_elf.specs.RiscVRelocations.{clui_row, riscv_relocation, ri
 pub use Rattle.linker_elf.specs.Value.{difference_64, sum_64, value_of}
 pub use Rattle.linker_elf.specs.declared.elf.RowInfo.{RowInfo}
 pub use Rattle.linker_elf.specs.declared.elf.architecture.Architecture.{Architecture}
-pub use Rattle.linker_elf.specs.declared.elf.architecture.Architecture.TheVariants.{Ppc64, RiscV}
+pub use Rattle.linker_elf.specs.declared.elf.architecture.Architecture.TheVariants.{Ppc64}
 pub use Rattle.linker_elf.specs.declared.elf.choice.Choice.{Choice}
 pub use Rattle.linker_elf.specs.declared.elf.value.Operands.{Operands}
 pub use Rattle.linker_elf.specs.declared.loongarch64.relocations.LoongArch64Relocation.{LoongArch64Relocation}
@@ -37,13 +37,12 @@ pub use Rattle.linker_rewriting.specs.declared.decisions.Decision.{Decision}
 pub use Rattle.linker_rewriting.specs.declared.decisions.Decision.TheVariants.{Kept, Rewritten}
 pub use Rattle.linker_rewriting.specs.declared.groups.Scope.TheVariants.{Grouped, NotRelaxable}
 pub use Rattle.linker_rewriting.specs.declared.groups.UnrelaxableGroups.{UnrelaxableGroups}
-pub use Rattle.linker_rewriting.specs.declared.phases.Phase.{Phase}
 pub use Rattle.linker_runs.specs.Choosing.{AreItems, IsRelaxation}
 pub use Rattle.linker_runs.specs.Deleting.{deletions_of_run}
 pub use Rattle.linker_runs.specs.Machines.{RiscV64}
 pub use Rattle.linker_runs.specs.Moved.{AreMoved, IsMoved}
 pub use Rattle.linker_runs.specs.Packing.{IsPackedRun, section_of}
-pub use Rattle.linker_runs.specs.declared.packing.Machine.TheVariants.{LoongArch64}
+pub use Rattle.linker_runs.specs.declared.packing.Machine.TheVariants.{LoongArch64, RiscV}
 pub use Rattle.linker_runs.specs.declared.relaxation.Item.{Item}
 pub use Rattle.linker_runs.specs.declared.relaxation.Site.{Site}
 pub use Rattle.linker_section.specs.Relocations.{relocation_in}

@@ -6,7 +6,7 @@ use Rattle.std.specs.Prelude.{None, pos, ◌+ℤ◌, ◌*ℤ◌, slice_get, IsSo
 use Rattle.linker_final.specs.Imports.{Addresses, Architecture, AreAddresses, AreItems, AreMoved}
 use Rattle.linker_final.specs.Imports.{AreWritten, BType, CbType, CjType, IsApplied, IsFirstFault}
 use Rattle.linker_final.specs.Imports.{IsMoved, IsPackedRun, IsRelaxation, IsRow, Item, JType}
-use Rattle.linker_final.specs.Imports.{LoongArch64, LoongArch64Relocation, Operands}
+use Rattle.linker_final.specs.Imports.{LoongArch64, LoongArch64Relocation, Operands, RiscV}
 use Rattle.linker_final.specs.Imports.{RiscVInstruction, RiscVRelocation, RowInfo, Site as site}
 use Rattle.linker_final.specs.Imports.{Symbol, deletions_of_run, loongarch_row, number_at}
 use Rattle.linker_final.specs.Imports.{offset_at, operands_with, plt_address, relocation_in}
@@ -32,7 +32,6 @@ use Rattle.linker_runs.specs.Packing.{IsFirstRejected, IsInside, IsNotIn, Sectio
 use Rattle.linker_runs.specs.Packing.{is_fixed, kept_len, nops, packed_offset}
 use Rattle.linker_runs.specs.Relaxing.{end_of, item_at, items_in, len_of, offset_of}
 use Rattle.linker_runs.specs.declared.packing.Machine.{Machine}
-use Rattle.linker_runs.specs.declared.packing.Machine.TheVariants.{RiscV}
 use Rattle.linker_runs.specs.declared.relaxation.Alignment.{Alignment}
 use Rattle.linker_runs.specs.declared.relaxation.Item.TheVariants.{Aligned, Site}
 use Rattle.linker_section.specs.Sections.{IsInNoField}

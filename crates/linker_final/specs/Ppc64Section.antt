@@ -1,10 +1,11 @@
 -- PowerPC64: what the rewrites of a section are, and where they begin in a run of old (64-bit ELF
 -- V2 ABI for Power, "TOC Optimizations" and "TLS Linkage Optimizations").
 use Rattle.std.specs.Prelude.{◌≡◌, ◌⊎◌, ℕ, ◌+◌, ◌-◌, ◌*◌, ◌<◌, ◌≤◌, IsSomeAnd, List, take, drop}
-use Rattle.std.specs.Prelude.{get_or, slice_get, Some}
-use Rattle.linker_final.specs.Imports.{Choice, Decision, Group, IsNameOf, Kinds, Phase, Ppc64}
-use Rattle.linker_final.specs.Imports.{Relaxation, Rewritten, State, Symbol, decision_at, of_link}
-use Rattle.linker_final.specs.Imports.{operands_with, r_type_of, relocation_in, sum_64}
+use Rattle.std.specs.Prelude.{get_or, slice_get, Some, ◌≢◌}
+use Rattle.linker_final.specs.Imports.{Choice, Decision, Group, IsNameOf, IsNamed, Kinds}
+use Rattle.linker_final.specs.Imports.{NotRelaxable, Ppc64, Relaxation, Rewritten, State, Symbol}
+use Rattle.linker_final.specs.Imports.{decision_at, of_link, operands_with, r_type_of}
+use Rattle.linker_final.specs.Imports.{relocation_in, sum_64}
 use Rattle.linker_elf.specs.Ppc64Relocations.{ppc64_name, ppc64_row}
 use Rattle.linker_elf.specs.declared.ppc64.relocations.Ppc64Relocation.{Ppc64Relocation}
 use Rattle.linker_final.specs.Final.{AreRewritten, IsLinked, IsRewrittenByNoOther, Linked}
@@ -13,10 +14,10 @@ use Rattle.linker_final.specs.Final.{offset_of}
 use Rattle.linker_laws.specs.Ppc64Groups.{AreGroup, CallTo, Code, Has, LowOverBase, Stands}
 use Rattle.linker_laws.specs.Ppc64Groups.{WordOverBase, link}
 use Rattle.linker_laws.specs.Ppc64RewriteLaws.{from_thread, from_toc}
+use Rattle.linker_rewriting.specs.Groups.{ppc64_scope_in}
 use Rattle.linker_utils.specs.declared.ppc64.rewrites.RewriteKind.{RewriteKind}
 use Rattle.linker_elf.specs.declared.ppc64.relocations.Ppc64Relocation.TheVariants as names
 use Rattle.linker_laws.specs.Ppc64Groups as groups
-use Rattle.linker_rewriting.specs.declared.phases.Phase.TheVariants as phases
 use Rattle.linker_utils.specs.declared.architecture.Relaxation.TheVariants as relaxations
 use Rattle.linker_utils.specs.declared.ppc64.rewrites.RewriteKind.TheVariants as kinds
 
@@ -265,32 +266,9 @@ NamesAreLeft =
 
 -- ---- what is rewritten again
 
--- Instructions with a relocation of a name are rewritten in one phase alone, or in none.
-abbrev pub IsOfPhase : Phase → Ppc64Relocation → Type 0
-IsOfPhase phase name =
-    (l : Linked) → AreRewritten l → l.context.architecture ≡ Ppc64 → (g : Rewrites l)
-    → g.name ≡ name → l.context.phase ≡ phase
-
-abbrev pub IsOfNoPhase : Ppc64Relocation → Type 0
-IsOfNoPhase name =
-    (l : Linked) → AreRewritten l → l.context.architecture ≡ Ppc64 → (g : Rewrites l)
-    → g.name ≡ name → ⊥
-
--- The names that rewrites lead to, and the phase that rewrites their instructions. To those of
--- entries general-dynamic leads before addresses are known, and no later phase rewrites them.
+-- What a phase rewrites has a name that the phase lists (`ppc64_scope_in`). So the instruction of the
+-- relocation that a rewrite leaves is rewritten again only in a phase that lists the name it leaves.
 abbrev pub RewrittenAgain : Type 0
 RewrittenAgain =
-    IsOfPhase phases.PreLayout names.R_PPC64_GOT_TPREL16_HA
-    × IsOfPhase phases.PreLayout names.R_PPC64_GOT_TPREL16_LO_DS
-    × IsOfPhase phases.PreLayout names.R_PPC64_GOT_TPREL16_DS
-    × IsOfPhase phases.PreLayout names.R_PPC64_GOT_TPREL_PCREL34
-    × IsOfPhase phases.PreLayout names.R_PPC64_REL24
-    × IsOfPhase phases.TlsLocalExec names.R_PPC64_TPREL16_HA
-    × IsOfPhase phases.TlsLocalExec names.R_PPC64_TPREL16_LO
-    × IsOfPhase phases.TlsLocalExec names.R_PPC64_TPREL16_LO_DS
-    × IsOfPhase phases.ShortPcRel names.R_PPC64_TOC16_HA
-    × IsOfPhase phases.ShortPcRel names.R_PPC64_TOC16_LO
-    × IsOfNoPhase names.R_PPC64_NONE × IsOfNoPhase names.R_PPC64_PCREL34
-    × IsOfNoPhase names.R_PPC64_TPREL34
-    × IsOfNoPhase names.R_PPC64_TOC16 × IsOfNoPhase names.R_PPC64_TOC16_DS
-    × IsOfNoPhase names.R_PPC64_TPREL16 × IsOfNoPhase names.R_PPC64_TPREL16_DS
+    (l : Linked) → AreRewritten l → l.context.architecture ≡ Ppc64 → (g : Rewrites l)
+    → IsNamed (ppc64_name g.name) → ppc64_scope_in l.context.phase g.name ≢ NotRelaxable

@@ -1,12 +1,14 @@
 -- Programs that the calls link: words of which every premise of the laws of runs holds.
 use Rattle.std.specs.Prelude.{◌≡◌, ℕ, zero, suc, ◌+◌, ◌/◌, List, [], ◌∷◌, length, false, replicate}
 use Rattle.linker_final.specs.Imports.{Addresses, Architecture, AreMoved, AreWritten, Decision}
-use Rattle.linker_final.specs.Imports.{IsPackedRun, IsRelaxation, Item, Kinds, Phase, RelaxContext}
-use Rattle.linker_final.specs.Imports.{RiscV, RiscV64, State, Symbol, UnrelaxableGroups}
-use Rattle.linker_final.specs.Imports.{deletions_of_run, half, put, same, section_of, with_register}
+use Rattle.linker_final.specs.Imports.{IsPackedRun, IsRelaxation, Item, Kinds, RelaxContext}
+use Rattle.linker_final.specs.Imports.{RiscV64, State, Symbol, UnrelaxableGroups, deletions_of_run}
+use Rattle.linker_final.specs.Imports.{half, put, same, section_of, with_register}
+use Rattle.linker_elf.specs.declared.elf.architecture.Architecture.TheVariants.{RiscV}
 use Rattle.linker_final.specs.Final.{AreCalled, AreLinked, HasRewritten, IsPhase, Linked, Rewriting}
 use Rattle.linker_final.specs.Final.{RewritingPhase, Section, rewriting_phase}
 use Rattle.linker_rewriting.specs.GlobalPointer.{AreBased, AreRelocationsBy, section_based}
+use Rattle.linker_rewriting.specs.declared.phases.Phase.{Phase}
 use Rattle.linker_rewriting.specs.declared.phases.Phase.TheVariants.{PreLayout}
 use Rattle.linker_final.specs.AArch64Section as aarch64
 use Rattle.linker_laws.specs.AArch64Groups as aarch64_groups
