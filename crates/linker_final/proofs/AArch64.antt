@@ -717,18 +717,12 @@ module _ (l : Linked) (linked : IsLinked l) (aarch64 : l.context.architecture �
   by_phase i below changed phases.GotToPcRel is = late_in i below changed is
   by_phase i below changed phases.ShortPcRel is = short_in i below changed is
 
-  each_in : (i : ℕ) → i < count l → decision_at l.decisions i ≢ Kept → IsPart i
-  each_in i below changed =
-      let is = scope_there l.context aarch64 l.kept l.relocations l.section l.decisions linked.decided i below in
-      by_phase i below changed l.context.phase refl is.name is.is_name
-
 pub are_in : AreIn rewriting
 are_in l linked aarch64 b =
     beside_or l b (λ i below changed from less.
-    let w = each_in l linked aarch64 i below changed in
-    let first = w.first in
-    let last = w.last in
-    record { g = w.g; first = omega (arith, first, from); last = omega (arith, last, less) })
+    let is = scope_there l.context aarch64 l.kept l.relocations l.section l.decisions linked.decided i below in
+    let w = by_phase l linked aarch64 i below changed l.context.phase refl is.name is.is_name in
+    record { g = w.g; first = omega (arith, w.first, from); last = omega (arith, w.last, less) })
 
 -- ---- groups
 

@@ -358,8 +358,7 @@ module _ (p q : RewritingPhase) (relocations_last last final : List ℕ) (symbol
 
   alone : IsRewrittenByNoOther m 0 (offset_of m 0)
   alone j at below other from less =
-      let o = ap (λ (r : Rela). r.offset) page_there in
-      outside_m at (inl (omega (arith, less, o))) j below
+      outside_m at (inl (omega (arith, less, ap (λ (r : Rela). r.offset) page_there))) j below
 
   load_group : IsGroupOf rewriting x halves 2 known s0 k1 s1
   load_group =

@@ -32,12 +32,6 @@ pub record IsAfter (name : LoongArch64Relocation) : Type 0 where
   pub named : IsNamed (loongarch_name name)
   pub of : IsOfInstruction 4 row
 
--- applied by its name
-pub as_named : (name : LoongArch64Relocation) (a : IsAfter name) (y : Operands) (before after : List ℕ)
-    → IsApplied a.row y before after → IsRelocated name y before after
-as_named name a y before after is =
-    subst (λ q. IsSomeAnd q (λ row. IsApplied row y before after)) (sym a.is) is
-
 pub row_of : (architecture : Architecture) → architecture ≡ LoongArch64 → (name : LoongArch64Relocation)
     → IsNamed (loongarch_name name) → (row : RowInfo) → loongarch_row name ≡ Some row
     → IsRowOf architecture (r_type_of (loongarch_name name)) row
@@ -779,7 +773,7 @@ module _ (l : Linked) (p : Packed) (joined : IsRewrittenAndPacked l p) (loongarc
       → value_of a.row y ≡ value_of a.row (operands_with LoongArch64 p.addresses a.row symbol after got)
       → IsRelocated name y (instruction_at l.rewritten (rela_at l i).offset) (final_instruction p (rela_at l i).offset)
   relocated_kept symbol got taken is_symbol y same =
-      as_named name a y (instruction_at l.rewritten (rela_at l i).offset) (final_instruction p (rela_at l i).offset)
+      subst (λ q. IsSomeAnd q (λ row. IsApplied row y (instruction_at l.rewritten (rela_at l i).offset) (final_instruction p (rela_at l i).offset))) (sym a.is)
       (own_there l p joined i below code (rela_at l i).symbol (rela_at l i).addend after_is kept left a.row a.of row_is LoongArch64 is symbol got taken is_symbol y same)
 
 -- ---- what new has
@@ -871,9 +865,8 @@ module _ (l : Linked) (made : AreRewritten l) (loongarch : l.context.architectur
   is_in b i below from less (RewrittenWithSymbol chosen subject) is changed =
       absurd (without_label l made.decided loongarch unlabelled i chosen subject below is)
   is_in b i below from less (Rewritten chosen) is changed =
-      let code = (relocation_in l.relocations i).r_type in
       let listed = listed_at l.context l.kept l.relocations l.section l.decisions (count l) i chosen made.decided below is in
-      let scope = subst (λ x. IsScopeIn x l.context.phase code listed.scope) loongarch listed.is_scope in
+      let scope = subst (λ x. IsScopeIn x l.context.phase (relocation_in l.relocations i).r_type listed.scope) loongarch listed.is_scope in
       record {
         g = record {
           i = i;

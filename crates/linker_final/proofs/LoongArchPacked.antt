@@ -266,9 +266,7 @@ second_at section o = ap word_of (drop-drop 4 o section)
 pub of_front : (section : List ℕ) (o : ℕ) → IsPcalaAt section o
     → AreOfOneRegister (word_of (take 4 (drop o section))) (word_of (take 4 (drop (o + 4) section)))
 of_front section o is =
-    let first = word_of_front (drop o section) in
-    let second = word_of_front (drop (o + 4) section) in
-    rw first (subst (AreOfOneRegister (word_at section o)) (sym second) is.one_register)
+    rw (word_of_front (drop o section)) (subst (AreOfOneRegister (word_at section o)) (sym (word_of_front (drop (o + 4) section))) is.one_register)
 
 -- a call that begins bytes with the same words
 call_of : (link : ℕ) (section : List ℕ) (o : ℕ) (bytes : List ℕ) → 8 ≤ length bytes
@@ -501,7 +499,6 @@ module _ (p : Packed) (is : IsPacked p) (machine : p.machine ≡ LoongArch64) (i
   applied : IsApplied row y (take n (drop (offset_at p.relocations i) p.section.bytes))
       (take n (drop (place_of p (offset_at p.relocations i)) p.final))
   applied =
-      let r = relocation_in p.relocations_after i in
       let there : architectures.LoongArch64 ≡ architecture_of p.machine = sym (ap architecture_of machine) in
       let value = some_value (value_of row y) valued in
       rw (← wide) (instructions p is i row y
@@ -513,7 +510,7 @@ module _ (p : Packed) (is : IsPacked p) (machine : p.machine ≡ LoongArch64) (i
         size = size;
         has = has;
         unlabelled = unlabelled;
-        taken = rw (← there) (ap (operands_in architectures.LoongArch64 p.addresses row r) symbol_is ∙ taken);
+        taken = rw (← there) (ap (operands_in architectures.LoongArch64 p.addresses row (relocation_in p.relocations_after i)) symbol_is ∙ taken);
         value = value.0;
         value_is = value.1;
       })
@@ -524,14 +521,12 @@ long_calls law p is machine i stays at symbol symbol_is small x small_x original
     let section = p.section.bytes in
     let o = offset_at p.relocations i in
     let y = operands_at p i call_row symbol in
-    let link = destination section o in
-    let base = rd_of (word_at section o) in
     let there = drop o section in
     let code = take 8 (drop (place_of p o) p.final) in
     let inside = stay_inside p is o 8 (omega arith) stays.stays in
     let fits = places_inside p is o 8 (omega arith) stays.stays in
     let wide = window_length o 8 section inside in
-    both_call (pair original (drop 4 original)) (pair code (drop 4 code)) link base
+    both_call (pair original (drop 4 original)) (pair code (drop 4 code)) (destination section o) (rd_of (word_at section o))
     (sum_64 x.place 8) (sum_64 y.place 8) (plt_address x) (plt_address y) s t alike
     (from_there law section o is.section_bytes inside at x original relocated small_x s hs)
     (either law section o is.section_bytes inside at (take 8 there) (omega (arith, wide)) (front_of_pair there)

@@ -57,9 +57,8 @@ pub item_inside : (p : Packed) → IsPacked p → (item : Item) → IsInside p.s
 item_inside p is item inside =
     let s = p.section in
     let d = s.deletions in
-    let a = rank-mono d s.base (offset_of item) inside.0 in
     let b = rank-mono d (offset_of item) (end_of item) (omega arith) in
-    omega (arith, a, b, rank-mono d (end_of item) (s.base + length s.bytes) inside.1, is.run.len)
+    omega (arith, rank-mono d s.base (offset_of item) inside.0, b, rank-mono d (end_of item) (s.base + length s.bytes) inside.1, is.run.len)
 
 -- ---- bytes that stay together
 
@@ -80,9 +79,8 @@ module _ (p : Packed) (is : IsPacked p) (o n : ℕ) (some : 0 < n) (stay : StayT
       let d = p.section.deletions in
       let b = p.section.base in
       let counted = rank_kept d (b + (o + (n - 1))) (stay (n - 1) (omega (arith, some))).kept in
-      let low = rank-mono d b (b + (o + (n - 1))) (omega arith) in
       let e = ap (rank d) (let far : b + (o + n) ≡ suc (b + (o + (n - 1))) = omega (arith, some) in far) in
-      omega (arith, next_place (n - 1) (omega (arith, some)), counted, low, e, some)
+      omega (arith, next_place (n - 1) (omega (arith, some)), counted, rank-mono d b (b + (o + (n - 1))) (omega arith), e, some)
 
   pub stay_inside : o + n ≤ length p.section.bytes
   stay_inside = omega (arith, some, (stay (n - 1) (omega (arith, some))).inside)
@@ -92,10 +90,9 @@ module _ (p : Packed) (is : IsPacked p) (o n : ℕ) (some : 0 < n) (stay : StayT
       let d = p.section.deletions in
       let b = p.section.base in
       let last = stay (n - 1) (omega (arith, some)) in
-      let counted = rank_kept d (b + (o + (n - 1))) last.kept in
       let mono = rank-mono d (suc (b + (o + (n - 1)))) (b + length p.section.bytes) (omega (arith, last.inside)) in
       let low = rank-mono d b (b + (o + (n - 1))) (omega arith) in
-      omega (arith, some, next_place (n - 1) (omega (arith, some)), counted, mono, low, is.run.len)
+      omega (arith, some, next_place (n - 1) (omega (arith, some)), rank_kept d (b + (o + (n - 1))) last.kept, mono, low, is.run.len)
 
   pub same_there : take n (drop (place_of p o) p.packed) ≡ take n (drop o p.section.bytes)
   same_there =
@@ -157,9 +154,8 @@ deleted_bytes p is = (
           kept = found.2;
           there = omega (arith, ranked);
           alone = λ other stays there.
-              let low = rank-mono d s.base (s.base + other) (omega arith) in
               let once = selected_once d (rank d s.base + place) (s.base + other) (s.base + o)
-              (record { kept = stays; ranked = omega (arith, low, there) })
+              (record { kept = stays; ranked = omega (arith, rank-mono d s.base (s.base + other) (omega arith), there) })
               (record { kept = found.2; ranked = ranked }) in
               omega (arith, once);
         },
@@ -167,9 +163,8 @@ deleted_bytes p is = (
   λ o below stays.
       let s = p.section in
       let d = s.deletions in
-      let low = rank-mono d s.base (s.base + o) (omega arith) in
       let high = rank-mono d (suc (s.base + o)) (s.base + length s.bytes) (omega (arith, below)) in
-      omega (arith, rank_kept d (s.base + o) stays, low, high, is.run.len, is.written.same_length),
+      omega (arith, rank_kept d (s.base + o) stays, rank-mono d s.base (s.base + o) (omega arith), high, is.run.len, is.written.same_length),
 )
 
 pub addresses : PlacesHaveAddresses
@@ -182,9 +177,8 @@ pub no_place : (p : Packed) (o n : ℕ) → AreDeleted p o n → address_at p (o
 no_place p o zero gone = ap (address_at p) (let e : o + 0 ≡ o = omega arith in e)
 no_place p o (suc n) gone =
     let s = p.section in
-    let next = rank_gone s.deletions (s.base + (o + n)) (gone n (omega arith)) in
     let e : s.base + (o + suc n) ≡ suc (s.base + (o + n)) = omega arith in
-    ap (λ r. sum_64 s.start r) (ap (rank s.deletions) e ∙ next)
+    ap (λ r. sum_64 s.start r) (ap (rank s.deletions) e ∙ (rank_gone s.deletions (s.base + (o + n)) (gone n (omega arith))))
     ∙ no_place p o n (λ k below. gone k (omega (arith, below)))
 
 pub deleted_items : ItemsAreDeleted
@@ -194,9 +188,8 @@ deleted_items p item from none k below =
     let there : q ≡ offset_of item + k = omega (arith, from) in
     elim (cases_Bool (is_kept d q)) [
       | inl kept ↦
-          let low = rank-mono d (offset_of item) q (omega (arith, there)) in
           let high = rank-mono d (suc q) (end_of item) (omega (arith, there, below)) in
-          absurd (omega (arith, rank_kept d q kept, low, high, none))
+          absurd (omega (arith, rank_kept d q kept, rank-mono d (offset_of item) q (omega (arith, there)), high, none))
       | inr gone ↦ gone
     ]
 
@@ -211,10 +204,9 @@ places p is i row operands of inside =
 
 pub instructions : InstructionsAreRelocated
 instructions p is i row operands of stays =
-    let n = window_len row in
     let o = offset_at p.relocations i in
     let some : 0 < n = rw of.size (some_window of.insn) in
-    rw (← (same_there p is o n some stays)) (places p is i row operands of (omega (arith, (stays 0 some).inside)))
+    rw (← (same_there p is o (window_len row) some stays)) (places p is i row operands of (omega (arith, (stays 0 some).inside)))
 
 -- ---- sites
 
@@ -244,13 +236,10 @@ module _ (p : Packed) (is : IsPacked p) where
     pub site_becomes : SiteBecomes p.machine p.section here (site_bytes p here)
     site_becomes =
         let s = p.section in
-        let d = s.deletions in
-        let kept = site_len p here in
-        let place = packed_offset s here.offset in
         let made = subst (λ y. is_fixed y ≡ false
-        → ItemBecomes p.machine s y (take (kept_len d y) (drop (packed_offset s (offset_of y)) p.packed)))
+        → ItemBecomes p.machine s y (take (kept_len s.deletions y) (drop (packed_offset s (offset_of y)) p.packed)))
         of.item (is.run.written i of.below) of.short in
-        subst (SiteBecomes p.machine s here) (sym (packed_there p is place kept of.unwritten)) made
+        subst (SiteBecomes p.machine s here) (sym (packed_there p is (packed_offset s here.offset) (site_len p here) of.unwritten)) made
 
 -- ---- instructions that were rewritten, and stay
 
@@ -298,8 +287,7 @@ module _ (l : Linked) (p : Packed) (joined : IsRewrittenAndPacked l p) (i : ℕ)
   -- its instruction, and where it is
   pub rewritten_inside : (offset_of l i) + 4 ≤ length l.rewritten
   rewritten_inside =
-      let inside = stay_inside p joined.packed (offset_of l i) 4 (omega arith) stay in
-      omega (arith, inside, ap length joined.bytes, later_length l joined.later)
+      omega (arith, stay_inside p joined.packed (offset_of l i) 4 (omega arith) stay, ap length joined.bytes, later_length l joined.later)
 
   pub final_inside : place_of p (offset_of l i) + 4 ≤ length p.final
   final_inside =
@@ -398,11 +386,6 @@ module _ (p : Packed) (is : IsPacked p) (run : Run) (of : IsOfRun p run) (i : �
   fits : p.section.start + end_of (Aligned alignment) < 2 ^ 64
   fits = subst (λ x. p.section.start + end_of x < 2 ^ 64) here (of.accepted.in_order.ends i below)
 
-  freed_few : freed ≤ alignment.offset
-  freed_few =
-      subst (λ x. freed ≤ offset_of x) here
-      (freed_fits p.section.start run.items (choice_of run.shapes) of.accepted.in_order i below)
-
   translated : rank p.section.deletions alignment.offset ≡ alignment.offset - freed
   translated =
       subst (λ d. rank d alignment.offset ≡ alignment.offset - freed) (sym of.lost)
@@ -416,7 +399,8 @@ module _ (p : Packed) (is : IsPacked p) (run : Run) (of : IsOfRun p run) (i : �
       (first_bytes p.section.start run.items run.shapes run.kept run.freed of.accepted of.relaxed i below).0)
 
   begins : padding_at p alignment ≡ p.section.start + alignment.offset - freed
-  begins = omega (arith, ap (sum_64 p.section.start) translated, freed_few, fits)
+  begins =
+      omega (arith, ap (sum_64 p.section.start) translated, subst (λ x. freed ≤ offset_of x) here (freed_fits p.section.start run.items (choice_of run.shapes) of.accepted.in_order i below), fits)
 
   exact : IsExact alignment (needed alignment.alignment (padding_at p alignment)) (padding_len p alignment)
   exact =
@@ -505,7 +489,6 @@ goes machine row bits insn reads unit target size has unlabelled taken valued la
     let o = offset_at p.relocations i in
     let n = window_len row in
     let y = operands_with (architecture_of machine) p.addresses row symbol r 0 in
-    let there = sym (ap architecture_of machine_is) in
     let value = some_value (value_of row y) (valued y) in
     let applied = places p is i row y
     (record {
@@ -516,7 +499,7 @@ goes machine row bits insn reads unit target size has unlabelled taken valued la
       size = size;
       has = has;
       unlabelled = unlabelled;
-      taken = subst (λ a. operands_by_symbols a p.addresses p.symbols row r ≡ Ok y) there
+      taken = subst (λ a. operands_by_symbols a p.addresses p.symbols row r ≡ Ok y) (sym (ap architecture_of machine_is))
           (ap (operands_in (architecture_of machine) p.addresses row r) symbol_is ∙ taken p.addresses symbol r);
       value = value.0;
       value_is = value.1;

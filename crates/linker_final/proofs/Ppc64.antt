@@ -36,9 +36,8 @@ module _ (s : RelaxContext) (kept : List UnrelaxableGroups) (bytes section : Lis
 -- the name has one in the phase that rewrites it
 pub rewritten_again : RewrittenAgain
 rewritten_again l rewriting ppc64 g named unlisted =
-    let code = (relocation_in l.relocations g.i).r_type in
     let there = of_scope l.context l.kept l.relocations l.section g.i (decision_at l.decisions g.i) g.chosen g.decided (is_taken l.decisions g.i) (rewriting.decided g.i g.below) in
-    let is = subst (λ x. IsScopeIn x l.context.phase code (there.0)) ppc64 (there.1) in
+    let is = subst (λ x. IsScopeIn x l.context.phase (relocation_in l.relocations g.i).r_type (there.0)) ppc64 (there.1) in
     there.2 (is.value_is ∙ (ap (ppc64_scope_in l.context.phase) (is.is_name.named g.name named g.is_name.r_type_is) ∙ unlisted))
 
 -- in no phase has a name one
@@ -122,10 +121,6 @@ pub row_of : (l : Linked) → l.context.architecture ≡ Ppc64 → (name : Ppc64
 row_of l ppc64 name named row is found there =
     by_name ppc64_name ppc64_row name named found
     (subst (λ x. IsRow x (r_type_of (ppc64_name name)) found) ppc64 there) ∙ is
-
-pub no_row : (l : Linked) → l.context.architecture ≡ Ppc64
-    → IsRowOf l.context.architecture 0 (bytes_row NoValue 0)
-no_row l ppc64 = row_of l ppc64 names.R_PPC64_NONE tt (bytes_row NoValue 0) refl
 
 -- where the instruction begins whose second byte is at the relocation
 abbrev pub marked_offset : Linked → ℕ → ℕ
@@ -211,12 +206,7 @@ module _ (l : Linked) (linked : IsLinked l) (ppc64 : l.context.architecture ≡ 
       entry_is_there l linked i below a.row a.of.valued a.of.unlabelled became (relocation_left l linked i became.offset n left below)
       (row_there n name a code) symbol is_symbol entry is_entry
 
-  -- an instruction is left that no other relocation writes, where the own one goes
-  pub left_alone : became.r_type ≡ 0 → (p : ℕ) → UntouchedBytes l i p 4
-      → IsWrittenByNoOther l i p → instruction_at l.final p ≡ instruction_at l.rewritten p
-  left_alone gone p left alone = unwritten_without l linked i below p left (no_row l ppc64) gone alone
-
-  -- and one beside that of the own relocation
+  -- an instruction is left that no other relocation writes, beside that of the own one
   pub left_beside : (name : Ppc64Relocation) (a : IsAfter 4 name) → became.r_type ≡ r_type_of (ppc64_name name)
       → (p : ℕ) → UntouchedBytes l i p 4
       → (p + 4 ≤ became.offset) ⊎ (became.offset + 4 ≤ p)
@@ -230,14 +220,6 @@ module _ (l : Linked) (linked : IsLinked l) (ppc64 : l.context.architecture ≡ 
 abbrev after_of : (n : ℕ) (name : Ppc64Relocation) (row : RowInfo) → ppc64_row name ≡ Some row
     → IsNamed (ppc64_name name) → IsOfInstruction n row → IsAfter n name
 after_of n name row is named of = record { row = row; is = is; named = named; of = of }
-
-abbrev pub thread_low_after : IsAfter 4 names.R_PPC64_TPREL16_LO
-thread_low_after =
-    after_of 4 names.R_PPC64_TPREL16_LO (low_row TpOff) refl tt (of_bits refl refl refl refl refl (λ o. tt))
-
-abbrev pub call_after : IsAfter 4 names.R_PPC64_REL24
-call_after =
-    after_of 4 names.R_PPC64_REL24 (branch_row Relative 26 Branch24) refl tt (of_bits refl refl refl refl refl (λ o. tt))
 
 -- ---- what the final bytes have
 
@@ -292,82 +274,43 @@ written_by_entry n some name row is named of has l linked ppc64 i below code lef
     ))
     (operands_with Ppc64 l.addresses row symbol r symbol.thread_entry) refl)
 
-pub toc : Writes 4 (λ symbol any. any) names.R_PPC64_TOC16
-toc =
-    written 4 (omega arith) names.R_PPC64_TOC16 (signed_row 16 (low_row SymRelGotBase)) refl tt (of_bits refl refl refl refl refl (λ o. tt))
-    (λ l r s. refl) (λ l r s any. refl)
+-- each relocation that a rewrite leaves, of one instruction or of a prefixed one
+record EachWrites : Type 0 where
+  pub toc : Writes 4 (λ symbol any. any) names.R_PPC64_TOC16
+  pub toc_words : Writes 4 (λ symbol any. any) names.R_PPC64_TOC16_DS
+  pub toc_high : Writes 4 (λ symbol any. any) names.R_PPC64_TOC16_HA
+  pub toc_low : Writes 4 (λ symbol any. any) names.R_PPC64_TOC16_LO
+  pub distance : Writes 8 (λ symbol any. any) names.R_PPC64_PCREL34
+  pub thread : Writes 4 (λ symbol any. any) names.R_PPC64_TPREL16
+  pub thread_words : Writes 4 (λ symbol any. any) names.R_PPC64_TPREL16_DS
+  pub thread_high : Writes 4 (λ symbol any. any) names.R_PPC64_TPREL16_HA
+  pub thread_low : Writes 4 (λ symbol any. any) names.R_PPC64_TPREL16_LO
+  pub thread_low_words : Writes 4 (λ symbol any. any) names.R_PPC64_TPREL16_LO_DS
+  pub thread_prefixed : Writes 8 (λ symbol any. any) names.R_PPC64_TPREL34
+  pub entry_high : Writes 4 (λ symbol any. symbol.thread_entry) names.R_PPC64_GOT_TPREL16_HA
+  pub entry_low : Writes 4 (λ symbol any. symbol.thread_entry) names.R_PPC64_GOT_TPREL16_LO_DS
+  pub near_entry : Writes 4 (λ symbol any. symbol.thread_entry) names.R_PPC64_GOT_TPREL16_DS
+  pub entry_prefixed : Writes 8 (λ symbol any. symbol.thread_entry) names.R_PPC64_GOT_TPREL_PCREL34
 
-pub toc_words : Writes 4 (λ symbol any. any) names.R_PPC64_TOC16_DS
-toc_words =
-    written 4 (omega arith) names.R_PPC64_TOC16_DS (signed_row 16 (low_ds_row SymRelGotBase)) refl tt (of_bits refl refl refl refl refl (λ o. tt))
-    (λ l r s. refl) (λ l r s any. refl)
-
-pub toc_high : Writes 4 (λ symbol any. any) names.R_PPC64_TOC16_HA
-toc_high =
-    written 4 (omega arith) names.R_PPC64_TOC16_HA (high_adjusted_row SymRelGotBase) refl tt (of_bits refl refl refl refl refl (λ o. tt))
-    (λ l r s. refl) (λ l r s any. refl)
-
-pub toc_low : Writes 4 (λ symbol any. any) names.R_PPC64_TOC16_LO
-toc_low =
-    written 4 (omega arith) names.R_PPC64_TOC16_LO (low_row SymRelGotBase) refl tt (of_bits refl refl refl refl refl (λ o. tt))
-    (λ l r s. refl) (λ l r s any. refl)
-
-pub distance : Writes 8 (λ symbol any. any) names.R_PPC64_PCREL34
-distance =
-    written 8 (omega arith) names.R_PPC64_PCREL34 (prefixed_row Relative) refl tt (of_bits refl refl refl refl refl (λ o. tt))
-    (λ l r s. refl) (λ l r s any. refl)
-
-pub thread : Writes 4 (λ symbol any. any) names.R_PPC64_TPREL16
-thread =
-    written 4 (omega arith) names.R_PPC64_TPREL16 (signed_row 16 (low_row TpOff)) refl tt (of_bits refl refl refl refl refl (λ o. tt))
-    (λ l r s. refl) (λ l r s any. refl)
-
-pub thread_words : Writes 4 (λ symbol any. any) names.R_PPC64_TPREL16_DS
-thread_words =
-    written 4 (omega arith) names.R_PPC64_TPREL16_DS (signed_row 16 (low_ds_row TpOff)) refl tt (of_bits refl refl refl refl refl (λ o. tt))
-    (λ l r s. refl) (λ l r s any. refl)
-
-pub thread_high : Writes 4 (λ symbol any. any) names.R_PPC64_TPREL16_HA
-thread_high =
-    written 4 (omega arith) names.R_PPC64_TPREL16_HA (high_adjusted_row TpOff) refl tt (of_bits refl refl refl refl refl (λ o. tt))
-    (λ l r s. refl) (λ l r s any. refl)
-
-pub thread_low : Writes 4 (λ symbol any. any) names.R_PPC64_TPREL16_LO
-thread_low =
-    written 4 (omega arith) names.R_PPC64_TPREL16_LO (low_row TpOff) refl tt (of_bits refl refl refl refl refl (λ o. tt))
-    (λ l r s. refl) (λ l r s any. refl)
-
-pub thread_low_words : Writes 4 (λ symbol any. any) names.R_PPC64_TPREL16_LO_DS
-thread_low_words =
-    written 4 (omega arith) names.R_PPC64_TPREL16_LO_DS (low_ds_row TpOff) refl tt (of_bits refl refl refl refl refl (λ o. tt))
-    (λ l r s. refl) (λ l r s any. refl)
-
-pub thread_prefixed : Writes 8 (λ symbol any. any) names.R_PPC64_TPREL34
-thread_prefixed =
-    written 8 (omega arith) names.R_PPC64_TPREL34 (prefixed_row TpOff) refl tt (of_bits refl refl refl refl refl (λ o. tt))
-    (λ l r s. refl) (λ l r s any. refl)
-
--- ---- by the entry of an offset
-
-pub entry_high : Writes 4 (λ symbol any. symbol.thread_entry) names.R_PPC64_GOT_TPREL16_HA
-entry_high =
-    written_by_entry 4 (omega arith) names.R_PPC64_GOT_TPREL16_HA (high_adjusted_row GotTpOffGotBase) refl tt (of_bits refl refl refl refl refl (λ o. tt))
-    (λ r s. refl)
-
-pub entry_low : Writes 4 (λ symbol any. symbol.thread_entry) names.R_PPC64_GOT_TPREL16_LO_DS
-entry_low =
-    written_by_entry 4 (omega arith) names.R_PPC64_GOT_TPREL16_LO_DS (low_ds_row GotTpOffGotBase) refl tt (of_bits refl refl refl refl refl (λ o. tt))
-    (λ r s. refl)
-
-pub near_entry : Writes 4 (λ symbol any. symbol.thread_entry) names.R_PPC64_GOT_TPREL16_DS
-near_entry =
-    written_by_entry 4 (omega arith) names.R_PPC64_GOT_TPREL16_DS (signed_row 16 (low_ds_row GotTpOffGotBase)) refl tt (of_bits refl refl refl refl refl (λ o. tt))
-    (λ r s. refl)
-
-pub entry_prefixed : Writes 8 (λ symbol any. symbol.thread_entry) names.R_PPC64_GOT_TPREL_PCREL34
-entry_prefixed =
-    written_by_entry 8 (omega arith) names.R_PPC64_GOT_TPREL_PCREL34 (prefixed_row GotTpOff) refl tt (of_bits refl refl refl refl refl (λ o. tt))
-    (λ r s. refl)
+writes : EachWrites
+writes =
+    record {
+      toc = written 4 (omega arith) names.R_PPC64_TOC16 (signed_row 16 (low_row SymRelGotBase)) refl tt (of_bits refl refl refl refl refl (λ o. tt)) (λ l r s. refl) (λ l r s any. refl);
+      toc_words = written 4 (omega arith) names.R_PPC64_TOC16_DS (signed_row 16 (low_ds_row SymRelGotBase)) refl tt (of_bits refl refl refl refl refl (λ o. tt)) (λ l r s. refl) (λ l r s any. refl);
+      toc_high = written 4 (omega arith) names.R_PPC64_TOC16_HA (high_adjusted_row SymRelGotBase) refl tt (of_bits refl refl refl refl refl (λ o. tt)) (λ l r s. refl) (λ l r s any. refl);
+      toc_low = written 4 (omega arith) names.R_PPC64_TOC16_LO (low_row SymRelGotBase) refl tt (of_bits refl refl refl refl refl (λ o. tt)) (λ l r s. refl) (λ l r s any. refl);
+      distance = written 8 (omega arith) names.R_PPC64_PCREL34 (prefixed_row Relative) refl tt (of_bits refl refl refl refl refl (λ o. tt)) (λ l r s. refl) (λ l r s any. refl);
+      thread = written 4 (omega arith) names.R_PPC64_TPREL16 (signed_row 16 (low_row TpOff)) refl tt (of_bits refl refl refl refl refl (λ o. tt)) (λ l r s. refl) (λ l r s any. refl);
+      thread_words = written 4 (omega arith) names.R_PPC64_TPREL16_DS (signed_row 16 (low_ds_row TpOff)) refl tt (of_bits refl refl refl refl refl (λ o. tt)) (λ l r s. refl) (λ l r s any. refl);
+      thread_high = written 4 (omega arith) names.R_PPC64_TPREL16_HA (high_adjusted_row TpOff) refl tt (of_bits refl refl refl refl refl (λ o. tt)) (λ l r s. refl) (λ l r s any. refl);
+      thread_low = written 4 (omega arith) names.R_PPC64_TPREL16_LO (low_row TpOff) refl tt (of_bits refl refl refl refl refl (λ o. tt)) (λ l r s. refl) (λ l r s any. refl);
+      thread_low_words = written 4 (omega arith) names.R_PPC64_TPREL16_LO_DS (low_ds_row TpOff) refl tt (of_bits refl refl refl refl refl (λ o. tt)) (λ l r s. refl) (λ l r s any. refl);
+      thread_prefixed = written 8 (omega arith) names.R_PPC64_TPREL34 (prefixed_row TpOff) refl tt (of_bits refl refl refl refl refl (λ o. tt)) (λ l r s. refl) (λ l r s any. refl);
+      entry_high = written_by_entry 4 (omega arith) names.R_PPC64_GOT_TPREL16_HA (high_adjusted_row GotTpOffGotBase) refl tt (of_bits refl refl refl refl refl (λ o. tt)) (λ r s. refl);
+      entry_low = written_by_entry 4 (omega arith) names.R_PPC64_GOT_TPREL16_LO_DS (low_ds_row GotTpOffGotBase) refl tt (of_bits refl refl refl refl refl (λ o. tt)) (λ r s. refl);
+      near_entry = written_by_entry 4 (omega arith) names.R_PPC64_GOT_TPREL16_DS (signed_row 16 (low_ds_row GotTpOffGotBase)) refl tt (of_bits refl refl refl refl refl (λ o. tt)) (λ r s. refl);
+      entry_prefixed = written_by_entry 8 (omega arith) names.R_PPC64_GOT_TPREL_PCREL34 (prefixed_row GotTpOff) refl tt (of_bits refl refl refl refl refl (λ o. tt)) (λ r s. refl);
+    }
 
 -- ---- the bytes of the call
 
@@ -462,8 +405,8 @@ module _ (l : Linked) (linked : IsLinked l) (ppc64 : l.context.architecture ≡ 
   left_word : (start len p : ℕ) → start ≤ p → p + 4 ≤ start + len → left_after.r_type ≡ 0
       → UntouchedByOthers l i start len → instruction_at l.final p ≡ instruction_at l.rewritten p
   left_word start len p low high gone alone =
-      left_alone l linked ppc64 i below gone p (left_within l i start len p 4 low high alone.left)
-      (unwritten start len p low high alone)
+      unwritten_without l linked i below p (left_within l i start len p 4 low high alone.left)
+      (row_of l ppc64 names.R_PPC64_NONE tt (bytes_row NoValue 0) refl) gone (unwritten start len p low high alone)
 
   one_left : (at : ℕ) → left_after.r_type ≡ 0 → Final l i at 1 none
   one_left at gone alone c pc stands symbol any is_symbol =
@@ -497,9 +440,6 @@ module _ (l : Linked) (linked : IsLinked l) (ppc64 : l.context.architecture ≡ 
 
   abbrev gone : After 1
   gone = record { left = none; final = λ at offset code. one_left at code }
-
-  abbrev both_gone : After 2
-  both_gone = record { left = none; final = λ at offset code. two_left at code }
 
   abbrev named : (name : Ppc64Relocation) → Writes 4 (entry_by name) name → After 1
   named name writes =
@@ -567,7 +507,7 @@ module _ (l : Linked) (linked : IsLinked l) (ppc64 : l.context.architecture ≡ 
       → IsLawful l i chosen kinds.LdToAddisThread (offset_of l i) 1 (law (applied names.R_PPC64_TPREL16_HA) AreSo)
   load AreSo so =
       let w = word_of (instruction_at l.section (offset_of l i)) in
-      word kinds.LdToAddisThread (named names.R_PPC64_TPREL16_HA thread_high) to_local_exec is_ld AreSo so
+      word kinds.LdToAddisThread (named names.R_PPC64_TPREL16_HA writes.thread_high) to_local_exec is_ld AreSo so
       (λ word. addis_of_thread (rt_of word)) refl
       (λ m. (m.0, (and_parts (is_ld w) (not (eqb (rt_of w) 0)) (test_at l (offset_of l i) (λ word. is_ld word && not (eqb (rt_of word) 0)) m)).0))
 
@@ -592,8 +532,6 @@ module _ (l : Linked) (linked : IsLinked l) (ppc64 : l.context.architecture ≡ 
   both : (test : ℕ → ℕ → Bool) → HasTwo test l.section (offset_of l i) → IsPrefixed test (two_at l.section (offset_of l i))
   both test meant =
       let p = (offset_of l i) in
-      let inside = meant.0 in
-      let following = meant.1.0 in
       let first : word_of (two_at l.section p) ≡ word_of (drop p l.section) =
       first_same l.section p ∙ sym (word_same l.section p) in
       let second : word_of (drop 4 (two_at l.section p)) ≡ word_of (drop (p + 4) l.section) =
@@ -601,9 +539,9 @@ module _ (l : Linked) (linked : IsLinked l) (ppc64 : l.context.architecture ≡ 
       let d1 = length-drop p l.section in
       let d2 = length-drop (p + 4) l.section in
       let small1 : word_of (drop p l.section) < 2 ^ 32 =
-      word_below (drop p l.section) (All-drop (λ b. b < 2 ^ 8) p l.section linked.section_bytes) (omega (arith, inside, d1)) in
+      word_below (drop p l.section) (All-drop (λ b. b < 2 ^ 8) p l.section linked.section_bytes) (omega (arith, meant.0, d1)) in
       let small2 : word_of (drop (p + 4) l.section) < 2 ^ 32 =
-      word_below (drop (p + 4) l.section) (All-drop (λ b. b < 2 ^ 8) (p + 4) l.section linked.section_bytes) (omega (arith, following, d2)) in
+      word_below (drop (p + 4) l.section) (All-drop (λ b. b < 2 ^ 8) (p + 4) l.section linked.section_bytes) (omega (arith, meant.1.0, d2)) in
       record {
         prefix_below = omega (arith, first, small1);
         word_below = omega (arith, second, small2);
@@ -649,12 +587,13 @@ module _ (l : Linked) (linked : IsLinked l) (ppc64 : l.context.architecture ≡ 
       → Final l i (offset_of l i) 2 (to_second names.R_PPC64_TPREL16_LO)
   low_half offset code alone c pc stands symbol any is_symbol = (
     one_stands c.new pc (drop (offset_of l i) l.final) (two_at l.rewritten (offset_of l i))
-        (left_beside l linked ppc64 i below names.R_PPC64_TPREL16_LO thread_low_after code (offset_of l i)
+        (left_beside l linked ppc64 i below names.R_PPC64_TPREL16_LO
+        (after_of 4 names.R_PPC64_TPREL16_LO (low_row TpOff) refl tt (of_bits refl refl refl refl refl (λ o. tt))) code (offset_of l i)
         (left_within l i (offset_of l i) 8 (offset_of l i) 4 (omega arith) (omega arith) alone.left) (inl (omega (arith, offset)))
         (unwritten (offset_of l i) 8 (offset_of l i) (omega arith) (omega arith) alone)
         ∙ sym (take-take 4 8 (drop (offset_of l i) l.rewritten) (omega arith))) (stands.0, tt),
     subst (λ words. HasApplied names.R_PPC64_TPREL16_LO l i symbol any c 1 (sum_64 pc 4) words) (sym (second_same l.rewritten (offset_of l i)))
-        (applied_left 1 4 names.R_PPC64_TPREL16_LO thread_low ((offset_of l i) + 4) offset code
+        (applied_left 1 4 names.R_PPC64_TPREL16_LO writes.thread_low ((offset_of l i) + 4) offset code
         (left_within l i (offset_of l i) 8 ((offset_of l i) + 4) 4 (omega arith) (omega arith) alone.left) c (sum_64 pc 4)
         (one_stands c.new (sum_64 pc 4) (drop 4 (drop (offset_of l i) l.final)) (instruction_at l.final ((offset_of l i) + 4))
         (ap (take 4) (drop-drop 4 (offset_of l i) l.final) ∙ sym (take-take 4 4 (drop ((offset_of l i) + 4) l.final) (omega arith))) (stands.1))
@@ -668,14 +607,13 @@ module _ (l : Linked) (linked : IsLinked l) (ppc64 : l.context.architecture ≡ 
       → IsOfEntry (entry kind names.R_PPC64_NONE to_prefixed_local_exec) l.section (offset_of l i) chosen
       → IsLawful l i chosen kind ((offset_of l i) - 1) 1 (law none AreSo)
   marked kind test AreSo so new is meant by =
-      let there = meant by.meant in
       let left = made_after l made i chosen below decided kind by.kind_is names.R_PPC64_NONE by.r_type_is (rewrites_marked new) is in
       record {
         kind_is = by.kind_is;
         r_type_is = by.r_type_is;
         group = λ alone.
             so (instruction_at l.section (marked_offset l i)) (instruction_at l.rewritten (marked_offset l i))
-            (test_at l (marked_offset l i) test there) (becomes_marked l made i chosen below decided kind by.kind_is new is);
+            (test_at l (marked_offset l i) test (meant by.meant)) (becomes_marked l made i chosen below decided kind by.kind_is new is);
         final = one_left ((offset_of l i) - 1) (ap (λ (r : Rela). r.r_type) left);
         others = λ b apart. inl (outside_of l i chosen (Some (rewrites_marked new)) decided (ap relaxation_rewrite by.kind_is ∙ is) b apart);
       }
@@ -698,7 +636,8 @@ module _ (l : Linked) (linked : IsLinked l) (ppc64 : l.context.architecture ≡ 
             (subst (Stands 1 c.new s.pc) (same_after ∙ sym (second_same l.rewritten (offset_of l i))) new);
         final = λ alone c pc stands symbol any is_symbol.
             one_stands c.new pc (drop ((offset_of l i) + 4) l.final) (instruction_at l.rewritten ((offset_of l i) + 4))
-            (left_beside l linked ppc64 i below names.R_PPC64_REL24 call_after (ap (λ (r : Rela). r.r_type) left) ((offset_of l i) + 4)
+            (left_beside l linked ppc64 i below names.R_PPC64_REL24
+            (after_of 4 names.R_PPC64_REL24 (branch_row Relative 26 Branch24) refl tt (of_bits refl refl refl refl refl (λ o. tt))) (ap (λ (r : Rela). r.r_type) left) ((offset_of l i) + 4)
             alone.left (inr (omega (arith, offset)))
             (unwritten ((offset_of l i) + 4) 4 ((offset_of l i) + 4) (omega arith) (omega arith) alone)
             ∙ sym (take-take 4 4 (drop ((offset_of l i) + 4) l.rewritten) (omega arith))) stands;
@@ -727,33 +666,33 @@ module _ (l : Linked) (linked : IsLinked l) (ppc64 : l.context.architecture ≡ 
   law_of_name laws names.R_PPC64_TOC16_HA is_name of =
       (tt, (kinds.AddisToNop, of_sort kinds.AddisToNop gone without_high_part (is_addis_over 2) groups.TocHigh (laws.high_halves.0) (λ _. nop) refl (λ m. m) (only of)))
   law_of_name laws names.R_PPC64_TOC16_LO is_name of =
-      (tt, (kinds.BaseToToc, word kinds.BaseToToc (named names.R_PPC64_TOC16 toc) without_high_part groups.is_any (LowOverBase 2 names.R_PPC64_TOC16_LO names.R_PPC64_TOC16 from_toc) (laws.low_halves.0) (over_base 2) refl (λ m. (m.0, refl)) (only of)))
+      (tt, (kinds.BaseToToc, word kinds.BaseToToc (named names.R_PPC64_TOC16 writes.toc) without_high_part groups.is_any (LowOverBase 2 names.R_PPC64_TOC16_LO names.R_PPC64_TOC16 from_toc) (laws.low_halves.0) (over_base 2) refl (λ m. (m.0, refl)) (only of)))
   law_of_name laws names.R_PPC64_TOC16_LO_DS is_name of =
-      (tt, (kinds.BaseToToc, word kinds.BaseToToc (named names.R_PPC64_TOC16_DS toc_words) without_high_part groups.is_any (WordOverBase 2 names.R_PPC64_TOC16_LO_DS names.R_PPC64_TOC16_DS from_toc) (laws.low_halves.1) (over_base 2) refl (λ m. (m.0, refl)) (only of)))
+      (tt, (kinds.BaseToToc, word kinds.BaseToToc (named names.R_PPC64_TOC16_DS writes.toc_words) without_high_part groups.is_any (WordOverBase 2 names.R_PPC64_TOC16_LO_DS names.R_PPC64_TOC16_DS from_toc) (laws.low_halves.1) (over_base 2) refl (λ m. (m.0, refl)) (only of)))
   law_of_name laws names.R_PPC64_TPREL16_HA is_name of =
       (tt, (kinds.AddisThreadToNop, of_sort kinds.AddisThreadToNop gone without_high_offset (is_addis_over 13) groups.ThreadHigh (laws.high_halves.1) (λ _. nop) refl (λ m. m) (only of)))
   law_of_name laws names.R_PPC64_TPREL16_LO is_name of =
-      (tt, (kinds.BaseToThread, word kinds.BaseToThread (named names.R_PPC64_TPREL16 thread) without_high_offset groups.is_any (LowOverBase 13 names.R_PPC64_TPREL16_LO names.R_PPC64_TPREL16 from_thread) (laws.low_halves.2) (over_base 13) refl (λ m. (m.0, refl)) (only of)))
+      (tt, (kinds.BaseToThread, word kinds.BaseToThread (named names.R_PPC64_TPREL16 writes.thread) without_high_offset groups.is_any (LowOverBase 13 names.R_PPC64_TPREL16_LO names.R_PPC64_TPREL16 from_thread) (laws.low_halves.2) (over_base 13) refl (λ m. (m.0, refl)) (only of)))
   law_of_name laws names.R_PPC64_TPREL16_LO_DS is_name of =
-      (tt, (kinds.BaseToThread, word kinds.BaseToThread (named names.R_PPC64_TPREL16_DS thread_words) without_high_offset groups.is_any (WordOverBase 13 names.R_PPC64_TPREL16_LO_DS names.R_PPC64_TPREL16_DS from_thread) (laws.low_halves.3) (over_base 13) refl (λ m. (m.0, refl)) (only of)))
+      (tt, (kinds.BaseToThread, word kinds.BaseToThread (named names.R_PPC64_TPREL16_DS writes.thread_words) without_high_offset groups.is_any (WordOverBase 13 names.R_PPC64_TPREL16_LO_DS names.R_PPC64_TPREL16_DS from_thread) (laws.low_halves.3) (over_base 13) refl (λ m. (m.0, refl)) (only of)))
   law_of_name laws names.R_PPC64_GOT_PCREL34 is_name of =
-      (tt, (kinds.PldToPaddi, of_two kinds.PldToPaddi (both_named names.R_PPC64_PCREL34 distance) to_distance is_pld groups.PldToPaddi laws.prefixed paddi refl (λ m. m) (only of)))
+      (tt, (kinds.PldToPaddi, of_two kinds.PldToPaddi (both_named names.R_PPC64_PCREL34 writes.distance) to_distance is_pld groups.PldToPaddi laws.prefixed paddi refl (λ m. m) (only of)))
   law_of_name laws names.R_PPC64_GOT16_HA is_name of =
-      (tt, (kinds.KeepAddis, kept (named names.R_PPC64_TOC16_HA toc_high) to_toc_distance groups.AddressHigh (laws.kept_high_halves.0) (only of)))
+      (tt, (kinds.KeepAddis, kept (named names.R_PPC64_TOC16_HA writes.toc_high) to_toc_distance groups.AddressHigh (laws.kept_high_halves.0) (only of)))
   law_of_name laws names.R_PPC64_GOT16_LO_DS is_name of =
-      (tt, (kinds.LdToAddi, of_sort kinds.LdToAddi (named names.R_PPC64_TOC16_LO toc_low) to_toc_distance is_ld groups.LoadToSum laws.loads (λ word. 0x38000000 + registers_of word) refl (λ m. m) (only of)))
+      (tt, (kinds.LdToAddi, of_sort kinds.LdToAddi (named names.R_PPC64_TOC16_LO writes.toc_low) to_toc_distance is_ld groups.LoadToSum laws.loads (λ word. 0x38000000 + registers_of word) refl (λ m. m) (only of)))
   law_of_name laws names.R_PPC64_GOT_TPREL16_HA is_name of =
       (tt, (kinds.AddisToNop, of_sort kinds.AddisToNop gone to_local_exec (is_addis_over 2) groups.OffsetHigh (laws.high_halves.2) (λ _. nop) refl (λ m. m) (only of)))
   law_of_name laws names.R_PPC64_GOT_TPREL16_LO_DS is_name of = (tt, (kinds.LdToAddisThread, load (groups.OffsetToHighHalf names.R_PPC64_GOT_TPREL16_LO_DS) laws.offsets (only of)))
   law_of_name laws names.R_PPC64_GOT_TPREL16_DS is_name of = (tt, (kinds.LdToAddisThread, load (groups.OffsetToHighHalf names.R_PPC64_GOT_TPREL16_DS) laws.near_offsets (only of)))
   law_of_name laws names.R_PPC64_GOT_TPREL_PCREL34 is_name of =
-      (tt, (kinds.PldToPaddiThread, of_two kinds.PldToPaddiThread (both_named names.R_PPC64_TPREL34 thread_prefixed) to_prefixed_local_exec is_pld groups.LoadToVariable (laws.variables.1) (paddi_of_thread 0) refl (λ m. m) (only of)))
+      (tt, (kinds.PldToPaddiThread, of_two kinds.PldToPaddiThread (both_named names.R_PPC64_TPREL34 writes.thread_prefixed) to_prefixed_local_exec is_pld groups.LoadToVariable (laws.variables.1) (paddi_of_thread 0) refl (λ m. m) (only of)))
   law_of_name laws names.R_PPC64_TLS is_name (inl by) =
-      (tt, (kinds.AddToAddi, of_sort kinds.AddToAddi (named names.R_PPC64_TPREL16_LO thread_low) to_local_exec is_add_of_thread groups.AddOverOffset (laws.low_offsets.0) (λ word. 0x38000000 + registers_of word) refl (λ m. m.1) by))
+      (tt, (kinds.AddToAddi, of_sort kinds.AddToAddi (named names.R_PPC64_TPREL16_LO writes.thread_low) to_local_exec is_add_of_thread groups.AddOverOffset (laws.low_offsets.0) (λ word. 0x38000000 + registers_of word) refl (λ m. m.1) by))
   law_of_name laws names.R_PPC64_TLS is_name (inr (inl by)) =
-      (tt, (kinds.IndexedToD, of_sort kinds.IndexedToD (named names.R_PPC64_TPREL16_LO thread_low) to_local_exec is_indexed groups.AccessOverOffset (laws.low_offsets.1) by_displacement refl (λ m. m.1) by))
+      (tt, (kinds.IndexedToD, of_sort kinds.IndexedToD (named names.R_PPC64_TPREL16_LO writes.thread_low) to_local_exec is_indexed groups.AccessOverOffset (laws.low_offsets.1) by_displacement refl (λ m. m.1) by))
   law_of_name laws names.R_PPC64_TLS is_name (inr (inr (inl by))) =
-      (tt, (kinds.IndexedToDs, of_sort kinds.IndexedToDs (named names.R_PPC64_TPREL16_LO_DS thread_low_words) to_local_exec_words is_indexed_word groups.WordOverOffset (laws.low_offsets.2) by_word_displacement refl (λ m. m.1) by))
+      (tt, (kinds.IndexedToDs, of_sort kinds.IndexedToDs (named names.R_PPC64_TPREL16_LO_DS writes.thread_low_words) to_local_exec_words is_indexed_word groups.WordOverOffset (laws.low_offsets.2) by_word_displacement refl (λ m. m.1) by))
   law_of_name laws names.R_PPC64_TLS is_name (inr (inr (inr (inl by)))) =
       (tt, (kinds.AddToMove, marked kinds.AddToMove is_add_of_thread groups.SumOverVariable (laws.variable_sums.0) to_move refl (λ m. m.1) by))
   law_of_name laws names.R_PPC64_TLS is_name (inr (inr (inr (inr rest)))) =
@@ -761,19 +700,19 @@ module _ (l : Linked) (linked : IsLinked l) (ppc64 : l.context.architecture ≡ 
   law_of_name laws names.R_PPC64_GOT_TLSGD16_HA is_name (inl by) =
       (tt, (kinds.AddisToNop, of_sort kinds.AddisToNop gone to_local_exec (is_addis_over 2) groups.GeneralHigh (laws.high_halves.3) (λ _. nop) refl (λ m. m) by))
   law_of_name laws names.R_PPC64_GOT_TLSGD16_HA is_name (inr rest) =
-      (tt, (kinds.KeepAddis, kept (named names.R_PPC64_GOT_TPREL16_HA entry_high) to_initial_exec groups.EntryHigh (laws.kept_high_halves.1) (only rest)))
+      (tt, (kinds.KeepAddis, kept (named names.R_PPC64_GOT_TPREL16_HA writes.entry_high) to_initial_exec groups.EntryHigh (laws.kept_high_halves.1) (only rest)))
   law_of_name laws names.R_PPC64_GOT_TLSGD16_LO is_name (inl by) =
-      (tt, (kinds.AddiToAddisThread, of_sort kinds.AddiToAddisThread (named names.R_PPC64_TPREL16_HA thread_high) to_local_exec is_addi (groups.ArgumentToHighHalf names.R_PPC64_GOT_TLSGD16_LO) laws.arguments (λ word. addis_of_thread (rt_of word)) refl (λ m. m) by))
+      (tt, (kinds.AddiToAddisThread, of_sort kinds.AddiToAddisThread (named names.R_PPC64_TPREL16_HA writes.thread_high) to_local_exec is_addi (groups.ArgumentToHighHalf names.R_PPC64_GOT_TLSGD16_LO) laws.arguments (λ word. addis_of_thread (rt_of word)) refl (λ m. m) by))
   law_of_name laws names.R_PPC64_GOT_TLSGD16_LO is_name (inr rest) =
-      (tt, (kinds.AddiToLd, of_sort kinds.AddiToLd (named names.R_PPC64_GOT_TPREL16_LO_DS entry_low) to_initial_exec is_addi (groups.ArgumentToOffset names.R_PPC64_GOT_TLSGD16_LO names.R_PPC64_GOT_TPREL16_LO_DS) laws.argument_offsets (λ word. 0xe8000000 + registers_of word) refl (λ m. m) (only rest)))
+      (tt, (kinds.AddiToLd, of_sort kinds.AddiToLd (named names.R_PPC64_GOT_TPREL16_LO_DS writes.entry_low) to_initial_exec is_addi (groups.ArgumentToOffset names.R_PPC64_GOT_TLSGD16_LO names.R_PPC64_GOT_TPREL16_LO_DS) laws.argument_offsets (λ word. 0xe8000000 + registers_of word) refl (λ m. m) (only rest)))
   law_of_name laws names.R_PPC64_GOT_TLSGD16 is_name (inl by) =
-      (tt, (kinds.AddiToAddisThread, of_sort kinds.AddiToAddisThread (named names.R_PPC64_TPREL16_HA thread_high) to_local_exec is_addi (groups.ArgumentToHighHalf names.R_PPC64_GOT_TLSGD16) laws.near_arguments (λ word. addis_of_thread (rt_of word)) refl (λ m. m) by))
+      (tt, (kinds.AddiToAddisThread, of_sort kinds.AddiToAddisThread (named names.R_PPC64_TPREL16_HA writes.thread_high) to_local_exec is_addi (groups.ArgumentToHighHalf names.R_PPC64_GOT_TLSGD16) laws.near_arguments (λ word. addis_of_thread (rt_of word)) refl (λ m. m) by))
   law_of_name laws names.R_PPC64_GOT_TLSGD16 is_name (inr rest) =
-      (tt, (kinds.AddiToLd, of_sort kinds.AddiToLd (named names.R_PPC64_GOT_TPREL16_DS near_entry) to_near_initial_exec is_addi (groups.ArgumentToOffset names.R_PPC64_GOT_TLSGD16 names.R_PPC64_GOT_TPREL16_DS) laws.near_argument_offsets (λ word. 0xe8000000 + registers_of word) refl (λ m. m) (only rest)))
+      (tt, (kinds.AddiToLd, of_sort kinds.AddiToLd (named names.R_PPC64_GOT_TPREL16_DS writes.near_entry) to_near_initial_exec is_addi (groups.ArgumentToOffset names.R_PPC64_GOT_TLSGD16 names.R_PPC64_GOT_TPREL16_DS) laws.near_argument_offsets (λ word. 0xe8000000 + registers_of word) refl (λ m. m) (only rest)))
   law_of_name laws names.R_PPC64_GOT_TLSGD_PCREL34 is_name (inl by) =
-      (tt, (kinds.PaddiToPaddiThread, of_two kinds.PaddiToPaddiThread (both_named names.R_PPC64_TPREL34 thread_prefixed) to_prefixed_local_exec is_pla groups.ArgumentToVariable (laws.variables.0) (paddi_of_thread 0) refl (λ m. m) by))
+      (tt, (kinds.PaddiToPaddiThread, of_two kinds.PaddiToPaddiThread (both_named names.R_PPC64_TPREL34 writes.thread_prefixed) to_prefixed_local_exec is_pla groups.ArgumentToVariable (laws.variables.0) (paddi_of_thread 0) refl (λ m. m) by))
   law_of_name laws names.R_PPC64_GOT_TLSGD_PCREL34 is_name (inr rest) =
-      (tt, (kinds.PaddiToPld, of_two kinds.PaddiToPld (both_named names.R_PPC64_GOT_TPREL_PCREL34 entry_prefixed) to_prefixed_initial_exec is_pla groups.ArgumentToLoad laws.prefixed_loads pld refl (λ m. m) (only rest)))
+      (tt, (kinds.PaddiToPld, of_two kinds.PaddiToPld (both_named names.R_PPC64_GOT_TPREL_PCREL34 writes.entry_prefixed) to_prefixed_initial_exec is_pla groups.ArgumentToLoad laws.prefixed_loads pld refl (λ m. m) (only rest)))
   law_of_name laws names.R_PPC64_TLSGD is_name (inl by) =
       (tt, (kinds.BranchToNop, word kinds.BranchToNop gone called_to_local_exec groups.is_any (CallTo 1 groups.keep_number) (laws.calls.2) (λ _. nop) refl (λ m. (m.0, refl)) by))
   law_of_name laws names.R_PPC64_TLSGD is_name (inr (inl by)) =
@@ -789,7 +728,7 @@ module _ (l : Linked) (linked : IsLinked l) (ppc64 : l.context.architecture ≡ 
   law_of_name laws names.R_PPC64_GOT_TLSLD16 is_name of =
       (tt, (kinds.AddiToAddisThread, of_sort kinds.AddiToAddisThread gone to_module is_addi (groups.ArgumentToThread names.R_PPC64_GOT_TLSLD16) laws.near_module_arguments (λ word. addis_of_thread (rt_of word)) refl (λ m. m) (only of)))
   law_of_name laws names.R_PPC64_GOT_TLSLD_PCREL34 is_name of =
-      (tt, (kinds.PaddiToPaddi4096, of_two kinds.PaddiToPaddi4096 both_gone to_module is_pla groups.ArgumentToBlock laws.prefixed_blocks (paddi_of_thread 0x1000) refl (λ m. m) (only of)))
+      (tt, (kinds.PaddiToPaddi4096, of_two kinds.PaddiToPaddi4096 (record { left = none; final = λ at offset code. two_left at code }) to_module is_pla groups.ArgumentToBlock laws.prefixed_blocks (paddi_of_thread 0x1000) refl (λ m. m) (only of)))
   law_of_name laws names.R_PPC64_TLSLD is_name (inl by) =
       (tt, (kinds.BranchToNop, word kinds.BranchToNop gone called_to_module groups.is_any (CallTo 1 groups.keep_number) (laws.calls.2) (λ _. nop) refl (λ m. (m.0, refl)) by))
   law_of_name laws names.R_PPC64_TLSLD is_name (inr rest) =
@@ -868,8 +807,7 @@ are_in laws l linked ppc64 b =
 
 pub rewrites_are_groups : Groups → RewritesAreGroups rewriting
 rewrites_are_groups laws x c called l is k s g n k' s' begins =
-    let linked = is_linked rewriting x called l is in
-    let law = law_there laws l linked (called.architecture l is) g.i g.chosen g.below g.decided g.name g.is_name in
+    let law = law_there laws l (is_linked rewriting x called l is) (called.architecture l is) g.i g.chosen g.below g.decided g.name g.is_name in
     elim begins.new [
       | inl final ↦ begins.by_law (law.group begins.alone)
           (law.final (final.0) c s.pc (final.1) begins.symbol begins.entry begins.is_symbol)

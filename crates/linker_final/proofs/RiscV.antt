@@ -1,9 +1,8 @@
 -- RISC-V: what the rewrites of a section leave, and that those with a law are groups.
-use Rattle.linker_final.proofs.Imports.{Absolute, Addresses, All-drop, All-from_get_or, All-take, AllHold, AppliesToRiscV, Architecture, AreBytes, AreOfPair, AreRewritten, AreWritten, BecomesNop, BitRange, Bool, Changes, Choice, Consumed, Decision, GotTpOff, Grouped, Groups, Has, HasAddresses, HasLow, HasNamed, HasOwn, HasPattern, HasValue, HasWord, HighPartGoes, IType, IsAddTp, IsAddiOfLoad, IsApplied, IsArchitectureChoice, IsAuipc, IsCandidateWith, IsChosen, IsDecidedAfter, IsDeleted, IsDone, IsGroupDecision, IsHighIn, IsKeptInstruction, IsLabelCandidate, IsLabelDecision, IsLd, IsLinked, IsLoadFromGot, IsLowOffset, IsLui, IsLuiOfLoad, IsMade, IsNameOf, IsNamed, IsNamedAs, IsNop, IsNotRewrittenBy, IsOfDescriptor, IsOfEntry as IsOfEntryIn, IsOfOne as IsOfOneIn, IsRewrittenAndPacked, IsRewrittenByNoOther, IsRewrittenOf, IsRow, IsScopeDecision, IsScopeIn, IsSomeAnd, IsTrue, IsUnchanged, IsWithin, Kept, Labelled, Lawful, Leaves, LinkFacts, Linked, List, New, None, NoneIsInitialExec, Nops, NopsOf, NotRelaxable, OffsetsAreLow, OffsetsAreLowOf, Ok, Operands, Option, Packed, Phase, Rela, Relative, RelativeRiscVLow12, RelaxContext, Relaxation, RelocationsAreLeft, RewritesAreGroups, Rewritten, RewrittenWithSymbol, RiscV, RiscVEntry, RiscVRelocation, RowInfo, SType, Scope, Some, Stands, Subject, SumGoes, Symbol, TpOff, UType, UntouchedInstruction, [], action_at, action_of, addend_after, address_in, adds_low12, after_rewrite, anywhere, ap, architecture_of, arith, by_low_offset, bytes_row, cast_signed, cast_unsigned, choice_of, chosen_or_labelled, count, decision_at, deleted_of, descriptor, difference_64, drop, entry, facts_at, facts_by, facts_with, false, far_entry, final, final_instruction, fixed, from_le_bytes, funct3_of, get_or, got_high_part, group_stays, high_part, if◌then◌else◌, inl, inr, instruction_at, ints, is_label_marked, is_labelled, is_some, is_taken, label_decision, label_facts, law, length, length-drop, length-take-le, link_facts, list_any, load, load_to_addi, low_12_bounds, low_address, low_law, low_part, low_store, ltb-true, named_as, nat_lt, negsuc, of_destination, of_entry as of_entry_in, of_one, offset_after, offset_at, offset_of, offset_row, one_index, opcode_of, operands_before, operands_in, operands_of, operands_with, or_parts, packed, pair_row, place_of, placed_facts, pos, r_type_of, refl, relaxation_deleted, relaxation_rewrite, relaxation_skipped, relocation_in, rewrites_word, rewritten_by, riscv_entries, riscv_matches, riscv_name, riscv_pair_bounds, riscv_relocation, riscv_rewrite, riscv_row, riscv_row_of, riscv_scope_in, riscv_skipped, short_descriptor, slice_get, subst, suc, sum, sum_64, sym, take, takes_next, takes_symbol, to_le_bytes, tp, true, unwrap_or, value_of, w32, w64, with_rs1, without_entry, without_got, word_of, zero, ℕ, ℤ, ◌*◌, ◌+◌, ◌-◌, ◌/◌, ◌<◌, ◌^◌, ◌∙◌, ◌∷◌, ◌≡◌, ◌≢◌, ◌≤◌, ◌⊎◌}
+use Rattle.linker_final.proofs.Imports.{Absolute, Addresses, All-drop, All-from_get_or, All-take, AllHold, AppliesToRiscV, Architecture, AreBytes, AreOfPair, AreRewritten, AreWritten, BecomesNop, BitRange, Bool, Changes, Choice, Consumed, Decision, GotTpOff, Grouped, Groups, Has, HasAddresses, HasLow, HasNamed, HasOwn, HasPattern, HasValue, HasWord, HighPartGoes, IType, IsAddTp, IsAddiOfLoad, IsApplied, IsArchitectureChoice, IsAuipc, IsCandidateWith, IsChosen, IsDecidedAfter, IsDeleted, IsDone, IsGroupDecision, IsHighIn, IsKeptInstruction, IsLabelCandidate, IsLabelDecision, IsLd, IsLinked, IsLoadFromGot, IsLowOffset, IsLui, IsLuiOfLoad, IsMade, IsNameOf, IsNamed, IsNamedAs, IsNop, IsNotRewrittenBy, IsOfDescriptor, IsOfEntry as IsOfEntryIn, IsOfOne as IsOfOneIn, IsRewrittenAndPacked, IsRewrittenByNoOther, IsRewrittenOf, IsRow, IsScopeDecision, IsScopeIn, IsSomeAnd, IsTrue, IsUnchanged, IsWithin, Kept, Labelled, Lawful, Leaves, LinkFacts, Linked, List, New, None, NoneIsInitialExec, Nops, NopsOf, NotRelaxable, OffsetsAreLow, OffsetsAreLowOf, Ok, Operands, Option, Packed, Phase, Rela, Relative, RelativeRiscVLow12, RelaxContext, Relaxation, RelocationsAreLeft, RewritesAreGroups, Rewritten, RewrittenWithSymbol, RiscV, RiscVEntry, RiscVRelocation, RowInfo, SType, Scope, Some, Stands, Subject, SumGoes, Symbol, TpOff, UType, UntouchedInstruction, [], action_at, action_of, addend_after, address_in, adds_low12, after_rewrite, anywhere, ap, architecture_of, arith, by_low_offset, cast_signed, cast_unsigned, choice_of, chosen_or_labelled, count, decision_at, deleted_of, descriptor, difference_64, drop, entry, facts_at, facts_by, facts_with, false, far_entry, final, final_instruction, fixed, from_le_bytes, funct3_of, get_or, got_high_part, group_stays, high_part, if◌then◌else◌, inl, inr, instruction_at, ints, is_label_marked, is_labelled, is_some, is_taken, label_decision, label_facts, law, length, length-drop, length-take-le, link_facts, list_any, load, load_to_addi, low_12_bounds, low_address, low_law, low_part, low_store, ltb-true, named_as, nat_lt, negsuc, of_destination, of_entry as of_entry_in, of_one, offset_after, offset_at, offset_of, offset_row, one_index, opcode_of, operands_before, operands_in, operands_of, operands_with, or_parts, packed, pair_row, place_of, placed_facts, pos, r_type_of, refl, relaxation_deleted, relaxation_rewrite, relaxation_skipped, relocation_in, rewrites_word, rewritten_by, riscv_entries, riscv_matches, riscv_name, riscv_pair_bounds, riscv_relocation, riscv_rewrite, riscv_row, riscv_row_of, riscv_scope_in, riscv_skipped, short_descriptor, slice_get, subst, suc, sum, sum_64, sym, take, takes_next, takes_symbol, to_le_bytes, tp, true, unwrap_or, value_of, w32, w64, with_rs1, without_entry, without_got, word_of, zero, ℕ, ℤ, ◌*◌, ◌+◌, ◌-◌, ◌/◌, ◌<◌, ◌^◌, ◌∙◌, ◌∷◌, ◌≡◌, ◌≢◌, ◌≤◌, ◌⊎◌}
 use Rattle.linker_base.proofs.Bits.{cast_negative}
 use Rattle.linker_base.specs.Rewrite.{rewritten}
 use Rattle.linker_elf.specs.Relocate.{Reaches}
-use Rattle.linker_elf.specs.declared.elf.RelocationKind.TheVariants.{None as NoValue}
 use Rattle.linker_final.proofs.PackedBytes.{final_inside, place_is, r_type_is, rewritten_inside, same_kept, unwritten_there, within}
 use Rattle.linker_final.proofs.SectionRuns.{AreIn, beside_or, is_linked}
 use Rattle.linker_final.proofs.Written.{IsOfInstruction, IsRowOf, applied, applied_found, by_name, bytes_left, last_length, last_within, later_bytes, low_found, mapped, of_bits, rela, rela_at, relocation_left, row_in, stays, unwritten_without, with_operands, word_same}
@@ -426,8 +425,7 @@ far : (o : Operands) → o.got_entry ≡ far_entry o → cast_unsigned w64 o.add
 far o is small reaches =
     let n = difference_64 (sum_64 (sum_64 o.got_entry (cast_unsigned w64 o.addend)) 0) (difference_64 o.place 0) in
     let half : n ≡ 2 ^ 63 = omega (arith, is, small) in
-    let g = subst (IsWithin (Some riscv_pair_bounds)) (cast_negative n (omega (arith, half)) (omega (arith, half))) reaches.within in
-    let b = g.0 in
+    let b = (subst (IsWithin (Some riscv_pair_bounds)) (cast_negative n (omega (arith, half)) (omega (arith, half))) reaches.within).0 in
     omega (arith, ints, half)
 
 without_entry_is : (f : Option LinkFacts) (facts : LinkFacts) → without_entry f ≡ Some facts → (mine : LinkFacts) × (f ≡ Some mine)
@@ -851,10 +849,6 @@ abbrev pub low_i : IsOwn names.R_RISCV_TPREL_LO12_I
 low_i =
     own_row names.R_RISCV_TPREL_LO12_I (pair_row TpOff 32 IType) refl tt (of_bits refl refl refl refl refl (λ o. tt)) refl (λ addresses r symbol. refl)
 
-abbrev low_s : IsOwn names.R_RISCV_TPREL_LO12_S
-low_s =
-    own_row names.R_RISCV_TPREL_LO12_S (pair_row TpOff 32 SType) refl tt (of_bits refl refl refl refl refl (λ o. tt)) refl (λ addresses r symbol. refl)
-
 -- ---- one instruction
 
 -- a relocation of low parts, which has one rewrite
@@ -867,7 +861,12 @@ abbrev pub of_load : IsLow names.R_RISCV_TPREL_LO12_I
 of_load = record { own = low_i; entries = refl; adds = λ section o pattern. pattern }
 
 abbrev pub of_store : IsLow names.R_RISCV_TPREL_LO12_S
-of_store = record { own = low_s; entries = refl; adds = λ section o pattern. (pattern.0, pattern.1.0) }
+of_store =
+    record {
+      own = own_row names.R_RISCV_TPREL_LO12_S (pair_row TpOff 32 SType) refl tt (of_bits refl refl refl refl refl (λ o. tt)) refl (λ addresses r symbol. refl);
+      entries = refl;
+      adds = λ section o pattern. (pattern.0, pattern.1.0);
+    }
 
 module _ (groups : Groups) (name : RiscVRelocation) (low : IsLow name) (l : Linked) (rewriting : AreRewritten l)
     (riscv : l.context.architecture ≡ RiscV) (i : ℕ) (is : IsRewrittenOf l name i) where
@@ -913,8 +912,7 @@ module _ (groups : Groups) (l : Linked) (rewritten : AreRewritten l) (riscv : l.
         of_riscv_entry l rewritten riscv i (Rewritten of.chosen) of.chosen of.below of.decided refl names.R_RISCV_TPREL_HI20 tt of.is_name
         (entry kinds.Delete names.R_RISCV_NONE by_low_offset) refl in
         let pattern = by.meant in
-        let long = long_there l.section at pattern.0 in
-        let there : HasWord lui 0 IsLui = (omega (arith, long), subst IsLui (word_same l.section at) (pattern.1)) in (
+        let there : HasWord lui 0 IsLui = (omega (arith, long_there l.section at pattern.0), subst IsLui (word_same l.section at) (pattern.1)) in (
           ap deleted_of of.decided ∙ ap relaxation_deleted by.kind_is,
           λ x c k s gone low has.
               groups.high_offsets c x k s lui gone (there.0, tt) there.1 low has,
@@ -1041,13 +1039,6 @@ module _ (groups : Groups) (l : Linked) (rewriting : AreRewritten l) (riscv : l.
 
 -- ---- nops of TLS descriptors
 
--- the code of no type has no value
-none_has_no_value : (l : Linked) → l.context.architecture ≡ RiscV
-    → IsRowOf l.context.architecture 0 (bytes_row NoValue 0)
-none_has_no_value l riscv found there =
-    by_name riscv_name (λ (n : RiscVRelocation). (riscv_relocation n).row) names.R_RISCV_NONE tt found
-    (subst (λ x. IsRow x 0 found) riscv there)
-
 -- ---- nops
 
 in_new : (l : Linked) → AreRewritten l → l.context.architecture ≡ RiscV → (i : ℕ) → i < count l
@@ -1057,7 +1048,9 @@ in_new : (l : Linked) → AreRewritten l → l.context.architecture ≡ RiscV �
 in_new l rewriting riscv i below gone nop anywhere = nop (instruction_at l.rewritten (offset_of l i)) refl
 in_new l rewriting riscv i below gone nop (final linked) =
     λ left alone. nop (instruction_at l.final (offset_of l i))
-    (unwritten_without l linked i below (offset_of l i) left (none_has_no_value l riscv) gone alone)
+    (unwritten_without l linked i below (offset_of l i) left
+    (λ found there. by_name riscv_name (λ (n : RiscVRelocation). (riscv_relocation n).row) names.R_RISCV_NONE tt found (subst (λ x. IsRow x 0 found) riscv there))
+    gone alone)
 in_new l rewriting riscv i below gone nop (packed p joined machine) =
     λ left stay free. nop (final_instruction p (offset_of l i)) (unwritten_there l p joined i (offset_of l i) left stay free)
 

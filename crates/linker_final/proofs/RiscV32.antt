@@ -365,9 +365,8 @@ module _ (addresses : Addresses) (symbols : List Symbol) (row high : RowInfo) (l
   as_alone : (r : Rela) → low_value RiscV addresses symbols row (Some (r, high)) ≡ own_value RiscV addresses symbols high r
   as_alone r =
       let part = is_high_part (low_kind (is_of_descriptor row.kind)) (Some high) in
-      let valued = when_true part (has_value high.kind) true upper.valued high_part in
       let offset = when_true part (is_offset high.kind) false upper.no_offset high_part in
-      rw (valued, offset) (by_operands (operands_of RiscV addresses symbols high r))
+      rw ((when_true part (has_value high.kind) true upper.valued high_part), offset) (by_operands (operands_of RiscV addresses symbols high r))
 
   unlabelled : names_label high.size high.kind ≡ false
   unlabelled = when_true (is_high_part (low_kind (is_of_descriptor row.kind)) (Some high)) _ false upper.unlabelled high_part
@@ -407,9 +406,8 @@ module _ (addresses : Addresses) (symbols : List Symbol) (before after : List �
       let there = there_is after i new part.is_there in
       let below : i < length before / 24 = subst (λ n. i < n) same_count there.within in
       let r = relocation_in before i in
-      let becomes = addends addresses symbols before after are i below in
       let is : new ≡ record r { addend = new.addend } =
-      sym there.is ∙ (becomes.others ∙ ap (λ (x : Rela). record r { addend = x.addend }) there.is) in
+      sym there.is ∙ ((addends addresses symbols before after are i below).others ∙ ap (λ (x : Rela). record r { addend = x.addend }) there.is) in
       let of : IsRow RiscV r.r_type (Some high) = subst (λ (x : Rela). IsRow RiscV x.r_type (Some high)) is part.row_is in
       let offset : r.offset ≡ at = sym (ap (λ (x : Rela). x.offset) is) ∙ part.offset_is in
       let each : IsWrapped addresses symbols r new = subst (IsWrapped addresses symbols r) there.is (are.each i below) in (

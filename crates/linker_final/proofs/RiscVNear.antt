@@ -89,10 +89,9 @@ parts kind number of row rows section o gp small inside is =
     let made = drop o (after_base base.0 section o) in
     let base_is = is_base gp (symbol_address x) base small based in
     let old' = subst (λ r. Has 4 c.old s.pc r x low) (rows a) old in
-    let new' = subst (λ r. Has 4 c.new y.place r y made) (absolute_rows a) new in
     based_group kind Absolute number symbol_address of of_address base.0 base_is.small low made
     (based_there section o base.0 base_is.small inside old'.applied.old_bytes) some.2 a some.1 c x y k k' s
-    (symbol_address x) at old' new'
+    (symbol_address x) at old' (subst (λ r. Has 4 c.new y.place r y made) (absolute_rows a) new)
     (ap (λ v. moved (register (seen s) (rs1_of word)) (signed 12 v)) (same_low (number x)) ∙ high)
     (λ t agree. based_sum gp x y base (register (seen t) base.0) base_is value (there t agree)) keeps)
 

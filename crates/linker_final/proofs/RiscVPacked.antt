@@ -119,7 +119,6 @@ sites groups p is riscv i site of name of_call =
 
 pub long_calls : Groups → LongCallsStay
 long_calls groups p is riscv i name stays symbol symbol_is small other_name of =
-    let s = p.section in
     let o = offset_at p.relocations i in
     let r = relocation_in p.relocations_after i in
     let y = operands_with RiscV p.addresses call_row symbol r 0 in
@@ -141,11 +140,10 @@ long_calls groups p is riscv i name stays symbol symbol_is small other_name of =
       value_is = value.1;
     }) stays.stays in
     let inside = stay_inside p is o 8 (omega arith) stays.stays in
-    let fits = places_inside p is o 8 (omega arith) stays.stays in
     let final = drop (place_of p o) p.final in
-    long groups s.bytes o is.section_bytes stays.call inside y (even plt_address y) final small refl applied
+    long groups p.section.bytes o is.section_bytes stays.call inside y (even plt_address y) final small refl applied
     (All-take (λ b. b < 2 ^ 8) 8 final (All-drop (λ b. b < 2 ^ 8) (place_of p o) p.final is.final_bytes))
-    (window_length (place_of p o) 8 p.final (omega (arith, fits, is.written.same_length))) other_name of
+    (window_length (place_of p o) 8 p.final (omega (arith, places_inside p is o 8 (omega arith) stays.stays, is.written.same_length))) other_name of
 
 -- ---- instructions that are deleted
 

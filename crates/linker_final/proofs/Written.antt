@@ -401,8 +401,7 @@ module _ (n : ℕ) (there : 0 < n) (are : AreLowest n) (architecture : Architect
         let accepted_at = (written.can.accepted i row v below mine.is).0 plain.alone in
         let accepted = accepted_at.accepted in
         let wide : window_len row ≡ n = ap size_len plain.size in
-        let ld = length-drop o before in
-        let inside : o + n ≤ length before = omega (arith, accepted.long, wide, ld, accepted_at.inside) in
+        let inside : o + n ≤ length before = omega (arith, accepted.long, wide, length-drop o before, accepted_at.inside) in
         let held = (written.fields i row v below mine.is some).value plain.alone in
         let old = field_bytes bytes before i row before in
         let new = field_bytes bytes before i row after in
@@ -415,8 +414,7 @@ module _ (n : ℕ) (there : 0 < n) (are : AreLowest n) (architecture : Architect
         plain.holds n _ old new number
         ∙ (ap (λ z. int_rem_euclid z (pos (2 ^ (8 * n)))) composed_is ∙ plain.remainder operands v mine.value_is accepted.reached.0) in
         let new_is : new ≡ take n (drop o after) = ap (λ m. take m (drop o after)) len in
-        let la = length-drop o after in
-        let lt = length-take-le n (drop o after) (omega (arith, written.same_length, la, inside)) in
+        let lt = length-take-le n (drop o after) (omega (arith, written.same_length, length-drop o after, inside)) in
         record {
           value = v;
           value_is = mine.value_is;
@@ -572,10 +570,9 @@ pub replaced : (start len : ℕ) (bytes before : List ℕ) → start + len ≤ l
     → IsReplaced start len bytes before (take start before ++ bytes ++ drop (start + len) before)
 replaced start len bytes before inside long =
     let a = length-append (take start before ++ bytes) (drop (start + len) before) in
-    let b = length-append (take start before) bytes in
     let c = length-take-le start before (omega (arith, inside)) in
     let d = length-drop (start + len) before in
-    record { inside = inside; same_len = omega (arith, a, b, c, d, long, inside); made = refl }
+    record { inside = inside; same_len = omega (arith, a, length-append (take start before) bytes, c, d, long, inside); made = refl }
 
 pub put_back_is : (start len : ℕ) (others bytes : List ℕ) → start + len ≤ length bytes
     → length others ≡ length bytes
@@ -607,10 +604,9 @@ pub same_windows : (start len : ℕ) (xs ys : List ℕ) → length ys ≡ length
     → ((at : ℕ) → start ≤ at → at < start + len → get_or xs at 0 ≡ get_or ys at 0)
     → take len (drop start xs) ≡ take len (drop start ys)
 same_windows start len xs ys same each =
-    let ly = length-take len (drop start ys) in
     let dx = length-drop start xs in
     let dy = length-drop start ys in
-    windows start start len xs ys (omega (arith, length-take len (drop start xs), ly, dx, dy, same))
+    windows start start len xs ys (omega (arith, length-take len (drop start xs), length-take len (drop start ys), dx, dy, same))
     (λ k within. each (start + k) (omega arith) (omega (arith, within)))
 
 -- ---- a rewrite of a window in bytes that were put back
@@ -824,8 +820,7 @@ outside_of l i chosen rewrite decided is b apart = rw (decided, is) apart
 pub spared : (l : Linked) (i : ℕ) (d : Decision) → decision_at l.decisions i ≡ d
     → window_of d ≡ record { back = 0; len = 0 } → (b : ℕ) → IsOutside l.relocations l.decisions i b
 spared l i d is none b =
-    let o = (relocation_in l.relocations i).offset in
-    rw (is, none) (elim (cases_lt b o) [
+    rw (is, none) (elim (cases_lt b (relocation_in l.relocations i).offset) [
       | inl before ↦ inl (omega (arith, before))
       | inr past ↦ inr (omega (arith, past))
     ])
@@ -919,9 +914,8 @@ pub unwritten_without : (l : Linked) → IsLinked l → (i : ℕ) → i < count 
     → (relocation_in l.relocations_after i).r_type ≡ 0
     → IsWrittenByNoOther l i p → instruction_at l.final p ≡ instruction_at l.rewritten p
 unwritten_without l linked i below p left none gone alone =
-    let is_last = relocation_left l linked i p 4 left below in
     unwritten_but l linked i p left
-    (λ row field. absurd (no_field l i (relocation_in l.relocations_after i) is_last (bytes_row NoValue 0)
+    (λ row field. absurd (no_field l i (relocation_in l.relocations_after i) (relocation_left l linked i p 4 left below) (bytes_row NoValue 0)
     (subst (λ x. IsRowOf l.context.architecture x (bytes_row NoValue 0)) (sym gone) none) refl row field))
     alone
 

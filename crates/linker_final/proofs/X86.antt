@@ -236,10 +236,6 @@ tpoff32 =
 
 -- ---- rows that have a plain field
 
-pub plain_entry : IsPlain 4 tls_got_row
-plain_entry =
-    plain refl refl refl refl (λ o. tt) (λ v old. refl) (λ v number. refl) (λ o v is. signed_remainder v) (λ len v before after is. is)
-
 same_value : (v w : ℤ) → Some w ≡ Some v → v ≡ w
 same_value v w is = cc
 
@@ -724,10 +720,9 @@ there_inside n end some (r ∷ rs) section o are is =
       | inl this ↦
           let parts = and_parts (leb r.back o) (begins r.bytes (drop (o - r.back) section)) this in
           let starts = leb-true r.back o (parts.0) in
-          let long = begins_long r.bytes (drop (o - r.back) section) (parts.1) in
           let l = length-drop (o - r.back) section in
           let back = are.0.0 in
-          (omega (arith, starts, back), omega (arith, starts, back, are.0.1, long, l, some))
+          (omega (arith, starts, back), omega (arith, starts, back, are.0.1, begins_long r.bytes (drop (o - r.back) section) (parts.1), l, some))
       | inr other ↦ there_inside n end some rs section o (are.1) other
     ]
 
@@ -887,9 +882,6 @@ module _ (l : Linked) (i back end : ℕ) (kind : RewriteKind) (is : HasRewrite l
         relocation_left l linked i start len is.alone.left is.below
         ∙ relocation_is l linked.made i chosen is.below is.decided (Some w.made) chosen.relocation made_is refl
 
-    pub within_after : i < length l.relocations_last / 24
-    within_after = last_within l linked i is.below
-
     -- the window
     kept : (at : ℕ) → start ≤ at → at < start + len
         → (at < (offset_of l i) - w.inner.back) ⊎ ((offset_of l i) - w.inner.back + w.inner.len ≤ at)
@@ -925,8 +917,7 @@ module _ (l : Linked) (i back end : ℕ) (kind : RewriteKind) (is : HasRewrite l
 
     pub object_same : (at : ℕ) → start ≤ at → at < (offset_of l i) + end → get_or l.section at 0 ≡ get_or object at 0
     object_same at from less =
-        let a = is.room.0 in
-        sym (back_inside start len l.section l.final inside_final (sym final_length) at from (omega (arith, a, less)))
+        sym (back_inside start len l.section l.final inside_final (sym final_length) at from (omega (arith, is.room.0, less)))
 
     pub object_length : length object ≡ length l.section
     object_length = (put_back_is start len l.section l.final inside_final (sym final_length)).same_len ∙ final_length
@@ -970,8 +961,7 @@ module _ (l : Linked) (i back end : ℕ) (kind : RewriteKind) (is : HasRewrite l
         → IsField l.context.architecture l.relocations_last l.last j row
         → (at < offset_at l.relocations_last j) ⊎ (field_end l.relocations_last l.last j row ≤ at)
     apart_by j lj isnt at from less row is_field =
-        let back = is.room.0 in
-        (is.alone.others j at (subst (λ n. j < n / 24) (last_as_many l linked) lj) isnt from (omega (arith, less, back))).1 row is_field
+        (is.alone.others j at (subst (λ n. j < n / 24) (last_as_many l linked) lj) isnt from (omega (arith, less, is.room.0))).1 row is_field
 
     -- a byte that the relocation after has not
     in_no_field : (at : ℕ) → start ≤ at → at < (offset_of l i) + end
@@ -1034,7 +1024,7 @@ module _ (l : Linked) (i back end : ℕ) (kind : RewriteKind) (is : HasRewrite l
         let field : UntouchedField 4 row taken p l.last l.final =
         subst (λ (x : Rela). UntouchedField 4 row taken x.offset l.last l.final) r_after
         (left 4 (omega arith) four_bytes l.context.architecture l.addresses l.relocations_last l.symbols l.last l.final linked.written
-        (small_byte l.final linked.final_bytes) i within_after row plain row_there taken
+        (small_byte l.final linked.final_bytes) i (last_within l linked i is.below) row plain row_there taken
         (subst (λ x. operands_of x l.addresses l.symbols row (relocation_in l.relocations_last i) ≡ Ok taken) (sym is.x86)
         (subst (λ x. operands_of X86_64 l.addresses l.symbols row x ≡ Ok taken) (sym r_after) taken_is))
         (λ j other lj isnt is_field.
@@ -1321,7 +1311,8 @@ module _ (l : Linked) (i back end : ℕ) (kind : RewriteKind) (is : HasRewrite l
         let made = is.window.made in
         let was = operands_with X86_64 l.addresses thread_row symbol (rela_at l i) entry in
         let e = symbol.thread_entry in
-        relocated_after l i back end kind is names.R_X86_64_GOTTPOFF tls_got_row plain_entry refl tt r_type_is
+        relocated_after l i back end kind is names.R_X86_64_GOTTPOFF tls_got_row
+        (plain refl refl refl refl (λ o. tt) (λ v old. refl) (λ v number. refl) (λ o v is. signed_remainder v) (λ len v before after is. is)) refl tt r_type_is
         (operands_with X86_64 l.addresses tls_got_row symbol relocation e)
         -- the section is written, so that there is an entry
         (ap (operands_in X86_64 l.addresses tls_got_row relocation) is_symbol
@@ -1454,9 +1445,8 @@ module _ (n : ℕ) (read : ℕ → ℕ) (block_row thread_row : RowInfo)
 
   mine : IsField l.context.architecture l.relocations_last l.last i thread_row
   mine =
-      let some = rows.some in
       let len = len_is n thread_row (drop (offset_at l.relocations_last i) l.last) rows.plain in
-      record { is_row = row_there_offset; some = omega (arith, some, len) }
+      record { is_row = row_there_offset; some = omega (arith, rows.some, len) }
 
   others_apart : (j : ℕ) (other : RowInfo) → j < length l.relocations_last / 24
       → (j ≡ i → ⊥) → IsField l.context.architecture l.relocations_last l.last j other
@@ -1489,7 +1479,6 @@ module _ (n : ℕ) (read : ℕ → ℕ) (block_row thread_row : RowInfo)
   leads : LeadsToTheSame n read name l i block_row
   leads symbol is_symbol strong entry block_at pointer original addresses small is_block_address was =
       let operands = operands_with X86_64 l.addresses block_row symbol (rela_at l i) entry in
-      let image = l.addresses.module_origin in
       let pointed = l.addresses.thread_origin in
       let counted = counted_from pointed operands in
       let written = operands_with X86_64 l.addresses thread_row symbol relocation_offset 0 in
@@ -1522,7 +1511,7 @@ module _ (n : ℕ) (read : ℕ → ℕ) (block_row thread_row : RowInfo)
       ap (λ zs. sum_64 block_at (read (number_of_bytes n zs)))
       (rest_is block_row operands (offset_of l i) object original of_object room)
       ∙ (some_and _ (x86_64_row after) thread_row is_thread
-      (some_and _ (x86_64_row name) block_row is_block law) image pointed block_at pointer
+      (some_and _ (x86_64_row name) block_row is_block law) l.addresses.module_origin pointed block_at pointer
       (subst (λ x. x < 2 ^ 64) origin addresses.tls_base) small is_block_address operands (drop (offset_of l i) object)
       of_object.rest base.rest addresses
       (subst (λ x. IsApplied block_row (counted_from x operands) (drop (offset_of l i) object) of_object.rest) origin
