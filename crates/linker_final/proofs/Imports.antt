@@ -19,11 +19,10 @@ pub use Rattle.linker_elf.specs.Value.{difference_64, formula, is_offset, loads_
 pub use Rattle.linker_elf.specs.declared.elf.RelocationKind.TheVariants.{Absolute, AbsoluteLowPart, GotRelative, GotTpOff, GotTpOffGot, GotTpOffGotBase, Relative, RelativeRiscVLow12, SymRelGotBase, TpOff}
 pub use Rattle.linker_elf.specs.declared.elf.architecture.Architecture.TheVariants.{AArch64, LoongArch64, Ppc64, RiscV, X86_64}
 pub use Rattle.linker_elf.specs.declared.elf.choice.LinkFacts.{LinkFacts}
-pub use Rattle.linker_elf.specs.declared.loongarch64.forms.LoongArch64Instruction.TheVariants.{Branch21, Branch26, Shift10, Shift5}
 pub use Rattle.linker_elf.specs.declared.riscv64.forms.RiscVInstruction.TheVariants.{BType, CbType, CjType, CluiType, IType, JType, SType, UType, UiType}
-pub use Rattle.linker_final.specs.AArch64Section.{Begins, ComesTo, HoldsOffset, IsDescriptorLeft, IsRewrittenAgain, Rewrites, address, at_address, at_call, at_high, at_initial, at_jump, at_load, at_local, at_low, high, jump, low, object, register, span, to_initial, to_local}
-pub use Rattle.linker_final.specs.Final.{AreBytes, AreCalled, AreInTurn, AreLeft, AreLinked, AreListed, ArePhases, AreRewritten, EachPlace, HasRewritten, IsBeside, IsBesideAll, IsFollowed, IsLinked, IsOutside, IsPhase, IsPhaseIn, IsRewrittenByNoOther, IsWrittenByNoOther, Keeps, Known, Knows, Linked, OtherBytes, OtherFields, Place, RewritesAreGroups, RewritesNone, Rewriting, RewritingPhase, RunsAreFollowed, Section, Takes, UntouchedByOthers, UntouchedBytes, UntouchedBytesAreTheSame, UntouchedInPhase, UntouchedInstruction, UntouchedInstructions, begins, comparison, count, count_of, deletions_in, elsewhere, instruction_at, linked, linked_by, offset_of, rewriting_phase, rewritten, two_at, unchanged, within}
-pub use Rattle.linker_final.specs.Imports.{Addresses, Architecture, Choice, Decision, IsApplied, Item, LoongArch64Relocation, Operands, Rela, Relaxation, RiscVRelocation, RowInfo, Symbol, UnrelaxableGroups, deletions_of_run, go_to, put, riscv_form, with_register}
+pub use Rattle.linker_final.specs.AArch64Section.{Begins, ComesTo, IsDescriptorLeft, IsRewrittenAgain, Rewrites, address, at_address, at_call, at_high, at_initial, at_jump, at_load, at_local, at_low, high, jump, low, object, register, span, to_initial, to_local}
+pub use Rattle.linker_final.specs.Final.{AreBytes, AreCalled, AreInTurn, AreLeft, AreLinked, AreListed, ArePhases, AreRewritten, EachPlace, HasRewritten, IsBesideAll, IsFollowed, IsLinked, IsOutside, IsPhase, IsPhaseIn, IsRewrittenByNoOther, IsWrittenByNoOther, Keeps, Known, Knows, Linked, OtherBytes, OtherFields, Place, RewritesAreGroups, RewritesNone, Rewriting, RewritingPhase, RunsAreFollowed, Section, Takes, UntouchedByOthers, UntouchedBytes, UntouchedBytesAreTheSame, UntouchedInPhase, UntouchedInstruction, UntouchedInstructions, begins, comparison, count, count_of, deletions_in, elsewhere, instruction_at, linked, linked_by, offset_of, rewriting_phase, rewritten, two_at, unchanged, within}
+pub use Rattle.linker_final.specs.Imports.{Addresses, Architecture, Branch21, Branch26, Choice, Decision, IsApplied, Item, LoongArch64Relocation, Operands, Rela, Relaxation, RiscVRelocation, RowInfo, Shift10, Shift5, Symbol, UnrelaxableGroups, deletions_of_run, go_to, put, riscv_form, with_register}
 pub use Rattle.linker_final.specs.LoongArchSection.{AddressesAreMade, AreOf, CallsTheSame, HasEntry, HighPartIsLeftOut, IsAlone, IsFinal, IsKept, IsLeft, IsLoad, IsNew, IsPairOf, Left, LoadedAddressesAreMade, LoadsTheSame, LongAddressesStay, LongLoadedAddressesStay, StaysAs, applied, by_itself, entry_by, law_of, none, operands_at, without_law, words_in}
 pub use Rattle.linker_final.specs.Packed.{AlignmentsHold, AreDeleted, AreRelaxedAndPacked, DeletedBytesAreGone, Goes, HoldsIn, InstructionsAreRelocated, IsAligned, IsBefore, IsKeptInstruction, IsOfRun, IsPackCause, IsPacked, IsRewrittenAndPacked, IsSiteOf, IsSkipped, IsUnwritten, ItemsAreDeleted, KeptBytesStay, LoongArchBranchesGo, Packed, PaddingIsNops, PlacesAreRelocated, PlacesHaveAddresses, RiscVBranchesGo, Run, SectionsAreAligned, StayTogether, Stays, address_at, architecture_of, final_instruction, final_number, packed_of, padding_at, padding_len, place_of, site_after, site_bytes, site_len, site_offset, site_place, site_target}
 pub use Rattle.linker_final.specs.Ppc64Section.{AreLeftAlone, HasApplied, NamesAreLeft, Restores, RewrittenAgain, kind_at, kind_by, kind_of, name_of, of_call, shape, to_second}
@@ -74,11 +73,12 @@ pub use Rattle.linker_runs.specs.Relaxing.{IsSound, end_of, freed_before, item_a
 pub use Rattle.linker_runs.specs.declared.packing.Machine.{Machine}
 pub use Rattle.linker_runs.specs.declared.relaxation.Item.TheVariants.{Aligned, Site}
 pub use Rattle.linker_section.proofs.Fronts.{HaveSameWindow, accepted_same, some_window}
-pub use Rattle.linker_section.proofs.Imports.{AArch64Relocation, AnyForm, AreApart, BitMasking, BitRange, ByteSize, Composes, IsField, IsInNoField, IsNamedValue, IsRow, IsRowValue, RelocationKind, RowSize, ValueError, begins_pair, continues, ends_pair, entry_of, field_end, field_len, is_of_pair, of_number, of_pair, relocation_at, relocation_in}
+pub use Rattle.linker_section.proofs.Imports.{AArch64Relocation, AnyForm, AreApart, BitMasking, BitRange, ByteSize, Composes, IsField, IsInNoField, IsNamedValue, IsRow, IsRowValue, RelocationKind, RowSize, begins_pair, continues, ends_pair, entry_of, field_end, field_len, is_of_pair, of_number, of_pair, relocation_at, relocation_in}
 pub use Rattle.linker_section.proofs.Rows.{one_info, one_row}
 pub use Rattle.linker_section.specs.Values.{IsHighPartAt, IsLowValue, IsNoHighPart, IsValue, IsValueBy, IsValueIn, entry_address, has_value, is_auipc, is_high_kind, is_high_part, is_of_got, is_there, lacks_origin, low_by, low_operands, low_value, names_label, offset_at, operands_by, operands_in, operands_of, operands_with, own_value, target_of, value_by}
 pub use Rattle.linker_section.specs.WrittenFields.{AreWritten, Found, HoldsNumber, HoldsValue, IsFirstFault, IsHeld, composed, composed_by, composed_with, field_bytes}
 pub use Rattle.linker_section.specs.declared.needed.EntryClass.TheVariants.{ThreadOffset}
+pub use Rattle.linker_section.specs.declared.values.ValueError.{ValueError}
 pub use Rattle.linker_section.specs.declared.values.ValueError.TheVariants.{NoEntry, NoHighPart, NoSymbol, NoTlsBase}
 pub use Rattle.linker_utils.specs.AArch64Rewrites.{AArch64Applies, AArch64Entry, AreOfOneRegister, IsAdd64, IsAdrp, IsIntoOwnSource, IsLdr64, aarch64_entries, aarch64_matches, aarch64_rewrite, halves_to_local_exec, is_ldr64, nop, nop_adr, rewrites_where, rn_of, to_address, to_adr, to_initial_exec, to_local_exec}
 pub use Rattle.linker_utils.specs.LoongArchRewrites.{IsAddi, IsCall, IsCallOfDescriptor, IsLoadOfDescriptor, IsLowOfDescriptor, IsLu12i, IsPageOfDescriptor, IsPcalau12i, LoongArchApplies, LoongArchEntry, loongarch_entries, loongarch_rewrite, rj_of, signed_32}

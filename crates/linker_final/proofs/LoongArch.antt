@@ -20,8 +20,6 @@ use Rattle.linker_elf.specs.declared.loongarch64.relocations.LoongArch64Relocati
 use Rattle.linker_utils.specs.declared.loongarch64.rewrites.RewriteKind.TheVariants as kinds
 use Rattle.linker_utils.specs.declared.architecture.Relaxation.TheVariants as relaxations
 use Rattle.linker_rewriting.specs.declared.phases.Phase.TheVariants as phases
-use Rattle.linker_final.proofs.LoongArchAlone as alone
-use Rattle.linker_final.proofs.LoongArchDescriptors as descriptors
 
 -- ---- relocations that rewrites leave
 
@@ -893,15 +891,15 @@ module _ (groups : Groups) (l : Linked) (made : AreRewritten l) (loongarch : l.c
     (decided : decision_at l.decisions i ≡ Rewritten chosen) where
   of_the_name : (name : LoongArch64Relocation) → IsNameOf loongarch_name (relocation_in l.relocations i).r_type name
       → IsLawful l i chosen.kind (law_of name chosen.kind)
-  of_the_name names.R_LARCH_TLS_IE_PC_HI20 = alone.high_half groups l made loongarch i chosen below decided
-  of_the_name names.R_LARCH_TLS_IE_PC_LO12 = alone.low_half groups l made loongarch i chosen below decided
-  of_the_name names.R_LARCH_TLS_DESC_PC_HI20 = descriptors.page groups l made loongarch i chosen below decided
-  of_the_name names.R_LARCH_TLS_DESC_PC_LO12 = descriptors.low groups l made loongarch i chosen below decided
-  of_the_name names.R_LARCH_TLS_DESC_LD = descriptors.load groups l made loongarch i chosen below decided
-  of_the_name names.R_LARCH_TLS_DESC_CALL = descriptors.call groups l made loongarch i chosen below decided
-  of_the_name names.R_LARCH_TLS_LE_HI20_R = alone.high_part groups l made loongarch i chosen below decided
-  of_the_name names.R_LARCH_TLS_LE_ADD_R = alone.sum groups l made loongarch i chosen below decided
-  of_the_name names.R_LARCH_TLS_LE_LO12_R = alone.low_part groups l made loongarch i chosen below decided
+  of_the_name names.R_LARCH_TLS_IE_PC_HI20 = high_half groups l made loongarch i chosen below decided
+  of_the_name names.R_LARCH_TLS_IE_PC_LO12 = low_half groups l made loongarch i chosen below decided
+  of_the_name names.R_LARCH_TLS_DESC_PC_HI20 = page_descriptor groups l made loongarch i chosen below decided
+  of_the_name names.R_LARCH_TLS_DESC_PC_LO12 = low_descriptor groups l made loongarch i chosen below decided
+  of_the_name names.R_LARCH_TLS_DESC_LD = load_law groups l made loongarch i chosen below decided
+  of_the_name names.R_LARCH_TLS_DESC_CALL = call groups l made loongarch i chosen below decided
+  of_the_name names.R_LARCH_TLS_LE_HI20_R = high_part groups l made loongarch i chosen below decided
+  of_the_name names.R_LARCH_TLS_LE_ADD_R = sum groups l made loongarch i chosen below decided
+  of_the_name names.R_LARCH_TLS_LE_LO12_R = low_part groups l made loongarch i chosen below decided
   of_the_name name = λ is_name. record { writable = tt; left = tt; group = λ alone_so u y after made_so. made_so }
 
 pub relocations_are_left : Groups → RelocationsAreLeft

@@ -16,10 +16,6 @@ use Rattle.linker_utils.specs.declared.architecture.Relaxation.TheVariants as re
 use Rattle.linker_elf.specs.declared.riscv64.relocations.RiscVRelocation.TheVariants as names
 use Rattle.linker_rewriting.specs.declared.phases.Phase.TheVariants as phases
 use Rattle.linker_elf.specs.declared.elf.AnyForm.TheVariants as insns
-use Rattle.linker_final.proofs.RiscVAddresses as addresses
-use Rattle.linker_final.proofs.RiscVDescriptors as descriptors
-use Rattle.linker_final.proofs.RiscVLoads as loads
-use Rattle.linker_final.proofs.RiscVOffsets as offsets
 
 -- ---- subjects
 
@@ -1180,31 +1176,31 @@ are_in l made riscv b =
 module _ (groups : Groups) (l : Linked) (made : AreRewritten l) (riscv : l.context.architecture ≡ RiscV) where
   leaves : (i : ℕ) (g : Lawful l i) → Leaves l i g
   leaves i (load j of alone) =
-      ((loads.high groups l made riscv i j of alone).left, (loads.low groups l made riscv i j of alone).part.left)
+      ((high groups l made riscv i j of alone).left, (low_load groups l made riscv i j of alone).part.left)
   leaves i (fixed j high low) =
-      ((addresses.lui groups l made riscv i j high).part.left, (addresses.addi groups l made riscv i j low).part.left)
-  leaves i (low_address j high low) = (addresses.addi_alone groups l made riscv i j low).part.left
+      ((lui_address groups l made riscv i j high).part.left, (addi_address groups l made riscv i j low).part.left)
+  leaves i (low_address j high low) = (addi_alone_address groups l made riscv i j low).part.left
   leaves i (descriptor add call of_add of_call) =
-      ((descriptors.lui groups l made riscv i add of_add).part.left, (descriptors.addi groups l made riscv i call of_call).part.left)
-  leaves i (short_descriptor call of) = (descriptors.addi_alone groups l made riscv i call of).part.left
-  leaves i (low_part of) = (offsets.low_part_is groups names.R_RISCV_TPREL_LO12_I offsets.of_load l made riscv i of).part.left
-  leaves i (low_store of) = (offsets.low_part_is groups names.R_RISCV_TPREL_LO12_S offsets.of_store l made riscv i of).part.left
-  leaves i (high_part of) = (offsets.high_part_goes groups l made riscv i of).0
-  leaves i (sum of) = (offsets.sum_goes groups l made riscv i of).0
+      ((lui groups l made riscv i add of_add).part.left, (addi groups l made riscv i call of_call).part.left)
+  leaves i (short_descriptor call of) = (addi_alone groups l made riscv i call of).part.left
+  leaves i (low_part of) = (low_part_is groups names.R_RISCV_TPREL_LO12_I of_load l made riscv i of).part.left
+  leaves i (low_store of) = (low_part_is groups names.R_RISCV_TPREL_LO12_S of_store l made riscv i of).part.left
+  leaves i (high_part of) = (high_part_goes groups l made riscv i of).0
+  leaves i (sum of) = (sum_goes groups l made riscv i of).0
 
   law_there : (i : ℕ) (g : Lawful l i) (new : New l) → law l i g new
-  law_there i (load j of alone) new = loads.loads groups l made riscv i j of alone new
-  law_there i (fixed j high low) new = addresses.fixed_addresses groups l made riscv i j high low new
-  law_there i (low_address j high low) new = addresses.low_addresses groups l made riscv i j high low new
+  law_there i (load j of alone) new = loads groups l made riscv i j of alone new
+  law_there i (fixed j high low) new = fixed_addresses groups l made riscv i j high low new
+  law_there i (low_address j high low) new = low_addresses groups l made riscv i j high low new
   law_there i (descriptor add call of_add of_call) new =
-      descriptors.descriptors groups l made riscv i add call of_add of_call new
-  law_there i (short_descriptor call of) new = descriptors.short_descriptors groups l made riscv i call of new
+      descriptors groups l made riscv i add call of_add of_call new
+  law_there i (short_descriptor call of) new = short_descriptors groups l made riscv i call of new
   law_there i (low_part of) new =
-      offsets.low_parts groups names.R_RISCV_TPREL_LO12_I offsets.of_load l made riscv i of new
+      low_parts groups names.R_RISCV_TPREL_LO12_I of_load l made riscv i of new
   law_there i (low_store of) new =
-      offsets.low_parts groups names.R_RISCV_TPREL_LO12_S offsets.of_store l made riscv i of new
-  law_there i (high_part of) new = (offsets.high_part_goes groups l made riscv i of).1
-  law_there i (sum of) new = (offsets.sum_goes groups l made riscv i of).1
+      low_parts groups names.R_RISCV_TPREL_LO12_S of_store l made riscv i of new
+  law_there i (high_part of) new = (high_part_goes groups l made riscv i of).1
+  law_there i (sum of) new = (sum_goes groups l made riscv i of).1
 
 pub relocations_are_left : Groups → RelocationsAreLeft
 relocations_are_left = leaves

@@ -1,6 +1,6 @@
 -- What stands at each place of a section, and runs of its code, of any architecture; and what the
 -- calls leave.
-use Rattle.linker_final.proofs.Imports.{Addresses, Architecture, AreCalled, AreDecidedIn, AreInTurn, AreLeft, AreListed, ArePhases, AreWritten, Bool, Choice, Comparison, Decision, EachPlace, HasRewritten, IsBeside, IsBesideAll, IsFollowed, IsLinked, IsLinkedAs, IsOfCalls, IsPackedRun, IsPhase, IsPhaseIn, IsRewrittenAs, IsScopeIn, Item, Kept, Kinds, Known, Knows, Labelled, Linked, List, Machine, Next, Phase, Place, RelaxContext, Relaxation, RewritesAreGroups, Rewriting, RewritingPhase, Rewritten, RewrittenWithSymbol, RunsAreFollowed, Scope, Section, Simulates, State, Subject, Symbol, UnrelaxableGroups, [], ap, arith, begins, by_group, cases_eq, cases_lt, chosen_or_labelled, code_at, comparison, count, decision_at, deletions_in, drop, elsewhere, false, get_or, inl, inr, length, linked_by, offset_of, pairs_in, refl, relocation_in, rewriting_phase, rewritten, section_of, subst, suc, sym, take, true, unchanged, uncovered, within, zero, ℕ, ◌+◌, ◌-◌, ◌<◌, ◌^◌, ◌∙◌, ◌∷◌, ◌≡◌, ◌≢◌, ◌≤◌, ◌⊎◌}
+use Rattle.linker_final.proofs.Imports.{Addresses, Architecture, AreCalled, AreDecidedIn, AreInTurn, AreLeft, AreListed, ArePhases, AreWritten, Bool, Choice, Comparison, Decision, EachPlace, HasRewritten, IsBesideAll, IsFollowed, IsLinked, IsLinkedAs, IsOfCalls, IsPackedRun, IsPhase, IsPhaseIn, IsRewrittenAs, IsScopeIn, Item, Kept, Kinds, Known, Knows, Labelled, Linked, List, Machine, Next, Phase, Place, RelaxContext, Relaxation, RewritesAreGroups, Rewriting, RewritingPhase, Rewritten, RewrittenWithSymbol, RunsAreFollowed, Scope, Section, Simulates, State, Subject, Symbol, UnrelaxableGroups, [], ap, arith, begins, by_group, cases_eq, cases_lt, chosen_or_labelled, code_at, comparison, count, decision_at, drop, elsewhere, false, get_or, inl, inr, length, linked_by, offset_of, pairs_in, refl, relocation_in, rewriting_phase, rewritten, section_of, subst, suc, sym, take, true, unchanged, uncovered, within, zero, ℕ, ◌+◌, ◌-◌, ◌<◌, ◌^◌, ◌∙◌, ◌∷◌, ◌≡◌, ◌≢◌, ◌≤◌, ◌⊎◌}
 use Rattle.linker_final.proofs.PackedBytes.{are_bytes}
 use Rattle.linker_rewriting.specs.declared.decisions.Deletion.{Deletion}
 use Rattle.linker_runs.specs.Moved.{AreMoved}
@@ -78,7 +78,7 @@ pub beside_or : {Q : Type 0} (l : Linked) (b : ℕ)
     → ((i : ℕ) → i < count l → decision_at l.decisions i ≢ Kept → offset_of l i ≤ b → b < offset_of l i + 4 → Q)
     → IsBesideAll l b ⊎ Q
 beside_or l b each =
-    each_or (IsBeside l b) (count l) (λ i below.
+    each_or (λ i. decision_at l.decisions i ≢ Kept → (b < offset_of l i) ⊎ (offset_of l i + 4 ≤ b)) (count l) (λ i below.
     elim (cases_lt b (offset_of l i)) [
       | inl before ↦ inl (λ changed. inl before)
       | inr from ↦ elim (cases_lt b (offset_of l i + 4)) [
@@ -228,7 +228,7 @@ linked_by_slices l first later written relocations section final =
     }
 
 pub listed_so : (p : RewritingPhase) (before after : List Deletion) (len : ℕ)
-    → take len (pairs_in after) ≡ deletions_in p
+    → take len (pairs_in after) ≡ deletions_by p.relocations p.decisions (count_of p)
     → drop len after ≡ drop len before → AreListed p before after
 listed_so p before after len listed others = record { len = len; listed = listed; others = others }
 

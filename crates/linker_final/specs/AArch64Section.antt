@@ -101,15 +101,10 @@ pub record IsDescriptorLeft (l : Linked) (i : ℕ) : Type 0 where
   pub add : IsWrittenByNoOther l (i + 2) (offset_of l (i + 2))
   pub call : IsWrittenByNoOther l (i + 3) (offset_of l (i + 3))
 
--- The GOT's entry of the offset, at an address, holds the number that the function returns,
--- whatever state of new agrees.
-abbrev pub HoldsOffset : ℕ → ℕ → Code → Kinds → State → Type 0
-HoldsOffset entry offset c k s =
-    (t : State) → Agree (link c) k s t → load_64 t.memory entry ≡ offset
-
 -- Old comes to instructions that are rewritten together. It has the object's, with the values of
 -- their relocations. Later phases and other relocations leave them alone, or a load becomes an
--- `adr`, and what else their law requires holds. They leave kinds and a state.
+-- `adr`, and what else their law requires holds. The GOT's entry of a descriptor's offset has the
+-- number that the function returns, whatever state of new agrees. They leave kinds and a state.
 pub data Begins (x : Section) (l : Linked) (c : Code) (k : Kinds) (s : State)
     : Rewrites l → Kinds → State → Type 0
   where
@@ -141,7 +136,8 @@ pub data Begins (x : Section) (l : Linked) (c : Code) (k : Kinds) (s : State)
         (of : IsDescriptorRewritten kinds.AdrpX0 kinds.LdrX0 l.relocations l.decisions i)
         (o : Operands) (k' : Kinds) (s' : State) (offset : ℕ)
         (at : ComesTo l s names.R_AARCH64_TLSLE_MOVW_TPREL_G1 i o) → IsDescriptorLeft l i
-        → at.symbol.thread_entry < 2 ^ 64 → HoldsOffset at.symbol.thread_entry offset c k s
+        → at.symbol.thread_entry < 2 ^ 64
+        → ((t : State) → Agree (link c) k s t → load_64 t.memory at.symbol.thread_entry ≡ offset)
         → Descriptor c o offset k s k' s' (object l i) (object l (i + 1)) (object l (i + 2))
         (object l (i + 3))
         → Begins x l c k s (to_initial i of) k' s'

@@ -1,7 +1,6 @@
 -- What definitions of forms say that the machine reads from words, compared with what an emulator
 -- made of them.
-use Rattle.std.specs.Prelude.{◌≡◌, ℕ, ◌-◌, ◌==◌, ◌%◌, ◌^◌, Bool, true, List, map, ◌++◌, ℤ, pos}
-use Rattle.std.specs.Prelude.{◌*ℤ◌}
+use Rattle.std.specs.Prelude.{◌≡◌, ℕ, ◌-◌, ◌==◌, ◌%◌, ◌^◌, true, List, map, ◌++◌, ℤ, pos, ◌*ℤ◌}
 use Rattle.std.specs.Int.{w64, cast_unsigned}
 use Rattle.std.specs.List.{list_all}
 
@@ -17,13 +16,9 @@ abbrev pub words : ℕ → ℕ → List (ℕ × ℕ) → List (ℕ × ℕ) → W
 words unit bits rows below =
     record { unit = unit; bits = bits; rows = rows ++ map (λ row. (row.0, 2 ^ 64 - row.1)) below }
 
--- What is read of a word is what came of it.
-abbrev pub is_read : (ℕ → ℤ) → ℕ → ℕ → ℕ × ℕ → Bool
-is_read reads unit bits row =
-    cast_unsigned w64 (reads row.0 *ℤ pos unit) % 2 ^ bits == row.1 % 2 ^ bits
-
--- That holds for all words.
+-- What is read of each word is what came of it.
 abbrev pub IsComputed : (ℕ → ℤ) → List Words → Type 0
 IsComputed reads tables =
-    list_all (λ (words : Words). list_all (is_read reads words.unit words.bits) words.rows) tables
-    ≡ true
+    list_all (λ (words : Words). list_all (λ row.
+    cast_unsigned w64 (reads row.0 *ℤ pos words.unit) % 2 ^ words.bits == row.1 % 2 ^ words.bits)
+    words.rows) tables ≡ true

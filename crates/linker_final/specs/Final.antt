@@ -201,14 +201,10 @@ IsLinkCause architecture output facts groups kept addresses symbols relocations 
     relocations_after bytes)
     × IsWritingCause architecture output facts kept addresses relocations_after symbols bytes error
 
--- what a phase deletes
-abbrev pub deletions_in : RewritingPhase → List (ℕ × ℕ)
-deletions_in p = deletions_by p.relocations p.decisions (count_of p)
-
 -- An array begins with what a phase deletes, and is as before after that.
 pub record AreListed (p : RewritingPhase) (before after : List Deletion) : Type 0 where
   pub len : ℕ
-  pub listed : take len (pairs_in after) ≡ deletions_in p
+  pub listed : take len (pairs_in after) ≡ deletions_by p.relocations p.decisions (count_of p)
   pub others : drop len after ≡ drop len before
 
 -- why a section isn't linked in two phases, and what is in an array for what the second one deletes
@@ -339,13 +335,11 @@ IsPhase x = IsPhaseIn x.phases x
 abbrev pub offset_of : Linked → ℕ → ℕ
 offset_of l i = (relocation_in l.relocations i).offset
 
--- a byte that the instruction of a relocation, of 4 bytes, doesn't have unless the relocation stays
-abbrev pub IsBeside : Linked → ℕ → ℕ → Type 0
-IsBeside l b i =
-    decision_at l.decisions i ≢ Kept → (b < offset_of l i) ⊎ (offset_of l i + 4 ≤ b)
-
+-- a byte that no instruction of a relocation, of 4 bytes, has unless the relocation stays
 abbrev pub IsBesideAll : Linked → ℕ → Type 0
-IsBesideAll l b = (i : ℕ) → i < count l → IsBeside l b i
+IsBesideAll l b =
+    (i : ℕ) → i < count l
+    → decision_at l.decisions i ≢ Kept → (b < offset_of l i) ⊎ (offset_of l i + 4 ≤ b)
 
 -- ---- an architecture
 

@@ -3,6 +3,7 @@ pub use Rattle.linker_base.specs.Bits.{field}
 pub use Rattle.linker_elf.specs.Applied.{IsApplied}
 pub use Rattle.linker_elf.specs.Architectures.{IsRow}
 pub use Rattle.linker_elf.specs.ElfNames.{IsNameOf, IsNamed, r_type_of}
+pub use Rattle.linker_elf.specs.LoongArch.{five_instructions, loongarch_form, upper_and_lower_value}
 pub use Rattle.linker_elf.specs.LoongArchRelocations.{loongarch_name, loongarch_row}
 pub use Rattle.linker_elf.specs.Relocate.{number_of_bytes, window_len}
 pub use Rattle.linker_elf.specs.RiscV.{riscv_form}
@@ -13,6 +14,10 @@ pub use Rattle.linker_elf.specs.declared.elf.architecture.Architecture.{Architec
 pub use Rattle.linker_elf.specs.declared.elf.architecture.Architecture.TheVariants.{Ppc64}
 pub use Rattle.linker_elf.specs.declared.elf.choice.Choice.{Choice}
 pub use Rattle.linker_elf.specs.declared.elf.value.Operands.{Operands}
+pub use Rattle.linker_elf.specs.declared.loongarch64.forms.LoongArch64Instruction.TheVariants.{Branch21}
+pub use Rattle.linker_elf.specs.declared.loongarch64.forms.LoongArch64Instruction.TheVariants.{Branch26}
+pub use Rattle.linker_elf.specs.declared.loongarch64.forms.LoongArch64Instruction.TheVariants.{Shift10}
+pub use Rattle.linker_elf.specs.declared.loongarch64.forms.LoongArch64Instruction.TheVariants.{Shift5}
 pub use Rattle.linker_elf.specs.declared.loongarch64.relocations.LoongArch64Relocation.{LoongArch64Relocation}
 pub use Rattle.linker_elf.specs.declared.riscv64.forms.RiscVInstruction.{RiscVInstruction}
 pub use Rattle.linker_elf.specs.declared.riscv64.forms.RiscVInstruction.TheVariants.{BType, CbType}

@@ -293,18 +293,18 @@ HaveMadeAddress p here x =
 -- From states that are alike, each before its own instructions, words end so: the object's
 -- `pcalau12i` and `addi.d` at an offset, with the values of their relocations, and final ones.
 abbrev pub SumsEnd : Packed → ℕ → ℕ → List ℕ → (Operands → machine.State → machine.State → Type 0) → Type 0
-SumsEnd p o at final P =
+SumsEnd p o at words P =
     (x : Operands) → AreAddresses x → (pcala addi : List ℕ) → Fits32 names.R_LARCH_PCALA_HI20 x
     → IsRelocated names.R_LARCH_PCALA_HI20 x (take 4 (drop o p.section.bytes)) pcala
     → IsRelocated names.R_LARCH_PCALA_LO12 (following 4 x)
     (take 4 (drop (o + 4) p.section.bytes)) addi
     → (s t : machine.State) → s.pc ≡ x.place → t.pc ≡ at → AreAlikeBut no_register s t
-    → EndSo (pair pcala addi) s final t (P x)
+    → EndSo (pair pcala addi) s words t (P x)
 
 -- The same where the object had an `ld.d` of a GOT entry, which holds the address of the symbol,
 -- and `LdToAddi` has made the `addi.d` of it.
 abbrev pub LoadsEnd : Packed → ℕ → ℕ → List ℕ → (Operands → machine.State → machine.State → Type 0) → Type 0
-LoadsEnd p o at final P =
+LoadsEnd p o at words P =
     (x : Operands) → AreAddresses x → (ld pcala_of_entry ld_of_entry : List ℕ)
     → IsLd (word_of ld)
     → IsRewritten kinds.LdToAddi ld (take 4 (drop (o + 4) p.section.bytes))
@@ -312,7 +312,7 @@ LoadsEnd p o at final P =
     (take 4 (drop o p.section.bytes)) ld pcala_of_entry ld_of_entry
     → (s t : machine.State) → loaded 8 s.memory (entry_and_addend x) ≡ symbol_address x
     → s.pc ≡ x.place → t.pc ≡ at → AreAlikeBut no_register s t
-    → EndSo (pair pcala_of_entry ld_of_entry) s final t (P x)
+    → EndSo (pair pcala_of_entry ld_of_entry) s words t (P x)
 
 abbrev pub EachPcala : (Packed → ℕ → site → Type 0) → Type 0
 EachPcala Holds =
@@ -358,8 +358,8 @@ LongCallsStay =
     → (x : Operands) → AreAddresses x → (original : List ℕ)
     → Relocated (loongarch_row names.R_LARCH_CALL36) x (drop o p.section.bytes) original
     → (s t : machine.State) → s.pc ≡ x.place → t.pc ≡ y.place → AreAlikeBut no_register s t
-    → let final = take 8 (drop (place_of p o) p.final) in
-    EndSo (pair original (drop 4 original)) s (pair final (drop 4 final)) t
+    → let call = take 8 (drop (place_of p o) p.final) in
+    EndSo (pair original (drop 4 original)) s (pair call (drop 4 call)) t
     (HaveCalled (destination p.section.bytes o) (rd_of (word_at p.section.bytes o))
     (sum_64 x.place 8) (sum_64 y.place 8) (plt_address x) (plt_address y)))
 

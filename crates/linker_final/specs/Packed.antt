@@ -4,24 +4,20 @@ use Rattle.std.specs.Prelude.{◌≡◌, ◌≢◌, ℕ, ◌+◌, ◌-◌, ◌/�
 use Rattle.std.specs.Prelude.{slice_index, IsTrue, Ok, Some, true, false, ℤ, ◌⊎◌, ◌%◌, MatchOption}
 use Rattle.std.specs.Prelude.{None, pos, ◌+ℤ◌, ◌*ℤ◌, slice_get, IsSomeAnd, Option, Bool}
 use Rattle.linker_final.specs.Imports.{Addresses, Architecture, AreAddresses, AreItems, AreMoved}
-use Rattle.linker_final.specs.Imports.{AreWritten, BType, CbType, CjType, IsApplied, IsFirstFault}
-use Rattle.linker_final.specs.Imports.{IsMoved, IsPackedRun, IsRelaxation, IsRow, Item, JType}
-use Rattle.linker_final.specs.Imports.{LoongArch64, LoongArch64Relocation, Operands, RiscV}
-use Rattle.linker_final.specs.Imports.{RiscVInstruction, RiscVRelocation, RowInfo, Site as site}
-use Rattle.linker_final.specs.Imports.{Symbol, deletions_of_run, loongarch_row, number_at}
-use Rattle.linker_final.specs.Imports.{offset_at, operands_with, plt_address, relocation_in}
-use Rattle.linker_final.specs.Imports.{riscv_form, riscv_row, section_of, sum_64, symbol_address}
-use Rattle.linker_final.specs.Imports.{value_of, window_len}
+use Rattle.linker_final.specs.Imports.{AreWritten, BType, Branch21, Branch26, CbType, CjType}
+use Rattle.linker_final.specs.Imports.{IsApplied, IsFirstFault, IsMoved, IsPackedRun, IsRelaxation}
+use Rattle.linker_final.specs.Imports.{IsRow, Item, JType, LoongArch64, LoongArch64Relocation}
+use Rattle.linker_final.specs.Imports.{Operands, RiscV, RiscVInstruction, RiscVRelocation, RowInfo}
+use Rattle.linker_final.specs.Imports.{Shift10, Shift5, Site as site, Symbol, deletions_of_run}
+use Rattle.linker_final.specs.Imports.{loongarch_form, loongarch_row, number_at, offset_at}
+use Rattle.linker_final.specs.Imports.{operands_with, plt_address, relocation_in, riscv_form}
+use Rattle.linker_final.specs.Imports.{riscv_row, section_of, sum_64, symbol_address, value_of}
+use Rattle.linker_final.specs.Imports.{window_len}
 use Rattle.linker_base.specs.Deletions.{is_kept}
 use Rattle.linker_base.specs.declared.bit_misc.BitRange.{BitRange}
-use Rattle.linker_elf.specs.LoongArch.{loongarch_form}
 use Rattle.linker_elf.specs.declared.elf.AnyForm.{AnyForm}
 use Rattle.linker_elf.specs.declared.elf.RowSize.TheVariants.{BitMasking}
 use Rattle.linker_elf.specs.declared.loongarch64.forms.LoongArch64Instruction.{LoongArch64Instruction}
-use Rattle.linker_elf.specs.declared.loongarch64.forms.LoongArch64Instruction.TheVariants.{Branch21}
-use Rattle.linker_elf.specs.declared.loongarch64.forms.LoongArch64Instruction.TheVariants.{Branch26}
-use Rattle.linker_elf.specs.declared.loongarch64.forms.LoongArch64Instruction.TheVariants.{Shift10}
-use Rattle.linker_elf.specs.declared.loongarch64.forms.LoongArch64Instruction.TheVariants.{Shift5}
 use Rattle.linker_final.specs.Final.{AreBytes, ArePhases, HasRewritten, Linked, instruction_at}
 use Rattle.linker_final.specs.declared.packed.PackError.{PackError}
 use Rattle.linker_final.specs.declared.packed.PackError.TheVariants.{Misplaced, Packing, Writing}
@@ -342,10 +338,7 @@ padding_len p alignment = kept_len p.section.deletions (Aligned alignment)
 abbrev pub code_at : Packed → Alignment → ℕ
 code_at p alignment = address_of p.section (end_of (Aligned alignment))
 
--- the indexes of both in the final section
-abbrev pub padding_index : Packed → Alignment → ℕ
-padding_index p alignment = packed_offset p.section alignment.offset
-
+-- the index of that in the final section
 abbrev pub code_index : Packed → Alignment → ℕ
 code_index p alignment = packed_offset p.section (end_of (Aligned alignment))
 
@@ -364,7 +357,8 @@ pub record HoldsIn (p : Packed) (alignment : Alignment) : Type 0 where
   pub there : LeadsInto p alignment
       → sum_64 p.addresses.section (code_index p alignment) ≡ code_at p alignment
   pub next_there : p.section.base ≤ alignment.offset
-      → code_index p alignment ≡ padding_index p alignment + padding_len p alignment
+      → code_index p alignment
+      ≡ packed_offset p.section alignment.offset + padding_len p alignment
 
 -- Each alignment of the run holds in the final section: the code after it is at a multiple of the
 -- alignment, and its padding is the least that leads there, or none where the limit is passed. It

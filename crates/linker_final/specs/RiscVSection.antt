@@ -89,24 +89,6 @@ LoadIsAlike l i NewHas =
     (put rd (symbol_address x) (sum_64 x.place 8)
     (put base (upper_from x.place old.relocated) (sum_64 x.place 4) s))
 
--- ---- low parts of offsets from the thread pointer
-
--- An instruction adds the low part of an offset to a register with the thread pointer's number. It
--- is a group, with what new has.
-abbrev pub LowPartIsAlike : Linked → ℕ → (Operands → Code → Type 0) → Action → Type 0
-LowPartIsAlike l i NewHas =
-    LowPartBy offset_row thread_offset (λ s. s.registers tp) (λ k. k.registers tp ≡ same) NewHas
-    (instruction_at l.section (relocation_in l.relocations i).offset)
-
--- In the context by which rewrites were chosen, the offset of a thread-local symbol is a number of
--- 12 bits.
-abbrev pub OffsetIsLow : Linked → ℕ → RowInfo → Type 0
-OffsetIsLow l i row =
-    let r = relocation_in l.relocations i in
-    (symbol : Symbol) → slice_get l.context.values r.symbol ≡ Some symbol
-    → symbol.is_thread_local ≡ true
-    → IsLowOffset (operands_with RiscV l.context.addresses row symbol r 0)
-
 -- ---- what is deleted before them
 
 -- the four bytes of an instruction
@@ -202,14 +184,19 @@ AddressIsAlike l high n Said NewHas =
 
 -- ---- of what is left by the call that rewrites
 
--- of every instruction of such an offset: the choice tested it
+-- In the context by which rewrites were chosen, the offset of a thread-local symbol is a number of
+-- 12 bits, of every instruction of such an offset: the choice tested it.
 abbrev pub OffsetsAreLowOf : RiscVRelocation → Type 0
 OffsetsAreLowOf name =
     (l : Linked) → AreRewritten l → l.context.architecture ≡ RiscV
     → (i : ℕ) (chosen : Choice Relaxation ℕ) → i < count l
     → IsNameOf riscv_name (relocation_in l.relocations i).r_type name
     → decision_at l.decisions i ≡ Rewritten chosen
-    → IsSomeAnd (riscv_row names.R_RISCV_TPREL_LO12_I) (OffsetIsLow l i)
+    → IsSomeAnd (riscv_row names.R_RISCV_TPREL_LO12_I) (λ row.
+    let r = relocation_in l.relocations i in
+    (symbol : Symbol) → slice_get l.context.values r.symbol ≡ Some symbol
+    → symbol.is_thread_local ≡ true
+    → IsLowOffset (operands_with RiscV l.context.addresses row symbol r 0))
 
 abbrev pub OffsetsAreLow : Type 0
 OffsetsAreLow =
@@ -344,10 +331,13 @@ HasLow l new i j =
 
 -- ---- their laws
 
--- of a low part: a store with the relocation of stores
+-- of an instruction that adds the low part of an offset to a register with the thread pointer's
+-- number: a store has the relocation of stores
 abbrev pub low_law : RiscVRelocation → (l : Linked) → ℕ → New l → Action → Type 0
 low_law name l i new action =
-    LowPartIsAlike l i (λ y c. HasOwn l new name (offset_row action) i y c.new y.place) action
+    LowPartBy offset_row thread_offset (λ s. s.registers tp) (λ k. k.registers tp ≡ same)
+    (λ y c. HasOwn l new name (offset_row action) i y c.new y.place)
+    (instruction_at l.section (offset_of l i)) action
 
 abbrev pub law : (l : Linked) (i : ℕ) → Lawful l i → New l → Type 0
 law l i (load j of alone) new =
@@ -451,9 +441,14 @@ after_base register section o = rewritten (Some (rewrites_word (with_rs1 registe
 -- A low part is a group. Old's base has what the high part leaves, and its relocation has a row and
 -- a number as its value. New's base has its address, and the value is the distance of S + A from
 -- it. What the instruction does with S + A keeps agreement.
-abbrev pub FromBase : (Action → Option RowInfo) → (Operands → ℕ) → List ℕ → ℕ → ℕ → Action → Type 0
-FromBase row number section o gp action =
-    let word = word_at section o in
+-- This holds of every instruction that `rewrite_global_pointer` takes for one, of a `lui` or of an
+-- `auipc`.
+abbrev pub PartsFromBase : (Action → Option RowInfo) → (Operands → ℕ) → Type 0
+PartsFromBase row number =
+    (section : List ℕ) (o gp : ℕ) → gp < 2 ^ 64 → o + 4 ≤ length section
+    → let word = word_at section o in
+    is_low_word word ≡ true
+    → IsSomeAnd (action_at section o) (λ action.
     (c : Code) (x y : Operands) (base : ℕ × ℕ) (k k' : Kinds) (s : State)
     → base_for gp (symbol_address x) ≡ Some base
     → symbol_address y ≡ difference_64 (symbol_address x) (base.1)
@@ -464,15 +459,7 @@ FromBase row number section o gp action =
     → Has 4 c.new y.place (low_row action) y (drop o (after_base (base.0) section o))
     → let after = uses action word (symbol_address x) in
     ((t : State) → Agree (link c) k s t → Agree (link c) k' (after s) (after t))
-    → Group (of_link (link c)) 1 k s k' (after s)
-
--- of every instruction that `rewrite_global_pointer` takes for a low part, of a `lui` or of an
--- `auipc`
-abbrev pub PartsFromBase : (Action → Option RowInfo) → (Operands → ℕ) → Type 0
-PartsFromBase row number =
-    (section : List ℕ) (o gp : ℕ) → gp < 2 ^ 64 → o + 4 ≤ length section
-    → is_low_word (word_at section o) ≡ true
-    → IsSomeAnd (action_at section o) (FromBase row number section o gp)
+    → Group (of_link (link c)) 1 k s k' (after s))
 
 abbrev pub LowPartsFromBase : Type 0
 LowPartsFromBase = PartsFromBase low_row symbol_address × PartsFromBase labelled_row distance
@@ -531,10 +518,10 @@ IsOfCall name = (name ≡ names.R_RISCV_CALL) ⊎ (name ≡ names.R_RISCV_CALL_P
 -- Old has a call, `auipc` and `jalr`, with the value of its relocation, in a layout of its own. New
 -- has n bytes of final ones, which are m instructions, and leads to a target. They are a group.
 abbrev pub CallIsAlike : List ℕ → Operands → ℕ → ℕ → ℕ → List ℕ → RiscVRelocation → Type 0
-CallIsAlike call y n m target final name =
+CallIsAlike call y n m target code name =
     (c : Code) (x : Operands) (k : Kinds) (s : State) → AreAddresses x → AreBefore c 8 n x y s
     → target ≡ c.moved (even plt_address x) → (old : Has 8 c.old x.place (riscv_row name) x call)
-    → Stands n c.new y.place final → IsCall c m x k s call old.relocated
+    → Stands n c.new y.place code → IsCall c m x k s call old.relocated
 
 -- the call at an offset of the section
 abbrev pub call_at : Packed → ℕ → List ℕ

@@ -162,7 +162,8 @@ pub fn loongarch64_sections()
 /// rewritten, or of a call with the `nop` after it. New is any code that has the final bytes there,
 /// or what a phase left with its relocation applied, as code between phases has: what two of them
 /// rewrite is a group of both (`linker_laws::simulation::runs`). Which relocation a rewrite leaves
-/// is a law, too, and which phase alone rewrites it again.
+/// is a law, too, and that a phase rewrites only what has one of the names that it lists, as
+/// `rewrite_section` lists them: so it is known in which phase that is rewritten again, or in none.
 pub fn ppc64_sections()
     ensures places { final_bytes.EachPlace ppc64_section.rewriting }
     ensures groups { final_bytes.RewritesAreGroups ppc64_section.rewriting }
