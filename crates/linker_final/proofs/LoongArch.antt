@@ -164,8 +164,7 @@ pub shown : {Q : Type 0} {name : LoongArch64Relocation} {section : List ℕ} {o 
     (by : IsByTable name section o chosen)
     → Cases Q
     (λ e. IsOfEntry loongarch_name relaxations.LoongArch64 (LoongArchApplies name section o by.facts) e chosen)
-    (loongarch_entries name)
-    → Q
+    (loongarch_entries name) → Q
 shown {Q} {name} {section} {o} {chosen} by = by_cases (LoongArchApplies name section o by.facts) chosen (loongarch_entries name) by.one
 
 module _ (l : Linked) (all : AreDecidedIn l.context l.kept l.relocations l.section l.decisions (count l))
@@ -536,8 +535,7 @@ module _ (groups : Groups) (l : Linked) (made : AreRewritten l) (loongarch : l.c
       record {
         writable = high_offset;
         left = left_by l made i chosen below decided kinds.PcalaToLu12i names.R_LARCH_TLS_LE_HI20 name by;
-        group = λ alone u y after made_so.
-            groups.high_halves u y (before l i) (rewritten l i) after
+        group = λ alone u y after made_so. groups.high_halves u y (before l i) (rewritten l i) after
             (subst IsPcalau12i (word_same l.section (offset_of l i)) (by.pattern.1))
             (becomes_by l made i chosen below decided kinds.PcalaToLu12i names.R_LARCH_TLS_LE_HI20 name by (λ word. 0x14000000 + rd_of word) refl)
             made_so;
@@ -552,8 +550,7 @@ module _ (groups : Groups) (l : Linked) (made : AreRewritten l) (loongarch : l.c
       record {
         writable = low_offset;
         left = left_by l made i chosen below decided kinds.LowToOri names.R_LARCH_TLS_LE_LO12 name by;
-        group = λ alone u y after made_so.
-            groups.low_halves u y (before l i) (rewritten l i) after
+        group = λ alone u y after made_so. groups.low_halves u y (before l i) (rewritten l i) after
             (subst IsLd (word_same l.section (offset_of l i)) (by.pattern.1))
             (becomes_by l made i chosen below decided kinds.LowToOri names.R_LARCH_TLS_LE_LO12 name by (λ word. 0x03800000 + field word 0 10) refl)
             made_so;
@@ -597,8 +594,7 @@ module _ (groups : Groups) (l : Linked) (made : AreRewritten l) (loongarch : l.c
       record {
         writable = part_offset;
         left = left_by l made i chosen below decided kinds.BaseToTp name name by;
-        group = λ alone u y after made_so.
-            groups.low_offsets u y (before l i) (rewritten l i) after
+        group = λ alone u y after made_so. groups.low_offsets u y (before l i) (rewritten l i) after
             (subst (λ word. IsTrue (adds_low12 (word / 2 ^ 22))) (word_same l.section (offset_of l i)) (by.pattern.1.0))
             (becomes_by l made i chosen below decided kinds.BaseToTp name name by (λ word. word - rj_of word * 2 ^ 5 + tp * 2 ^ 5) refl)
             made_so;
@@ -719,8 +715,7 @@ module _ (groups : Groups) (l : Linked) (made : AreRewritten l) (loongarch : l.c
       record {
         writable = tt;
         left = left_by l made i chosen below decided kinds.ReplaceWithNop names.R_LARCH_NONE name is;
-        group = λ alone u y after made_so.
-            subst (LoadOfDescriptor (before l i)) (sym made_so)
+        group = λ alone u y after made_so. subst (LoadOfDescriptor (before l i)) (sym made_so)
             (groups.descriptor_loads (before l i) (rewritten l i) (subst IsLoadOfDescriptor (word_same l.section (offset_of l i)) (is.pattern.1))
             (becomes_by l made i chosen below decided kinds.ReplaceWithNop names.R_LARCH_NONE name is (λ _. 0x03400000) refl));
       }
@@ -734,8 +729,7 @@ module _ (groups : Groups) (l : Linked) (made : AreRewritten l) (loongarch : l.c
       record {
         writable = tt;
         left = left_by l made i chosen below decided kinds.ReplaceWithNop names.R_LARCH_NONE name is;
-        group = λ alone u y after made_so.
-            subst (CallOfDescriptor (before l i)) (sym made_so)
+        group = λ alone u y after made_so. subst (CallOfDescriptor (before l i)) (sym made_so)
             (groups.descriptor_calls (before l i) (rewritten l i) (subst IsCallOfDescriptor (word_same l.section (offset_of l i)) (is.pattern.1))
             (becomes_by l made i chosen below decided kinds.ReplaceWithNop names.R_LARCH_NONE name is (λ _. 0x03400000) refl));
       }

@@ -134,8 +134,7 @@ far calls link x before code is r small s at =
     let p = word_of code in
     let q = word_of (drop 4 code) in
     let u = set n (far_address p s) s in
-    let first : step p s ≡ Some u =
-    rw (decodes_far p c.far, c.far_rd, ne_eqb n 0 named) in
+    let first : step p s ≡ Some u = rw (decodes_far p c.far, c.far_rd, ne_eqb n 0 named) in
     let second : step q u ≡ Some (go_to (register_target q u) (write link (next_pc u) u)) =
     ap (λ i. execute i q u) (decodes_jirl q c.jumps) ∙ ap (λ m. Some (go_to (register_target q u) (write m (next_pc u) u))) c.links in
     record {
@@ -144,9 +143,7 @@ far calls link x before code is r small s at =
       keeps = λ m e f. write_others link (next_pc u) m u e ∙ set_others n (far_address p s) m s f;
       floats = write_is (λ (x : Processor). x.floats) link (next_pc u) u refl;
       memory = write_is (λ (x : Processor). x.memory) link (next_pc u) u refl;
-      links = λ some.
-          write_back link (next_pc u) u some
-          ∙ ap (λ a. sum_64 (sum_64 a 4) 4) at
+      links = λ some. write_back link (next_pc u) u some ∙ ap (λ a. sum_64 (sum_64 a 4) 4) at
           ∙ (let e : sum_64 (sum_64 x.place 4) 4 ≡ sum_64 x.place 8 = omega arith in e);
       at_target = target_is x n p q s code (new_first link x before code is r) (new_second link x before code is r) refl refl c.base named at (calls x small x.place before code r.applied tt);
     }

@@ -331,14 +331,12 @@ needed_least power address n some fewer none =
       | inl rest ↦
           let need : needed power address ≡ power - r = mod-eq_of_lt (omega (arith, rest, below)) in
           let split : address + n ≡ address / power * power + (r + n) = omega (arith, div-add-mod' address power) in
-          let is : (address + n) % power ≡ r + n =
-          ap (λ m. m % power) split
+          let is : (address + n) % power ≡ r + n = ap (λ m. m % power) split
           ∙ mod-mul-add (address / power) power (r + n) (omega (arith, fewer, need, below)) in
           omega (arith, none, is, rest)
       | inr nothing ↦
           let at : r ≡ 0 = omega (arith, nothing) in
-          let need : needed power address ≡ 0 =
-          ap (λ m. (power - m) % power) at
+          let need : needed power address ≡ 0 = ap (λ m. (power - m) % power) at
           ∙ ap (λ m. m % power) (let e : power - 0 ≡ power = omega arith in e) ∙ mod_self power in
           omega (arith, fewer, need)
     ]

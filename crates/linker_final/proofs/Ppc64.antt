@@ -189,8 +189,7 @@ module _ (l : Linked) (linked : IsLinked l) (ppc64 : l.context.architecture ≡ 
       → UntouchedBytes l i became.offset n → (symbol : Symbol) → slice_get l.symbols became.symbol ≡ Some symbol → (got : ℕ)
       → operands_by Ppc64 l.addresses a.row became symbol
       (entry_address l.addresses symbol (entry_of a.row became.addend symbol.is_thread_local))
-      ≡ Ok (operands_with Ppc64 l.addresses a.row symbol became got)
-      → (o : Operands)
+      ≡ Ok (operands_with Ppc64 l.addresses a.row symbol became got) → (o : Operands)
       → value_of a.row o ≡ value_of a.row (operands_with Ppc64 l.addresses a.row symbol became got)
       → IsRelocated name o (take n (drop became.offset l.rewritten)) (take n (drop became.offset l.final))
   applied_there n some name a code left symbol is_symbol got entry_is o same =

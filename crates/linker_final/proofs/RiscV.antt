@@ -361,8 +361,7 @@ by_test s section r chosen c value is_value thread_local known is =
     rw (← (ap (address_in s.addresses) same ∙ address_is s.addresses value thread_local)) low
 
 module _ (name : RiscVRelocation) (named : IsNamed (riscv_name name)) (kind : RewriteKind)
-    (after : RiscVRelocation)
-    (entries : riscv_entries name ≡ (entry kind after by_low_offset ∷ []))
+    (after : RiscVRelocation) (entries : riscv_entries name ≡ (entry kind after by_low_offset ∷ []))
     (unlabelled : (phase : Phase) → is_labelled (riscv_scope_in phase name) ≡ false) where
   not_labelled : (phase : Phase) (code : ℕ) → IsNameOf riscv_name code name
       → IsScopeIn RiscV phase code Labelled → ⊥

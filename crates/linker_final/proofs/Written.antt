@@ -188,8 +188,7 @@ by_own there row v number some is = cc (lt-ltb 0 (field_len row there) some)
 
 module _ (found : Found) (bytes section : List ℕ) (number : ℤ) (i : ℕ) (row : RowInfo)
     (v : ℤ) (is : found i ≡ Some (row, v)) (one : (m : ℤ) → composed_with row.kind v m ≡ v)
-    (some : 0 < field_len row (drop (offset_at bytes i) section))
-    (total : ℕ)
+    (some : 0 < field_len row (drop (offset_at bytes i) section)) (total : ℕ)
     (far : (j : ℕ) (other : RowInfo) (w : ℤ) → j < total → (j ≡ i → ⊥)
     → found j ≡ Some (other, w) → offset_at bytes j ≡ offset_at bytes i
     → 0 < field_len other (drop (offset_at bytes i) section) → ⊥) where
@@ -284,8 +283,7 @@ module _ (architecture : Architecture) (addresses : Addresses) (bytes : List ℕ
 
 module _ (architecture : Architecture) (addresses : Addresses) (bytes : List ℕ)
     (symbols : List Symbol) (r : Rela) (row : RowInfo)
-    (is_row : IsRow architecture r.r_type (Some row))
-    (valued : has_value row.kind ≡ true)
+    (is_row : IsRow architecture r.r_type (Some row)) (valued : has_value row.kind ≡ true)
     (unlabelled : names_label row.size row.kind ≡ false) where
   of_operands : (result : Result (Option ℤ) ValueError)
       → IsValueIn architecture addresses bytes symbols r (Some row) result
@@ -304,8 +302,7 @@ module _ (architecture : Architecture) (addresses : Addresses) (bytes : List ℕ
 
 module _ (architecture : Architecture) (addresses : Addresses) (bytes : List ℕ)
     (symbols : List Symbol) (r : Rela) (row : RowInfo) (operands : Operands)
-    (is_row : IsRow architecture r.r_type (Some row))
-    (valued : has_value row.kind ≡ true)
+    (is_row : IsRow architecture r.r_type (Some row)) (valued : has_value row.kind ≡ true)
     (unlabelled : names_label row.size row.kind ≡ false)
     (taken : operands_of architecture addresses symbols row r ≡ Ok operands)
     (some : IsSomeAnd (value_of row operands) (λ _. ⊤)) where
@@ -315,8 +312,7 @@ module _ (architecture : Architecture) (addresses : Addresses) (bytes : List ℕ
   of_value false value same = let both : Ok value ≡ Ok (value_of row operands) = same in cc
 
   pub found_is : (found : Option (RowInfo × ℤ))
-      → IsRowValue architecture addresses bytes symbols r (Ok found)
-      → IsFoundOf row operands found
+      → IsRowValue architecture addresses bytes symbols r (Ok found) → IsFoundOf row operands found
   found_is =
       found_by architecture addresses bytes symbols r row is_row operands
       (λ value is.
@@ -830,8 +826,7 @@ spared l i d is none b =
 module _ (l : Linked) (rewriting : AreRewritten l) (i : ℕ) (chosen : Choice Relaxation ℕ)
     (below : i < count l) (decided : decision_at l.decisions i ≡ Rewritten chosen) where
   pub relocation_is : (rewrite : Option Rewrite) (code : ℕ) → relaxation_rewrite chosen.kind ≡ rewrite
-      → chosen.relocation ≡ code
-      → relocation_in l.relocations_after i
+      → chosen.relocation ≡ code → relocation_in l.relocations_after i
       ≡ rela (offset_after rewrite (rela_at l i).offset) code (rela_at l i).symbol (addend_after rewrite (rela_at l i).addend)
   relocation_is rewrite code is r_type_is =
       rw (decided, is, r_type_is) at (rewriting.relocations i below)
@@ -1057,9 +1052,7 @@ module _ (architecture : Architecture) (addresses : Addresses) (bytes : List ℕ
   by_row value is =
       let of = subst (λ s. IsLowValue architecture addresses bytes symbols low s (Ok value)) is_label
       (subst (λ labels. IsValueBy labels architecture addresses bytes symbols low r (Ok value)) labelled is) in
-      by_high (of.0)
-      (rw (← labels, ← of_low) (of.1))
-      (Ok value) value refl (of.2)
+      by_high (of.0) (rw (← labels, ← of_low) (of.1)) (Ok value) value refl (of.2)
 
   pub low_found : (found : Option (RowInfo × ℤ))
       → IsRowValue architecture addresses bytes symbols r (Ok found)

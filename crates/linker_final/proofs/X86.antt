@@ -136,8 +136,7 @@ module _ (opcode k : ℕ) where
               ∙ (ap (λ zs. zs ++ drop (o - 3 + 3) bytes) (sym (append_assoc (take (o - 3) bytes) (x ∷ []) ys))
               ∙ (ap (λ zs. zs ++ ys ++ drop (o - 3 + 3) bytes) front
               ∙ ap (λ zs. take (o - 2) bytes ++ ys ++ zs) rest));
-          same_made = λ before after o starts ends long is_made.
-              ap (drop 1)
+          same_made = λ before after o starts ends long is_made. ap (drop 1)
               (sym (window_of_one after o starts (omega (arith, ends, long)))
               ∙ (is_made ∙ written before o starts ends));
           outer = λ o at starts long from outside.
@@ -285,8 +284,7 @@ module _ (name : X86_64Relocation) (section : List ℕ) (o : ℕ) (facts : LinkF
     (changed : named ≡ choice kinds.NoOp name → ⊥) (pattern : List Original) where
   by_first : (es : List X86Entry)
       → IsFirst (Applies (HasPattern pattern) x86_64_row x86_64_after section o facts) es
-      (choice kinds.NoOp name) named
-      → IsOfOne pattern es section o addend chosen
+      (choice kinds.NoOp name) named → IsOfOne pattern es section o addend chosen
   by_first [] is = absurd (changed is)
   by_first (e ∷ es) (inl this) =
       inl (record {
@@ -496,8 +494,7 @@ of_choice {n} {name} {held} {t} {section} {o} {addend} {chosen} serves =
 
 -- one of two tables
 either : (n : ℕ) (name : X86_64Relocation) (held : Operands → ℕ) (b : Bool) (t u : Table)
-    → TableServes n name held t → TableServes n name held u
-    → TableServes n name held (cond b t u)
+    → TableServes n name held t → TableServes n name held u → TableServes n name held (cond b t u)
 either n name held true t u x y = x
 either n name held false t u x y = y
 
@@ -542,8 +539,7 @@ module _ (n : ℕ) (name : X86_64Relocation) where
   -- an offset from the thread pointer
   offset : (kind : RewriteKind) → AreOf n 4 (x86_64_originals kind)
       → x86_64_relocation_after kind name ≡ Some names.R_X86_64_TPOFF32
-      → LiesWithin n (x86_64_rewrite kind)
-      → Law n (x86_64_originals kind) name kind thread_offset
+      → LiesWithin n (x86_64_rewrite kind) → Law n (x86_64_originals kind) name kind thread_offset
       → TableServes n name thread_offset (x86.any_entry (x86.local_exec_by kind ∷ []))
   offset kind shaped after inside law =
       record {
@@ -788,8 +784,7 @@ module _ (n : ℕ) (row : RowInfo) (plain : IsPlain n row) (operands was : Opera
               (omega (arith, wide, length-drop p bytes, field.inside, long, same_length)) field.accepted;
           written = subst (λ size. IsWritten size row.kind v (drop p bytes) (drop p final)) (sym plain.size) written;
         };
-        whole = sym (take-append-drop p final)
-            ∙ ap (λ xs. xs ++ drop p final)
+        whole = sym (take-append-drop p final) ∙ ap (λ xs. xs ++ drop p final)
             (same_windows 0 p final bytes long (λ at from below. sym (outside at (inl (omega (arith, below))))));
       }
 
@@ -1001,8 +996,7 @@ module _ (l : Linked) (i back end : ℕ) (kind : RewriteKind) (is : HasRewrite l
     pub unrelocated : is.chosen.relocation ≡ 0 → rewritten (x86_64_rewrite kind) object (offset_of l i) ≡ l.final
     unrelocated code =
         let none : (relocation_in l.relocations_last i).r_type ≡ 0 = ap (λ (x : Rela). x.r_type) r_after ∙ code in
-        object_rewritten
-        ∙ ext_get_or 0 between l.final between_length
+        object_rewritten ∙ ext_get_or 0 between l.final between_length
         (λ at below. between_same at (λ from less row is_field.
         absurd (no_field l i (relocation_in l.relocations_last i) refl (bytes_row NoValue 0)
         (subst (λ code. IsRowOf l.context.architecture code (bytes_row NoValue 0)) (sym none) (row_of l is.x86 names.R_X86_64_NONE tt (bytes_row NoValue 0) refl))
@@ -1516,8 +1510,7 @@ module _ (n : ℕ) (read : ℕ → ℕ) (block_row thread_row : RowInfo)
       of_object.rest base.rest addresses
       (subst (λ x. IsApplied block_row (counted_from x operands) (drop (offset_of l i) object) of_object.rest) origin
       of_object.applied)
-      base.applied
-      ∙ ap (λ zs. sum_64 pointer (read (number_of_bytes n zs))) {x = base.rest}
+      base.applied ∙ ap (λ zs. sum_64 pointer (read (number_of_bytes n zs))) {x = base.rest}
       (sym (rest_is thread_row counted (offset_of l i) object l.final base room)))
 
 -- ---- both lengths
@@ -1552,8 +1545,7 @@ Lawful l i chosen name = (w : Window) × IsLawful l i chosen name w
 abbrev CallLaw : ℕ → ℕ → ℕ → RewriteKind → Type 0
 CallLaw back its_call count kind =
     (c : Code) (s : State) (section original : List ℕ) (o : ℕ) (operands : Operands)
-    → IsBefore back section o operands (seen s)
-    → x86_64_matches kind section o
+    → IsBefore back section o operands (seen s) → x86_64_matches kind section o
     → IsRelocated names.R_X86_64_TLSLD operands o section original
     → Stands c.old s.pc (back + 4) (drop (o - back) original)
     → Stands c.new s.pc (back + (4 + its_call)) (drop (o - back) (rewritten (x86_64_rewrite kind) section o))
@@ -1659,8 +1651,7 @@ module _ (l : Linked) (linked : IsLinked l) (x86 : l.context.architecture ≡ X8
     module_law count law code addend symbol entry c s there =
         law c s object_call there.original (offset_of l i) (operands_with X86_64 l.addresses tls_module_row symbol (rela_at l i) entry)
         (before l i back (4 + its_call) kind has_call names.R_X86_64_TLSLD _ c s there addend) matches there.applied
-        there.old
-        (rw (unrelocated l i back (4 + its_call) kind has_call code) there.new)
+        there.old (rw (unrelocated l i back (4 + its_call) kind has_call code) there.new)
 
 -- ---- general-dynamic
 
@@ -1740,8 +1731,7 @@ module _ (law : groups.LocalDynamic) (l : Linked) (linked : IsLinked l) (x86 : l
 
 module _ (n : ℕ) (three : 3 ≤ n) (name : X86_64Relocation) (named : IsNamed (x86_64_name name))
     (not_of_got : is_of_got X86_64 (r_type_of (x86_64_name name)) ≡ false)
-    (register_of : List ℕ → ℕ)
-    (shape : AreOf n 4 (lea_of_descriptor n))
+    (register_of : List ℕ → ℕ) (shape : AreOf n 4 (lea_of_descriptor n))
     (of_offset : (bytes : List ℕ) (o : ℕ) → IsTrue (is_one_at (lea_of_descriptor n) bytes o)
     → IsTrue (is_one_at (x86_64_originals (kinds.TlsDescToLocalExec n)) bytes o))
     (of_entry : (bytes : List ℕ) (o : ℕ) → IsTrue (is_one_at (lea_of_descriptor n) bytes o)
