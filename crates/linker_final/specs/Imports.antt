@@ -11,7 +11,7 @@ pub use Rattle.linker_elf.specs.RiscVRelocations.{clui_row, riscv_relocation, ri
 pub use Rattle.linker_elf.specs.Value.{difference_64, sum_64, value_of}
 pub use Rattle.linker_elf.specs.declared.elf.RowInfo.{RowInfo}
 pub use Rattle.linker_elf.specs.declared.elf.architecture.Architecture.{Architecture}
-pub use Rattle.linker_elf.specs.declared.elf.architecture.Architecture.TheVariants.{Ppc64}
+pub use Rattle.linker_elf.specs.declared.elf.architecture.Architecture.TheVariants.{Ppc64, RiscV}
 pub use Rattle.linker_elf.specs.declared.elf.choice.Choice.{Choice}
 pub use Rattle.linker_elf.specs.declared.elf.value.Operands.{Operands}
 pub use Rattle.linker_elf.specs.declared.loongarch64.forms.LoongArch64Instruction.TheVariants.{Branch21}
@@ -47,7 +47,7 @@ pub use Rattle.linker_runs.specs.Deleting.{deletions_of_run}
 pub use Rattle.linker_runs.specs.Machines.{RiscV64}
 pub use Rattle.linker_runs.specs.Moved.{AreMoved, IsMoved}
 pub use Rattle.linker_runs.specs.Packing.{IsPackedRun, section_of}
-pub use Rattle.linker_runs.specs.declared.packing.Machine.TheVariants.{LoongArch64, RiscV}
+pub use Rattle.linker_runs.specs.declared.packing.Machine.TheVariants.{LoongArch64}
 pub use Rattle.linker_runs.specs.declared.relaxation.Item.{Item}
 pub use Rattle.linker_runs.specs.declared.relaxation.Site.{Site}
 pub use Rattle.linker_section.specs.Relocations.{relocation_in}

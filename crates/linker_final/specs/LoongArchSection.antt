@@ -37,7 +37,6 @@ use Rattle.linker_utils.specs.declared.architecture.Relaxation.TheVariants as re
 use Rattle.linker_utils.specs.declared.loongarch64.rewrites.RewriteKind.TheVariants as kinds
 use Rattle.linker_final.specs.Packed as shorter
 use Rattle.linker_laws.specs.LoongArchMachine as machine
-use Rattle.linker_elf.specs.declared.elf.architecture.Architecture.TheVariants as architectures
 
 -- ---- what is rewritten
 
@@ -341,7 +340,7 @@ pub record StaysAs (p : Packed) (i : ℕ) (name : LoongArch64Relocation) (len : 
 -- what its formula takes
 abbrev pub operands_at : Packed → ℕ → RowInfo → Symbol → Operands
 operands_at p i row symbol =
-    operands_with architectures.LoongArch64 p.addresses row symbol
+    operands_with LoongArch64 p.addresses row symbol
     (relocation_in p.relocations_after i) 0
 
 -- A call at which nothing changes goes in the final section where the formula of its relocation

@@ -7,7 +7,7 @@ use Rattle.linker_final.specs.Imports.{Addresses, Architecture, AreAddresses, Ar
 use Rattle.linker_final.specs.Imports.{AreWritten, BType, Branch21, Branch26, CbType, CjType}
 use Rattle.linker_final.specs.Imports.{IsApplied, IsFirstFault, IsMoved, IsPackedRun, IsRelaxation}
 use Rattle.linker_final.specs.Imports.{IsRow, Item, JType, LoongArch64, LoongArch64Relocation}
-use Rattle.linker_final.specs.Imports.{Operands, RiscV, RiscVInstruction, RiscVRelocation, RowInfo}
+use Rattle.linker_final.specs.Imports.{Operands, RiscVInstruction, RiscVRelocation, RowInfo}
 use Rattle.linker_final.specs.Imports.{Shift10, Shift5, Site as site, Symbol, deletions_of_run}
 use Rattle.linker_final.specs.Imports.{loongarch_form, loongarch_row, number_at, offset_at}
 use Rattle.linker_final.specs.Imports.{operands_with, plt_address, relocation_in, riscv_form}
@@ -28,6 +28,7 @@ use Rattle.linker_runs.specs.Packing.{IsFirstRejected, IsInside, IsNotIn, Sectio
 use Rattle.linker_runs.specs.Packing.{is_fixed, kept_len, nops, packed_offset}
 use Rattle.linker_runs.specs.Relaxing.{end_of, item_at, items_in, len_of, offset_of}
 use Rattle.linker_runs.specs.declared.packing.Machine.{Machine}
+use Rattle.linker_runs.specs.declared.packing.Machine.TheVariants.{RiscV}
 use Rattle.linker_runs.specs.declared.relaxation.Alignment.{Alignment}
 use Rattle.linker_runs.specs.declared.relaxation.Item.TheVariants.{Aligned, Site}
 use Rattle.linker_section.specs.Sections.{IsInNoField}
@@ -60,7 +61,7 @@ count p = length p.relocations_after / 24
 
 abbrev pub architecture_of : Machine → Architecture
 architecture_of (machines.RiscV is_32) = architectures.RiscV
-architecture_of LoongArch64 = architectures.LoongArch64
+architecture_of machines.LoongArch64 = architectures.LoongArch64
 
 -- where the byte at an offset of the section before goes
 abbrev pub place_of : Packed → ℕ → ℕ
@@ -431,7 +432,7 @@ Goes machine row reads unit target =
 abbrev pub RiscVGoes : RiscVRelocation → RiscVInstruction → Type 0
 RiscVGoes name f =
     (is_32 : Bool)
-    → Goes (RiscV is_32) (riscv_row name) (riscv_form f).machine 1 symbol_address
+    → Goes (machines.RiscV is_32) (riscv_row name) (riscv_form f).machine 1 symbol_address
 
 -- each jump and branch of RISC-V that has a relocation, but for calls by two instructions
 abbrev pub RiscVBranchesGo : Type 0
@@ -442,7 +443,7 @@ RiscVBranchesGo =
 
 -- LoongArch (LoongArch Reference Manual, volume 1, "B", "BEQZ", "BEQ", "PCADDI")
 abbrev pub LoongArchGoes : LoongArch64Relocation → LoongArch64Instruction → (Operands → ℕ) → Type 0
-LoongArchGoes name f = Goes LoongArch64 (loongarch_row name) (loongarch_form f).machine 4
+LoongArchGoes name f = Goes machines.LoongArch64 (loongarch_row name) (loongarch_form f).machine 4
 
 -- Each branch of LoongArch that has a relocation, but for calls by two instructions. `pcaddi`
 -- computes the target.

@@ -4,15 +4,14 @@ use Rattle.std.specs.Prelude.{◌≡◌, ◌≢◌, ℕ, ◌<◌, ◌+◌, ◌%�
 use Rattle.std.specs.Prelude.{◌∷◌, length, Option, Some, Result, Ok, IsSomeAnd}
 use Rattle.std.specs.Int.{w64, cast_unsigned, int_rem_euclid}
 use Rattle.linker_final.specs.Imports.{Addresses, AreAddresses, BType, CbType, CjType, IsApplied}
-use Rattle.linker_final.specs.Imports.{IsRow, IsValue, JType, Operands, Rela, RiscVInstruction}
-use Rattle.linker_final.specs.Imports.{RiscVRelocation, RowInfo, Symbol, UiType, clui_row}
-use Rattle.linker_final.specs.Imports.{entry_and_addend, even, number_at, number_of_bytes}
+use Rattle.linker_final.specs.Imports.{IsRow, IsValue, JType, Operands, Rela, RiscV}
+use Rattle.linker_final.specs.Imports.{RiscVInstruction, RiscVRelocation, RowInfo, Symbol, UiType}
+use Rattle.linker_final.specs.Imports.{clui_row, entry_and_addend, even, number_at, number_of_bytes}
 use Rattle.linker_final.specs.Imports.{plt_address, relocation_in, riscv_form, riscv_relocation}
 use Rattle.linker_final.specs.Imports.{riscv_row, symbol_address, without_bit_0, zero}
 use Rattle.linker_elf.specs.Elf.{IsWithin}
 use Rattle.linker_elf.specs.Reach.{reach_of, riscv_pair_bounds}
 use Rattle.linker_elf.specs.Rows.{Bounds}
-use Rattle.linker_elf.specs.declared.elf.architecture.Architecture.TheVariants.{RiscV}
 use Rattle.linker_elf.specs.declared.riscv64.forms.RiscVInstruction.TheVariants.{CluiType, IType}
 use Rattle.linker_elf.specs.declared.riscv64.forms.RiscVInstruction.TheVariants.{SType, UType}
 use Rattle.linker_laws.specs.RiscVRelocationLaws.{low_load, low_store, of_entry, upper_and_low}

@@ -8,10 +8,10 @@ use Rattle.std.specs.Prelude.{if◌then◌else◌}
 use Rattle.linker_final.specs.Imports.{Action, Addresses, Agree, AreAddresses, AreOf, Choice}
 use Rattle.linker_final.specs.Imports.{Decision, Group, Grouped, IsNameOf, Kept, Kind, Kinds}
 use Rattle.linker_final.specs.Imports.{NotRelaxable, Operands, Rela, Relaxation, Relocated}
-use Rattle.linker_final.specs.Imports.{Rewritten, RiscV64, RiscVRelocation, RowInfo, Site as site}
-use Rattle.linker_final.specs.Imports.{State, Symbol, UiType, anything, decision_at, deleted_of}
-use Rattle.linker_final.specs.Imports.{difference_64, entry_and_addend, even, loaded, moved}
-use Rattle.linker_final.specs.Imports.{of_link, offset_at, operands_with, plt_address, put}
+use Rattle.linker_final.specs.Imports.{Rewritten, RiscV, RiscV64, RiscVRelocation, RowInfo}
+use Rattle.linker_final.specs.Imports.{Site as site, State, Symbol, UiType, anything, decision_at}
+use Rattle.linker_final.specs.Imports.{deleted_of, difference_64, entry_and_addend, even, loaded}
+use Rattle.linker_final.specs.Imports.{moved, of_link, offset_at, operands_with, plt_address, put}
 use Rattle.linker_final.specs.Imports.{r_type_of, register, relocation_in, riscv_row, same, stores}
 use Rattle.linker_final.specs.Imports.{stores_float, sum_64, symbol_address, thread_offset}
 use Rattle.linker_final.specs.Imports.{value_of, with_register, word_of}
@@ -19,7 +19,6 @@ use Rattle.linker_base.specs.Rewrite.{rewritten}
 use Rattle.linker_elf.specs.Originals.{HasWord}
 use Rattle.linker_elf.specs.RiscVRelocations.{pair_row, riscv_name}
 use Rattle.linker_elf.specs.declared.elf.RelocationKind.TheVariants.{PltRelative}
-use Rattle.linker_elf.specs.declared.elf.architecture.Architecture.TheVariants.{RiscV}
 use Rattle.linker_final.specs.Final.{AreRewritten, IsBesideAll, IsLinked, IsRewrittenByNoOther}
 use Rattle.linker_final.specs.Final.{IsWrittenByNoOther, Linked, Rewriting, Section}
 use Rattle.linker_final.specs.Final.{UntouchedInstruction, count, instruction_at, offset_of}

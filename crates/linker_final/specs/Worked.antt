@@ -1,10 +1,9 @@
 -- Programs that the calls link: words of which every premise of the laws of runs holds.
 use Rattle.std.specs.Prelude.{◌≡◌, ℕ, zero, suc, ◌+◌, ◌/◌, List, [], ◌∷◌, length, false, replicate}
 use Rattle.linker_final.specs.Imports.{Addresses, Architecture, AreMoved, AreWritten, Decision}
-use Rattle.linker_final.specs.Imports.{IsPackedRun, IsRelaxation, Item, Kinds, RelaxContext}
+use Rattle.linker_final.specs.Imports.{IsPackedRun, IsRelaxation, Item, Kinds, RelaxContext, RiscV}
 use Rattle.linker_final.specs.Imports.{RiscV64, State, Symbol, UnrelaxableGroups, deletions_of_run}
 use Rattle.linker_final.specs.Imports.{half, put, same, section_of, with_register}
-use Rattle.linker_elf.specs.declared.elf.architecture.Architecture.TheVariants.{RiscV}
 use Rattle.linker_final.specs.Final.{AreCalled, AreLinked, HasRewritten, IsPhase, Linked, Rewriting}
 use Rattle.linker_final.specs.Final.{RewritingPhase, Section, rewriting_phase}
 use Rattle.linker_rewriting.specs.GlobalPointer.{AreBased, AreRelocationsBy, section_based}
