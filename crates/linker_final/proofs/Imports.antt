@@ -21,7 +21,7 @@ pub use Rattle.linker_elf.specs.declared.elf.architecture.Architecture.TheVarian
 pub use Rattle.linker_elf.specs.declared.elf.choice.LinkFacts.{LinkFacts}
 pub use Rattle.linker_elf.specs.declared.riscv64.forms.RiscVInstruction.TheVariants.{BType, CbType, CjType, CluiType, IType, JType, SType, UType, UiType}
 pub use Rattle.linker_final.specs.AArch64Section.{Begins, ComesTo, IsDescriptorLeft, IsRewrittenAgain, Rewrites, address, at_address, at_call, at_high, at_initial, at_jump, at_load, at_local, at_low, high, jump, low, object, register, span, to_initial, to_local}
-pub use Rattle.linker_final.specs.Final.{AreBytes, AreCalled, AreInTurn, AreLeft, AreLinked, AreListed, ArePhases, AreRewritten, EachPlace, HasRewritten, IsBesideAll, IsFollowed, IsLinked, IsOutside, IsPhase, IsPhaseIn, IsRewrittenByNoOther, IsWrittenByNoOther, Keeps, Known, Knows, Linked, OtherBytes, OtherFields, Place, RewritesAreGroups, RewritesNone, Rewriting, RewritingPhase, RunsAreFollowed, Section, Takes, UntouchedByOthers, UntouchedBytes, UntouchedBytesAreTheSame, UntouchedInPhase, UntouchedInstruction, UntouchedInstructions, begins, comparison, count, count_of, deletions_in, elsewhere, instruction_at, linked, linked_by, offset_of, rewriting_phase, rewritten, two_at, unchanged, within}
+pub use Rattle.linker_final.specs.Final.{AreBytes, AreCalled, AreInTurn, AreLeft, AreLinked, AreListed, ArePhases, AreRewritten, EachPlace, HasRewritten, IsBesideAll, IsFollowed, IsLinked, IsOutside, IsPhase, IsPhaseIn, IsRewrittenByNoOther, IsWrittenByNoOther, Keeps, Known, Knows, Linked, OtherBytes, OtherFields, Place, RewritesAreGroups, RewritesNone, Rewriting, RewritingPhase, RunsAreFollowed, Section, UntouchedByOthers, UntouchedBytes, UntouchedBytesAreTheSame, UntouchedInPhase, UntouchedInstruction, UntouchedInstructions, begins, comparison, count, count_of, deletions_in, elsewhere, instruction_at, linked_by, offset_of, rewriting_phase, rewritten, two_at, unchanged, within}
 pub use Rattle.linker_final.specs.Imports.{Addresses, Architecture, Branch21, Branch26, Choice, Decision, IsApplied, Item, LoongArch64Relocation, Operands, Rela, Relaxation, RiscVRelocation, RowInfo, Shift10, Shift5, Symbol, UnrelaxableGroups, deletions_of_run, go_to, put, riscv_form, with_register}
 pub use Rattle.linker_final.specs.LoongArchSection.{AddressesAreMade, AreOf, CallsTheSame, HasEntry, HighPartIsLeftOut, IsAlone, IsFinal, IsKept, IsLeft, IsLoad, IsNew, IsPairOf, Left, LoadedAddressesAreMade, LoadsTheSame, LongAddressesStay, LongLoadedAddressesStay, StaysAs, applied, by_itself, entry_by, law_of, none, operands_at, without_law, words_in}
 pub use Rattle.linker_final.specs.Packed.{AlignmentsHold, AreDeleted, AreRelaxedAndPacked, DeletedBytesAreGone, Goes, HoldsIn, InstructionsAreRelocated, IsAligned, IsBefore, IsKeptInstruction, IsOfRun, IsPackCause, IsPacked, IsRewrittenAndPacked, IsSiteOf, IsSkipped, IsUnwritten, ItemsAreDeleted, KeptBytesStay, LoongArchBranchesGo, Packed, PaddingIsNops, PlacesAreRelocated, PlacesHaveAddresses, RiscVBranchesGo, Run, SectionsAreAligned, StayTogether, Stays, address_at, architecture_of, final_instruction, final_number, packed_of, padding_at, padding_len, place_of, site_after, site_bytes, site_len, site_offset, site_place, site_target}
@@ -35,14 +35,13 @@ pub use Rattle.linker_laws.proofs.RiscVGroups.{absolute_rows, based_group, below
 pub use Rattle.linker_laws.proofs.RiscVMachine.{address_is, moved_twice, written}
 pub use Rattle.linker_laws.proofs.Sums.{cast_is, difference_below, sum_below, sum_zero}
 pub use Rattle.linker_laws.proofs.Words.{word_below}
-pub use Rattle.linker_laws.specs.AArch64Groups.{BranchToNop, Descriptor, EndsInNops, go_and_link}
+pub use Rattle.linker_laws.specs.AArch64Groups.{BranchToNop, Descriptor, EndsInNops, go_and_link, link}
 pub use Rattle.linker_laws.specs.AArch64RewriteLaws.{IsPair, IsRelocated, with_entry}
 pub use Rattle.linker_laws.specs.Chains.{one}
 pub use Rattle.linker_laws.specs.LoongArchGroups.{CallOfDescriptor, LoadOfDescriptor}
 pub use Rattle.linker_laws.specs.LoongArchRewriteLaws.{Fits32, HaveCalled, HaveMade, LoadsEntry, no_register, pair}
 pub use Rattle.linker_laws.specs.Machine.{BeginsRewritten, Relocated, loaded, moved, word_of, wrapped}
-pub use Rattle.linker_laws.specs.Ppc64Groups.{AreGroup, CallTo, IsPrefixed, LowOverBase, RewritesBoth, WordOverBase}
-pub use Rattle.linker_laws.specs.RiscVGroups.{CallStays, Code, DeletedLui, Groups, Has, Stands, link, machine, seen}
+pub use Rattle.linker_laws.specs.RiscVGroups.{CallStays, Code, DeletedLui, Groups, Has, Stands, machine, seen}
 pub use Rattle.linker_laws.specs.RiscVMachine.{Action, action_of, auipc, goes_to, lui, stores, with_integer}
 pub use Rattle.linker_laws.specs.RiscVRelocationLaws.{AbsoluteAddresses, RelativeAddresses, even, low_load, upper_and_low, without_bit_0}
 pub use Rattle.linker_laws.specs.RiscVRewriteLaws.{IsLoadFromGot, IsLow12, IsLowOffset, action_at, after_rewrite, low_row, offset_row}
@@ -54,10 +53,9 @@ pub use Rattle.linker_rewriting.proofs.Chosen.{IsChosen, choice_of, chosen_at, c
 pub use Rattle.linker_rewriting.proofs.Entries.{IsOfApplied, IsOfEntry, IsOfOne, of_entry, of_first, of_one}
 pub use Rattle.linker_rewriting.proofs.LabelGroups.{one_index, ppc64_none, x86_64_none}
 pub use Rattle.linker_rewriting.specs.Candidates.{IsCandidate, IsCandidateWith}
-pub use Rattle.linker_rewriting.specs.Decisions.{AreDecidedIn, IsDecidedAfter, IsDecidedAlone, IsGroupDecision, IsLabelDecision, IsRejectedPlaced, IsScopeDecision, decision_at, decision_of, deleted_of, is_taken, label_decision, pairs_in, rewritten_by, takes_next, takes_symbol, window_of, written_end_at, written_end_by}
+pub use Rattle.linker_rewriting.specs.Decisions.{AreDecidedIn, IsDecidedAfter, IsDecidedAlone, IsGroupDecision, IsLabelDecision, IsScopeDecision, decision_at, decision_of, deleted_of, is_taken, label_decision, pairs_in, rewritten_by, takes_next, takes_symbol, window_of, written_end_at, written_end_by}
 pub use Rattle.linker_rewriting.specs.Facts.{RelaxContext, address_in, context, facts_at, facts_by, facts_with, link_facts, placed_facts, pre_layout}
 pub use Rattle.linker_rewriting.specs.Groups.{IsScopeIn, aarch64_scope_in, group_stays, loongarch_scope_in, ppc64_scope_in, riscv_scope_in}
-pub use Rattle.linker_rewriting.specs.Kept.{IsWritingCause}
 pub use Rattle.linker_rewriting.specs.Numbers.{decisions_in}
 pub use Rattle.linker_rewriting.specs.Rewritten.{IsAddressRewritten, IsDescriptorRewritten, IsDone, IsLoadAt, IsLoadRewritten, IsMade, IsPartAt, IsRewritten, IsRewrittenAs, IsRewrittenBy, IsWholeBy, relocation_after}
 pub use Rattle.linker_rewriting.specs.RiscVPcrelGroups.{IsHighIn, IsLabelCandidate, far_entry, is_label_marked, is_labelled, label_facts, without_entry}
@@ -76,7 +74,7 @@ pub use Rattle.linker_section.proofs.Fronts.{HaveSameWindow, accepted_same, some
 pub use Rattle.linker_section.proofs.Imports.{AArch64Relocation, AnyForm, AreApart, BitMasking, BitRange, ByteSize, Composes, IsField, IsInNoField, IsNamedValue, IsRow, IsRowValue, RelocationKind, RowSize, begins_pair, continues, ends_pair, entry_of, field_end, field_len, is_of_pair, of_number, of_pair, relocation_at, relocation_in}
 pub use Rattle.linker_section.proofs.Rows.{one_info, one_row}
 pub use Rattle.linker_section.specs.Values.{IsHighPartAt, IsLowValue, IsNoHighPart, IsValue, IsValueBy, IsValueIn, entry_address, has_value, is_auipc, is_high_kind, is_high_part, is_of_got, is_there, lacks_origin, low_by, low_operands, low_value, names_label, offset_at, operands_by, operands_in, operands_of, operands_with, own_value, target_of, value_by}
-pub use Rattle.linker_section.specs.WrittenFields.{AreWritten, Found, HoldsNumber, HoldsValue, IsFirstFault, IsHeld, composed, composed_by, composed_with, field_bytes}
+pub use Rattle.linker_section.specs.WrittenFields.{AreWritten, Found, HoldsNumber, HoldsValue, IsHeld, composed, composed_by, composed_with, field_bytes}
 pub use Rattle.linker_section.specs.declared.needed.EntryClass.TheVariants.{ThreadOffset}
 pub use Rattle.linker_section.specs.declared.values.ValueError.{ValueError}
 pub use Rattle.linker_section.specs.declared.values.ValueError.TheVariants.{NoEntry, NoHighPart, NoSymbol, NoTlsBase}

@@ -366,53 +366,35 @@ abbrev got_row : RowInfo
 got_row = paged_row entry_pages (rounded_row GotRelative)
 
 abbrev page_after : IsAfter names.R_LARCH_PCALA_HI20
-page_after =
-    record {
-      row = paged_row place_pages (rounded_row Relative);
-      is = refl;
-      named = tt;
-      of = of_bits refl refl refl refl refl (λ o. tt);
-    }
+page_after = record { row = paged_row place_pages (rounded_row Relative); is = refl; named = tt; of = of_bits refl refl refl refl refl (λ o. tt) }
 
 abbrev low_after : IsAfter names.R_LARCH_PCALA_LO12
-low_after =
-    record {
-      row = low_row AbsoluteLowPart;
-      is = refl;
-      named = tt;
-      of = of_bits refl refl refl refl refl (λ o. tt);
-    }
+low_after = record { row = low_row AbsoluteLowPart; is = refl; named = tt; of = of_bits refl refl refl refl refl (λ o. tt) }
 
 -- ---- a pair
 
 module _ (groups : Groups) (l : Linked) (linked : IsLinked l) (loongarch : l.context.architecture ≡ LoongArch64)
     (i j : ℕ) (of : AreOfLoad l i j) (left : UntouchedInstructions l i j) (alone : IsRewrittenByNoOther l i (relocation_in l.relocations i).offset) where
-  abbrev first : Rela
-  first = relocation_in l.relocations i
-
-  abbrev second : Rela
-  second = relocation_in l.relocations j
-
-  page : IsEntry kinds.NoOp names.R_LARCH_PCALA_HI20 names.R_LARCH_GOT_PC_HI20 l.section first.offset of.page_chosen
+  page : IsEntry kinds.NoOp names.R_LARCH_PCALA_HI20 names.R_LARCH_GOT_PC_HI20 l.section (rela_at l i).offset of.page_chosen
   page =
       let by = by_table l linked.decided loongarch i of.page_chosen of.page_below of.page_decided names.R_LARCH_GOT_PC_HI20 tt of.page in
-      shown by (λ near. isnt by.facts.is_relaxable (by.early refl).unmarked (near.meant.1.1.1.0), (λ this. entry_of_table names.R_LARCH_GOT_PC_HI20 l.section first.offset of.page_chosen by.facts _ this, tt))
+      shown by (λ near. isnt by.facts.is_relaxable (by.early refl).unmarked (near.meant.1.1.1.0), (λ this. entry_of_table names.R_LARCH_GOT_PC_HI20 l.section (rela_at l i).offset of.page_chosen by.facts _ this, tt))
 
-  low : IsEntry kinds.LdToAddi names.R_LARCH_PCALA_LO12 names.R_LARCH_GOT_PC_LO12 l.section second.offset of.low_chosen
+  low : IsEntry kinds.LdToAddi names.R_LARCH_PCALA_LO12 names.R_LARCH_GOT_PC_LO12 l.section (rela_at l j).offset of.low_chosen
   low =
       let by = by_table l linked.decided loongarch j of.low_chosen of.low_below of.low_decided names.R_LARCH_GOT_PC_LO12 tt of.low in
       shown by (
         λ near. isnt by.facts.is_relaxable (by.early refl).unmarked (near.meant.1.1.1.0),
         (
-          λ this. entry_of_table names.R_LARCH_GOT_PC_LO12 l.section second.offset of.low_chosen by.facts _ this,
+          λ this. entry_of_table names.R_LARCH_GOT_PC_LO12 l.section (rela_at l j).offset of.low_chosen by.facts _ this,
           (λ of_entry. isnt by.facts.is_relaxable (by.early refl).unmarked (of_entry.meant.1.0), tt),
         ),
       )
 
   pub loads_the_same : LoadsTheSame l i got_row
   loads_the_same symbol is_symbol got c k s loads fits page_stands low_stands =
-      let o = first.offset in
-      let w = operands_with LoongArch64 l.addresses got_row symbol first got in
+      let o = (rela_at l i).offset in
+      let w = operands_with LoongArch64 l.addresses got_row symbol (rela_at l i) got in
       let next = of.next in
       let there = page.pattern in
       let together : IsPair IsLd (instruction_at l.section o) (instruction_at l.section (o + 4)) =
@@ -432,7 +414,7 @@ module _ (groups : Groups) (l : Linked) (linked : IsLinked l) (loongarch : l.con
       rw (← next) (relocated_there l linked loongarch j of.low_below names.R_LARCH_PCALA_LO12 low_after
       (named_after l linked.made j of.low_chosen of.low_below of.low_decided kinds.LdToAddi low.kind_is names.R_LARCH_PCALA_LO12 low.r_type_is)
       (left.1) symbol 0 refl (ap (slice_get l.symbols) of.same_symbol ∙ is_symbol) (following 4 w)
-      (ap (λ x. value_of low_after.row (operands_with LoongArch64 l.addresses low_after.row symbol (rela second.offset low_r_type second.symbol x) 0)) (sym of.same_addend))) in
+      (ap (λ x. value_of low_after.row (operands_with LoongArch64 l.addresses low_after.row symbol (rela (rela_at l j).offset low_r_type (rela_at l j).symbol x) 0)) (sym of.same_addend))) in
       let added : IsRewritten kinds.LdToAddi (instruction_at l.section (o + 4)) (instruction_at l.rewritten (o + 4)) =
       rw (← next)
       (becomes l linked.made j of.low_chosen of.low_below of.low_decided kinds.LdToAddi low.kind_is

@@ -2,7 +2,6 @@ use Rattle.linker_final.proofs.Imports.{one}
 use Rattle.linker_final.proofs.AArch64.{are_in, rewrites_are_groups}
 use Rattle.linker_final.proofs.SectionRuns.{each_place, runs_are_followed}
 use Rattle.linker_final.specs.AArch64Section.{rewriting}
-use Rattle.linker_laws.specs.AArch64Groups.{link}
 use Rattle.linker_final.proofs.laws.aarch64_sections.Goals as goal
 
 pub returns : goal.returns
@@ -11,5 +10,5 @@ returns c =
     record {
       places = each_place rewriting are_in;
       groups = groups;
-      runs = runs_are_followed rewriting groups (λ code. c.runs.ensures.simulates (one (link code)));
+      runs = runs_are_followed rewriting groups (λ code. c.runs.ensures.simulates (one (rewriting.link code)));
     }

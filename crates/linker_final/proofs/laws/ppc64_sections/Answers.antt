@@ -2,7 +2,6 @@ use Rattle.linker_final.proofs.Imports.{one}
 use Rattle.linker_final.proofs.Ppc64.{are_in, names_are_left, rewrites_are_groups, rewritten_again}
 use Rattle.linker_final.proofs.SectionRuns.{each_place, runs_are_followed}
 use Rattle.linker_final.specs.Ppc64Section.{rewriting}
-use Rattle.linker_laws.specs.Ppc64Groups.{link}
 use Rattle.linker_final.proofs.laws.ppc64_sections.Goals as goal
 
 pub returns : goal.returns
@@ -12,7 +11,7 @@ returns c =
     record {
       places = each_place rewriting (are_in laws);
       groups = groups;
-      runs = runs_are_followed rewriting groups (λ code. c.runs.ensures.simulates (one (link code)));
+      runs = runs_are_followed rewriting groups (λ code. c.runs.ensures.simulates (one (rewriting.link code)));
       names = names_are_left laws;
       rewritten_again = rewritten_again;
     }

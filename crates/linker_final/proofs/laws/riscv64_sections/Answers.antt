@@ -1,4 +1,4 @@
-use Rattle.linker_final.proofs.Imports.{link, one}
+use Rattle.linker_final.proofs.Imports.{one}
 use Rattle.linker_final.proofs.RiscV.{are_in, none_is_initial_exec, nops, offsets_are_low, relocations_are_left, rewrites_are_groups}
 use Rattle.linker_final.proofs.SectionRuns.{each_place, runs_are_followed}
 use Rattle.linker_final.specs.RiscVSection.{rewriting}
@@ -11,7 +11,7 @@ returns c =
     record {
       places = each_place rewriting are_in;
       groups = groups;
-      runs = runs_are_followed rewriting groups (λ code. c.runs.ensures.simulates (one (link code)));
+      runs = runs_are_followed rewriting groups (λ code. c.runs.ensures.simulates (one (rewriting.link code)));
       relocations = relocations_are_left laws;
       nops = nops;
       offsets_are_low = offsets_are_low;

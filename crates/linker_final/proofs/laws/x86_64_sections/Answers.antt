@@ -11,6 +11,6 @@ returns c =
     record {
       places = each_place rewriting (are_in laws);
       groups = groups;
-      runs = runs_are_followed rewriting groups (λ code. c.runs.ensures.simulates (one (link code)));
+      runs = runs_are_followed rewriting groups (λ code. c.runs.ensures.simulates (one (rewriting.link code)));
       offsets = offsets laws.block_offsets;
     }
