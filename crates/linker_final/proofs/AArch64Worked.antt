@@ -69,12 +69,7 @@ variable =
 
 abbrev thread_variable : Symbol
 thread_variable =
-    record variable {
-      address = 0x432344;
-      address_entry = 0;
-      thread_entry = 0x411018;
-      is_thread_local = true;
-    }
+    record variable { address = 0x432344; address_entry = 0; thread_entry = 0x411018; is_thread_local = true }
 
 abbrev relocation : ℕ → Rela
 relocation = relocation_in AARCH64_RELOCATIONS
@@ -101,8 +96,7 @@ low_entry = entry kinds.MovkXn low_after halves_to_local_exec
 
 has : (name : AArch64Relocation) (o : Operands) (before after : List ℕ) → IsRelocated name o before after
     → loaded 4 halves.old o.place ≡ word_of after → Has halves.old name o before
-has name o before after applied stands =
-    record { relocated = after; applied = applied; stands = stands }
+has name o before after applied stands = record { relocated = after; applied = applied; stands = stands }
 
 abbrev of_load : Operands
 of_load = operands_with AArch64 addresses got_row variable (relocation 0) 0x411010

@@ -399,8 +399,7 @@ module _ (groups : Groups) (l : Linked) (linked : IsLinked l) (loongarch : l.con
       let there = page.pattern in
       let together : IsPair IsLd (instruction_at l.section o) (instruction_at l.section (o + 4)) =
       record {
-        one_register =
-            rw (← (word_same l.section o), ← (word_same l.section (o + 4))) there.one_register;
+        one_register = rw (← (word_same l.section o), ← (word_same l.section (o + 4))) there.one_register;
         second_is = subst IsLd (word_same l.section (o + 4)) there.second;
       } in
       let stayed : instruction_at l.rewritten o ≡ instruction_at l.section o =
@@ -753,11 +752,8 @@ module _ (l : Linked) (p : Packed) (joined : IsRewrittenAndPacked l p) (loongarc
 -- ---- what new has
 
 module _ (l : Linked) (loongarch : l.context.architecture ≡ LoongArch64) (i : ℕ) (below : i < count l) where
-  abbrev rewritten_packed : List ℕ
-  rewritten_packed = instruction_at l.rewritten (offset_of l i)
-
   in_final : (left : Left) → IsWritable left l i → IsLeft left l i → IsLinked l → UntouchedInstruction l i
-      → (y : Operands) → IsFinal left l i y → IsMade left y rewritten_packed (instruction_at l.final (offset_of l i))
+      → (y : Operands) → IsFinal left l i y → IsMade left y (instruction_at l.rewritten (offset_of l i)) (instruction_at l.final (offset_of l i))
   in_final none writable after_is linked left y alone =
       unwritten_nop l linked loongarch i below after_is left alone
   in_final (applied name) takes after_is linked left y of =
@@ -771,7 +767,7 @@ module _ (l : Linked) (loongarch : l.context.architecture ≡ LoongArch64) (i : 
 
   in_packed : (left : Left) → IsWritable left l i → IsLeft left l i → (p : Packed) → IsRewrittenAndPacked l p
       → p.machine ≡ loongarch64 → UntouchedInstruction l i → (y : Operands) → IsKept left l p i y
-      → IsMade left y rewritten_packed (final_instruction p (offset_of l i))
+      → IsMade left y (instruction_at l.rewritten (offset_of l i)) (final_instruction p (offset_of l i))
   in_packed none writable after_is p joined machine left y stays =
       unwritten_there l p joined i (offset_of l i) left (stays.0) (stays.1)
   in_packed (applied name) takes after_is p joined machine left y stays =
@@ -784,7 +780,7 @@ module _ (l : Linked) (loongarch : l.context.architecture ≡ LoongArch64) (i : 
   in_packed without_law writable after_is p joined machine left y stays = stays
 
   pub is_made : (left : Left) → IsWritable left l i → IsLeft left l i → (y : Operands) (bytes : List ℕ)
-      → IsNew left l i y bytes → IsMade left y rewritten_packed bytes
+      → IsNew left l i y bytes → IsMade left y (instruction_at l.rewritten (offset_of l i)) bytes
   is_made left writable after_is y bytes (anywhere _ made) = made
   is_made left writable after_is y bytes (final linked alone of) = in_final left writable after_is linked alone y of
   is_made left writable after_is y bytes (packed p joined machine alone of) =

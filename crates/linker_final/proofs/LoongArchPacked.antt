@@ -28,10 +28,7 @@ use Rattle.linker_elf.specs.declared.elf.architecture.Architecture.TheVariants a
 -- new has nothing of the bytes
 gone_in : (p : Packed) (o : ℕ) (c : Code) (s : State) → IsGone p o 4 → IsBefore p o c.moved s.pc → AreDeleted c 4 s
 gone_in p o c s gone before =
-    record {
-      small = before.small;
-      moved = before.place ∙ sym (no_place p o 4 gone) ∙ sym before.next;
-    }
+    record { small = before.small; moved = before.place ∙ sym (no_place p o 4 gone) ∙ sym before.next }
 
 pub high_part : Groups → HighPartIsLeftOut
 high_part groups p is machine o gone word x small low c k s before at has =

@@ -205,7 +205,7 @@ places p is i row operands of inside =
 pub instructions : InstructionsAreRelocated
 instructions p is i row operands of stays =
     let o = offset_at p.relocations i in
-    let some : 0 < n = rw of.size (some_window of.insn) in
+    let some : 0 < window_len row = rw of.size (some_window of.insn) in
     rw (← (same_there p is o (window_len row) some stays)) (places p is i row operands of (omega (arith, (stays 0 some).inside)))
 
 -- ---- sites
@@ -453,10 +453,7 @@ pub listed_deltas : (lost : List (ℕ × ℕ)) (deltas : List RelaxDelta) → Is
     → RecordsDeletions lost deltas → AreValidDeltas deltas
 listed_deltas lost deltas valid listing =
     let same = sym listing.same in
-    record {
-      valid = subst IsValid same valid;
-      listing = subst (λ ds. RecordsDeletions ds deltas) same listing;
-    }
+    record { valid = subst IsValid same valid; listing = subst (λ ds. RecordsDeletions ds deltas) same listing }
 
 pub packed_run : (s : RunSection) (items : List Item) (start : ℕ) (before after : List ℕ) (places : Addresses) (symbols : List Symbol)
     (shapes stays gone : List ℕ) (deletions : List (ℕ × ℕ)) → AreItems start items → IsRelaxation start items shapes stays gone

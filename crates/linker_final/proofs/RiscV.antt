@@ -204,8 +204,7 @@ word_bytes n = All-from_get_or (λ b. b < 2 ^ 8) (to_le_bytes w32 n) 0 (λ i bel
     each (suc (suc (suc (suc i)))) below = absurd (omega (arith, below))
 
 pub bytes_there : (bytes : List ℕ) (o : ℕ) → AreBytes bytes → AreBytes (instruction_at bytes o)
-bytes_there bytes o are =
-    All-take (λ b. b < 2 ^ 8) 4 (drop o bytes) (All-drop (λ b. b < 2 ^ 8) o bytes are)
+bytes_there bytes o are = All-take (λ b. b < 2 ^ 8) 4 (drop o bytes) (All-drop (λ b. b < 2 ^ 8) o bytes are)
 
 pub long_there : (bytes : List ℕ) (o : ℕ) → o + 4 ≤ length bytes → length (instruction_at bytes o) ≡ 4
 long_there bytes o inside =
@@ -1194,10 +1193,8 @@ module _ (groups : Groups) (l : Linked) (made : AreRewritten l) (riscv : l.conte
   law_there i (descriptor add call of_add of_call) new =
       descriptors groups l made riscv i add call of_add of_call new
   law_there i (short_descriptor call of) new = short_descriptors groups l made riscv i call of new
-  law_there i (low_part of) new =
-      low_parts groups names.R_RISCV_TPREL_LO12_I of_load l made riscv i of new
-  law_there i (low_store of) new =
-      low_parts groups names.R_RISCV_TPREL_LO12_S of_store l made riscv i of new
+  law_there i (low_part of) new = low_parts groups names.R_RISCV_TPREL_LO12_I of_load l made riscv i of new
+  law_there i (low_store of) new = low_parts groups names.R_RISCV_TPREL_LO12_S of_store l made riscv i of new
   law_there i (high_part of) new = (high_part_goes groups l made riscv i of).1
   law_there i (sum of) new = (sum_goes groups l made riscv i of).1
 

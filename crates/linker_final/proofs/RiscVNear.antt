@@ -45,8 +45,7 @@ base_by_tests gp s true gp_near base small zero_is gp_is is =
 base_by_tests gp s false true base small zero_is gp_is is =
     subst (IsBase gp s) (same_Some (3, gp) base is)
     (record { small = omega arith; below = small; near = gp_is })
-base_by_tests gp s false false base small zero_is gp_is is =
-    absurd (let e : None ≡ Some base = is in cc)
+base_by_tests gp s false false base small zero_is gp_is is = absurd (let e : None ≡ Some base = is in cc)
 
 is_base : (gp s : ℕ) (base : ℕ × ℕ) → gp < 2 ^ 64 → base_for gp s ≡ Some base → IsBase gp s base
 is_base gp s base small is = base_by_tests gp s (is_near 0 s) (is_near gp s) base small refl refl is

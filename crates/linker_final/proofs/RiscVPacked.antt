@@ -150,10 +150,7 @@ long_calls groups p is riscv i name stays symbol symbol_is small other_name of =
 -- new has nothing of the bytes
 gone_in : (p : Packed) (o : ℕ) (c : Code) (s : State) → IsGone p o 4 → IsBefore p o c.moved s.pc → AreDeleted c 4 s
 gone_in p o c s gone before =
-    record {
-      small = before.small;
-      moved = before.place ∙ sym (no_place p o 4 gone) ∙ sym before.next;
-    }
+    record { small = before.small; moved = before.place ∙ sym (no_place p o 4 gone) ∙ sym before.next }
 
 -- a `lui` of a number of 12 bits
 left_out : (kind : RewriteKind) (name : RiscVRelocation) (IsLow : Operands → Type 0)

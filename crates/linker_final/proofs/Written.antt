@@ -500,12 +500,7 @@ module _ (architecture : Architecture) (addresses : Addresses) (bytes : List ℕ
             subst (λ size. HoldsValue size row v (λ n. composed found bytes before o n (length bytes / 24)) (field_bytes bytes before i row before) (field_bytes bytes before i row after)) size held in
             let there : WritesRow row v (take n (drop o before)) (take n (drop o after)) =
             subst (λ n. WritesRow row v (take n (drop o before)) (take n (drop o after))) len writes in
-            record {
-              value = v;
-              value_is = mine.value_is;
-              accepted = there.accepted;
-              written = there.written;
-            }
+            record { value = v; value_is = mine.value_is; accepted = there.accepted; written = there.written }
 
     -- where the operands are
     module _ (of : IsOfInstruction n row)
@@ -714,8 +709,7 @@ by_name elf meaning name named value is = cc (is.value_is, is.is_name.named name
 
 -- a code has no other row
 abbrev pub IsRowOf : Architecture → ℕ → RowInfo → Type 0
-IsRowOf architecture code row =
-    (found : Option RowInfo) → IsRow architecture code found → found ≡ Some row
+IsRowOf architecture code row = (found : Option RowInfo) → IsRow architecture code found → found ≡ Some row
 
 pub row_in : (architecture : Architecture) (addresses : Addresses) (relocations : List ℕ) (symbols : List Symbol)
     (r : Rela) (row : RowInfo) → IsRowOf architecture r.r_type row
@@ -828,8 +822,7 @@ module _ (l : Linked) (rewriting : AreRewritten l) (i : ℕ) (chosen : Choice Re
   pub relocation_is : (rewrite : Option Rewrite) (code : ℕ) → relaxation_rewrite chosen.kind ≡ rewrite
       → chosen.relocation ≡ code → relocation_in l.relocations_after i
       ≡ rela (offset_after rewrite (rela_at l i).offset) code (rela_at l i).symbol (addend_after rewrite (rela_at l i).addend)
-  relocation_is rewrite code is r_type_is =
-      rw (decided, is, r_type_is) at (rewriting.relocations i below)
+  relocation_is rewrite code is r_type_is = rw (decided, is, r_type_is) at (rewriting.relocations i below)
 
   -- where neither the offset nor the addend changes
   pub relocation_named : (rewrite : Option Rewrite) (code : ℕ) → relaxation_rewrite chosen.kind ≡ rewrite
@@ -1038,8 +1031,7 @@ module _ (architecture : Architecture) (addresses : Addresses) (bytes : List ℕ
       one_there architecture bytes section apart i below row is_row high part.index (found.1) there.within its part.is_high
       (ap (λ (x : Rela). x.offset) there.is ∙ part.offset_is) in
       let same : found.0 ≡ relocation_in bytes i = sym there.is ∙ ap (relocation_in bytes) equal in
-      let same_row : found.1 ≡ row =
-      one_info architecture (relocation_in bytes i).r_type (found.1) row
+      let same_row : found.1 ≡ row = one_info architecture (relocation_in bytes i).r_type (found.1) row
       (subst (λ n. IsRow architecture (relocation_in bytes n).r_type (Some (found.1))) equal its) is_row in
       let takes : low_value architecture addresses symbols low (Some found) ≡ Ok (value_of low (low_operands row operands)) =
       ap (λ x. low_by low (found.1) (operands_of architecture addresses symbols (found.1) x)) same

@@ -440,8 +440,7 @@ by_none n name held pattern e none = record {
 -- nor is one at no instruction
 pub by_no_pattern : (n : ℕ) (name : X86_64Relocation) (held : Operands → ℕ) (e : X86Entry)
     → Serves n name held [] e
-by_no_pattern n name held e =
-    record { serve = λ section o is. absurd (let b : false ≡ true = is.0 in cc) }
+by_no_pattern n name held e = record { serve = λ section o is. absurd (let b : false ≡ true = is.0 in cc) }
 
 -- ---- a choice by a table
 
@@ -1201,21 +1200,15 @@ module _ (name : X86_64Relocation) (back : ℕ) (held : Operands → ℕ)
     (is_name : IsNameOf x86_64_name (relocation_in l.relocations i).r_type name)
     (served : IsServed back name held l.section (relocation_in l.relocations i).offset (relocation_in l.relocations i).addend chosen)
   where
-    abbrev around : Window
-    around = window (in_got held) back 4
-
     abbrev DoesTheSame : RowInfo → Type 0
     DoesTheSame row =
-        (symbol : Symbol) → slice_get l.symbols (rela_at l i).symbol ≡ Some symbol → LawAt l i name row around chosen.kind symbol
+        (symbol : Symbol) → slice_get l.symbols (rela_at l i).symbol ≡ Some symbol → LawAt l i name row (window (in_got held) back 4) chosen.kind symbol
 
     abbrev law : HasLaw back name held l.section (offset_of l i) served.named
     law = served.has_law
 
     abbrev kind : RewriteKind
     kind = served.named.kind
-
-    abbrev w_got : HasWindow back 4 (x86_64_rewrite kind)
-    w_got = law.within.window
 
     abbrev after : X86_64Relocation
     after = served.named.relocation
@@ -1225,7 +1218,7 @@ module _ (name : X86_64Relocation) (back : ℕ) (held : Operands → ℕ)
 
     module _ (alone : UntouchedByOthers l i ((offset_of l i) - back) (back + 4)) where
       abbrev has : HasRewrite l i back 4 kind
-      has = has_rewrite l linked x86 i chosen below decided served.kind_is w_got law.matches room alone
+      has = has_rewrite l linked x86 i chosen below decided served.kind_is law.within.window law.matches room alone
 
       abbrev object_got : List ℕ
       object_got = put_back ((offset_of l i) - back) (back + 4) l.section l.final
@@ -1251,7 +1244,7 @@ module _ (name : X86_64Relocation) (back : ℕ) (held : Operands → ℕ)
       does_the_same : (a : IsAfterRow after) → DoesTheSame a.row
       does_the_same a symbol is_symbol entry c s there =
           let operands = operands_of_object a symbol is_symbol entry in
-          let addend = addend_was l.addresses after a symbol (rela_at l i) w_got.made chosen.relocation entry small
+          let addend = addend_was l.addresses after a symbol (rela_at l i) law.within.window.made chosen.relocation entry small
           before_is (ap (is_of_got X86_64) served.r_type_is ∙ a.is_not_of_got)
           ∙ served.is_from_end in
           rw served.kind_is (some_and _ (x86_64_relocation_after kind name) after law.after law.law
@@ -1268,18 +1261,18 @@ module _ (name : X86_64Relocation) (back : ℕ) (held : Operands → ℕ)
         let same = is_row.is_name.named after law.row.named (sym served.r_type_is) in
         ap (λ q. unwrap_or q row) (sym (is_row.value_is ∙ (ap x86_64_row same ∙ law.row.is)))
 
-    pub got_is_lawful : window_of name chosen.kind ≡ Some around → back < 2 ^ 64
-        → IsLawful l i chosen name around
+    pub got_is_lawful : window_of name chosen.kind ≡ Some (window (in_got held) back 4) → back < 2 ^ 64
+        → IsLawful l i chosen name (window (in_got held) back 4)
     got_is_lawful is small =
         record {
           is = is;
           kind = kind;
           kind_is = served.kind_is;
-          window = w_got;
+          window = law.within.window;
           matches = law.matches;
           room = room;
           law = λ alone symbol o c s final pc object.
-              of_field l linked i chosen name around small room symbol o c s final pc object
+              of_field l linked i chosen name (window (in_got held) back 4) small room symbol o c s final pc object
               object.row refl (subst DoesTheSame (row_same object.row (object.by.1)) (does_the_same alone law.row) symbol (object.by.0));
         }
 
@@ -1332,8 +1325,7 @@ IsOffsetOf row =
 
 module _ (bytes : List ℕ) (row : RowInfo) (of : IsOffsetOf row) (other : RowInfo) where
   not_first : (i j : ℕ) → Composes bytes i row j other → ⊥
-  not_first i j (of_number same wide on) =
-      never (sym (ap (λ kind. continues kind other.kind) (of.0)) ∙ on)
+  not_first i j (of_number same wide on) = never (sym (ap (λ kind. continues kind other.kind) (of.0)) ∙ on)
   not_first i j (of_pair same next begins ends) = never (sym (of.1) ∙ begins)
 
   not_second : (i j : ℕ) → Composes bytes j other i row → ⊥
@@ -1476,7 +1468,7 @@ module _ (n : ℕ) (read : ℕ → ℕ) (block_row thread_row : RowInfo)
       let pointed = l.addresses.thread_origin in
       let counted = counted_from pointed operands in
       let written = operands_with X86_64 l.addresses thread_row symbol relocation_offset 0 in
-      let origin : operands.tls_base ≡ image = rows.origin l.addresses symbol (rela_at l i) entry in
+      let origin : operands.tls_base ≡ l.addresses.module_origin = rows.origin l.addresses symbol (rela_at l i) entry in
       let before_is : is_of_got X86_64 (rela_at l i).r_type ≡ false = ap (is_of_got X86_64) (sym is_name.r_type_is) ∙ name_is in
       let taken : operands_of X86_64 l.addresses l.symbols thread_row relocation_offset ≡ Ok written =
       ap (operands_in X86_64 l.addresses thread_row relocation_offset) is_symbol ∙ rows.alone l.addresses symbol relocation_offset in
@@ -1751,15 +1743,12 @@ module _ (n : ℕ) (three : 3 ≤ n) (name : X86_64Relocation) (named : IsNamed 
     room_descriptor : IsTrue (is_one_at (lea_of_descriptor n) l.section (offset_of l i)) → (n ≤ (offset_of l i)) × ((offset_of l i) + 4 ≤ length l.section)
     room_descriptor there = there_inside n 4 (omega arith) (lea_of_descriptor n) l.section (offset_of l i) shape there
 
-    abbrev w_descriptor : Window
-    w_descriptor = window (lea register_of) n 4
-
     -- by its rewrite
     lawful : (kind : RewriteKind) → chosen.kind ≡ relaxations.X86_64 kind → HasWindow n 4 (x86_64_rewrite kind)
         → IsTrue (is_one_at (lea_of_descriptor n) l.section (offset_of l i)) → x86_64_matches kind l.section (offset_of l i)
         → (UntouchedByOthers l i ((offset_of l i) - n) (n + 4) → (symbol : Symbol) → slice_get l.symbols (rela_at l i).symbol ≡ Some symbol
-        → LawAt l i name thread_row w_descriptor chosen.kind symbol)
-        → IsLawful l i chosen name w_descriptor
+        → LawAt l i name thread_row (window (lea register_of) n 4) chosen.kind symbol)
+        → IsLawful l i chosen name (window (lea register_of) n 4)
     lawful kind kind_is has_window there matches law =
         record {
           is = is;
@@ -1769,12 +1758,12 @@ module _ (n : ℕ) (three : 3 ≤ n) (name : X86_64Relocation) (named : IsNamed 
           matches = matches;
           room = room_descriptor there;
           law = λ alone symbol o c s final pc object.
-              of_field l linked i chosen name w_descriptor small (room_descriptor there) symbol o c s final pc object
+              of_field l linked i chosen name (window (lea register_of) n 4) small (room_descriptor there) symbol o c s final pc object
               thread_row (ap (λ q. unwrap_or q object.row) (object.by.1)) (law alone symbol (object.by.0));
         }
 
     pub lea_is_lawful : IsOfTable (descriptor_table n) l.section (offset_of l i) (rela_at l i).addend chosen
-        → IsLawful l i chosen name w_descriptor
+        → IsLawful l i chosen name (window (lea register_of) n 4)
     lea_is_lawful (inl this) =
         let kind = kinds.TlsDescToLocalExec n in
         let has_window = own_window n 4 (x86_64_rewrite kind) (rex_mov n) refl (λ window. refl) three (omega arith) in
