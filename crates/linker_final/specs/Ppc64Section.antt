@@ -266,8 +266,8 @@ NamesAreLeft =
 
 -- ---- what is rewritten again
 
--- What a phase rewrites has a name that the phase lists (`ppc64_scope_in`). So the instruction of the
--- relocation that a rewrite leaves is rewritten again only in a phase that lists the name it leaves.
+-- What a phase rewrites has a name that the phase lists (`ppc64_scope_in`). So what a rewrite
+-- leaves is rewritten again only in a phase that lists the name of the relocation that it leaves.
 abbrev pub RewrittenAgain : Type 0
 RewrittenAgain =
     (l : Linked) → AreRewritten l → l.context.architecture ≡ Ppc64 → (g : Rewrites l)
