@@ -25,15 +25,13 @@ pub use Rattle.linker_elf.specs.declared.riscv64.forms.RiscVInstruction.TheVaria
 pub use Rattle.linker_elf.specs.declared.riscv64.forms.RiscVInstruction.TheVariants.{UiType}
 pub use Rattle.linker_elf.specs.declared.riscv64.relocations.RiscVRelocation.{RiscVRelocation}
 pub use Rattle.linker_laws.specs.Changes.{go_to, put, with_register}
-pub use Rattle.linker_laws.specs.Machine.{Memory, Relocated, loaded, moved, word_of}
+pub use Rattle.linker_laws.specs.Machine.{Relocated, loaded, moved, word_of}
 pub use Rattle.linker_laws.specs.RiscVMachine.{Action, Hart, register, step, stores, stores_float}
 pub use Rattle.linker_laws.specs.RiscVRelocationLaws.{even, without_bit_0}
 pub use Rattle.linker_laws.specs.Schemes.{AreAddresses, entry_and_addend, following, number_at}
 pub use Rattle.linker_laws.specs.Schemes.{plt_address, symbol_address, thread_offset, zero}
 pub use Rattle.linker_laws.specs.Simulation.{Agree, AreOf, Group, Kind, Kinds, State, anything}
 pub use Rattle.linker_laws.specs.Simulation.{half, of_link, same}
-pub use Rattle.linker_output.specs.Ppc64Stubs.{Counted, lifted}
-pub use Rattle.linker_output.specs.Ppc64Vectors.{Vectored, run_vectored, step_vectored, vector_code}
 pub use Rattle.linker_rewriting.specs.Decisions.{AreDecidedIn, IsRejected, IsRejectedIn}
 pub use Rattle.linker_rewriting.specs.Decisions.{IsRejectedPlaced, decision_at, deleted_of}
 pub use Rattle.linker_rewriting.specs.Decisions.{deletions_by, pairs_in, start_at, written_end_at}

@@ -11,11 +11,9 @@ pub mod LoongArchSteps
 pub mod LoongArchTable
 pub mod Packed
 pub mod Ppc64Executed
-pub mod Ppc64FunctionsExecuted
 pub mod Ppc64Section
 pub mod Ppc64Steps
 pub mod Ppc64Table
-pub mod Ppc64VectorsExecuted
 pub mod RiscV32
 pub mod RiscV32Calls
 pub mod RiscV32Executed

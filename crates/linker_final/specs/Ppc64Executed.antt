@@ -1,15 +1,27 @@
--- PowerPC64: the instructions of `linker_laws`, and those of stubs of `linker_output`, compared
--- with an emulator. Registers 32 to 63 are those of floating-point numbers, 64 is the link
--- register, and 65 the count register.
+-- PowerPC64: the instructions of `linker_laws`, those of stubs and of vector registers of
+-- `linker_output`, and its functions that save and restore registers, compared with an emulator.
+-- Registers 32 to 63 are those of floating-point numbers, 64 is the link register, 65 the count
+-- register, and vector registers are at places 128 to 159.
 use Rattle.std.specs.Prelude.{ℕ, ◌+◌, ◌-◌, ◌*◌, ◌/◌, ◌^◌, ◌==◌, nat_lt, if◌then◌else◌, Bool, false}
-use Rattle.std.specs.Prelude.{Option, Some, None}
+use Rattle.std.specs.Prelude.{Option, Some, None, ◌≡◌, ◌&&◌, length, true, slice_get, List, [], ◌∷◌}
+use Rattle.std.specs.Prelude.{IsSomeAnd}
 use Rattle.std.specs.Int.{w64, leading_zeros}
-use Rattle.linker_final.specs.Imports.{Counted, field, lifted}
-use Rattle.linker_final.specs.Ppc64Steps.{ppc64_groups}
-use Rattle.linker_final.specs.Steps.{AllPass, Executed, Group, Numbers, at, bytes_from, is_left}
-use Rattle.linker_final.specs.Steps.{made_low, memory_in, pc}
+use Rattle.std.specs.List.{list_all}
+use Rattle.linker_final.specs.Imports.{field, sum_64}
+use Rattle.linker_final.specs.Ppc64Steps.{ppc64_groups, ppc64_restfpr, ppc64_restgpr0}
+use Rattle.linker_final.specs.Ppc64Steps.{ppc64_restgpr1, ppc64_restvr, ppc64_savefpr}
+use Rattle.linker_final.specs.Ppc64Steps.{ppc64_savegpr0, ppc64_savegpr1, ppc64_savevr}
+use Rattle.linker_final.specs.Ppc64Steps.{ppc64_vector_groups}
+use Rattle.linker_final.specs.Steps.{AllPass, Executed, Functions, Group, Numbers, after, all_below}
+use Rattle.linker_final.specs.Steps.{are_bytes, at, before, bytes_from, bytes_of, is_left}
+use Rattle.linker_final.specs.Steps.{listed_or, made_low, memory_from, memory_in, noise, pc}
 use Rattle.linker_laws.specs.Ppc64Machine.{Formats, step_prefixed}
+use Rattle.linker_output.specs.Layout.{Run}
 use Rattle.linker_output.specs.Ppc64LazyPlt.{step}
+use Rattle.linker_output.specs.Ppc64Output.{ppc64_output}
+use Rattle.linker_output.specs.Ppc64Saves.{code_for}
+use Rattle.linker_output.specs.Ppc64Stubs.{Counted, lifted}
+use Rattle.linker_output.specs.Ppc64Vectors.{Vectored, run_vectored, step_vectored, vector_code}
 use Rattle.linker_output.specs.Ppc64Saves as saves
 
 -- ---- single and double precision
@@ -94,3 +106,83 @@ passes g n e = ends_so n e (executed n e)
 -- Each instruction leaves what the emulator did.
 abbrev pub Agrees : Type 0
 Agrees = AllPass made_low passes ppc64_groups
+
+-- ---- vector registers
+
+-- They have 128 bits.
+abbrev pub vectors_before : Executed → ℕ → ℕ
+vectors_before e r =
+    let place = 128 + r in
+    listed_or (noise 128 (256 * e.row + place)) e.given place
+
+abbrev pub are_vectors_left : Executed → (ℕ → ℕ) → Bool
+are_vectors_left e vectors =
+    all_below 32 (λ r. vectors r == listed_or (vectors_before e r) e.left (128 + r))
+
+abbrev pub numbers : Executed → Numbers
+numbers = before made_low
+
+abbrev pub with_vectors : Counted → Executed → Vectored
+with_vectors c e = record { counted = c; vectors = vectors_before e }
+
+abbrev pub leaves_vectors : Executed → Option Vectored → Bool
+leaves_vectors e None = false
+leaves_vectors e (Some v) =
+    ends_so (numbers e) e (Some v.counted) && are_vectors_left e v.vectors
+
+-- Each of their instructions leaves what the emulator did.
+abbrev pub VectorsAgree : Type 0
+VectorsAgree =
+    list_all (λ (g : Group). list_all (λ e.
+    leaves_vectors e (step_vectored formats e.code (with_vectors (begun (numbers e)) e))) g.rows)
+    ppc64_vector_groups ≡ true
+
+-- ---- functions that save and restore registers
+
+-- They run from their first instruction until they have returned. Memory has 208 bytes, at places
+-- 160 to 185.
+abbrev pub wide_memory : Numbers → ℕ
+wide_memory numbers = memory_from 26 160 numbers
+
+abbrev pub function_begun : Executed → Vectored
+function_begun e =
+    let start = numbers e at in
+    let memory = wide_memory (numbers e) in
+    let c = begun (numbers e) in
+    with_vectors (record c { state = record c.state { memory = bytes_of 208 start memory } }) e
+
+-- by the code of the function
+abbrev pub returns_so : List ℕ → Executed → Option Vectored → Bool
+returns_so code e None = false
+returns_so code e (Some v) =
+    let c = v.counted in
+    let start = numbers e at in
+    let memory_after = wide_memory (after (numbers e) e) in
+    all_below 66 (λ r. register c r == after (numbers e) e r)
+    && are_vectors_left e v.vectors
+    && are_bytes 208 start memory_after c.state.memory
+    && c.state.pc == listed_or (sum_64 (numbers e pc) (4 * length code)) e.left pc
+
+-- There is a row of the function of each register, from one on to the last.
+abbrev pub return_so : (ℕ → List ℕ) → ℕ → List Executed → Bool
+return_so code n [] = n == 32
+return_so code n (e ∷ rows) =
+    e.code == n && returns_so (code n) e (run_vectored formats (code n) (function_begun e))
+    && return_so code (n + 1) rows
+
+-- The functions of a run have the words that the emulator executed, and leave what it did.
+abbrev pub DoAgree : ℕ → (Run → ℕ → List ℕ) → Functions → Type 0
+DoAgree index code_of f =
+    IsSomeAnd (slice_get ppc64_output.runs index) (λ r.
+    (code_of r r.first ≡ f.words) × return_so (code_of r) r.first f.rows ≡ true)
+
+abbrev pub FunctionsAgree : Type 0
+FunctionsAgree =
+    (DoAgree 0 code_for ppc64_savegpr0
+    × DoAgree 1 code_for ppc64_restgpr0
+    × DoAgree 2 code_for ppc64_savegpr1
+    × DoAgree 3 code_for ppc64_restgpr1)
+    × (DoAgree 4 code_for ppc64_savefpr
+    × DoAgree 5 code_for ppc64_restfpr
+    × DoAgree 6 vector_code ppc64_savevr
+    × DoAgree 7 vector_code ppc64_restvr)

@@ -10,9 +10,7 @@ ghost use Rattle.linker_final.specs.AArch64Table as aarch64_table;
 ghost use Rattle.linker_final.specs.LoongArchExecuted as loongarch_executed;
 ghost use Rattle.linker_final.specs.LoongArchTable as loongarch_table;
 ghost use Rattle.linker_final.specs.Ppc64Executed as ppc64_executed;
-ghost use Rattle.linker_final.specs.Ppc64FunctionsExecuted as ppc64_functions_executed;
 ghost use Rattle.linker_final.specs.Ppc64Table as ppc64_table;
-ghost use Rattle.linker_final.specs.Ppc64VectorsExecuted as ppc64_vectors_executed;
 ghost use Rattle.linker_final.specs.RiscV32Executed as riscv32_executed;
 ghost use Rattle.linker_final.specs.RiscVExecuted as riscv_executed;
 ghost use Rattle.linker_final.specs.RiscVTable as riscv_table;
@@ -59,13 +57,13 @@ pub fn ppc64()
 
 /// PowerPC64: what `stvx` and `lvx` do.
 pub fn ppc64_vectors()
-    ensures steps { ppc64_vectors_executed.Agrees }
+    ensures steps { ppc64_executed.VectorsAgree }
 {}
 
 /// PowerPC64: what each function does that saves or restores registers, `_savegpr0_N` and so on,
 /// from its first instruction until it has returned.
 pub fn ppc64_functions()
-    ensures agree { ppc64_functions_executed.Agree }
+    ensures agree { ppc64_executed.FunctionsAgree }
 {}
 
 /// x86-64: what the instructions of `linker_laws`, and PUSH and ENDBR64, do.
