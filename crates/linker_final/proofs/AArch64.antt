@@ -1,6 +1,6 @@
 -- AArch64: the rewrites of a section are of instructions that are rewritten together, and these are
 -- groups.
-use Rattle.linker_final.proofs.Imports.{AArch64, AArch64Applies, AArch64Entry, AArch64Relocation, AbsoluteLowPart, AreCalled, AreOfOneRegister, Begins, BeginsRewritten, Bool, BranchToNop, Choice, ComesTo, Condition, Descriptor, EndsInNops, GotRelative, GotTpOff, GotTpOffGot, Grouped, Independent, IsAdd64, IsAddressRewritten, IsAdrp, IsArchitectureChoice, IsDescriptorLeft, IsDescriptorRewritten, IsDone, IsIntoOwnSource, IsLdr64, IsLinked, IsLoadRewritten, IsMade, IsNameOf, IsNamed, IsOfEntry as IsOfEntryIn, IsOfOne as IsOfOneIn, IsPair, IsPartAt, IsPhase, IsRewrittenAgain, IsRewrittenBy, IsRewrittenByNoOther, IsRow, IsScopeDecision, IsScopeIn, IsSomeAnd, IsWholeBy, IsWrittenByNoOther, Kept, Kinds, Linked, List, None, Ok, Operands, Phase, Rela, Relative, Relaxation, RewriteKind, Rewrites, RewritesAreGroups, RowInfo, Section, Some, State, Symbol, ThreadOffset, TpOff, UntouchedInstruction, UntouchedInstructions, [], aarch64_entries, aarch64_matches, aarch64_name, aarch64_rewrite, aarch64_row, aarch64_scope_in, addend_after, address, aligned_row, anything, ap, arith, at_address, at_call, at_high, at_initial, at_jump, at_load, at_local, at_low, bytes_row, chosen_at, cond, cond-false, count, decision_at, drop, entry, entry_address, entry_of, entry_pages, eq-eqb, eqb, false, field, following, go_and_link, go_to, group_stays, half, halves_to_local_exec, high, in_phase, inl, inr, insn_row, instruction_at, is_ldr64, is_there, jump, length, link, loaded, low, nop, nop_adr, object, of_entry as of_entry_in, of_group, of_link, of_one as of_one_in, of_option, offset_after, offset_of, operands_by, operands_with, page, paged_row, place_pages, plt_address, put, r_type_of, refl, register, relaxation_rewrite, relocation_after, relocation_in, replaces, rewrites_where, rn_of, scope_there, sequences_are_whole, signed_row, slice_get, span, subst, sum_64, sym, symbol_address, take, take-take, thread_offset, to_address, to_adr, to_initial, to_initial_exec, to_local, to_local_exec, true, two_at, unlabelled, value_of, weak_zero, with_entry, with_register, word_of, ℕ, ℤ, ◌*◌, ◌+◌, ◌-◌, ◌<◌, ◌^◌, ◌∙◌, ◌∷◌, ◌≡◌, ◌≢◌, ◌≤◌}
+use Rattle.linker_final.proofs.Imports.{AArch64, AArch64Applies, AArch64Entry, AArch64Relocation, AbsoluteLowPart, Agree, AreCalled, AreOfOneRegister, Begins, BeginsRewritten, Bool, BranchToNop, Choice, ComesTo, Condition, Descriptor, EndsInNops, GotRelative, GotTpOff, GotTpOffGot, Grouped, Independent, IsAdd64, IsAddressRewritten, IsAdrp, IsArchitectureChoice, IsDescriptorLeft, IsDescriptorRewritten, IsDone, IsIntoOwnSource, IsLdr64, IsLinked, IsLoadRewritten, IsMade, IsNameOf, IsNamed, IsOfEntry as IsOfEntryIn, IsOfOne as IsOfOneIn, IsPair, IsPartAt, IsPhase, IsRewrittenAgain, IsRewrittenBy, IsRewrittenByNoOther, IsRow, IsScopeDecision, IsScopeIn, IsSomeAnd, IsWholeBy, IsWrittenByNoOther, Kept, Kinds, Linked, List, None, Ok, Operands, Phase, Rela, Relative, Relaxation, RewriteKind, Rewrites, RewritesAreGroups, RowInfo, Section, Some, State, Symbol, ThreadOffset, TpOff, UntouchedInstruction, UntouchedInstructions, [], aarch64_entries, aarch64_matches, aarch64_name, aarch64_rewrite, aarch64_row, aarch64_scope_in, addend_after, address, aligned_row, anything, ap, arith, at_address, at_call, at_high, at_initial, at_jump, at_load, at_local, at_low, bytes_row, chosen_at, cond, cond-false, count, decision_at, drop, entry, entry_address, entry_of, entry_pages, eq-eqb, eqb, false, field, following, go_and_link, go_to, group_stays, half, halves_to_local_exec, high, in_phase, inl, inr, insn_row, instruction_at, is_ldr64, is_there, jump, length, link, loaded, low, nop, nop_adr, object, of_entry as of_entry_in, of_group, of_link, of_one as of_one_in, of_option, offset_after, offset_of, operands_by, operands_with, page, paged_row, place_pages, plt_address, put, r_type_of, refl, register, relaxation_rewrite, relocation_after, relocation_in, replaces, rewrites_where, rn_of, scope_there, sequences_are_whole, signed_row, slice_get, span, subst, sum_64, sym, symbol_address, take, take-take, thread_offset, to_address, to_adr, to_initial, to_initial_exec, to_local, to_local_exec, true, two_at, unlabelled, value_of, weak_zero, with_entry, with_register, word_of, ℕ, ℤ, ◌*◌, ◌+◌, ◌-◌, ◌<◌, ◌^◌, ◌∙◌, ◌∷◌, ◌≡◌, ◌≢◌, ◌≤◌}
 use Rattle.linker_elf.specs.declared.aarch64.forms.AArch64Instruction.TheVariants.{Add, Adr, LdrRegister, Movkz, Movnz}
 use Rattle.linker_elf.specs.declared.elf.RelocationKind.TheVariants.{None as NoValue}
 use Rattle.linker_final.proofs.SectionRuns.{AreIn, beside_or, final_in, is_linked, is_of}

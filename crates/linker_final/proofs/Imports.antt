@@ -46,14 +46,14 @@ pub use Rattle.linker_laws.specs.RiscVMachine.{Action, action_of, auipc, goes_to
 pub use Rattle.linker_laws.specs.RiscVRelocationLaws.{AbsoluteAddresses, RelativeAddresses, even, low_load, upper_and_low, without_bit_0}
 pub use Rattle.linker_laws.specs.RiscVRewriteLaws.{IsLoadFromGot, IsLow12, IsLowOffset, action_at, after_rewrite, low_row, offset_row}
 pub use Rattle.linker_laws.specs.Schemes.{Adds, AreAddresses, Computed, HoldsDistance, IsAddress, Law, Reaches, Step, entry_and_addend, following, here, number_at, place, plt_address, symbol_address, thread_offset, tls_base}
-pub use Rattle.linker_laws.specs.Simulation.{Comparison, Kinds, Next, Simulates, State, anything, by_group, half, of_link, same, uncovered}
+pub use Rattle.linker_laws.specs.Simulation.{Agree, Comparison, Kinds, Next, Simulates, State, anything, by_group, half, of_link, same, uncovered}
 pub use Rattle.linker_laws.specs.X86Groups.{AddsOffset, BlockOffsets, IsModuleCall, IsThreadCall, LeaToEntry, LeaToOffset, LeadToTheSame, reg_after_rex, reg_after_rex2}
 pub use Rattle.linker_rewriting.proofs.AArch64Sequences.{in_phase, named_at, of_group, of_option, scope_there, sequences_are_whole, unlabelled}
 pub use Rattle.linker_rewriting.proofs.Chosen.{IsChosen, choice_of, chosen_at, chosen_or_labelled}
 pub use Rattle.linker_rewriting.proofs.Entries.{IsOfApplied, IsOfEntry, IsOfOne, of_entry, of_first, of_one}
 pub use Rattle.linker_rewriting.proofs.LabelGroups.{one_index, ppc64_none, x86_64_none}
 pub use Rattle.linker_rewriting.specs.Candidates.{IsCandidate, IsCandidateWith}
-pub use Rattle.linker_rewriting.specs.Decisions.{AreDecidedIn, IsDecidedAfter, IsDecidedAlone, IsGroupDecision, IsLabelDecision, IsScopeDecision, decision_at, decision_of, deleted_of, is_taken, label_decision, pairs_in, rewritten_by, takes_next, takes_symbol, window_of, written_end_at, written_end_by}
+pub use Rattle.linker_rewriting.specs.Decisions.{AreDecidedIn, IsDecidedAfter, IsDecidedAlone, IsGroupDecision, IsLabelDecision, IsScopeDecision, decision_at, decision_of, deleted_of, deletions_by, is_taken, label_decision, pairs_in, rewritten_by, takes_next, takes_symbol, window_of, written_end_at, written_end_by}
 pub use Rattle.linker_rewriting.specs.Facts.{RelaxContext, address_in, context, facts_at, facts_by, facts_with, link_facts, placed_facts, pre_layout}
 pub use Rattle.linker_rewriting.specs.Groups.{IsScopeIn, aarch64_scope_in, group_stays, loongarch_scope_in, ppc64_scope_in, riscv_scope_in}
 pub use Rattle.linker_rewriting.specs.Numbers.{decisions_in}

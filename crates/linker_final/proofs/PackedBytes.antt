@@ -5,7 +5,7 @@ use Rattle.linker_base.specs.Deletions.{IsValid, is_kept, rank}
 use Rattle.linker_base.specs.Listed.{AreValidDeltas}
 use Rattle.linker_base.specs.declared.relaxation.RelaxDelta.{RelaxDelta}
 use Rattle.linker_elf.specs.declared.elf.RelocationKind.TheVariants.{None as NoValue}
-use Rattle.linker_final.proofs.Written.{IsOfInstruction, applied as applied_there, applied_to_window as applied, later_as_many, later_bytes, later_keep, later_length, rela, same_windows, some_value, window_length, windows, with_operands}
+use Rattle.linker_final.proofs.Written.{IsOfInstruction, applied as applied_there, applied_to_window as applied, later_as_many, later_bytes, later_keep, later_length, rela, rela_at, same_windows, some_value, window_length, windows, with_operands}
 use Rattle.linker_final.specs.declared.packed.RunSection.{RunSection}
 use Rattle.linker_runs.proofs.First.{first_bytes}
 use Rattle.linker_runs.proofs.Layouts.{freed_fits}
@@ -267,40 +267,40 @@ module _ (l : Linked) (p : Packed) (joined : IsRewrittenAndPacked l p) (i : ℕ)
   within =
       rw (joined.packed.as_many ∙ (ap length joined.relocations_are ∙ (later_as_many l joined.later ∙ joined.as_many))) below
 
-  before_is : relocation_in p.relocations i ≡ rela (offset_of l i) code symbol addend
+  before_is : relocation_in p.relocations i ≡ rela (rela_at l i).offset code symbol addend
   before_is =
-      cc (joined.relocations_are, later_keep l joined.later i (offset_of l i) 4 left (subst (λ n. i < n / 24) (sym joined.as_many) below))
+      cc (joined.relocations_are, later_keep l joined.later i (rela_at l i).offset 4 left (subst (λ n. i < n / 24) (sym joined.as_many) below))
 
   -- the relocation in the packed section
   pub r_type_is : after.r_type ≡ code
   r_type_is = kept.r_type ∙ ap (λ (x : Rela). x.r_type) before_is
 
-  offset_is : offset_at p.relocations i ≡ (offset_of l i)
+  offset_is : offset_at p.relocations i ≡ (rela_at l i).offset
   offset_is = ap (λ (x : Rela). x.offset) before_is
 
-  pub place_is : offset_at p.relocations_after i ≡ place_of p (offset_of l i)
+  pub place_is : offset_at p.relocations_after i ≡ place_of p (rela_at l i).offset
   place_is = (joined.packed.moved i within).offset (omega (arith, (kept.bytes 0 (omega arith)).inside)) ∙ ap (place_of p) offset_is
 
-  stay : StayTogether p (offset_of l i) 4
+  stay : StayTogether p (rela_at l i).offset 4
   stay = subst (λ n. StayTogether p n 4) offset_is kept.bytes
 
   -- its instruction, and where it is
-  pub rewritten_inside : (offset_of l i) + 4 ≤ length l.rewritten
+  pub rewritten_inside : (rela_at l i).offset + 4 ≤ length l.rewritten
   rewritten_inside =
-      omega (arith, stay_inside p joined.packed (offset_of l i) 4 (omega arith) stay, ap length joined.bytes, later_length l joined.later)
+      omega (arith, stay_inside p joined.packed (rela_at l i).offset 4 (omega arith) stay, ap length joined.bytes, later_length l joined.later)
 
-  pub final_inside : place_of p (offset_of l i) + 4 ≤ length p.final
+  pub final_inside : place_of p (rela_at l i).offset + 4 ≤ length p.final
   final_inside =
-      omega (arith, places_inside p joined.packed (offset_of l i) 4 (omega arith) stay, joined.packed.written.same_length)
+      omega (arith, places_inside p joined.packed (rela_at l i).offset 4 (omega arith) stay, joined.packed.written.same_length)
 
-  pub same_kept : instruction_at p.packed (place_of p (offset_of l i)) ≡ instruction_at l.rewritten (offset_of l i)
+  pub same_kept : instruction_at p.packed (place_of p (rela_at l i).offset) ≡ instruction_at l.rewritten (rela_at l i).offset
   same_kept =
-      cc (same_there p joined.packed (offset_of l i) 4 (omega arith) stay, joined.bytes, later_bytes l joined.later i (offset_of l i) 4 left)
+      cc (same_there p joined.packed (rela_at l i).offset 4 (omega arith) stay, joined.bytes, later_bytes l joined.later i (rela_at l i).offset 4 left)
 
   -- what is written there, is written to what was rewritten
   kept_there : (row : RowInfo) (y : Operands)
       → IsApplied row y (instruction_at p.packed (offset_at p.relocations_after i)) (instruction_at p.final (offset_at p.relocations_after i))
-      → IsApplied row y (instruction_at l.rewritten (offset_of l i)) (instruction_at p.final (place_of p (offset_of l i)))
+      → IsApplied row y (instruction_at l.rewritten (rela_at l i).offset) (instruction_at p.final (place_of p (rela_at l i).offset))
   kept_there row y there = rw (← same_kept, ← place_is) there
 
   -- so is the value of its own symbol
@@ -310,7 +310,7 @@ module _ (l : Linked) (p : Packed) (joined : IsRewrittenAndPacked l p) (i : ℕ)
       → operands_in architecture p.addresses row after (Some here) ≡ Ok (operands_with architecture p.addresses row here after got)
       → slice_get p.symbols after.symbol ≡ Some here → (y : Operands)
       → value_of row y ≡ value_of row (operands_with architecture p.addresses row here after got)
-      → IsApplied row y (instruction_at l.rewritten (offset_of l i)) (instruction_at p.final (place_of p (offset_of l i)))
+      → IsApplied row y (instruction_at l.rewritten (rela_at l i).offset) (instruction_at p.final (place_of p (rela_at l i).offset))
   own_there row of is_row architecture is here got taken is_here y same =
       let mine = operands_with architecture p.addresses row here after got in
       with_operands row mine y _ _ same

@@ -472,9 +472,6 @@ module _ (l : Linked) (linked : IsLinked l) (ppc64 : l.context.architecture ≡ 
 
   -- ---- one rewrite
 
-  abbrev made : AreRewritten l
-  made = linked.made
-
   -- of a word
   word : (kind : RewriteKind) (a : After 1) (conditions : Conditions) (test : ℕ → Bool) (AreSo : AreGroup)
       → AreRewritten_so test kind AreSo → (new : ℕ → ℕ) → ppc64_rewrite kind ≡ Some (rewrites_word new)
@@ -482,13 +479,13 @@ module _ (l : Linked) (linked : IsLinked l) (ppc64 : l.context.architecture ≡ 
       → ((offset_of l i) + 4 ≤ length l.section) × IsTrue (test (word_of (instruction_at l.section (offset_of l i)))))
       → IsOfEntry (entry kind (name_of a.left) conditions) l.section (offset_of l i) chosen → IsLawful l i chosen kind (offset_of l i) 1 (law a.left AreSo)
   word kind a conditions test AreSo so new is meant by =
-      let left = made_after l made i chosen below decided kind by.kind_is (name_of a.left) by.r_type_is (rewrites_word new) is in
+      let left = made_after l linked.made i chosen below decided kind by.kind_is (name_of a.left) by.r_type_is (rewrites_word new) is in
       record {
         kind_is = by.kind_is;
         r_type_is = by.r_type_is;
         group = λ alone.
             so (instruction_at l.section (offset_of l i)) (instruction_at l.rewritten (offset_of l i)) ((meant by.meant).1)
-            (becomes l made i chosen below decided kind by.kind_is (rewrites_word new) is refl);
+            (becomes l linked.made i chosen below decided kind by.kind_is (rewrites_word new) is refl);
         final = a.final (offset_of l i) (ap (λ (r : Rela). r.offset) left) (ap (λ (r : Rela). r.r_type) left);
         others = λ b apart. inl (others_at kind by.kind_is (rewrites_word new) is refl b apart);
       }
@@ -515,13 +512,13 @@ module _ (l : Linked) (linked : IsLinked l) (ppc64 : l.context.architecture ≡ 
       → IsLawful l i chosen kinds.KeepAddis (offset_of l i) 1 (law a.left AreSo)
   kept a conditions AreSo so by =
       let before = instruction_at l.section (offset_of l i) in
-      let left = after_is l made i chosen below decided kinds.KeepAddis by.kind_is (name_of a.left) by.r_type_is in
+      let left = after_is l linked.made i chosen below decided kinds.KeepAddis by.kind_is (name_of a.left) by.r_type_is in
       let none_is : relaxation_rewrite chosen.kind ≡ None = ap relaxation_rewrite by.kind_is in
       record {
         kind_is = by.kind_is;
         r_type_is = by.r_type_is;
         group = λ alone.
-            subst (AreSo before) (sym (stays l made i chosen below decided none_is alone))
+            subst (AreSo before) (sym (stays l linked.made i chosen below decided none_is alone))
             (so before (test_at l (offset_of l i) is_addis_of_toc by.meant) refl);
         final = a.final (offset_of l i) (ap (λ (r : Rela). r.offset) left) (ap (λ (r : Rela). r.r_type) left);
         others = λ b apart. inl (spared l i (Rewritten chosen) decided (ap window_of_rewrite none_is) b);
@@ -553,13 +550,13 @@ module _ (l : Linked) (linked : IsLinked l) (ppc64 : l.context.architecture ≡ 
       → (ppc64_matches kind l.section (offset_of l i) → HasTwo test l.section (offset_of l i))
       → IsOfEntry (entry kind (name_of a.left) conditions) l.section (offset_of l i) chosen → IsLawful l i chosen kind (offset_of l i) 2 (law a.left AreSo)
   of_two kind a conditions test AreSo so bytes is meant by =
-      let left = made_after l made i chosen below decided kind by.kind_is (name_of a.left) by.r_type_is (replaces 0 8 bytes) is in
+      let left = made_after l linked.made i chosen below decided kind by.kind_is (name_of a.left) by.r_type_is (replaces 0 8 bytes) is in
       record {
         kind_is = by.kind_is;
         r_type_is = by.r_type_is;
         group = λ alone.
             so (two_at l.section (offset_of l i)) (two_at l.rewritten (offset_of l i)) (both test (meant by.meant))
-            (becomes l made i chosen below decided kind by.kind_is (replaces 0 8 bytes) is refl);
+            (becomes l linked.made i chosen below decided kind by.kind_is (replaces 0 8 bytes) is refl);
         final = a.final (offset_of l i) (ap (λ (r : Rela). r.offset) left) (ap (λ (r : Rela). r.r_type) left);
         others = λ b apart. inl (others_at kind by.kind_is (replaces 0 8 bytes) is refl b apart);
       }
@@ -570,13 +567,13 @@ module _ (l : Linked) (linked : IsLinked l) (ppc64 : l.context.architecture ≡ 
       → (left_after.offset ≡ (offset_of l i) + 4 → left_after.r_type ≡ r_type_of (ppc64_name (name_of left)) → Final l i (offset_of l i) 2 left)
       → IsOfEntry (entry kind (name_of left) conditions) l.section (offset_of l i) chosen → IsLawful l i chosen kind (offset_of l i) 2 (law left AreSo)
   call kind left conditions AreSo so new is final by =
-      let made = made_after l made i chosen below decided kind by.kind_is (name_of left) by.r_type_is (rewrites_call new) is in
+      let made = made_after l linked.made i chosen below decided kind by.kind_is (name_of left) by.r_type_is (rewrites_call new) is in
       record {
         kind_is = by.kind_is;
         r_type_is = by.r_type_is;
         group = λ alone.
             so (two_at l.section (offset_of l i)) (two_at l.rewritten (offset_of l i)) refl
-            (becomes l made i chosen below decided kind by.kind_is (rewrites_call new) is refl);
+            (becomes l linked.made i chosen below decided kind by.kind_is (rewrites_call new) is refl);
         final = final (ap (λ (r : Rela). r.offset) made) (ap (λ (r : Rela). r.r_type) made);
         others = λ b apart. inl (others_at kind by.kind_is (rewrites_call new) is refl b apart);
       }
@@ -606,13 +603,13 @@ module _ (l : Linked) (linked : IsLinked l) (ppc64 : l.context.architecture ≡ 
       → IsOfEntry (entry kind names.R_PPC64_NONE to_prefixed_local_exec) l.section (offset_of l i) chosen
       → IsLawful l i chosen kind ((offset_of l i) - 1) 1 (law none AreSo)
   marked kind test AreSo so new is meant by =
-      let left = made_after l made i chosen below decided kind by.kind_is names.R_PPC64_NONE by.r_type_is (rewrites_marked new) is in
+      let left = made_after l linked.made i chosen below decided kind by.kind_is names.R_PPC64_NONE by.r_type_is (rewrites_marked new) is in
       record {
         kind_is = by.kind_is;
         r_type_is = by.r_type_is;
         group = λ alone.
             so (instruction_at l.section (marked_offset l i)) (instruction_at l.rewritten (marked_offset l i))
-            (test_at l (marked_offset l i) test (meant by.meant)) (becomes_marked l made i chosen below decided kind by.kind_is new is);
+            (test_at l (marked_offset l i) test (meant by.meant)) (becomes_marked l linked.made i chosen below decided kind by.kind_is new is);
         final = one_left ((offset_of l i) - 1) (ap (λ (r : Rela). r.r_type) left);
         others = λ b apart. inl (outside_of l i chosen (Some (rewrites_marked new)) decided (ap relaxation_rewrite by.kind_is ∙ is) b apart);
       }
@@ -622,9 +619,9 @@ module _ (l : Linked) (linked : IsLinked l) (ppc64 : l.context.architecture ≡ 
       → IsOfEntry (entry kinds.NopToRestoreToc names.R_PPC64_REL24 (changed_toc ∷ [])) l.section (offset_of l i) chosen
       → IsLawful l i chosen kinds.NopToRestoreToc ((offset_of l i) + 4) 1 (law of_call Restores)
   restores so by =
-      let left = made_after l made i chosen below decided kinds.NopToRestoreToc by.kind_is names.R_PPC64_REL24 by.r_type_is (replaces 0 8 restores_toc) refl in
+      let left = made_after l linked.made i chosen below decided kinds.NopToRestoreToc by.kind_is names.R_PPC64_REL24 by.r_type_is (replaces 0 8 restores_toc) refl in
       let offset = ap (λ (r : Rela). r.offset) left in
-      let made = becomes l made i chosen below decided kinds.NopToRestoreToc by.kind_is (replaces 0 8 restores_toc) refl refl in
+      let made = becomes l linked.made i chosen below decided kinds.NopToRestoreToc by.kind_is (replaces 0 8 restores_toc) refl refl in
       let apart = others_at kinds.NopToRestoreToc by.kind_is (replaces 0 8 restores_toc) refl refl in
       record {
         kind_is = by.kind_is;
@@ -656,7 +653,7 @@ module _ (l : Linked) (linked : IsLinked l) (ppc64 : l.context.architecture ≡ 
   unlisted : (name : Ppc64Relocation) → IsNameOf ppc64_name (relocation_in l.relocations i).r_type name
       → IsNamed (ppc64_name name) → ((phase : Phase) → ppc64_scope_in phase name ≡ NotRelaxable) → ⊥
   unlisted name is_name named in_each =
-      rewritten_again l made ppc64
+      rewritten_again l linked.made ppc64
       (record { i = i; below = below; name = name; is_name = is_name; chosen = chosen; decided = decided }) named (in_each l.context.phase)
 
   pub law_of_name : Groups → (name : Ppc64Relocation) → IsNameOf ppc64_name (relocation_in l.relocations i).r_type name
