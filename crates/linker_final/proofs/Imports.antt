@@ -21,7 +21,7 @@ pub use Rattle.linker_elf.specs.declared.elf.architecture.Architecture.TheVarian
 pub use Rattle.linker_elf.specs.declared.elf.choice.LinkFacts.{LinkFacts}
 pub use Rattle.linker_elf.specs.declared.riscv64.forms.RiscVInstruction.TheVariants.{BType, CbType, CjType, CluiType, IType, JType, SType, UType, UiType}
 pub use Rattle.linker_final.specs.AArch64Section.{Begins, ComesTo, IsDescriptorLeft, IsRewrittenAgain, Rewrites, address, at_address, at_call, at_high, at_initial, at_jump, at_load, at_local, at_low, high, jump, low, object, register, span, to_initial, to_local}
-pub use Rattle.linker_final.specs.Final.{AreBytes, AreCalled, AreInTurn, AreLeft, AreLinked, AreListed, ArePhases, AreRewritten, EachPlace, HasRewritten, IsBesideAll, IsFollowed, IsLinked, IsOutside, IsPhase, IsPhaseIn, IsRewrittenByNoOther, IsWrittenByNoOther, Keeps, Known, Knows, Linked, OtherBytes, OtherFields, Place, RewritesAreGroups, RewritesNone, Rewriting, RewritingPhase, RunsAreFollowed, Section, UntouchedByOthers, UntouchedBytes, UntouchedBytesAreTheSame, UntouchedInPhase, UntouchedInstruction, UntouchedInstructions, begins, comparison, count, count_of, deletions_in, elsewhere, instruction_at, linked_by, offset_of, rewriting_phase, rewritten, two_at, unchanged, within}
+pub use Rattle.linker_final.specs.Final.{AreBytes, AreCalled, AreInTurn, AreLeft, AreLinked, AreListed, ArePhases, AreRewritten, EachPlace, HasRewritten, IsBesideAll, IsFollowed, IsLinked, IsOutside, IsPhase, IsPhaseIn, IsRewrittenByNoOther, IsWrittenByNoOther, Keeps, Known, Knows, Linked, OtherBytes, OtherFields, Place, RewritesAreGroups, RewritesNone, Rewriting, RewritingPhase, RunsAreFollowed, Section, UntouchedByOthers, UntouchedBytes, UntouchedBytesAreTheSame, UntouchedInPhase, UntouchedInstruction, UntouchedInstructions, begins, comparison, count, count_of, elsewhere, instruction_at, linked_by, offset_of, rewriting_phase, rewritten, two_at, unchanged, within}
 pub use Rattle.linker_final.specs.Imports.{Addresses, Architecture, Branch21, Branch26, Choice, Decision, IsApplied, Item, LoongArch64Relocation, Operands, Rela, Relaxation, RiscVRelocation, RowInfo, Shift10, Shift5, Symbol, UnrelaxableGroups, deletions_of_run, go_to, put, riscv_form, with_register}
 pub use Rattle.linker_final.specs.LoongArchSection.{AddressesAreMade, AreOf, CallsTheSame, HasEntry, HighPartIsLeftOut, IsAlone, IsFinal, IsKept, IsLeft, IsLoad, IsNew, IsPairOf, Left, LoadedAddressesAreMade, LoadsTheSame, LongAddressesStay, LongLoadedAddressesStay, StaysAs, applied, by_itself, entry_by, law_of, none, operands_at, without_law, words_in}
 pub use Rattle.linker_final.specs.Packed.{AlignmentsHold, AreDeleted, AreRelaxedAndPacked, DeletedBytesAreGone, Goes, HoldsIn, InstructionsAreRelocated, IsAligned, IsBefore, IsKeptInstruction, IsOfRun, IsPackCause, IsPacked, IsRewrittenAndPacked, IsSiteOf, IsSkipped, IsUnwritten, ItemsAreDeleted, KeptBytesStay, LoongArchBranchesGo, Packed, PaddingIsNops, PlacesAreRelocated, PlacesHaveAddresses, RiscVBranchesGo, Run, SectionsAreAligned, StayTogether, Stays, address_at, architecture_of, final_instruction, final_number, packed_of, padding_at, padding_len, place_of, site_after, site_bytes, site_len, site_offset, site_place, site_target}

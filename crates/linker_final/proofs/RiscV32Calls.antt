@@ -6,7 +6,19 @@ use Rattle.linker_base.specs.Bits.{field}
 use Rattle.linker_elf.specs.declared.elf.RelocationKind.TheVariants.{PltRelative}
 use Rattle.linker_elf.specs.declared.riscv64.relocations.RiscVRelocation.TheVariants as names
 use Rattle.linker_final.proofs.RiscV32.{symbol_32, with_addend_sum}
-use Rattle.linker_final.proofs.RiscVImports.{CjType, IType, IsApplied, IsSame32, Operands, RiscVRelocation, UType, UiType, after_rewrite, moved, pair_row, plt_address, rd_of, register, riscv_form, riscv_row, rs1_of, sum_64, symbol_address, word_of}
+use Rattle.linker_elf.specs.Applied.{IsApplied}
+use Rattle.linker_elf.specs.RiscV.{riscv_form}
+use Rattle.linker_elf.specs.RiscVRelocations.{pair_row, riscv_row}
+use Rattle.linker_elf.specs.Value.{sum_64}
+use Rattle.linker_elf.specs.declared.elf.value.Operands.{Operands}
+use Rattle.linker_elf.specs.declared.riscv64.forms.RiscVInstruction.TheVariants.{CjType, IType, UType, UiType}
+use Rattle.linker_elf.specs.declared.riscv64.relocations.RiscVRelocation.{RiscVRelocation}
+use Rattle.linker_final.specs.RiscV32.{IsSame32}
+use Rattle.linker_laws.specs.Machine.{moved}
+use Rattle.linker_laws.specs.RiscVMachine.{register, rs1_of}
+use Rattle.linker_laws.specs.RiscVRewriteLaws.{after_rewrite, word_of}
+use Rattle.linker_laws.specs.Schemes.{plt_address, symbol_address}
+use Rattle.linker_riscv64.specs.RiscVFields.{rd_of}
 use Rattle.linker_final.specs.RiscV32Calls.{Calls, HasCalled, LongCall, ShortCall, executed_32, fetched_32, is_cjal, modulo_32, step_32}
 use Rattle.linker_laws.proofs.Imports.{ap₂, ints, jump_row}
 use Rattle.linker_laws.proofs.RiscVJumps.{high_decodes, high_long, low_decodes, low_long, pair_base, pair_leads, pair_link, pair_register, short_jump_function, short_jump_leads, short_jump_low}
