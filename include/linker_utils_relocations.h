@@ -289,8 +289,10 @@ LINKER_UTILS_MUST_USE static inline uint32_t linker_utils_read_crel(
     uint8_t *has_addends);
 
 /* ---- RV32: files of ELFCLASS32 with EM_RISCV. Their relocations have RISC-V's types, and all
- * other calls take them as those of RV64, with addresses below 2^32. Those that shorten code take
- * LINKER_UTILS_CLASS32, too. Of other machines LINKER_UTILS_UNKNOWN_ARCHITECTURE. */
+ * other calls take them as those of RV64, with addresses below 2^32. What may make `c.jal` has to
+ * know the class: calls that relax and pack runs take LINKER_UTILS_CLASS32 beside the machine, and
+ * the facts of `linker_utils_choose` have `is_class32`. Of other machines
+ * LINKER_UTILS_UNKNOWN_ARCHITECTURE. */
 
 /* Copies the relocations of such a file's section, n of 12 bytes (`Elf32_Rela`), to the first of
  * `relas`, of 24 bytes each, as a `section` has them. `rela32_len` counts bytes, of which those

@@ -16,7 +16,8 @@
     F(st_name) F(st_info) F(st_other) F(st_shndx) F(st_value) F(st_size)
 #define COPY(field) to.field = from.field;
 
-/* Writes an entry of a table as the struct of the other class. The tables may be one that is cut. */
+/* Writes an entry of a table as the struct of the other class. Both may be one table, which is cut
+ * in place. */
 #define CONVERT(From, To, FIELDS, table, made, i)                              \
     From from;                                                                 \
     To to = {0};                                                               \
@@ -42,8 +43,7 @@
     }
 WIDENS(Ehdr) WIDENS(Shdr) WIDENS(Sym) CUTS(Ehdr) CUTS(Shdr) CUTS(Phdr) CUTS(Sym)
 
-/* Notes of which class the files are, all of one. ELFCLASS32 is for machines of whose files the
- * library knows it. */
+/* Notes the class of the files, which all have to have. Only RISC-V's may be of ELFCLASS32. */
 void note_class(const struct object *o) {
     Elf32_Ehdr head = {.e_shnum = 0};
     if (o->len >= sizeof head) memcpy(&head, o->bytes, sizeof head);

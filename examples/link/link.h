@@ -347,7 +347,7 @@ void fill_entry(struct symbol *s, const struct entry *e);
 bool write_dynamic(void);
 /* class32.c */
 void note_class(const struct object *o);
-/* the entries of a file's table as those of ELFCLASS64; cuts them in place, to so many bytes */
+/* the entries of a file's table as those of ELFCLASS64; cut_*: in place, returns their length */
 const void *wide_Ehdr(const void *table, size_t count), *wide_Shdr(const void *table, size_t count);
 const void *wide_Sym(const void *table, size_t count);
 size_t cut_Ehdr(void *table, size_t count), cut_Shdr(void *table, size_t count);
