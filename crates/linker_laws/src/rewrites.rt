@@ -12,7 +12,6 @@ ghost use Rattle.linker_laws.specs.X86Examples as x86_examples;
 /// instruction on. What they compute is in `simulation::aarch64`.
 pub fn aarch64()
     ensures sections { aarch64_laws.InSections }
-    ensures steps { aarch64_worked.WorkedSteps }
     ensures runs { aarch64_worked.WorkedRuns }
 {}
 
@@ -25,11 +24,10 @@ pub fn riscv64()
     ensures sequences { riscv_examples.Sequences }
 {}
 
-/// x86-64: examples of what bytes are, and of what instructions do: bytes of assemblers and results
-/// of a processor. Those of EVEX are of the decoding alone. What rewritten instructions compute is
-/// in `simulation::x86_64`.
+/// x86-64: examples of what bytes of assemblers are, and of what instructions do. Those that
+/// emulators have are in `linker_final::emulated`, and what rewritten instructions compute is in
+/// `simulation::x86_64`.
 pub fn x86_64()
     ensures decoding { x86_examples.Decoding }
-    ensures results { x86_examples.Results }
     ensures states { x86_examples.States }
 {}

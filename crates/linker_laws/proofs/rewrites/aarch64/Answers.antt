@@ -41,26 +41,6 @@ sections AdrpAddToNopAdr section o = in_section _ section o (λ window. refl)
 pub returns-clause-sections : goal.returns-clause-sections
 returns-clause-sections c = sections
 
-pub returns-clause-steps : goal.returns-clause-steps
-unfolding place_sum
-returns-clause-steps c = (
-  (refl, refl),
-  (refl, refl),
-  (refl, refl),
-  (refl, refl),
-  (refl, refl),
-  (refl, refl),
-  (refl, refl),
-  (refl, refl),
-  (refl, refl),
-  (refl, refl),
-  (refl, refl),
-  (refl, refl),
-  (refl, refl),
-  (refl, refl),
-  (refl, refl),
-)
-
 pub returns-clause-runs : goal.returns-clause-runs
 unfolding place_sum
 returns-clause-runs c = (refl, refl, refl)

@@ -5,18 +5,5 @@ use Rattle.linker_laws.proofs.rewrites.x86_64.Goals as goal
 pub returns-clause-decoding : goal.returns-clause-decoding
 returns-clause-decoding c = (refl, refl)
 
-pub returns-clause-results : goal.returns-clause-results
-returns-clause-results c = refl
-
 pub returns-clause-states : goal.returns-clause-states
-returns-clause-states c = (
-  (refl, refl, refl),
-  refl,
-  refl,
-  refl,
-  (refl, refl, refl, refl),
-  refl,
-  refl,
-  (refl, refl, refl, refl),
-  (refl, refl, refl),
-)
+returns-clause-states c = ((refl, refl, refl), (refl, refl, refl, refl), (refl, refl, refl))
