@@ -1,6 +1,6 @@
 -- Operations whose operands are the same numbers.
 use Rattle.linker_laws.proofs.Imports.{◌≡◌, ℕ, ◌+◌, ◌*◌, ◌/◌, ◌%◌, ◌^◌, ◌<◌, sym, ◌∙◌, ap, arith, inl, inr, ◌⊎◌, subst, Bool, if◌then◌else◌, and_comm, sum_64}
-use Rattle.linker_laws.specs.X86Machine.{State, Operation, MOV, TEST, register, relative, immediate, operate, execute, perform, operand_value, load, extended, logic_flags, lea, with_register, operate_into, result, flags_after}
+use Rattle.linker_laws.specs.X86Machine.{State, Operation, MOV, TEST, register, relative, immediate, operate, execute, perform, operand_value, load, extended, logical, lea, with_register, operate_into, result}
 
 abbrev execute_lea : ℕ → ℕ → ℕ → ℕ → State → State
 execute_lea n r address next s =
@@ -55,7 +55,7 @@ pub same_test : (s : State) (next n r d i : ℕ)
 same_test s next n r d i same =
     let a = operand_value s next n (register r) in
     ap (λ b. perform TEST n (relative d) b a next s) same
-    ∙ ap (λ x. record s { ip = next; register = s.register; flags = logic_flags n x })
+    ∙ ap (λ x. record s { ip = next; register = s.register; flags = (logical n x).1 })
     (and_comm (operand_value s next n (immediate i)) a)
 
 -- the same into a register
@@ -67,6 +67,6 @@ same_into op s next n r d i destination without_flags same =
     let a = operand_value s next n (register r) in
     ap (λ b. record s {
       ip = next;
-      register = with_register destination (result op n s.flags a b) s.register;
-      flags = if without_flags then s.flags else flags_after op n s.flags a b;
+      register = with_register destination (result op n s.flags a b).0 s.register;
+      flags = if without_flags then s.flags else (result op n s.flags a b).1;
     }) same

@@ -3,7 +3,7 @@
 -- instruction). Code isn't part of the memory here.
 use Rattle.std.specs.Prelude.{ℕ, zero, suc, ◌+◌, ◌-◌, ◌*◌, ◌/◌, ◌%◌, ◌^◌, ◌==◌, ◌&&◌, Bool, true}
 use Rattle.std.specs.Prelude.{false, not, if◌then◌else◌, nat_lt, List, [], ◌∷◌, Option, Some, None}
-use Rattle.std.specs.Prelude.{bit_and, bit_or, bit_xor}
+use Rattle.std.specs.Prelude.{bit_and, bit_or, bit_xor, option_map, slice_get}
 use Rattle.std.specs.Int.{w64, bit_at, byte_at, cast_unsigned}
 use Rattle.linker_laws.specs.Imports.{field, signed, number_of_bytes, sum_64, difference_64}
 
@@ -67,72 +67,55 @@ writes op = true
 abbrev pub bit_of : Bool → ℕ
 bit_of b = if b then 1 else 0
 
--- of n bits, with a carry of 0 or 1
-abbrev pub sum_of : ℕ → ℕ → ℕ → ℕ → ℕ
-sum_of n carry a b = (a + b + carry) % 2 ^ n
-
-abbrev pub difference_of : ℕ → ℕ → ℕ → ℕ → ℕ
-difference_of n borrow a b = (a + (2 * 2 ^ n - (b + borrow))) % 2 ^ n
-
--- the number that an operation makes of two of n bits and CF
-abbrev pub result : Operation → ℕ → Flags → ℕ → ℕ → ℕ
-result MOV n f a b = b
-result ADD n f a b = sum_of n 0 a b
-result OR n f a b = bit_or a b
-result ADC n f a b = sum_of n (bit_of f.carry) a b
-result SBB n f a b = difference_of n (bit_of f.carry) a b
-result AND n f a b = bit_and a b
-result SUB n f a b = difference_of n 0 a b
-result XOR n f a b = bit_xor a b
-result CMP n f a b = difference_of n 0 a b
-result TEST n f a b = bit_and a b
-
 -- how many of the low k bits are 1
 abbrev pub ones : ℕ → ℕ → ℕ
 ones zero number = 0
 ones (suc k) number = bit_at number k + ones k number
 
--- PF is of the low byte
-abbrev pub flags_of : ℕ → ℕ → Bool → Bool → Bool → Flags
-flags_of n r carry auxiliary overflow =
-    record {
-      carry = carry;
-      parity = ones 8 r % 2 == 0;
-      auxiliary = auxiliary;
-      is_zero = r == 0;
-      sign = bit_at r (n - 1) == 1;
-      overflow = overflow;
-    }
+-- a number of n bits that an operation makes, and the flags after it; PF is of the low byte
+abbrev pub made : ℕ → ℕ → Bool → Bool → Bool → ℕ × Flags
+made n r carry auxiliary overflow = (
+  r,
+  record {
+    carry = carry;
+    parity = ones 8 r % 2 == 0;
+    auxiliary = auxiliary;
+    is_zero = r == 0;
+    sign = bit_at r (n - 1) == 1;
+    overflow = overflow;
+  },
+)
 
--- Overflow is where both operands have one sign, and the result has the other.
-abbrev pub sum_flags : ℕ → ℕ → ℕ → ℕ → Flags
-sum_flags n carry a b =
-    let r = sum_of n carry a b in
-    flags_of n r (nat_lt (2 ^ n - 1) (a + b + carry)) (nat_lt 15 (a % 16 + b % 16 + carry))
+-- With a carry of 0 or 1. Overflow is where both operands have one sign, and the result has the
+-- other.
+abbrev pub sum_of : ℕ → ℕ → ℕ → ℕ → ℕ × Flags
+sum_of n carry a b =
+    let r = (a + b + carry) % 2 ^ n in
+    made n r (nat_lt (2 ^ n - 1) (a + b + carry)) (nat_lt 15 (a % 16 + b % 16 + carry))
     ((bit_at a (n - 1) == bit_at b (n - 1)) && not (bit_at r (n - 1) == bit_at a (n - 1)))
 
-abbrev pub difference_flags : ℕ → ℕ → ℕ → ℕ → Flags
-difference_flags n borrow a b =
-    let r = difference_of n borrow a b in
-    flags_of n r (nat_lt a (b + borrow)) (nat_lt (a % 16) (b % 16 + borrow))
+abbrev pub difference_of : ℕ → ℕ → ℕ → ℕ → ℕ × Flags
+difference_of n borrow a b =
+    let r = (a + (2 * 2 ^ n - (b + borrow))) % 2 ^ n in
+    made n r (nat_lt a (b + borrow)) (nat_lt (a % 16) (b % 16 + borrow))
     (not (bit_at a (n - 1) == bit_at b (n - 1)) && not (bit_at r (n - 1) == bit_at a (n - 1)))
 
 -- CF and OF are 0; AF, which the manual leaves undefined, is taken as 0
-abbrev pub logic_flags : ℕ → ℕ → Flags
-logic_flags n r = flags_of n r false false false
+abbrev pub logical : ℕ → ℕ → ℕ × Flags
+logical n r = made n r false false false
 
--- the flags after an operation on two numbers of n bits
-abbrev pub flags_after : Operation → ℕ → Flags → ℕ → ℕ → Flags
-flags_after MOV n f a b = f
-flags_after ADD n f a b = sum_flags n 0 a b
-flags_after OR n f a b = logic_flags n (bit_or a b)
-flags_after ADC n f a b = sum_flags n (bit_of f.carry) a b
-flags_after SBB n f a b = difference_flags n (bit_of f.carry) a b
-flags_after AND n f a b = logic_flags n (bit_and a b)
-flags_after SUB n f a b = difference_flags n 0 a b
-flags_after XOR n f a b = logic_flags n (bit_xor a b)
-flags_after CMP n f a b = difference_flags n 0 a b
-flags_after TEST n f a b = logic_flags n (bit_and a b)
+-- by two numbers of n bits and the flags before
+abbrev pub result : Operation → ℕ → Flags → ℕ → ℕ → ℕ × Flags
+result MOV n f a b = (b, f)
+result ADD n f a b = sum_of n 0 a b
+result OR n f a b = logical n (bit_or a b)
+result ADC n f a b = sum_of n (bit_of f.carry) a b
+result SBB n f a b = difference_of n (bit_of f.carry) a b
+result AND n f a b = logical n (bit_and a b)
+result SUB n f a b = difference_of n 0 a b
+result XOR n f a b = logical n (bit_xor a b)
+result CMP n f a b = difference_of n 0 a b
+result TEST n f a b = logical n (bit_and a b)
 
 -- ---- instructions
 
@@ -189,11 +172,11 @@ target_address s next (through r) = load 8 s (s.register r)
 -- the state after an operation on two numbers, of which the first is that of an operand
 abbrev pub perform : Operation → ℕ → Operand → ℕ → ℕ → ℕ → State → State
 perform op n first a b next s =
+    let r = result op n s.flags a b in
     record s {
       ip = next;
-      register =
-          if writes op then write_operand first (result op n s.flags a b) s else s.register;
-      flags = flags_after op n s.flags a b;
+      register = if writes op then write_operand first r.0 s else s.register;
+      flags = r.1;
     }
 
 -- the state after an instruction, by the next one's address
@@ -201,12 +184,11 @@ abbrev pub execute : Instruction → ℕ → State → State
 execute (operate op n first second) next s =
     perform op n first (operand_value s next n first) (operand_value s next n second) next s
 execute (operate_into r without_flags op n first second) next s =
-    let a = operand_value s next n first in
-    let b = operand_value s next n second in
+    let made = result op n s.flags (operand_value s next n first) (operand_value s next n second) in
     record s {
       ip = next;
-      register = with_register r (result op n s.flags a b) s.register;
-      flags = if without_flags then s.flags else flags_after op n s.flags a b;
+      register = with_register r made.0 s.register;
+      flags = if without_flags then s.flags else made.1;
     }
 execute (lea n r d) next s =
     record s {
@@ -356,16 +338,7 @@ is_register m = mod_of m == 3
 
 -- the operations of opcodes 00 to 3f, and of 81, by number ("Opcode Extensions", group 1)
 abbrev pub group_1 : ℕ → Option Operation
-group_1 k =
-    if k == 0 then Some ADD
-    else (if k == 1 then Some OR
-    else (if k == 2 then Some ADC
-    else (if k == 3 then Some SBB
-    else (if k == 4 then Some AND
-    else (if k == 5 then Some SUB
-    else (if k == 6 then Some XOR
-    else (if k == 7 then Some CMP
-    else None)))))))
+group_1 k = slice_get (ADD ∷ OR ∷ ADC ∷ SBB ∷ AND ∷ SUB ∷ XOR ∷ CMP ∷ []) k
 
 -- an opcode of which the first operand is the register, and the second is that of mod and rm
 abbrev pub operation_of : ℕ → Option Operation
@@ -463,14 +436,6 @@ decode_evex (first ∷ second ∷ third ∷ opcode ∷ m ∷ rest) =
     else None
 decode_evex bytes = None
 
--- with no prefix: CALL and JMP by e8 and e9, NOP by 90, and those with a ModRM byte
-abbrev pub decode_plain : ℕ → List ℕ → Option Decoded
-decode_plain opcode rest =
-    if opcode == 0xe8 then sized no_prefix 5 (call (direct (number_of_bytes 4 rest)))
-    else (if opcode == 0xe9 then sized no_prefix 5 (jump (direct (number_of_bytes 4 rest)))
-    else (if opcode == 0x90 then sized no_prefix 1 nop
-    else decode_modrm no_prefix opcode rest))
-
 -- The address-size prefix 67 changes nothing of CALL by e8, the only opcode after it here.
 abbrev pub decode_addr32 : List ℕ → Option Decoded
 decode_addr32 [] = None
@@ -484,8 +449,7 @@ decode_rex2 (b ∷ rest) = if bit_at b 7 == 0 then decode_opcode (rex2_prefix b)
 
 -- one more byte
 abbrev pub longer : Option Decoded → Option Decoded
-longer None = None
-longer (Some d) = Some (record d { size = d.size + 1 })
+longer d = option_map (λ (d : Decoded). record d { size = d.size + 1 }) d
 
 -- REX with W
 abbrev pub is_rex_w : ℕ → Bool
@@ -534,7 +498,8 @@ abbrev pub not_too_long : Option Decoded → Option Decoded
 not_too_long None = None
 not_too_long (Some d) = if nat_lt 15 d.size then None else Some d
 
--- the instruction that bytes begin with; none where it isn't one of these
+-- The instruction that bytes begin with; none where it isn't one of these. With no prefix these are
+-- CALL and JMP by e8 and e9, NOP by 90, and those with a ModRM byte.
 abbrev pub decode : List ℕ → Option Decoded
 decode [] = None
 decode (b ∷ bytes) =
@@ -544,12 +509,11 @@ decode (b ∷ bytes) =
     else (if b == 0x66 then not_too_long (decode_data16 bytes)
     else (if b == 0x64 then decode_fs bytes
     else (if b == 0x62 then decode_evex bytes
-    else decode_plain b bytes)))))
-
-abbrev pub execute_decoded : Option Decoded → State → Option State
-execute_decoded None s = None
-execute_decoded (Some d) s = Some (execute d.instruction (sum_64 s.ip d.size) s)
+    else (if b == 0xe8 then sized no_prefix 5 (call (direct (number_of_bytes 4 bytes)))
+    else (if b == 0xe9 then sized no_prefix 5 (jump (direct (number_of_bytes 4 bytes)))
+    else (if b == 0x90 then sized no_prefix 1 nop
+    else decode_modrm no_prefix b bytes))))))))
 
 -- the state after the instruction that bytes begin with
 abbrev pub step : List ℕ → State → Option State
-step bytes s = execute_decoded (decode bytes) s
+step bytes s = option_map (λ d. execute d.instruction (sum_64 s.ip d.size) s) (decode bytes)
