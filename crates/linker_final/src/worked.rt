@@ -513,29 +513,35 @@ pub fn riscv32() -> bool
 }
 
 /// What x86_64-linux-gnu-as 2.40 makes, where a is symbol 2, x is symbol 3 and f is symbol 4.
-const X86_64_OBJECT: [u8; 20] = [
-    0x48, 0x8b, 0x05, 0x00, 0x00, 0x00, 0x00, // mov a@GOTPCREL(%rip), %rax
+const X86_64_OBJECT: [u8; 29] = [
+    0x48, 0x8b, 0x15, 0x00, 0x00, 0x00, 0x00, // mov a@GOTPCREL(%rip), %rdx
     0x48, 0x03, 0x0d, 0x00, 0x00, 0x00, 0x00, // add x@gottpoff(%rip), %rcx
+    0x48, 0x8d, 0x05, 0x00, 0x00, 0x00, 0x00, // lea x@tlsdesc(%rip), %rax
+    0xff, 0x10, // call *x@tlscall(%rax)
     0xff, 0x15, 0x00, 0x00, 0x00, 0x00, // call *f@GOTPCREL(%rip)
 ];
 
 /// Its relocations.
-const X86_64_RELOCATIONS: [u8; 72] = *b"\
+const X86_64_RELOCATIONS: [u8; 120] = *b"\
     \x03\0\0\0\0\0\0\0\x2a\0\0\0\x02\0\0\0\xfc\xff\xff\xff\xff\xff\xff\xff\
     \x0a\0\0\0\0\0\0\0\x16\0\0\0\x03\0\0\0\xfc\xff\xff\xff\xff\xff\xff\xff\
-    \x10\0\0\0\0\0\0\0\x29\0\0\0\x04\0\0\0\xfc\xff\xff\xff\xff\xff\xff\xff";
+    \x11\0\0\0\0\0\0\0\x22\0\0\0\x03\0\0\0\xfc\xff\xff\xff\xff\xff\xff\xff\
+    \x15\0\0\0\0\0\0\0\x23\0\0\0\x03\0\0\0\0\0\0\0\0\0\0\0\
+    \x19\0\0\0\0\0\0\0\x29\0\0\0\x04\0\0\0\xfc\xff\xff\xff\xff\xff\xff\xff";
 
-/// x86-64: whether the program of three groups, `worked` of
-/// `linker_laws::simulation::x86_64_worked`, is what the calls make of an object.
+/// x86-64: whether the program of five groups, `worked` of
+/// `linker_laws::simulation::x86_64_worked`, is what the calls make of an object. The descriptor's
+/// function isn't of the object.
 pub fn x86_64() -> bool
     ensures { IsTrue result → IsOfCalls x86_64_section.rewriting X86_64_OBJECT
         X86_64_RELOCATIONS x86_worked.code.old x86_worked.code.new }
 {
     let mut symbols = [NO_SYMBOL; MOST];
-    symbols[2].address = 0x40_4020;
+    symbols[2].address = 0x40_4030;
     symbols[2].address_entry = 0x40_4000;
     symbols[3].address = 0x40_4ff0;
     symbols[3].thread_entry = 0x40_4008;
+    symbols[3].descriptor = 0x40_4018;
     symbols[3].is_thread_local = true;
     symbols[4].address = 0x40_1020;
     symbols[4].address_entry = 0x40_4010;
@@ -551,14 +557,18 @@ pub fn x86_64() -> bool
         symbols: &symbols,
     };
     let old = [
-        0x48, 0x8b, 0x05, 0xf9, 0x2f, 0x00, 0x00, // mov a@GOTPCREL(%rip), %rax
+        0x48, 0x8b, 0x15, 0xf9, 0x2f, 0x00, 0x00, // mov a@GOTPCREL(%rip), %rdx
         0x48, 0x03, 0x0d, 0xfa, 0x2f, 0x00, 0x00, // add x@gottpoff(%rip), %rcx
-        0xff, 0x15, 0xfc, 0x2f, 0x00, 0x00, // call *f@GOTPCREL(%rip)
+        0x48, 0x8d, 0x05, 0x03, 0x30, 0x00, 0x00, // lea x@tlsdesc(%rip), %rax
+        0xff, 0x10, // call *x@tlscall(%rax)
+        0xff, 0x15, 0xf3, 0x2f, 0x00, 0x00, // call *f@GOTPCREL(%rip)
     ];
     let new = [
-        0x48, 0x8d, 0x05, 0x19, 0x30, 0x00, 0x00, // lea a(%rip), %rax
+        0x48, 0x8d, 0x15, 0x29, 0x30, 0x00, 0x00, // lea a(%rip), %rdx
         0x48, 0x81, 0xc1, 0xf0, 0xff, 0xff, 0xff, // add $x@tpoff, %rcx
-        0x67, 0xe8, 0x0c, 0x00, 0x00, 0x00, // addr32 call f
+        0x48, 0xc7, 0xc0, 0xf0, 0xff, 0xff, 0xff, // mov $x@tpoff, %rax
+        0x66, 0x90, // xchg %ax, %ax
+        0x67, 0xe8, 0x03, 0x00, 0x00, 0x00, // addr32 call f
     ];
     let mut section = X86_64_OBJECT;
     if !is_relocated(&known, &X86_64_RELOCATIONS, &mut section, &old) {

@@ -5,7 +5,8 @@ use Rattle.linker_laws.proofs.Relocated.{accepted_by, all_small, are_bytes, is_a
 use Rattle.linker_laws.specs.X86Groups.{Groups, IsKnownAfter, KeepsRegisters, bytes_at, called, does, link, machine}
 use Rattle.linker_laws.specs.X86Machine as x86_machine
 use Rattle.linker_laws.specs.X86RewriteLaws.{IsBefore, IsRelocatedBy}
-use Rattle.linker_laws.specs.X86GroupsWorked.{IsDescriptorWorked, descriptor, descriptor_code, is_descriptor, is_open, known_but_open, new_descriptor, of_function, IsWorked, bytes, code, entries, is_entry, known, new, no_entries, starting}
+use Rattle.linker_laws.specs.SimulationWorked.{of_byte}
+use Rattle.linker_laws.specs.X86GroupsWorked.{IsWorked, bytes, code, entries, is_entry, known, new, of_function, starting}
 
 -- ---- operands and bytes
 
@@ -26,13 +27,16 @@ operands symbol place got_entry =
     }
 
 abbrev of_a : Operands
-of_a = operands 0x404020 0x401003 0x404000
+of_a = operands 0x404030 0x401003 0x404000
 
 abbrev of_x : Operands
 of_x = operands 0x404ff0 0x40100a 0x404008
 
+abbrev of_descriptor : Operands
+of_descriptor = operands 0x404ff0 0x401011 0x404018
+
 abbrev of_f : Operands
-of_f = operands 0x401020 0x401010 0x404010
+of_f = operands 0x401020 0x401019 0x404010
 
 before : {n o : ℕ} {s : x86_machine.State} (section : List ℕ) (operands : Operands)
     → all_small section ≡ true → o < 2 ^ 64 → AreAddresses operands → operands.addend ≡ neg_ℤ (pos 4)
@@ -67,39 +71,21 @@ there {row} {o = o} {section = section} rest v is e aligned holds encoded writte
 -- ---- what the object has
 
 abbrev mov : List ℕ
-mov = 0x48 ∷ 0x8b ∷ 0x05 ∷ 0x00 ∷ 0x00 ∷ 0x00 ∷ 0x00 ∷ []
+mov = 0x48 ∷ 0x8b ∷ 0x15 ∷ 0x00 ∷ 0x00 ∷ 0x00 ∷ 0x00 ∷ []
 
 abbrev add : List ℕ
 add = 0x48 ∷ 0x03 ∷ 0x0d ∷ 0x00 ∷ 0x00 ∷ 0x00 ∷ 0x00 ∷ []
 
+abbrev lea : List ℕ
+lea = 0x48 ∷ 0x8d ∷ 0x05 ∷ 0x00 ∷ 0x00 ∷ 0x00 ∷ 0x00 ∷ []
+
+abbrev calls : List ℕ
+calls = 0xff ∷ 0x10 ∷ []
+
 abbrev call : List ℕ
 call = 0xff ∷ 0x15 ∷ 0x00 ∷ 0x00 ∷ 0x00 ∷ 0x00 ∷ []
 
--- ---- runs
-
-keeps : (s s' : State) → machine code.others code.old s ≡ Some s' → KeepsRegisters code known s (λ r. same) s'
-keeps s s' goes t agree =
-    subst (λ (registers : ℕ → ℕ).
-    IsSomeAnd (machine code.others code.old (record s { registers = registers }))
-    (λ u. (r : ℕ) → s'.registers r ≡ u.registers r)) (λ i r. agree.registers r i)
-    (subst (λ o. IsSomeAnd o (λ u. (r : ℕ) → s'.registers r ≡ u.registers r)) (sym goes) (λ r. refl))
-
-starts : Agree (link code) known (starting entries) (starting no_entries)
-starts =
-    record {
-      small = lit< tt;
-      pc = refl;
-      registers = λ r. refl;
-      memory = λ a below.
-          subst (λ b. AreOf (link code) 1 (if is_entry a then anything else same) (entries b + 256 * 0)
-          (0 + 256 * 0)) (let e : a ≡ a - 0 = omega arith in e) (by (is_entry a) _);
-      outside = refl;
-    }
-  where
-    by : (b : Bool) (x : ℕ)
-        → AreOf (link code) 1 (if b then anything else same) ((if b then x else 0) + 256 * 0) (0 + 256 * 0)
-    by true x = tt
-    by false x = refl
+-- ---- states
 
 abbrev s0 : State
 s0 = starting entries
@@ -111,16 +97,60 @@ abbrev s2 : State
 s2 = unwrap_or (machine code.others code.old s1) s1
 
 abbrev s3 : State
-s3 = called 0x401020 0x401014 s2
+s3 = put 0 0x404018 0x401015 s2
+
+abbrev s4 : State
+s4 = put 4 0x8000 0x401017 (put 0 0xfffffffffffffff0 0x401025 (called 0x401021 0x401017 s3))
+
+abbrev s5 : State
+s5 = called 0x401020 0x40101d s4
+
+abbrev k1 : Kinds
+k1 = with_register 0 (half 0) known
+
+abbrev k2 : Kinds
+k2 = with_register 0 same k1
+
+abbrev k3 : Kinds
+k3 = record k2 { memory = λ a. of_byte (if is_entry a then anything else same) }
+
+starts : Agree (link code) known s0 (starting (λ a. 0))
+starts =
+    record {
+      small = lit< tt;
+      pc = refl;
+      registers = λ r. refl;
+      memory = λ a below.
+          subst (λ b. AreOf (link code) 1
+          (if is_entry a || (nat_le 0x7ff8 a && nat_lt a 0x8000) then anything else same)
+          (entries b + 256 * 0) (0 + 256 * 0)) (let e : a ≡ a - 0 = omega arith in e)
+          (by (is_entry a) (nat_le 0x7ff8 a && nat_lt a 0x8000) _);
+      outside = refl;
+    }
+  where
+    by : (b c : Bool) (x : ℕ)
+        → AreOf (link code) 1 (if b || c then anything else same) ((if b then x else 0) + 256 * 0) (0 + 256 * 0)
+    by true c x = tt
+    by false true x = tt
+    by false false x = refl
+
+-- ---- groups
+
+keeps : (s s' : State) → machine code.others code.old s ≡ Some s' → KeepsRegisters code known s (λ r. same) s'
+keeps s s' goes t agree =
+    subst (λ (registers : ℕ → ℕ).
+    IsSomeAnd (machine code.others code.old (record s { registers = registers }))
+    (λ u. (r : ℕ) → s'.registers r ≡ u.registers r)) (λ i r. agree.registers r i)
+    (subst (λ o. IsSomeAnd o (λ u. (r : ℕ) → s'.registers r ≡ u.registers r)) (sym goes) (λ r. refl))
 
 p1 : Groups → Group (of_link (link code)) 1 known s0 known s1
 p1 g =
-    g.loads.0.1 code s0 mov (0x48 ∷ 0x8b ∷ 0x05 ∷ 0xf9 ∷ 0x2f ∷ 0x00 ∷ 0x00 ∷ [])
-    (0x48 ∷ 0x8d ∷ 0x05 ∷ 0x19 ∷ 0x30 ∷ 0x00 ∷ 0x00 ∷ []) 3 of_a
+    g.loads.0.1 code s0 mov (0x48 ∷ 0x8b ∷ 0x15 ∷ 0xf9 ∷ 0x2f ∷ 0x00 ∷ 0x00 ∷ [])
+    (0x48 ∷ 0x8d ∷ 0x15 ∷ 0x29 ∷ 0x30 ∷ 0x00 ∷ 0x00 ∷ []) 3 of_a
     (before mov of_a refl (lit< tt) (small of_a refl) refl refl)
     refl (record { starts = lit≤ tt; ends = lit≤ tt; admitted = refl }, refl)
     (there (0xf9 ∷ 0x2f ∷ 0x00 ∷ 0x00 ∷ []) (pos 0x2ff9) refl refl (refl, tt, tt) tt tt refl refl)
-    (there (0x19 ∷ 0x30 ∷ 0x00 ∷ 0x00 ∷ []) (pos 0x3019) refl refl (refl, tt, tt) tt tt refl refl)
+    (there (0x29 ∷ 0x30 ∷ 0x00 ∷ 0x00 ∷ []) (pos 0x3029) refl refl (refl, tt, tt) tt tt refl refl)
     refl refl refl known (λ r. same) (keeps s0 s1 refl)
 
 p2 : Groups → Group (of_link (link code)) 1 known s1 known s2
@@ -133,120 +163,27 @@ p2 g =
     (there (0xf0 ∷ 0xff ∷ 0xff ∷ 0xff ∷ []) (negsuc 15) refl refl (refl, tt, tt) tt tt refl refl)
     refl refl refl known (λ r. same) (keeps s1 s2 refl)
 
--- The pushed bytes are no entry's.
-known_after : (a : ℕ) → IsKnownAfter 0x7ff8 (known.memory a) (known.memory a) a
-known_after a = by (nat_lt (difference_64 a 0x7ff8) 8) refl
-  where
-    by : (b : Bool) → nat_lt (difference_64 a 0x7ff8) 8 ≡ b → IsKnownAfter 0x7ff8 (known.memory a) (known.memory a) a
-    by true e =
-        let below = ltb-true (difference_64 a 0x7ff8) 8 e in
-        let none : is_entry a ≡ false = grind (arith, below) in
-        inl (below, ap (λ b. record { kind = if b then anything else same; bytes = 1; below = 0 }) none)
-    by false e =
-        let above = ltb-false (difference_64 a 0x7ff8) 8 e in
-        inr (inr (refl, λ i one. omega arith))
-
-p3 : Groups → Group (of_link (link code)) 1 known s2 known s3
+p3 : Groups → Group (of_link (link code)) 1 known s2 k1 s3
 p3 g =
-    g.branches.0 code s2 call (0xff ∷ 0x15 ∷ 0xfc ∷ 0x2f ∷ 0x00 ∷ 0x00 ∷ [])
-    (0x67 ∷ 0xe8 ∷ 0x0c ∷ 0x00 ∷ 0x00 ∷ 0x00 ∷ []) 2 of_f
-    (before call of_f refl (lit< tt) (small of_f refl) refl refl)
-    refl (record { starts = lit≤ tt; ends = lit≤ tt; admitted = refl }, refl)
-    (there (0xfc ∷ 0x2f ∷ 0x00 ∷ 0x00 ∷ []) (pos 0x2ffc) refl refl (refl, tt, tt) tt tt refl refl)
-    (there (0x0c ∷ 0x00 ∷ 0x00 ∷ 0x00 ∷ []) (pos 0xc) refl refl (refl, tt, tt) tt tt refl refl)
-    refl refl refl known known refl refl (λ a below. known_after a)
-
-pub is_worked : Groups → IsWorked
-is_worked g =
-    record {
-      state = s3;
-      agree = starts;
-      covered =
-          group 2 1 2 _ _ _ _ _ _ (p1 g) (group 1 1 1 _ _ _ _ _ _ (p2 g)
-          (group 0 1 0 _ _ _ _ _ _ (p3 g) (ends _ _)));
-      stops = record {
-        old_stops = refl;
-        new_stops = λ t agree. ap (λ a. does code.others (bytes_at 15 (bytes new) a) t) agree.pc;
-      };
-      old_ends = record { pc = refl; rax = refl; rcx = refl; carry = refl; pushed = refl };
-      new_ends = record { pc = refl; rax = refl; rcx = refl; carry = refl; pushed = refl };
-    }
-
--- ---- a descriptor
-
-abbrev of_descriptor : Operands
-of_descriptor = operands 0x404ff0 0x401003 0x404000
-
-abbrev lea : List ℕ
-lea = 0x48 ∷ 0x8d ∷ 0x05 ∷ 0x00 ∷ 0x00 ∷ 0x00 ∷ 0x00 ∷ []
-
-abbrev calls : List ℕ
-calls = 0xff ∷ 0x10 ∷ []
-
-descriptor_starts : Agree (link descriptor_code) known_but_open (starting descriptor) (starting no_entries)
-descriptor_starts =
-    record {
-      small = lit< tt;
-      pc = refl;
-      registers = λ r. refl;
-      memory = λ a below.
-          subst (λ b. AreOf (link descriptor_code) 1 (if is_open a then anything else same)
-          (descriptor b + 256 * 0) (0 + 256 * 0)) (let e : a ≡ a - 0 = omega arith in e)
-          (by (is_descriptor a) (nat_le 0x7ff8 a && nat_lt a 0x8000) _);
-      outside = refl;
-    }
-  where
-    by : (b c : Bool) (x : ℕ)
-        → AreOf (link descriptor_code) 1 (if b || c then anything else same)
-        ((if b then x else 0) + 256 * 0) (0 + 256 * 0)
-    by true c x = tt
-    by false true x = tt
-    by false false x = refl
-
-abbrev d0 : State
-d0 = starting descriptor
-
-abbrev d1 : State
-d1 = put 0 0x404000 0x401007 d0
-
-abbrev in_function : State
-in_function = called 0x40100a 0x401009 d1
-
-abbrev at_ret : State
-at_ret = put 0 0xfffffffffffffff0 0x40100e in_function
-
-abbrev d2 : State
-d2 = put 4 0x8000 0x401009 at_ret
-
-abbrev with_half : Kinds
-with_half = with_register 0 (half 0) known_but_open
-
-abbrev after_call : Kinds
-after_call = with_register 0 same with_half
-
-q1 : Groups → Group (of_link (link descriptor_code)) 1 known_but_open d0 with_half d1
-q1 g =
-    g.descriptor_address.0 descriptor_code d0 lea (0x48 ∷ 0x8d ∷ 0x05 ∷ 0xf9 ∷ 0x2f ∷ 0x00 ∷ 0x00 ∷ [])
+    g.descriptor_address.0 code s2 lea (0x48 ∷ 0x8d ∷ 0x05 ∷ 0x03 ∷ 0x30 ∷ 0x00 ∷ 0x00 ∷ [])
     (0x48 ∷ 0xc7 ∷ 0xc0 ∷ 0xf0 ∷ 0xff ∷ 0xff ∷ 0xff ∷ []) 3 of_descriptor
     (before lea of_descriptor refl (lit< tt) (small of_descriptor refl) refl refl)
     refl (record { starts = lit≤ tt; ends = lit≤ tt; admitted = refl }, refl)
-    (there (0xf9 ∷ 0x2f ∷ 0x00 ∷ 0x00 ∷ []) (pos 0x2ff9) refl refl (refl, tt, tt) tt tt refl refl)
+    (there (0x03 ∷ 0x30 ∷ 0x00 ∷ 0x00 ∷ []) (pos 0x3003) refl refl (refl, tt, tt) tt tt refl refl)
     (there (0xf0 ∷ 0xff ∷ 0xff ∷ 0xff ∷ []) (negsuc 15) refl refl (refl, tt, tt) tt tt refl refl)
-    refl refl 0 known_but_open refl refl
+    refl refl 0 known refl refl
 
 -- The function changes only the 8 bytes below the stack pointer.
-only_open : (a : ℕ) → a < 2 ^ 64 → IsKept (known_but_open.memory a) (known_but_open.memory a) a d1 d2
+only_open : (a : ℕ) → a < 2 ^ 64 → IsKept (known.memory a) (known.memory a) a s3 s4
 only_open a small = by (nat_lt (difference_64 a 0x7ff8) 8) refl
   where
-    by : (b : Bool) → nat_lt (difference_64 a 0x7ff8) 8 ≡ b
-        → IsKept (known_but_open.memory a) (known_but_open.memory a) a d1 d2
+    by : (b : Bool) → nat_lt (difference_64 a 0x7ff8) 8 ≡ b → IsKept (known.memory a) (known.memory a) a s3 s4
     by true e =
         let below = ltb-true (difference_64 a 0x7ff8) 8 e in
         let low : 0x7ff8 ≤ a = grind (arith, below, small) in
         let high : a < 0x8000 = grind (arith, below, small) in
         inl (ap (λ b. if b then anything else same)
-        (ap₂ (λ b c. is_descriptor a || (b && c)) (le-leb _ _ low) (lt-ltb _ _ high)
-        ∙ or_true (is_descriptor a)))
+        (ap₂ (λ b c. is_entry a || (b && c)) (le-leb _ _ low) (lt-ltb _ _ high) ∙ or_true (is_entry a)))
       where
         or_true : (b : Bool) → (b || true) ≡ true
         or_true true = refl
@@ -256,48 +193,58 @@ only_open a small = by (nat_lt (difference_64 a 0x7ff8) 8) refl
         (let same_address : a ≡ a - 0 = omega arith in same_address) e in
         inr (refl, ap (λ x. x + 256 * 0) (cond-false (nat_lt (difference_64 (a - 0) 0x7ff8) 8) _ _ e'))
 
-q2 : Groups → Group (of_link (link descriptor_code)) 1 with_half d1 after_call d2
-q2 g =
-    g.descriptor_call descriptor_code d1 calls 0 (are_bytes calls refl)
-    (record { starts = lit≤ tt; ends = lit≤ tt; admitted = refl }, refl) refl refl 0 2 with_half
-    after_call d2 refl refl
-    (record {
-      pc = refl;
-      registers = λ r. inr (refl, by r (r == 4) refl);
-      memory = λ a below. only_open a below;
-      outside = refl;
-    })
+p4 : Groups → Group (of_link (link code)) 1 k1 s3 k2 s4
+p4 g =
+    g.descriptor_call code s3 calls 0 (are_bytes calls refl)
+    (record { starts = lit≤ tt; ends = lit≤ tt; admitted = refl }, refl) refl refl 0 2 k1 k2 s4 refl refl
+    (record { pc = refl; registers = λ r. inr (refl, by r (r == 4) refl); memory = only_open; outside = refl })
   where
-    stack : (r : ℕ) → (r == 4) ≡ true
-        → 0x8000 ≡ (put 0 0xfffffffffffffff0 0x401009 d1).registers r
-    stack r e = ap (put 0 0xfffffffffffffff0 0x401009 d1).registers (sym (eqb-true r 4 e))
-
-    by : (r : ℕ) (b : Bool) → (r == 4) ≡ b
-        → d2.registers r ≡ (put 0 0xfffffffffffffff0 0x401009 d1).registers r
-    by r true e = cond-true (r == 4) _ _ e ∙ stack r e
+    by : (r : ℕ) (b : Bool) → (r == 4) ≡ b → s4.registers r ≡ (put 0 0xfffffffffffffff0 0x401017 s3).registers r
+    by r true e = cond-true (r == 4) _ _ e ∙ ap (put 0 0xfffffffffffffff0 0x401017 s3).registers (sym (eqb-true _ _ e))
     by r false e =
         cond-false (r == 4) _ _ e
-        ∙ ap (λ x. if r == 0 then 0xfffffffffffffff0 else x)
-        (cond-false (r == 4) 0x7ff8 (d1.registers r) e ∙ refl)
-        ∙ (again (r == 0))
-      where
-        again : (b : Bool)
-            → (if b then 0xfffffffffffffff0 else (if b then 0x404000 else d0.registers r))
-            ≡ (if b then 0xfffffffffffffff0 else (if b then 0x404000 else d0.registers r))
-        again b = refl
+        ∙ ap (λ x. if r == 0 then 0xfffffffffffffff0 else x) (cond-false (r == 4) 0x7ff8 (s3.registers r) e)
 
-pub is_descriptor_worked : Groups → IsDescriptorWorked
-is_descriptor_worked g =
+-- The pushed bytes are no entry's.
+known_after : (a : ℕ) → a < 2 ^ 64 → IsKnownAfter 0x7ff8 (k2.memory a) (k3.memory a) a
+known_after a small = by (is_entry a) (nat_lt (difference_64 a 0x7ff8) 8) refl refl
+  where
+    by : (b c : Bool) → is_entry a ≡ b → nat_lt (difference_64 a 0x7ff8) 8 ≡ c
+        → IsKnownAfter 0x7ff8 (k2.memory a) (k3.memory a) a
+    by true c entry e = inr (inl (ap (λ b. if b then anything else same) entry))
+    by false true entry e =
+        inl (ltb-true (difference_64 a 0x7ff8) 8 e, ap (λ b. of_byte (if b then anything else same)) entry)
+    by false false entry e =
+        let above = ltb-false (difference_64 a 0x7ff8) 8 e in
+        let out : (nat_le 0x7ff8 a && nat_lt a 0x8000) ≡ false = grind (arith, above, small) in
+        inr (inr (
+          ap (λ b. of_byte (if b then anything else same)) (entry ∙ sym (ap₂ (λ b c. b || c) entry out)),
+          λ i one. omega arith,
+        ))
+
+p5 : Groups → Group (of_link (link code)) 1 k2 s4 k3 s5
+p5 g =
+    g.branches.0 code s4 call (0xff ∷ 0x15 ∷ 0xf3 ∷ 0x2f ∷ 0x00 ∷ 0x00 ∷ [])
+    (0x67 ∷ 0xe8 ∷ 0x03 ∷ 0x00 ∷ 0x00 ∷ 0x00 ∷ []) 2 of_f
+    (before call of_f refl (lit< tt) (small of_f refl) refl refl)
+    refl (record { starts = lit≤ tt; ends = lit≤ tt; admitted = refl }, refl)
+    (there (0xf3 ∷ 0x2f ∷ 0x00 ∷ 0x00 ∷ []) (pos 0x2ff3) refl refl (refl, tt, tt) tt tt refl refl)
+    (there (0x03 ∷ 0x00 ∷ 0x00 ∷ 0x00 ∷ []) (pos 0x3) refl refl (refl, tt, tt) tt tt refl refl)
+    refl refl refl k2 k3 refl refl known_after
+
+pub is_worked : Groups → IsWorked
+is_worked g =
     record {
-      kinds = after_call;
-      state = d2;
-      agree = descriptor_starts;
-      covered = group 1 1 1 _ _ _ _ _ _ (q1 g) (group 0 1 0 _ _ _ _ _ _ (q2 g) (ends _ _));
+      kinds = k3;
+      state = s5;
+      agree = starts;
+      covered =
+          group 4 1 4 _ _ _ _ _ _ (p1 g) (group 3 1 3 _ _ _ _ _ _ (p2 g) (group 2 1 2 _ _ _ _ _ _ (p3 g)
+          (group 1 1 1 _ _ _ _ _ _ (p4 g) (group 0 1 0 _ _ _ _ _ _ (p5 g) (ends _ _)))));
       stops = record {
         old_stops = refl;
-        new_stops = λ t agree.
-            ap (λ a. does of_function (bytes_at 15 (bytes new_descriptor) a) t) agree.pc;
+        new_stops = λ t agree. ap (λ a. does of_function (bytes_at 15 (bytes new) a) t) agree.pc;
       };
-      old_ends = record { pc = refl; rax = refl; stack = refl };
-      new_ends = record { pc = refl; rax = refl; stack = refl };
+      old_ends = record { pc = refl; rdx = refl; rcx = refl; carry = refl; rax = refl; pushed = refl };
+      new_ends = record { pc = refl; rdx = refl; rcx = refl; carry = refl; rax = refl; pushed = refl };
     }

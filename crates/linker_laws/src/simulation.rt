@@ -115,12 +115,11 @@ pub fn x86_64()
     ensures groups { x86_groups.Groups }
 {}
 
-/// x86-64: a program with three groups, of which one is a call that pushes its return address, and
-/// one with a TLS descriptor, whose function old executes. Every premise holds, and both runs of
-/// each are computed to the end.
+/// x86-64: a program with five groups, of which two have a TLS descriptor, whose function old
+/// executes, and one is a call that pushes its return address. Every premise holds, and both runs
+/// are computed to the end.
 pub fn x86_64_worked()
     ensures worked { x86_worked.IsWorked }
-    ensures descriptor { x86_worked.IsDescriptorWorked }
 {
     x86_64();
 }
