@@ -1,6 +1,7 @@
 -- AArch64: what relocated instructions compute (ELF for the Arm 64-bit Architecture, "Relocation";
 -- Arm Architecture Reference Manual for A-profile, DDI 0487, C6.2).
-use Rattle.std.specs.Prelude.{ℕ, [], ◌∷◌, ℤ, pos, ◌+◌, ◌+ℤ◌, ◌-ℤ◌, ◌*ℤ◌, ◌^◌, ◌==◌, ◌&&◌, not}
+use Rattle.std.specs.Prelude.{ℕ, List, [], ◌∷◌, map, length, ℤ, pos, ◌+◌, ◌*◌, ◌+ℤ◌, ◌-ℤ◌, ◌*ℤ◌}
+use Rattle.std.specs.Prelude.{◌^◌, ◌==◌, ◌&&◌, not}
 use Rattle.std.specs.Int.{bit_at, int_rem_euclid}
 use Rattle.linker_laws.specs.Imports.{aarch64_form, shift_of, aarch64_row, page, Adr, Add, LdSt}
 use Rattle.linker_laws.specs.Imports.{JumpCall, Movnz, Signed, Operands, AArch64Relocation, is_movk}
@@ -9,7 +10,7 @@ use Rattle.linker_elf.specs.declared.aarch64.forms.AArch64Instruction.TheVariant
 use Rattle.linker_elf.specs.declared.aarch64.forms.AArch64Instruction.TheVariants.{TstBr, Bcond}
 use Rattle.linker_elf.specs.declared.aarch64.forms.AArch64Instruction.TheVariants.{Movkz}
 use Rattle.linker_elf.specs.declared.aarch64.relocations.AArch64Relocation.TheVariants as names
-use Rattle.linker_laws.specs.Schemes.{entry_and_addend, HoldsDistance, Step, Premise, here}
+use Rattle.linker_laws.specs.Schemes.{entry_and_addend, HoldsDistance, Step, Computed, here}
 use Rattle.linker_laws.specs.Schemes.{anywhere, moved_on, of_bits, of_words, Law, Adds}
 use Rattle.linker_laws.specs.Schemes.{symbol_address, plt_address, entry_address, zero, place}
 use Rattle.linker_laws.specs.Schemes.{got_base, tls_base}
@@ -72,14 +73,12 @@ EntryAddresses =
 
 -- ADD of the immediate times 4096 to the thread pointer, or to the address of the module's block,
 -- and an instruction with the low bits
-abbrev pub high_and_low : AArch64Instruction → ℕ → Operands → ℕ → ℕ → ℤ
-high_and_low f unit o x y =
-    (pos o.tls_base +ℤ ((aarch64_form Add).machine x *ℤ pos 4096))
-    +ℤ ((aarch64_form f).machine y *ℤ pos unit)
-
 abbrev pub HighAndLow : AArch64Relocation → AArch64Relocation → AArch64Instruction → ℕ → Type 0
 HighAndLow high low f unit =
-    Law (row_here high ∷ row_anywhere low ∷ []) (high_and_low f unit) symbol_address
+    Law (row_here high ∷ row_anywhere low ∷ [])
+    (λ o x y. (pos o.tls_base +ℤ ((aarch64_form Add).machine x *ℤ pos 4096))
+    +ℤ ((aarch64_form f).machine y *ℤ pos unit))
+    symbol_address
 
 abbrev pub Offset : AArch64Relocation → AArch64Instruction → ℕ → Type 0
 Offset name f unit =
@@ -158,100 +157,96 @@ movk shift v word =
     +ℤ ((aarch64_form Movkz).machine word *ℤ pos (2 ^ shift)))
     +ℤ int_rem_euclid v (pos (2 ^ shift))
 
--- The move is one of 64 bits and no MOVK, and its shift is that of the 16 bits.
-abbrev pub has_shift : ℕ → Premise
-has_shift shift = of_words (λ x. (shift_of x == shift && bit_at x 31 == 1) && not (is_movk x))
+-- a sum with a number, after the moves of the 16 bits below those that were moved
+abbrev pub after_moves : ℕ → ℤ → (steps : List Step) → Computed steps
+after_moves begin v [] = pos begin +ℤ v
+after_moves begin v (step ∷ steps) =
+    λ word. after_moves begin (movk (16 * length steps) v word) steps
 
--- the moves of the 16 bits below those that the first one moves, of the same value
-abbrev pub Moves1 : Step → (Operands → ℕ) → (ℕ → ℤ) → (Operands → ℕ) → Type 0
-Moves1 first begin move target = Law (first ∷ []) (λ o x. pos (begin o) +ℤ move x) target
+-- A first move, by its shift, and those of the 16 bits below are of the same value.
+abbrev pub Moves : (begin target : Operands → ℕ) → (ℕ → ℕ → ℤ) → (ℕ → AArch64Relocation → Step)
+    → (List AArch64Relocation → List Step) → AArch64Relocation → List AArch64Relocation → Type 0
+Moves begin target move first rest name below =
+    let shift = 16 * length below in
+    Law (first shift name ∷ rest below)
+    (λ o x. after_moves (begin o) (move shift x) (rest below)) target
 
-abbrev pub Moves2 : Step → Step → (Operands → ℕ) → (ℕ → ℤ) → (Operands → ℕ) → Type 0
-Moves2 first g0 begin move target =
-    Law (first ∷ g0 ∷ []) (λ o x y. pos (begin o) +ℤ movk 0 (move x) y) target
-
-abbrev pub Moves3 : Step → Step → Step → (Operands → ℕ) → (ℕ → ℤ) → (Operands → ℕ) → Type 0
-Moves3 first g1 g0 begin move target =
-    Law (first ∷ g1 ∷ g0 ∷ []) (λ o x y z. pos (begin o) +ℤ movk 0 (movk 16 (move x) y) z) target
-
-abbrev pub Moves4 : Step → Step → Step → Step → (Operands → ℕ) → (ℕ → ℤ) → (Operands → ℕ) → Type 0
-Moves4 first g2 g1 g0 begin move target =
-    Law (first ∷ g2 ∷ g1 ∷ g0 ∷ [])
-    (λ o x y z u. pos (begin o) +ℤ movk 0 (movk 16 (movk 32 (move x) y) z) u) target
+abbrev pub UnsignedMove : AArch64Relocation → List AArch64Relocation → Type 0
+UnsignedMove = Moves zero symbol_address movz (λ shift. row_here) (map row_anywhere)
 
 abbrev pub UnsignedMoves : Type 0
 UnsignedMoves =
-    Moves1 (row_here names.R_AARCH64_MOVW_UABS_G0) zero (movz 0) symbol_address
-    × Moves2 (row_here names.R_AARCH64_MOVW_UABS_G1)
-    (row_anywhere names.R_AARCH64_MOVW_UABS_G0_NC) zero (movz 16) symbol_address
-    × Moves3 (row_here names.R_AARCH64_MOVW_UABS_G2)
-    (row_anywhere names.R_AARCH64_MOVW_UABS_G1_NC) (row_anywhere names.R_AARCH64_MOVW_UABS_G0_NC)
-    zero (movz 32) symbol_address
-    × Moves4 (row_here names.R_AARCH64_MOVW_UABS_G3)
-    (row_anywhere names.R_AARCH64_MOVW_UABS_G2_NC) (row_anywhere names.R_AARCH64_MOVW_UABS_G1_NC)
-    (row_anywhere names.R_AARCH64_MOVW_UABS_G0_NC) zero (movz 48) symbol_address
+    UnsignedMove names.R_AARCH64_MOVW_UABS_G0 []
+    × UnsignedMove names.R_AARCH64_MOVW_UABS_G1 (names.R_AARCH64_MOVW_UABS_G0_NC ∷ [])
+    × UnsignedMove names.R_AARCH64_MOVW_UABS_G2
+    (names.R_AARCH64_MOVW_UABS_G1_NC ∷ names.R_AARCH64_MOVW_UABS_G0_NC ∷ [])
+    × UnsignedMove names.R_AARCH64_MOVW_UABS_G3
+    (names.R_AARCH64_MOVW_UABS_G2_NC ∷ names.R_AARCH64_MOVW_UABS_G1_NC
+    ∷ names.R_AARCH64_MOVW_UABS_G0_NC ∷ [])
 
+-- The move is one of 64 bits and no MOVK, and its shift is that of the 16 bits.
 abbrev pub signed_move : ℕ → AArch64Relocation → Step
-signed_move shift name = record (row_here name) { premise = has_shift shift }
+signed_move shift name =
+    record (row_here name) {
+      premise = of_words (λ x. (shift_of x == shift && bit_at x 31 == 1) && not (is_movk x));
+    }
+
+abbrev pub SignedMove : (begin target : Operands → ℕ) → AArch64Relocation → List AArch64Relocation
+    → Type 0
+SignedMove begin target =
+    Moves begin target (λ shift. movn_or_movz) signed_move (map row_anywhere)
 
 abbrev pub SignedMoves : Type 0
 SignedMoves =
-    Moves1 (signed_move 0 names.R_AARCH64_MOVW_SABS_G0) zero movn_or_movz symbol_address
-    × Moves2 (signed_move 16 names.R_AARCH64_MOVW_SABS_G1)
-    (row_anywhere names.R_AARCH64_MOVW_UABS_G0_NC) zero movn_or_movz symbol_address
-    × Moves3 (signed_move 32 names.R_AARCH64_MOVW_SABS_G2)
-    (row_anywhere names.R_AARCH64_MOVW_UABS_G1_NC) (row_anywhere names.R_AARCH64_MOVW_UABS_G0_NC)
-    zero movn_or_movz symbol_address
+    SignedMove zero symbol_address names.R_AARCH64_MOVW_SABS_G0 []
+    × SignedMove zero symbol_address names.R_AARCH64_MOVW_SABS_G1
+    (names.R_AARCH64_MOVW_UABS_G0_NC ∷ [])
+    × SignedMove zero symbol_address names.R_AARCH64_MOVW_SABS_G2
+    (names.R_AARCH64_MOVW_UABS_G1_NC ∷ names.R_AARCH64_MOVW_UABS_G0_NC ∷ [])
 
--- a move n bytes after the first
-abbrev pub relative_move : ℕ → AArch64Relocation → Step
-relative_move n name = moved_on n (aarch64_row name)
+-- moves each 4 bytes after the one before
+abbrev pub from_place : ℕ → List AArch64Relocation → List Step
+from_place n [] = []
+from_place n (name ∷ rest) = moved_on n (aarch64_row name) ∷ from_place (n + 4) rest
+
+abbrev pub RelativeMove : AArch64Relocation → List AArch64Relocation → Type 0
+RelativeMove = Moves place symbol_address (λ shift. movn_or_movz) signed_move (from_place 4)
 
 abbrev pub RelativeMoves : Type 0
 RelativeMoves =
-    Moves1 (signed_move 0 names.R_AARCH64_MOVW_PREL_G0) place movn_or_movz symbol_address
-    × Moves2 (signed_move 16 names.R_AARCH64_MOVW_PREL_G1)
-    (relative_move 4 names.R_AARCH64_MOVW_PREL_G0_NC) place movn_or_movz symbol_address
-    × Moves3 (signed_move 32 names.R_AARCH64_MOVW_PREL_G2)
-    (relative_move 4 names.R_AARCH64_MOVW_PREL_G1_NC)
-    (relative_move 8 names.R_AARCH64_MOVW_PREL_G0_NC) place movn_or_movz symbol_address
-    × Moves4 (signed_move 48 names.R_AARCH64_MOVW_PREL_G3)
-    (relative_move 4 names.R_AARCH64_MOVW_PREL_G2_NC)
-    (relative_move 8 names.R_AARCH64_MOVW_PREL_G1_NC)
-    (relative_move 12 names.R_AARCH64_MOVW_PREL_G0_NC) place movn_or_movz symbol_address
+    RelativeMove names.R_AARCH64_MOVW_PREL_G0 []
+    × RelativeMove names.R_AARCH64_MOVW_PREL_G1 (names.R_AARCH64_MOVW_PREL_G0_NC ∷ [])
+    × RelativeMove names.R_AARCH64_MOVW_PREL_G2
+    (names.R_AARCH64_MOVW_PREL_G1_NC ∷ names.R_AARCH64_MOVW_PREL_G0_NC ∷ [])
+    × RelativeMove names.R_AARCH64_MOVW_PREL_G3
+    (names.R_AARCH64_MOVW_PREL_G2_NC ∷ names.R_AARCH64_MOVW_PREL_G1_NC
+    ∷ names.R_AARCH64_MOVW_PREL_G0_NC ∷ [])
 
 -- offsets from the GOT
-abbrev pub GotMoves1 : AArch64Relocation → Type 0
-GotMoves1 g0 = Moves1 (signed_move 0 g0) got_base movn_or_movz entry_address
-
-abbrev pub GotMoves2 : AArch64Relocation → AArch64Relocation → Type 0
-GotMoves2 g1 g0 =
-    Moves2 (signed_move 16 g1) (row_anywhere g0) got_base movn_or_movz entry_address
+abbrev pub GotMove : AArch64Relocation → List AArch64Relocation → Type 0
+GotMove = SignedMove got_base entry_address
 
 abbrev pub GotMoves : Type 0
 GotMoves =
-    GotMoves1 names.R_AARCH64_MOVW_GOTOFF_G0
-    × GotMoves2 names.R_AARCH64_MOVW_GOTOFF_G1 names.R_AARCH64_MOVW_GOTOFF_G0_NC
-    × Moves3 (signed_move 32 names.R_AARCH64_MOVW_GOTOFF_G2)
-    (row_anywhere names.R_AARCH64_MOVW_GOTOFF_G1_NC)
-    (row_anywhere names.R_AARCH64_MOVW_GOTOFF_G0_NC) got_base movn_or_movz entry_address
-    × Moves4 (signed_move 48 names.R_AARCH64_MOVW_GOTOFF_G3)
-    (row_anywhere names.R_AARCH64_MOVW_GOTOFF_G2_NC)
-    (row_anywhere names.R_AARCH64_MOVW_GOTOFF_G1_NC)
-    (row_anywhere names.R_AARCH64_MOVW_GOTOFF_G0_NC) got_base movn_or_movz entry_address
-    × GotMoves2 names.R_AARCH64_TLSGD_MOVW_G1 names.R_AARCH64_TLSGD_MOVW_G0_NC
-    × GotMoves2 names.R_AARCH64_TLSLD_MOVW_G1 names.R_AARCH64_TLSLD_MOVW_G0_NC
-    × GotMoves2 names.R_AARCH64_TLSIE_MOVW_GOTTPREL_G1 names.R_AARCH64_TLSIE_MOVW_GOTTPREL_G0_NC
-    × GotMoves2 names.R_AARCH64_TLSDESC_OFF_G1 names.R_AARCH64_TLSDESC_OFF_G0_NC
+    GotMove names.R_AARCH64_MOVW_GOTOFF_G0 []
+    × GotMove names.R_AARCH64_MOVW_GOTOFF_G1 (names.R_AARCH64_MOVW_GOTOFF_G0_NC ∷ [])
+    × GotMove names.R_AARCH64_MOVW_GOTOFF_G2
+    (names.R_AARCH64_MOVW_GOTOFF_G1_NC ∷ names.R_AARCH64_MOVW_GOTOFF_G0_NC ∷ [])
+    × GotMove names.R_AARCH64_MOVW_GOTOFF_G3
+    (names.R_AARCH64_MOVW_GOTOFF_G2_NC ∷ names.R_AARCH64_MOVW_GOTOFF_G1_NC
+    ∷ names.R_AARCH64_MOVW_GOTOFF_G0_NC ∷ [])
+    × GotMove names.R_AARCH64_TLSGD_MOVW_G1 (names.R_AARCH64_TLSGD_MOVW_G0_NC ∷ [])
+    × GotMove names.R_AARCH64_TLSLD_MOVW_G1 (names.R_AARCH64_TLSLD_MOVW_G0_NC ∷ [])
+    × GotMove names.R_AARCH64_TLSIE_MOVW_GOTTPREL_G1
+    (names.R_AARCH64_TLSIE_MOVW_GOTTPREL_G0_NC ∷ [])
+    × GotMove names.R_AARCH64_TLSDESC_OFF_G1 (names.R_AARCH64_TLSDESC_OFF_G0_NC ∷ [])
 
 -- offsets of TLS
-abbrev pub OffsetMoves : AArch64Relocation → AArch64Relocation → AArch64Relocation
-    → AArch64Relocation → AArch64Relocation → Type 0
+abbrev pub OffsetMoves : (g2 g1 g1_nc g0 g0_nc : AArch64Relocation) → Type 0
 OffsetMoves g2 g1 g1_nc g0 g0_nc =
-    Moves1 (signed_move 0 g0) tls_base movn_or_movz symbol_address
-    × Moves2 (signed_move 16 g1) (row_anywhere g0_nc) tls_base movn_or_movz symbol_address
-    × Moves3 (signed_move 32 g2) (row_anywhere g1_nc) (row_anywhere g0_nc) tls_base movn_or_movz
-    symbol_address
+    SignedMove tls_base symbol_address g0 []
+    × SignedMove tls_base symbol_address g1 (g0_nc ∷ [])
+    × SignedMove tls_base symbol_address g2 (g1_nc ∷ g0_nc ∷ [])
 
 abbrev pub ThreadMoves : Type 0
 ThreadMoves =
