@@ -2,8 +2,8 @@
 """The tables of docs/CENSUS.md that say how many places the laws of rewrites cover, of the counts in
 docs/places.json, and that of docs/PROOFS.md of the rewrites that are in groups of the simulation.
 Each relocation for which the library chooses rewrites has to have a row, and each law has to be a
-definition of crates/linker_laws/specs, and a field of `Laws` or `Groups` there, which a contract
-ensures."""
+field of `Laws` or `Groups` in crates/linker_laws/specs, which a contract ensures, or a definition that
+one names."""
 import json
 import re
 import subprocess
@@ -33,7 +33,7 @@ HAS_HIGH = "the source has what a high half put there"
 HAS_BASE = "the base has what a high half put there"
 OPEN = {
     183: {
-        "GotToAddress": ONE_PATH, "AddressToAdr": ONE_PATH,
+        "GotToAddress": ONE_PATH, "nop_and_adr": ONE_PATH,
         "HighHalfToMovz": READ_BY_LOW, "LowHalfToMovk": HAS_HIGH,
         "DescriptorToLocalExec": f"{ONE_PATH}; nothing reads XT, X30 and what the function changes",
         "WeakBranches": "nothing reads X30 after a `bl`",
@@ -69,21 +69,21 @@ OPEN = {
     21: {
         "PldToPaddi": "", "RestoresToc": "r2 was stored at r1 + 24",
         "TocAtEntry": "r12 has the address of the `addis`, and the `addi` is 4 bytes after it",
-        "HighHalfToNop": READ_BY_LOW, "HighHalfStays": READ_BY_LOW, "LoadToSum": HAS_BASE,
-        "LowHalfOverBase": f"{HAS_BASE}; what it loads or stores keeps agreement",
+        "high_halves": READ_BY_LOW, "kept_high_halves": READ_BY_LOW, "LoadToSum": HAS_BASE,
+        "low_halves": f"{HAS_BASE}; what it loads or stores keeps agreement",
         "OffsetToHighHalf": "the base leads to the entry; what reads rT",
-        "OffsetToLowHalf":
+        "low_offsets":
             "the base has what the load put there; what it loads or stores keeps agreement",
         "ArgumentToHighHalf": "the base leads to the entry; what reads rT",
         "ArgumentToThread": "the base leads to the entry; what reads rT",
         "CallToLowHalf":
             "r3 has what an argument's instruction put there; nothing reads what the call changes",
-        "Calls":
+        "calls":
             "r3 has what an argument's instruction put there; nothing reads what the call changes",
-        "ToVariable": "what reads rT", "ArgumentToBlock": "what reads rT",
+        "variables": "what reads rT", "ArgumentToBlock": "what reads rT",
     },
     62: {
-        "LoadsOfAddresses": "", "Operations": "", "ThreadOffsets": "",
+        "loads": "", "operations": "", "thread": "",
         "GeneralDynamic": f"{ONE_PATH}; nothing reads what the call changes",
         "LocalDynamic": f"{ONE_PATH}; nothing reads what the call changes; rax is used with offsets in "
             "the block alone",
@@ -146,7 +146,7 @@ def tables():
 
 
 def ensured(contract, files):
-    """The names in the fields of `Laws` or `Groups` of specs, each of which a contract ensures."""
+    """The fields of `Laws` or `Groups` of specs, each of which a contract ensures, and what they name."""
     found = set()
     for path in files:
         text = path.read_text()
@@ -154,6 +154,7 @@ def ensured(contract, files):
         alias = re.search(rf"^ghost use Rattle\.linker_laws\.specs\.{path.stem} as (\w+);", contract, re.M)
         if not fields or not alias or f" {{ {alias[1]}.{fields[1]} }}\n" not in contract:
             sys.exit(f"tools/generate: no contract ensures the laws of {path.name}")
+        found.update(re.findall(r"^  pub (\w+) :", fields[2], re.M))
         found.update(name for name in re.findall(r"\w+", fields[2])
                      if re.search(rf"^abbrev pub {name} :", text, re.M))
     return found

@@ -72,7 +72,7 @@ def is_over_toc(words):
 
 
 def has_word_form(words):
-    """LowHalfOverBase, of `ld`, `lwa` and `std`."""
+    """low_halves, of `ld`, `lwa` and `std`."""
     return words[0] >> 26 in (58, 62)
 
 
@@ -119,7 +119,7 @@ def sequence(laws, names, test=lambda words: True):
 SEQUENCES = {
     183: [
         sequence("GotToAddress", "ADR_GOT_PAGE LD64_GOT_LO12_NC"),
-        sequence("AddressToAdr", "ADR_PREL_PG_HI21|ADR_PREL_PG_HI21_NC ADD_ABS_LO12_NC"),
+        sequence("nop_and_adr", "ADR_PREL_PG_HI21|ADR_PREL_PG_HI21_NC ADD_ABS_LO12_NC"),
         sequence("DescriptorToLocalExec DescriptorToInitialExec",
                  "TLSDESC_ADR_PAGE21 TLSDESC_LD64_LO12 TLSDESC_ADD_LO12 TLSDESC_CALL"),
     ],
@@ -170,28 +170,28 @@ ALONE = {
     21: [
         ("PldToPaddi", "GOT_PCREL34", None), ("RestoresToc", "REL24", None),
         ("TocAtEntry", "REL16_HA REL16_LO", None),
-        ("HighHalfToNop", "TOC16_HA TPREL16_HA GOT_TPREL16_HA GOT_TLSLD16_HA", None),
-        ("HighHalfToNop HighHalfStays", "GOT_TLSGD16_HA", None),
-        ("HighHalfStays", "GOT16_HA", None), ("LoadToSum", "GOT16_LO_DS", None),
-        ("LowHalfOverBase", "TOC16_LO TPREL16_LO", has_no_word_form),
-        ("LowHalfOverBase", "TOC16_LO_DS TPREL16_LO_DS", has_word_form),
+        ("high_halves", "TOC16_HA TPREL16_HA GOT_TPREL16_HA GOT_TLSLD16_HA", None),
+        ("high_halves kept_high_halves", "GOT_TLSGD16_HA", None),
+        ("kept_high_halves", "GOT16_HA", None), ("LoadToSum", "GOT16_LO_DS", None),
+        ("low_halves", "TOC16_LO TPREL16_LO", has_no_word_form),
+        ("low_halves", "TOC16_LO_DS TPREL16_LO_DS", has_word_form),
         ("OffsetToHighHalf", "GOT_TPREL16_LO_DS", None), ("OffsetToHighHalf", "GOT_TPREL16_DS", is_over_toc),
-        ("OffsetToLowHalf SumToVariable", "TLS", None),
+        ("low_offsets variable_sums", "TLS", None),
         ("ArgumentToHighHalf ArgumentToOffset", "GOT_TLSGD16_LO", None),
         ("ArgumentToHighHalf ArgumentToOffset", "GOT_TLSGD16", is_over_toc),
         ("ArgumentToThread", "GOT_TLSLD16_LO", None), ("ArgumentToThread", "GOT_TLSLD16", is_over_toc),
-        ("CallToLowHalf Calls", "TLSGD", None), ("Calls", "TLSLD", None),
-        ("ToVariable ArgumentToLoad", "GOT_TLSGD_PCREL34", None),
-        ("ArgumentToBlock", "GOT_TLSLD_PCREL34", None), ("ToVariable", "GOT_TPREL_PCREL34", None),
+        ("CallToLowHalf calls", "TLSGD", None), ("calls", "TLSLD", None),
+        ("variables ArgumentToLoad", "GOT_TLSGD_PCREL34", None),
+        ("ArgumentToBlock", "GOT_TLSLD_PCREL34", None), ("variables", "GOT_TPREL_PCREL34", None),
     ],
 }
 # of x86-64, by relocations
 OF_X86 = {
-    "LoadsOfAddresses AbsoluteAddresses Operations Branches": "GOTPCRELX",
-    "LoadsOfAddresses AbsoluteAddresses Operations": "REX_GOTPCRELX CODE_4_GOTPCRELX",
-    "LoadsOfAddresses": "GOTPCREL",
-    "Operations": "CODE_6_GOTPCRELX",
-    "ThreadOffsets": "GOTTPOFF CODE_4_GOTTPOFF CODE_6_GOTTPOFF",
+    "loads absolute operations branches": "GOTPCRELX",
+    "loads absolute operations": "REX_GOTPCRELX CODE_4_GOTPCRELX",
+    "loads": "GOTPCREL",
+    "operations": "CODE_6_GOTPCRELX",
+    "thread": "GOTTPOFF CODE_4_GOTTPOFF CODE_6_GOTTPOFF",
     "GeneralDynamic": "TLSGD",
     "LocalDynamic": "TLSLD",
     "BlockOffsets": "DTPOFF32 DTPOFF64",

@@ -9,7 +9,7 @@ use Rattle.linker_laws.specs.AArch64RelocationLaws as relocation_laws
 use Rattle.linker_laws.specs.AArch64RewriteLaws.{IsPair, IsRelocated, IsRewritten, following, word_of}
 use Rattle.linker_laws.proofs.AArch64Groups.{below_32, load_goes, nop_goes, sets, sets_at, sets_twice}
 use Rattle.linker_laws.proofs.AArch64Near.{near_after, near_here, small_after}
-use Rattle.linker_laws.proofs.AArch64Pages.{IsUnsigned, offset_reads}
+use Rattle.linker_laws.proofs.AArch64Pages.{add_is, ldst_is, offset_reads}
 use Rattle.linker_laws.proofs.AArch64Pairs.{adds_pair, adr_is, pair_made, word_is, word_made}
 use Rattle.linker_laws.proofs.AArch64Steps.{address_is, set, step_add, step_adr, step_ldr}
 use Rattle.linker_laws.proofs.AArch64Words.{IsAdrOf, IsMadeAdr, add_after, adr_after, adr_of_adrp, adr_of_page, adr_of_register, adrp_after, decodes_adr, ldr_after, masked_field, of_registers}
@@ -138,7 +138,7 @@ nop_and_adr_by literals c o k s both made adrp1 p is_made first stands d leads n
     one.into_own_source.not_31 new words.first words.second adr)
 
 pub are_nop_and_adr : relocation_laws.RelativeAddresses → relocation_laws.Literals
-    → groups.AddressToAdr
+    → OfPages groups.NopAndAdr
 are_nop_and_adr relative literals = (
   λ c o k s both made p is_made a d new adr.
       let one = p.one_register in
@@ -214,12 +214,6 @@ are_adr_and_nop relative literals = (
 )
 
 -- ---- one instruction
-
-add_is : IsUnsigned Add
-add_is = (refl, refl, refl, λ c x. refl)
-
-ldst_is : IsUnsigned LdSt
-ldst_is = (refl, refl, refl, λ c x. refl)
 
 -- the address, by its page and the rest
 page_and_rest : (o : Operands) (add after : List ℕ)

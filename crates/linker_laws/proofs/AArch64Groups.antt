@@ -1,17 +1,16 @@
 -- AArch64's groups.
-use Rattle.linker_laws.proofs.Imports.{◌≡◌, ℕ, ◌^◌, ◌<◌, refl, sym, ◌∙◌, ap, ap₂, subst, arith, List, Some, eqb, ◌/◌, eqb-true, and_parts, cond-false, eq-eqb, ne_eqb, ◌==◌, page, sum_64, Operands, IsLdr64, nop, rd_of, ReplaceWithNop, go_to, put, loaded, symbol_address, State, Program, Agree, AreOf, anything, run, half}
+use Rattle.linker_laws.proofs.Imports.{◌≡◌, ℕ, ◌^◌, ◌<◌, refl, sym, ◌∙◌, ap, ap₂, subst, arith, List, Some, eqb, ◌/◌, eqb-true, and_parts, cond-false, eq-eqb, ne_eqb, ◌==◌, page, sum_64, Operands, IsLdr64, nop, rd_of, ReplaceWithNop, go_to, put, loaded, symbol_address, State, Program, Agree, AreOf, anything, run, half, ◌+◌, field, rn_of}
 use Rattle.linker_elf.specs.declared.aarch64.relocations.AArch64Relocation.TheVariants as names
-use Rattle.linker_laws.specs.AArch64Groups.{Has, does, seen, executed, machine, link, Others}
+use Rattle.linker_laws.specs.AArch64Groups.{Has, seen, executed, machine, link}
 use Rattle.linker_laws.specs.AArch64Groups as groups
 use Rattle.linker_laws.specs.AArch64Machine.{branch_target, execute, load_64, moved, step}
 use Rattle.linker_laws.specs.AArch64RelocationLaws as relocation_laws
 use Rattle.linker_laws.specs.AArch64RewriteLaws.{IsPair, IsRewritten, following, word_of, thread_offset}
-use Rattle.linker_laws.proofs.AArch64GotLoads.{got_loads, got_adds}
 use Rattle.linker_laws.proofs.AArch64Halves.{HasHigh, high_steps, low_steps}
-use Rattle.linker_laws.proofs.AArch64Pairs.{word_is}
+use Rattle.linker_laws.proofs.AArch64Pairs.{word_is, adds_pair, loads, word_made}
 use Rattle.linker_laws.proofs.AArch64Steps.{branch_leads, set}
-use Rattle.linker_laws.proofs.AArch64Words.{branch_after, decodes_b, decodes_bl}
-use Rattle.linker_laws.proofs.Agreement.{agree_go, agree_put, agree_put_old, both_true, group_of, last_counts, others_agree, unchanged, value_group}
+use Rattle.linker_laws.proofs.AArch64Words.{branch_after, decodes_b, decodes_bl, add_after, adr_of_register, adrp_after, ldr_after, of_registers}
+use Rattle.linker_laws.proofs.Agreement.{agree_go, agree_put, agree_put_old, both_true, group_of, last_counts, unchanged, value_group}
 use Rattle.linker_laws.proofs.CoveredRuns.{run_first, holds_of}
 use Rattle.linker_laws.proofs.Sums.{eight, sum_below}
 
@@ -62,24 +61,43 @@ pub load_goes : relocation_laws.EntryAddresses → (others : ℕ → Program) (c
     → run 2 (machine others code) s
     ≡ Some (put (rd_of (word_of ldr)) (symbol_address o) (sum_64 o.place 8) s)
 load_goes entries others code o s adrp ldr p holds first second =
-    let l = got_loads entries o (seen s) adrp ldr p.small p.at p.one_register p.second_is first.relocated
-    second.relocated first.applied second.applied in
-    sets_twice others code s o.place (word_of first.relocated) (word_of second.relocated)
-    (rd_of (word_of ldr)) _ _ (symbol_address o) p.at (below_32 (word_of ldr)) first.stands
+    let n = rd_of (word_of ldr) in
+    let one = p.one_register in
+    let own = one.into_own_source in
+    let x = word_of first.relocated in
+    let y = word_of second.relocated in
+    let l = loads o n n x y o.got_entry (seen s)
+    (adr_of_register one.register (adrp_after _ _ adrp first.relocated first.applied.written one.first))
+    (of_registers refl own.same (ldr_after _ _ ldr second.relocated second.applied.written p.second_is))
+    own.not_31 own.not_31 p.at
+    (entries.0 o p.small o.place adrp first.relocated first.applied tt (sum_64 o.place 4) ldr second.relocated
+    second.applied tt) in
+    sets_twice others code s o.place x y n _ _ (symbol_address o) p.at (below_32 (word_of ldr)) first.stands
     second.stands l.first l.second (l.value_is ∙ holds)
 
 pub are_loads : relocation_laws.RelativeAddresses → relocation_laws.EntryAddresses → groups.GotToAddress
 are_loads relative entries c o k s adrp ldr add p holds made adrp1 ldr1 adrp2 add2 =
     let n = rd_of (word_of ldr) in
+    let one = p.one_register in
+    let own = one.into_own_source in
+    let made_word = word_made (λ x. 0x91000000 + field x 0 21) ldr add (omega arith) made in
+    let op : field (word_of add) 22 32 ≡ 0x244 = omega arith in
+    let rd : rd_of (word_of add) ≡ n = omega arith in
+    let rn : rn_of (word_of add) ≡ rn_of (word_of ldr) = omega arith in
+    let x = word_of adrp2.relocated in
+    let y = word_of add2.relocated in
     value_group (link c) 1 1 k _ s _ n (symbol_address o) (sum_64 o.place 8) (sum_below o.place 8)
     (load_goes entries c.others c.old o s adrp ldr p holds adrp1 ldr1)
     (unchanged _ _)
     (λ t agree.
     let at = agree.pc ∙ p.at in
-    let d = got_adds relative o (seen t) adrp ldr add p.small at p.one_register p.second_is made
-    adrp2.relocated add2.relocated adrp2.applied add2.applied in
-    sets_twice c.others c.new t o.place (word_of adrp2.relocated) (word_of add2.relocated) n _ _
-    (symbol_address o) at (below_32 (word_of ldr)) adrp2.stands add2.stands d.first d.second d.value_is)
+    let d = adds_pair o n x y _ (seen t)
+    (adr_of_register one.register (adrp_after _ _ adrp adrp2.relocated adrp2.applied.written one.first))
+    (of_registers rd (rn ∙ own.same) (add_after _ _ add add2.relocated add2.applied.written op)) own.not_31 at
+    (relative.0.0 o p.small o.place adrp adrp2.relocated adrp2.applied tt (sum_64 o.place 4) add add2.relocated
+    add2.applied tt) in
+    sets_twice c.others c.new t o.place x y n _ _ (symbol_address o) at (below_32 (word_of ldr)) adrp2.stands
+    add2.stands d.first d.second d.value_is)
 
 -- ---- halves
 
@@ -191,6 +209,3 @@ are_branches laws = (
       (agree_put_old (link c) k (go_to n s) (go_to n t) 30 anything n n
       (agree_go (link c) k s t n n agree (sum_below o.place 4) refl) (sum_below o.place 4) refl tt)),
 )
-
-pub are_others : Others
-are_others c = others_agree (does c.others) (link c) (λ code s. refl)

@@ -1,6 +1,5 @@
 pub mod AArch64AdrGroups
 pub mod AArch64DescriptorGroups
-pub mod AArch64GotLoads
 pub mod AArch64Groups
 pub mod AArch64GroupsWorked
 pub mod AArch64Halves
@@ -32,7 +31,6 @@ pub mod Ppc64Accesses
 pub mod Ppc64Addresses
 pub mod Ppc64Apart
 pub mod Ppc64Calls
-pub mod Ppc64Copies
 pub mod Ppc64Entries
 pub mod Ppc64Groups
 pub mod Ppc64GroupsWorked
@@ -70,7 +68,6 @@ pub mod X86Immediates
 pub mod X86LargeThreads
 pub mod X86Loads
 pub mod X86LocalDynamic
-pub mod X86Replaced
 pub mod X86Sections
 pub mod X86ThreadGroups
 pub mod X86Threads

@@ -1,7 +1,7 @@
 -- PowerPC64: loads and stores, by their words.
 use Rattle.linker_laws.proofs.Ppc64Addresses.{some_of, reads_ds}
 use Rattle.linker_laws.specs.Ppc64Machine.{State, Formats, Access, loads, loads_signed, stores, accessed, access_with, decode, access, step, execute, by_opcode, base, go_on, word_access, of_58, of_62, word_access_with}
-use Rattle.linker_laws.specs.Ppc64RewriteLaws.{is_d_over_base, access_number, ds_access}
+use Rattle.linker_laws.specs.Ppc64RewriteLaws.{access_number, ds_access, is_over_base}
 use Rattle.linker_laws.proofs.Imports.{◌≡◌, ℕ, ◌+◌, ◌*◌, ◌-◌, ◌<◌, ◌%◌, Bool, true, false, refl, sym, ◌∙◌, ap, arith, cond, if◌then◌else◌, Some, ◌≢◌, ◌^◌, inl, inr, field, ppc64_form, ppc64_reads, sum_64, D, Ds, is_access, opcode_of, rt_of, ra_of, rb_of, access_of, is_indexed, is_over_thread, is_indexed_word, is_word_access, by_word_displacement, registers_of, is_ds_access, and_parts, ne_eqb, cond-true, cond-false, ltb-true, lt-ltb, eqb-true, or_cases, ◌&&◌, ◌||◌, ◌==◌, not, nat_lt, moved, is_store, is_d_access, keeps_base}
 
 -- ---- the accesses by their numbers
@@ -56,7 +56,7 @@ pub record IsDAccess (x : ℕ) : Type 0 where
   pub known : is_access (access_number x) ≡ true
   pub over_some : ra_of x ≢ 0
 
-pub d_access_parts : (x : ℕ) → is_d_over_base x ≡ true → IsDAccess x
+pub d_access_parts : (x : ℕ) → is_over_base is_d_access x ≡ true → IsDAccess x
 d_access_parts x h =
     let first = and_parts (is_d_access x) (not (ra_of x == 0)) h in
     let second = and_parts (field x 31 32 == 1 && is_access (field x 26 31))

@@ -1,5 +1,5 @@
 -- PowerPC64's groups.
-use Rattle.linker_laws.proofs.Imports.{◌≡◌, ◌≢◌, ℕ, suc, ◌+◌, ◌-◌, ◌*◌, ◌^◌, ◌<◌, ◌≤◌, Bool, true, false, refl, sym, ◌∙◌, ap, subst, subst₂, arith, List, drop, take, ◌/◌, Some, pos, ◌+ℤ◌, ◌*ℤ◌, inl, inr, not, eqb, true≢false, IsTrue, ◌==◌, if◌then◌else◌, nat_lt, is_some, and_parts, cond-true, cond-false, cases_lt, eq-eqb, eqb-true, lt-ltb, le-ltb, ne_eqb, eqb_tells, ints, field, ppc64_form, sum_64, Operands, Ppc64Form, Branch24, D, Ds, Prefixed, Ppc64Relocation, addi_of_thread, is_addi, is_call, is_ld, is_pla, is_pld, addis_of_thread, opcode_of, ra_of, registers_of, rt_of, RewriteKind, go_to, put, with_register, loaded, moved, AreAddresses, symbol_address, State, Agree, AreOf, Group, Kind, Kinds, anything, half, of_link, run, same}
+use Rattle.linker_laws.proofs.Imports.{◌≡◌, ◌≢◌, ℕ, suc, ◌+◌, ◌-◌, ◌*◌, ◌^◌, ◌<◌, ◌≤◌, Bool, true, false, refl, sym, ◌∙◌, ap, subst, subst₂, arith, List, drop, take, ◌/◌, Some, pos, ◌+ℤ◌, ◌*ℤ◌, inl, inr, eqb, true≢false, IsTrue, ◌==◌, if◌then◌else◌, nat_lt, is_some, and_parts, cond-true, cond-false, cases_lt, eq-eqb, eqb-true, lt-ltb, le-ltb, ne_eqb, eqb_tells, ints, field, ppc64_form, sum_64, Operands, Ppc64Form, Branch24, D, Ds, Prefixed, Ppc64Relocation, addi_of_thread, is_addi, is_call, is_ld, is_pla, is_pld, addis_of_thread, opcode_of, ra_of, registers_of, rt_of, RewriteKind, go_to, put, with_register, loaded, moved, AreAddresses, symbol_address, State, Agree, AreOf, Group, Kind, Kinds, anything, half, of_link, run, same, not}
 use Rattle.linker_elf.specs.declared.ppc64.relocations.Ppc64Relocation.TheVariants as names
 use Rattle.linker_laws.specs.Ppc64Groups as groups
 use Rattle.linker_laws.specs.Ppc64Groups.{AreHalves, Code, Has, Leaves, Processor, Returns, Stands, Takes, Uses, called, executed, execute, high_part, instruction_at, is_prefix, left, link, machine, seen, used}
@@ -12,11 +12,10 @@ use Rattle.linker_laws.proofs.AArch64Pairs.{word_is, word_made}
 use Rattle.linker_laws.proofs.Agreement.{agree_go, agree_put, agree_put_old, both_true, group_of, last_counts, others_agree, unchanged as nothing_changes, value_group}
 use Rattle.linker_laws.proofs.CoveredRuns.{holds_of, run_first}
 use Rattle.linker_laws.proofs.Ppc64Addresses.{ld_parts, reads_ds, same_parts, some_of}
-use Rattle.linker_laws.proofs.Ppc64Apart.{Does, High, IsBase, Keeps, base_some, general_leads, got_leads, module_leads, offset_leads, toc_leads}
+use Rattle.linker_laws.proofs.Ppc64Apart.{addis_13_parts, adds_4096, no_immediate, nothing_added, thread_halves, Does, High, IsBase, Keeps, base_some, general_leads, got_leads, module_leads, offset_leads, toc_leads}
 use Rattle.linker_laws.proofs.Ppc64Calls.{first_made, restores_toc, second_made}
-use Rattle.linker_laws.proofs.Ppc64Copies.{addis_13_parts, adds_4096, no_immediate, nothing_added, thread_halves}
 use Rattle.linker_laws.proofs.Ppc64Entries.{LeavesToc, address_leaves, distance_leaves}
-use Rattle.linker_laws.proofs.Ppc64LowHalves.{OverSteps, steps}
+use Rattle.linker_laws.proofs.Ppc64LowHalves.{OverSteps, access_over, addi_over, thread_d, thread_ds, toc_d, toc_ds, vector_over, word_access_over}
 use Rattle.linker_laws.proofs.Ppc64Offsets.{OffsetSteps, accesses_offset, adds_offset, words_offset}
 use Rattle.linker_laws.proofs.Ppc64Prefixed.{HasPrefixedParts, paddi_parts, paddi_sets, pld_parts, pld_sets, prefixed_after, set_8, step_paddi, step_paddi_over, step_pld}
 use Rattle.linker_laws.proofs.Ppc64PrefixedThreads.{VariableSteps, access_to_direct, displacement_is, general_entry, loads_thread, module_entry, offset_entry, over_thread, pla_parts, sum_to_move, variable_there}
@@ -226,25 +225,6 @@ to_nop r kind name address Leads is_base is_blank keeps leads addis blank is mad
           new.0 (is_blank addis blank made),
     )
 
-pub are_high_halves : relocation_laws.TocAddresses → relocation_laws.ThreadAddresses → relocation_laws.EntryAddresses
-    → groups.HighHalfToNop
-are_high_halves toc thread entries = (
-  to_nop 2 kinds.AddisToNop names.R_PPC64_TOC16_HA laws.from_toc
-      (λ o n a. laws.Leads names.R_PPC64_TOC16_LO D o n a × laws.Leads names.R_PPC64_TOC16_LO_DS Ds o n a) (λ s. refl)
-      (λ addis blank made. word_is nop blank (omega arith) made) (λ o x y a. d_after _ _ x y a.written) (toc_leads toc),
-  to_nop 13 kinds.AddisThreadToNop names.R_PPC64_TPREL16_HA laws.from_thread LowHalfLeads (λ s. refl)
-      (λ addis blank made. word_is nop blank (omega arith) made) (λ o x y a. d_after _ _ x y a.written) (thread_halves thread),
-  to_nop 2 kinds.AddisToNop names.R_PPC64_GOT_TPREL16_HA laws.entry_from_toc
-      (laws.Leads names.R_PPC64_GOT_TPREL16_LO_DS Ds) (λ s. refl)
-      (λ addis blank made. word_is nop blank (omega arith) made) (λ o x y a. d_after _ _ x y a.written) (offset_leads entries),
-  to_nop 2 kinds.AddisToNop names.R_PPC64_GOT_TLSGD16_HA laws.entry_from_toc
-      (laws.Leads names.R_PPC64_GOT_TLSGD16_LO D) (λ s. refl)
-      (λ addis blank made. word_is nop blank (omega arith) made) (λ o x y a. d_after _ _ x y a.written) (general_leads entries),
-  to_nop 2 kinds.AddisToNop names.R_PPC64_GOT_TLSLD16_HA laws.entry_from_toc
-      (laws.Leads names.R_PPC64_GOT_TLSLD16_LO D) (λ s. refl)
-      (λ addis blank made. word_is nop blank (omega arith) made) (λ o x y a. d_after _ _ x y a.written) (module_leads entries),
-)
-
 kept_high : (name after : Ppc64Relocation) (address address_after : Operands → ℕ → ℕ)
     (OldLeads NewLeads : Operands → ℕ → ℕ → Type 0) → Keeps name → Keeps after → High name address OldLeads
     → High after address_after NewLeads
@@ -276,18 +256,6 @@ kept_high name after address address_after OldLeads NewLeads keeps keeps_after l
           ∙ sym (halves.1 ∙ high_is r 2 w s second (λ s. refl))))
           (are_half c h _ _ (refl, refl)),
     )
-
-pub are_kept_high_halves : relocation_laws.GotAddresses → relocation_laws.TocAddresses → relocation_laws.EntryAddresses
-    → groups.HighHalfStays
-are_kept_high_halves got toc entries = (
-  kept_high names.R_PPC64_GOT16_HA names.R_PPC64_TOC16_HA laws.entry_from_toc laws.from_toc
-      (laws.Leads names.R_PPC64_GOT16_LO_DS Ds) (laws.Leads names.R_PPC64_TOC16_LO D) (λ o x y a. d_after _ _ x y a.written) (λ o x y a. d_after _ _ x y a.written)
-      (got_leads got) (λ o small n addis after a. (toc_leads toc o small n addis after a).0),
-  kept_high names.R_PPC64_GOT_TLSGD16_HA names.R_PPC64_GOT_TPREL16_HA laws.entry_from_toc laws.entry_from_toc
-      (laws.Leads names.R_PPC64_GOT_TLSGD16_LO D) (laws.Leads names.R_PPC64_GOT_TPREL16_LO_DS Ds)
-      (λ o x y a. d_after _ _ x y a.written) (λ o x y a. d_after _ _ x y a.written) (general_leads entries)
-      (offset_leads entries),
-)
 
 -- ---- low halves
 
@@ -324,7 +292,7 @@ addi_sets f low o s addi addi_of rt ra number keeps parts some a leads =
     ∙ ap (λ n. Some (set rt n (seen s)))
     (ap (λ n. moved n ((ppc64_form D).machine w)) (base_some ra (seen s) some) ∙ leads o.place addi addi_of a)
 
-pub are_loads : groups.Rewrites is_ld kinds.LdToAddi groups.LoadToSum
+are_loads : groups.Rewrites is_ld kinds.LdToAddi groups.LoadToSum
 are_loads ld addi is made c address x y k s takes leads old new =
     let w = word_of ld in
     let load = ld_parts w is in
@@ -385,27 +353,6 @@ over_base r kind low whole form address how steps insn over made c o k s small i
     (same_register c k s t r stays agree)
     (steps.new f o (seen t) insn over new.relocated small is made new.applied))
 
-pub are_low_halves : relocation_laws.Displacements → groups.LowHalfOverBase
-are_low_halves near =
-    let s = steps near in (
-      λ insn over is made. (
-        over_base 2 _ _ _ _ _ _ s.toc_sums insn over made,
-        over_base 2 _ _ _ _ _ _ s.toc_accesses insn over made,
-      ),
-      λ insn over is made. (
-        over_base 2 _ _ _ _ _ _ s.toc_words insn over made,
-        s.toc_vectors insn over made,
-      ),
-      λ insn over is made. (
-        over_base 13 _ _ _ _ _ _ s.thread_sums insn over made,
-        over_base 13 _ _ _ _ _ _ s.thread_accesses insn over made,
-      ),
-      λ insn over is made. (
-        over_base 13 _ _ _ _ _ _ s.thread_words insn over made,
-        s.thread_vectors insn over made,
-      ),
-    )
-
 -- ---- initial-exec
 
 makes_high : relocation_laws.ThreadAddresses → (c : Code) (o : Operands) (k : Kinds) (s : State) (number rt : ℕ)
@@ -442,14 +389,6 @@ offsets thread low keeps ld addis_13 is made c o k s small takes old =
     (ld_sets c.processor.formats low o s ld old.relocated (rt_of w) (ra_of w) (thread_offset o) keeps load.parts load.low
     load.over_some old.applied takes))
 
-pub are_offsets : relocation_laws.ThreadAddresses
-    → groups.Rewrites is_ld kinds.LdToAddisThread (groups.OffsetToHighHalf names.R_PPC64_GOT_TPREL16_LO_DS)
-are_offsets thread = offsets thread names.R_PPC64_GOT_TPREL16_LO_DS (λ o x y a. ds_after _ _ x y a.written)
-
-pub are_near_offsets : relocation_laws.ThreadAddresses
-    → groups.Rewrites is_ld kinds.LdToAddisThread (groups.OffsetToHighHalf names.R_PPC64_GOT_TPREL16_DS)
-are_near_offsets thread = offsets thread names.R_PPC64_GOT_TPREL16_DS (λ o x y a. ds_after _ _ x y a.written)
-
 over_offset : (kind : RewriteKind) (low : Ppc64Relocation) (how : Use) → OffsetSteps kind low how
     → groups.Rewrites how.test kind (groups.OverOffset low how)
 over_offset kind low how steps insn direct is made c o k s has leads old new =
@@ -460,20 +399,7 @@ over_offset kind low how steps insn direct is made c o k s has leads old new =
     (λ t agree.
     steps.new f o (seen t) insn direct new.relocated target o.place is made (leads t agree) new.applied)
 
-pub are_low_offsets : groups.OffsetToLowHalf
-are_low_offsets = (over_offset _ _ _ adds_offset, over_offset _ _ _ accesses_offset, over_offset _ _ _ words_offset)
-
 -- ---- arguments of `__tls_get_addr`
-
-pub are_near_entries : relocation_laws.Displacements → groups.NearEntries
-are_near_entries near o small = (
-  λ at insn over a. times_one o.got_base _ ∙ address_is _ _ (near.3 o small o.place insn over
-      (record { value = a.value; value_is = a.value_is; accepted = a.accepted; written = a.written }) tt),
-  λ at insn over a. times_one o.got_base _ ∙ address_is _ _ (near.4 o small o.place insn over
-      (record { value = a.value; value_is = a.value_is; accepted = a.accepted; written = a.written }) tt),
-  λ at insn over a. times_one o.got_base _ ∙ address_is _ _ (near.5 o small o.place insn over
-      (record { value = a.value; value_is = a.value_is; accepted = a.accepted; written = a.written }) tt),
-)
 
 argument : (low : Ppc64Relocation) → Keeps low → (c : Code) (o : Operands) (entry : ℕ) (s : State) (addi : List ℕ)
     → IsTrue (is_addi (word_of addi)) → groups.IsArgument low c o entry s addi
@@ -490,14 +416,6 @@ arguments : relocation_laws.ThreadAddresses → (low : Ppc64Relocation) → Keep
 arguments thread low keeps addi addis_13 is made c o entry k s p =
     makes_high thread c o k s entry (rt_of (word_of addi)) addis_13 p.small (below_32 (word_of addi))
     (word_made (λ w. addis_of_thread (rt_of w)) addi addis_13 (omega arith) made) (argument low keeps c o entry s addi is p)
-
-pub are_arguments : relocation_laws.ThreadAddresses
-    → groups.Rewrites is_addi kinds.AddiToAddisThread (groups.ArgumentToHighHalf names.R_PPC64_GOT_TLSGD16_LO)
-are_arguments thread = arguments thread names.R_PPC64_GOT_TLSGD16_LO (λ o x y a. d_after _ _ x y a.written)
-
-pub are_near_arguments : relocation_laws.ThreadAddresses
-    → groups.Rewrites is_addi kinds.AddiToAddisThread (groups.ArgumentToHighHalf names.R_PPC64_GOT_TLSGD16)
-are_near_arguments thread = arguments thread names.R_PPC64_GOT_TLSGD16 (λ o x y a. d_after _ _ x y a.written)
 
 argument_offsets : (low after : Ppc64Relocation) → Keeps low → KeepsDs after
     → groups.Rewrites is_addi kinds.AddiToLd (groups.ArgumentToOffset low after)
@@ -517,16 +435,6 @@ argument_offsets low after keeps keeps_ds addi ld is made c h x y entry k s p ol
     (some_of (ra_of w) both.1) new.applied (takes t agree)))
     (are_half c h _ _ (old_is, refl))
 
-pub are_argument_offsets : groups.Rewrites is_addi kinds.AddiToLd (groups.ArgumentToOffset names.R_PPC64_GOT_TLSGD16_LO names.R_PPC64_GOT_TPREL16_LO_DS)
-are_argument_offsets =
-    argument_offsets names.R_PPC64_GOT_TLSGD16_LO names.R_PPC64_GOT_TPREL16_LO_DS (λ o x y a. d_after _ _ x y a.written)
-    (λ o x y a. ds_after _ _ x y a.written)
-
-pub are_near_argument_offsets : groups.Rewrites is_addi kinds.AddiToLd (groups.ArgumentToOffset names.R_PPC64_GOT_TLSGD16 names.R_PPC64_GOT_TPREL16_DS)
-are_near_argument_offsets =
-    argument_offsets names.R_PPC64_GOT_TLSGD16 names.R_PPC64_GOT_TPREL16_DS (λ o x y a. d_after _ _ x y a.written)
-    (λ o x y a. ds_after _ _ x y a.written)
-
 module_arguments : (low : Ppc64Relocation) → Keeps low
     → groups.Rewrites is_addi kinds.AddiToAddisThread (groups.ArgumentToThread low)
 module_arguments low keeps addi addis_13 is made c h o entry k s p stays halves new =
@@ -543,12 +451,6 @@ module_arguments low keeps addi addis_13 is made c h o entry k s p stays halves 
     ∙ nothing_added (t.registers 13) ((ppc64_form D).machine w) (no_immediate rt w (below_32 (word_of addi)) word)
     ∙ ap (λ n. sum_64 n 0) (same_register c k s t 13 stays agree)))
     (are_half c h _ _ halves)
-
-pub are_module_arguments : groups.Rewrites is_addi kinds.AddiToAddisThread (groups.ArgumentToThread names.R_PPC64_GOT_TLSLD16_LO)
-are_module_arguments = module_arguments names.R_PPC64_GOT_TLSLD16_LO (λ o x y a. d_after _ _ x y a.written)
-
-pub are_near_module_arguments : groups.Rewrites is_addi kinds.AddiToAddisThread (groups.ArgumentToThread names.R_PPC64_GOT_TLSLD16)
-are_near_module_arguments = module_arguments names.R_PPC64_GOT_TLSLD16 (λ o x y a. d_after _ _ x y a.written)
 
 -- ---- calls of `__tls_get_addr`
 
@@ -579,7 +481,7 @@ in_place c t first second value stands stands_after blank goes_on =
     (once p c.new u (put 3 value (sum_64 t.pc 8) t)
     (sets p c.new u second 3 value stands_after (omega arith) goes_on ∙ ap (λ a. Some (put 3 value a t)) (eight t.pc)))
 
-pub are_call_low_halves : groups.Rewrites groups.is_any kinds.CallToAddi groups.CallToLowHalf
+are_call_low_halves : groups.Rewrites groups.is_any kinds.CallToAddi groups.CallToLowHalf
 are_call_low_halves before made is is_made c o k k' s s' bl r leads first low =
     let f = c.processor.formats in
     let number = from_thread o (s.registers 13) in
@@ -643,37 +545,6 @@ adds_thread : (f : Formats) (s : ppc64_machine.State)
     → step f 0x7c636a14 s ≡ Some (set 3 (sum_64 (s.registers 3) (s.registers 13)) s)
 adds_thread f s = refl
 
-adds_block : (f : Formats) (s : ppc64_machine.State)
-    → step f 0x38631000 s ≡ Some (set 3 (sum_64 (s.registers 3) 0x1000) s)
-adds_block f s =
-    step_addi f 0x38631000 3 3 s (record { opcode_is = refl; rt_is = refl; ra_is = refl })
-    ∙ ap (λ n. Some (set 3 n s)) (adds_4096 (s.registers 3))
-
-pub are_calls : groups.Calls
-are_calls = (
-  call_of_two kinds.CallToAdd sum_64 0x7c636a14
-      (λ bl made is. record {
-        blank = first_made made nop 0x7c636a14 (omega arith) (omega arith) is;
-        last = second_made made nop 0x7c636a14 (omega arith) (omega arith) is;
-      })
-      adds_thread,
-  call_of_two kinds.CallToAddi4096 groups.add_block 0x38631000
-      (λ bl made is. record {
-        blank = first_made made nop 0x38631000 (omega arith) (omega arith) is;
-        last = second_made made nop 0x38631000 (omega arith) (omega arith) is;
-      })
-      adds_block,
-  call_of_one kinds.BranchToNop groups.keep_number
-      (λ p code t bl made number is stands has.
-      passes p code t (word_of made) stands (word_is nop made (omega arith) is)
-      ∙ ap Some (sym (unchanged 3 number (sum_64 t.pc 4) t has))),
-  call_of_one kinds.BranchToAdd sum_64
-      (λ p code t bl made number is stands has.
-      sets p code t (word_of made) 3 (sum_64 (t.registers 3) (t.registers 13)) stands (omega arith)
-      (ap (λ w. step p.formats w (seen t)) (word_is 0x7c636a14 made (omega arith) is) ∙ adds_thread p.formats (seen t))
-      ∙ ap (λ n. Some (put 3 (sum_64 n (t.registers 13)) (sum_64 t.pc 4) t)) has),
-)
-
 -- ---- prefixed instructions
 
 -- one that writes a register
@@ -707,7 +578,7 @@ new_stands : (c : Code) (k : Kinds) (s t : State) (bytes : List ℕ) → Agree (
     → Stands 2 c.new t.pc bytes
 new_stands c k s t bytes agree stands = subst (λ a. Stands 2 c.new a bytes) (sym agree.pc) stands
 
-pub are_prefixed : relocation_laws.Prefixes → groups.RewritesBoth is_pld kinds.PldToPaddi groups.PldToPaddi
+are_prefixed : relocation_laws.Prefixes → groups.RewritesBoth is_pld kinds.PldToPaddi groups.PldToPaddi
 are_prefixed prefixes pld paddi is made c o k s r holds new =
     let p = c.processor in
     let rt = prefixed_target pld in
@@ -785,10 +656,7 @@ loaded_variables prefixes pld over is made c o number k s r holds stays new h ha
     (λ t agree. variable_sets prefixes c o k s t pld over r.small made stays new agree)
     (are_half c h _ _ halves)
 
-pub are_variables : relocation_laws.Prefixes → groups.ToVariable
-are_variables prefixes = (argument_variables prefixes, loaded_variables prefixes)
-
-pub are_prefixed_loads : relocation_laws.Prefixes
+are_prefixed_loads : relocation_laws.Prefixes
     → groups.RewritesBoth is_pla kinds.PaddiToPld groups.ArgumentToLoad
 are_prefixed_loads prefixes paddi pld is made c x y offset k s r small at holds new h halves =
     let rt = prefixed_target paddi in
@@ -807,7 +675,7 @@ are_prefixed_loads prefixes paddi pld is made c x y offset k s r small at holds 
     ∙ holds t agree)))
     (are_half c h _ _ halves)
 
-pub are_prefixed_blocks : relocation_laws.Prefixes
+are_prefixed_blocks : relocation_laws.Prefixes
     → groups.RewritesBoth is_pla kinds.PaddiToPaddi4096 groups.ArgumentToBlock
 are_prefixed_blocks prefixes paddi over is made c o k s r stays new h halves =
     let rt = prefixed_target paddi in
@@ -834,9 +702,6 @@ over_variable kind how steps insn direct is made c offset k s has leads old new 
     (steps.sum.old f (seen s) insn offset is has)
     (λ t agree. steps.new f (seen t) insn direct offset (s.registers 13) is made (leads t agree))
 
-pub are_variable_sums : groups.SumToVariable
-are_variable_sums = (over_variable _ _ sum_to_move, over_variable _ _ access_to_direct)
-
 -- ---- the TOC pointer
 
 -- two instructions that leave it
@@ -853,7 +718,7 @@ toc_goes p code s first second target stands stands_after l =
     ∙ ap Some (last_counts 2 l.high target (sum_64 s.pc 4) (sum_64 s1.pc 4) s)
     ∙ ap (λ a. Some (put 2 target a s)) (eight s.pc)))
 
-pub are_entries : relocation_laws.RelativeAddresses → relocation_laws.AbsoluteAddresses → groups.TocAtEntry
+are_entries : relocation_laws.RelativeAddresses → relocation_laws.AbsoluteAddresses → groups.TocAtEntry
 are_entries relative absolute c o k s addis addi lis following small at has is_addis is_addi made made_after old old_after
     new new_after =
     let p = c.processor in
@@ -870,7 +735,7 @@ are_entries relative absolute c o k s addis addi lis following small at has is_a
     made_after new.applied new_after.applied)
     ∙ ap (λ a. Some (put 2 (symbol_address o) (sum_64 a 8) t)) agree.pc)
 
-pub are_toc : groups.RewritesBoth is_call kinds.NopToRestoreToc groups.RestoresToc
+are_toc : groups.RewritesBoth is_call kinds.NopToRestoreToc groups.RestoresToc
 are_toc call restored is made c k s old new holds =
     let p = c.processor in
     let toc = s.registers 2 in
@@ -885,6 +750,110 @@ are_toc call restored is made c k s old new holds =
     ∙ ap (λ n. Some (put 2 n (sum_64 t.pc 4) t)) (holds t agree))
     refl)
 
-pub are_others : groups.Others
-are_others c =
-    others_agree (λ code at. execute c.processor (instruction_at code at)) (link c) (λ code s. refl)
+-- ---- all
+
+pub are_groups : relocation_laws.AbsoluteAddresses → relocation_laws.RelativeAddresses → relocation_laws.TocAddresses
+    → relocation_laws.EntryAddresses → relocation_laws.GotAddresses → relocation_laws.ThreadAddresses
+    → relocation_laws.Prefixes → relocation_laws.Displacements → groups.Groups
+are_groups absolute relative toc entries got thread prefixes near =
+    record {
+      high_halves = (
+        to_nop 2 kinds.AddisToNop names.R_PPC64_TOC16_HA laws.from_toc
+            (λ o n a. laws.Leads names.R_PPC64_TOC16_LO D o n a × laws.Leads names.R_PPC64_TOC16_LO_DS Ds o n a) (λ s. refl)
+            (λ addis blank made. word_is nop blank (omega arith) made) (λ o x y a. d_after _ _ x y a.written) (toc_leads toc),
+        to_nop 13 kinds.AddisThreadToNop names.R_PPC64_TPREL16_HA laws.from_thread LowHalfLeads (λ s. refl)
+            (λ addis blank made. word_is nop blank (omega arith) made) (λ o x y a. d_after _ _ x y a.written) (thread_halves thread),
+        to_nop 2 kinds.AddisToNop names.R_PPC64_GOT_TPREL16_HA laws.entry_from_toc
+            (laws.Leads names.R_PPC64_GOT_TPREL16_LO_DS Ds) (λ s. refl)
+            (λ addis blank made. word_is nop blank (omega arith) made) (λ o x y a. d_after _ _ x y a.written) (offset_leads entries),
+        to_nop 2 kinds.AddisToNop names.R_PPC64_GOT_TLSGD16_HA laws.entry_from_toc
+            (laws.Leads names.R_PPC64_GOT_TLSGD16_LO D) (λ s. refl)
+            (λ addis blank made. word_is nop blank (omega arith) made) (λ o x y a. d_after _ _ x y a.written) (general_leads entries),
+        to_nop 2 kinds.AddisToNop names.R_PPC64_GOT_TLSLD16_HA laws.entry_from_toc
+            (laws.Leads names.R_PPC64_GOT_TLSLD16_LO D) (λ s. refl)
+            (λ addis blank made. word_is nop blank (omega arith) made) (λ o x y a. d_after _ _ x y a.written) (module_leads entries),
+      );
+      kept_high_halves = (
+        kept_high names.R_PPC64_GOT16_HA names.R_PPC64_TOC16_HA laws.entry_from_toc laws.from_toc
+            (laws.Leads names.R_PPC64_GOT16_LO_DS Ds) (laws.Leads names.R_PPC64_TOC16_LO D)
+            (λ o x y a. d_after _ _ x y a.written) (λ o x y a. d_after _ _ x y a.written)
+            (got_leads got) (λ o small n addis after a. (toc_leads toc o small n addis after a).0),
+        kept_high names.R_PPC64_GOT_TLSGD16_HA names.R_PPC64_GOT_TPREL16_HA laws.entry_from_toc laws.entry_from_toc
+            (laws.Leads names.R_PPC64_GOT_TLSGD16_LO D) (laws.Leads names.R_PPC64_GOT_TPREL16_LO_DS Ds)
+            (λ o x y a. d_after _ _ x y a.written) (λ o x y a. d_after _ _ x y a.written)
+            (general_leads entries) (offset_leads entries),
+      );
+      loads = are_loads;
+      low_halves = (
+        λ insn over is made. (
+          over_base 2 _ _ _ _ _ _ (addi_over 2 _ _ _ _ (toc_d near)) insn over made,
+          over_base 2 _ _ _ _ _ _ (access_over 2 _ _ _ _ (toc_d near)) insn over made,
+        ),
+        λ insn over is made. (
+          over_base 2 _ _ _ _ _ _ (word_access_over 2 _ _ _ _ (toc_ds near) (λ o x y a. (ds_after _ _ x y a.written).1)
+              (λ o x y a. (ds_after _ _ x y a.written).1)) insn over made,
+          vector_over 2 _ _ _ _ (toc_ds near) insn over made,
+        ),
+        λ insn over is made. (
+          over_base 13 _ _ _ _ _ _ (addi_over 13 _ _ _ _ (thread_d near)) insn over made,
+          over_base 13 _ _ _ _ _ _ (access_over 13 _ _ _ _ (thread_d near)) insn over made,
+        ),
+        λ insn over is made. (
+          over_base 13 _ _ _ _ _ _ (word_access_over 13 _ _ _ _ (thread_ds near) (λ o x y a. (ds_after _ _ x y a.written).1)
+              (λ o x y a. (ds_after _ _ x y a.written).1)) insn over made,
+          vector_over 13 _ _ _ _ (thread_ds near) insn over made,
+        ),
+      );
+      offsets = offsets thread names.R_PPC64_GOT_TPREL16_LO_DS (λ o x y a. ds_after _ _ x y a.written);
+      near_offsets = offsets thread names.R_PPC64_GOT_TPREL16_DS (λ o x y a. ds_after _ _ x y a.written);
+      low_offsets = (over_offset _ _ _ adds_offset, over_offset _ _ _ accesses_offset, over_offset _ _ _ words_offset);
+      arguments = arguments thread names.R_PPC64_GOT_TLSGD16_LO (λ o x y a. d_after _ _ x y a.written);
+      near_arguments = arguments thread names.R_PPC64_GOT_TLSGD16 (λ o x y a. d_after _ _ x y a.written);
+      argument_offsets = argument_offsets names.R_PPC64_GOT_TLSGD16_LO names.R_PPC64_GOT_TPREL16_LO_DS
+          (λ o x y a. d_after _ _ x y a.written) (λ o x y a. ds_after _ _ x y a.written);
+      near_argument_offsets = argument_offsets names.R_PPC64_GOT_TLSGD16 names.R_PPC64_GOT_TPREL16_DS
+          (λ o x y a. d_after _ _ x y a.written) (λ o x y a. ds_after _ _ x y a.written);
+      module_arguments = module_arguments names.R_PPC64_GOT_TLSLD16_LO (λ o x y a. d_after _ _ x y a.written);
+      near_module_arguments = module_arguments names.R_PPC64_GOT_TLSLD16 (λ o x y a. d_after _ _ x y a.written);
+      call_low_halves = are_call_low_halves;
+      calls = (
+        call_of_two kinds.CallToAdd sum_64 0x7c636a14
+            (λ bl made is. record {
+              blank = first_made made nop 0x7c636a14 (omega arith) (omega arith) is;
+              last = second_made made nop 0x7c636a14 (omega arith) (omega arith) is;
+            })
+            adds_thread,
+        call_of_two kinds.CallToAddi4096 groups.add_block 0x38631000
+            (λ bl made is. record {
+              blank = first_made made nop 0x38631000 (omega arith) (omega arith) is;
+              last = second_made made nop 0x38631000 (omega arith) (omega arith) is;
+            })
+            (λ f s. step_addi f 0x38631000 3 3 s (record { opcode_is = refl; rt_is = refl; ra_is = refl })
+            ∙ ap (λ n. Some (set 3 n s)) (adds_4096 (s.registers 3))),
+        call_of_one kinds.BranchToNop groups.keep_number
+            (λ p code t bl made number is stands has.
+            passes p code t (word_of made) stands (word_is nop made (omega arith) is)
+            ∙ ap Some (sym (unchanged 3 number (sum_64 t.pc 4) t has))),
+        call_of_one kinds.BranchToAdd sum_64
+            (λ p code t bl made number is stands has.
+            sets p code t (word_of made) 3 (sum_64 (t.registers 3) (t.registers 13)) stands (omega arith)
+            (ap (λ w. step p.formats w (seen t)) (word_is 0x7c636a14 made (omega arith) is) ∙ adds_thread p.formats (seen t))
+            ∙ ap (λ n. Some (put 3 (sum_64 n (t.registers 13)) (sum_64 t.pc 4) t)) has),
+      );
+      prefixed = are_prefixed prefixes;
+      variables = (argument_variables prefixes, loaded_variables prefixes);
+      prefixed_loads = are_prefixed_loads prefixes;
+      prefixed_blocks = are_prefixed_blocks prefixes;
+      variable_sums = (over_variable _ _ sum_to_move, over_variable _ _ access_to_direct);
+      entries = are_entries relative absolute;
+      toc = are_toc;
+      near_entries = λ o small. (
+        λ at insn over a. times_one o.got_base _ ∙ address_is _ _ (near.3 o small o.place insn over
+            (record { value = a.value; value_is = a.value_is; accepted = a.accepted; written = a.written }) tt),
+        λ at insn over a. times_one o.got_base _ ∙ address_is _ _ (near.4 o small o.place insn over
+            (record { value = a.value; value_is = a.value_is; accepted = a.accepted; written = a.written }) tt),
+        λ at insn over a. times_one o.got_base _ ∙ address_is _ _ (near.5 o small o.place insn over
+            (record { value = a.value; value_is = a.value_is; accepted = a.accepted; written = a.written }) tt),
+      );
+      others = λ c. others_agree (λ code at. execute c.processor (instruction_at code at)) (link c) (λ code s. refl);
+    }

@@ -3,7 +3,7 @@ use Rattle.linker_laws.proofs.Imports.{◌≡◌, ℕ, ◌+◌, ◌%◌, ◌^◌
 use Rattle.linker_elf.specs.declared.ppc64.relocations.Ppc64Relocation.TheVariants as names
 use Rattle.linker_utils.specs.declared.ppc64.rewrites.RewriteKind.TheVariants as kinds
 use Rattle.linker_laws.specs.Ppc64RelocationLaws as relocation_laws
-use Rattle.linker_laws.specs.Ppc64RewriteLaws.{word_of, IsRelocated, IsRewritten, at_place, access_number, ds_access, is_d_over, is_ds_over_base}
+use Rattle.linker_laws.specs.Ppc64RewriteLaws.{word_of, IsRelocated, IsRewritten, at_place, access_number, ds_access, is_d_over, is_over_base}
 use Rattle.linker_laws.specs.Ppc64Groups as groups
 use Rattle.linker_laws.specs.Ppc64RewriteLaws as laws
 use Rattle.linker_laws.specs.Ppc64Machine.{State, Formats, base, go_on, accessed, access_with}
@@ -36,7 +36,7 @@ over_base_low : (r x word : ℕ) → word ≡ over_base r x → field word 0 2 �
 over_base_low r x word is = omega arith
 
 -- what is known of a base register, a rewrite to it, and the relocations before and after
-record IsOver (r : ℕ) (kind : RewriteKind) (low whole : Ppc64Relocation) (form : Ppc64Form)
+pub record IsOver (r : ℕ) (kind : RewriteKind) (low whole : Ppc64Relocation) (form : Ppc64Form)
     (address : Operands → ℕ → ℕ) : Type 0 where
   pub small : r < 32
   pub is_base : IsBase r
@@ -46,7 +46,7 @@ record IsOver (r : ℕ) (kind : RewriteKind) (low whole : Ppc64Relocation) (form
   pub leads : (o : Operands) → AreAddresses o → (n : ℕ) (over after : List ℕ) → IsRelocated whole o over after
       → moved n (ppc64_reads form (word_of after)) ≡ address o n
 
-abbrev KeepsLow : Ppc64Relocation → Type 0
+abbrev pub KeepsLow : Ppc64Relocation → Type 0
 KeepsLow name =
     (o : Operands) (before after : List ℕ) → IsRelocated name o before after
     → field (word_of after) 0 2 ≡ field (word_of before) 0 2
@@ -62,7 +62,7 @@ pub record OverSteps (r : ℕ) (kind : RewriteKind) (low whole : Ppc64Relocation
       → how.test (word_of insn) ≡ true → IsRewritten kind insn over → IsRelocated whole o over over_of
       → Does f (how.does f (word_of insn) (address o (t.registers r))) (word_of over_of) t
 
-addi_over : (r : ℕ) (kind : RewriteKind) (low whole : Ppc64Relocation) (address : Operands → ℕ → ℕ)
+pub addi_over : (r : ℕ) (kind : RewriteKind) (low whole : Ppc64Relocation) (address : Operands → ℕ → ℕ)
     → IsOver r kind low whole D address → OverSteps r kind low whole D address (laws.adds is_addi)
 addi_over r kind low whole address e =
     record {
@@ -86,7 +86,7 @@ addi_over r kind low whole address e =
           (ap (λ n. moved n ((ppc64_form D).machine y)) (e.is_base t) ∙ e.leads o small (t.registers r) over over_of d);
     }
 
-access_over : (r : ℕ) (kind : RewriteKind) (low whole : Ppc64Relocation) (address : Operands → ℕ → ℕ)
+pub access_over : (r : ℕ) (kind : RewriteKind) (low whole : Ppc64Relocation) (address : Operands → ℕ → ℕ)
     → IsOver r kind low whole D address → OverSteps r kind low whole D address is_d_over
 access_over r kind low whole address e =
     record {
@@ -111,9 +111,9 @@ access_over r kind low whole address e =
           (ap (λ n. moved n ((ppc64_form D).machine y)) (e.is_base t) ∙ e.leads o small (t.registers r) over over_of d);
     }
 
-word_access_over : (r : ℕ) (kind : RewriteKind) (low whole : Ppc64Relocation) (address : Operands → ℕ → ℕ)
+pub word_access_over : (r : ℕ) (kind : RewriteKind) (low whole : Ppc64Relocation) (address : Operands → ℕ → ℕ)
     → IsOver r kind low whole Ds address → KeepsLow low → KeepsLow whole
-    → OverSteps r kind low whole Ds address (laws.accesses is_ds_over_base ds_access)
+    → OverSteps r kind low whole Ds address (laws.accesses (is_over_base is_ds_access) ds_access)
 word_access_over r kind low whole address e low_bits whole_bits =
     record {
       old = λ f o s insn insn_of target at is leads l.
@@ -144,7 +144,7 @@ word_access_over r kind low whole address e low_bits whole_bits =
           ∙ ap (moved (t.registers r)) (sym (p.reads y op)) ∙ e.leads o small (t.registers r) over over_of d);
     }
 
-vector_over : (r : ℕ) (kind : RewriteKind) (low whole : Ppc64Relocation) (address : Operands → ℕ → ℕ)
+pub vector_over : (r : ℕ) (kind : RewriteKind) (low whole : Ppc64Relocation) (address : Operands → ℕ → ℕ)
     → IsOver r kind low whole Ds address → (insn over : List ℕ) → IsRewritten kind insn over
     → groups.VectorOverBase r low whole address insn over
 vector_over r kind low whole address e insn over made o s t small is leads insn_of over_of l d =
@@ -172,7 +172,7 @@ vector_over r kind low whole address e insn over made o s t small is leads insn_
 
 -- ---- near the TOC pointer and the thread pointer
 
-toc_d : relocation_laws.Displacements
+pub toc_d : relocation_laws.Displacements
     → IsOver 2 kinds.BaseToToc names.R_PPC64_TOC16_LO names.R_PPC64_TOC16 D laws.from_toc
 toc_d near =
     record {
@@ -186,7 +186,7 @@ toc_d near =
           (near.1 o small o.place over after a tt);
     }
 
-toc_ds : relocation_laws.Displacements
+pub toc_ds : relocation_laws.Displacements
     → IsOver 2 kinds.BaseToToc names.R_PPC64_TOC16_LO_DS names.R_PPC64_TOC16_DS Ds laws.from_toc
 toc_ds near =
     record {
@@ -200,7 +200,7 @@ toc_ds near =
           (near.2 o small o.place over after a tt);
     }
 
-thread_d : relocation_laws.Displacements
+pub thread_d : relocation_laws.Displacements
     → IsOver 13 kinds.BaseToThread names.R_PPC64_TPREL16_LO names.R_PPC64_TPREL16 D laws.from_thread
 thread_d near =
     record {
@@ -214,7 +214,7 @@ thread_d near =
           (near.6 o small o.place over after a tt);
     }
 
-thread_ds : relocation_laws.Displacements
+pub thread_ds : relocation_laws.Displacements
     → IsOver 13 kinds.BaseToThread names.R_PPC64_TPREL16_LO_DS names.R_PPC64_TPREL16_DS Ds laws.from_thread
 thread_ds near =
     record {
@@ -226,38 +226,4 @@ thread_ds near =
       leads = λ o small n over after a.
           whole_from o.tls_base (symbol_address o) n _ small.tls_base (sum_below o.symbol _)
           (near.7 o small o.place over after a tt);
-    }
-
--- their steps
-pub record Steps : Type 0 where
-  pub toc_sums : OverSteps 2 kinds.BaseToToc names.R_PPC64_TOC16_LO names.R_PPC64_TOC16 D laws.from_toc (laws.adds is_addi)
-  pub toc_accesses : OverSteps 2 kinds.BaseToToc names.R_PPC64_TOC16_LO names.R_PPC64_TOC16 D laws.from_toc is_d_over
-  pub toc_words :
-      OverSteps 2 kinds.BaseToToc names.R_PPC64_TOC16_LO_DS names.R_PPC64_TOC16_DS Ds laws.from_toc
-      (laws.accesses is_ds_over_base ds_access)
-  pub thread_sums :
-      OverSteps 13 kinds.BaseToThread names.R_PPC64_TPREL16_LO names.R_PPC64_TPREL16 D laws.from_thread (laws.adds is_addi)
-  pub thread_accesses :
-      OverSteps 13 kinds.BaseToThread names.R_PPC64_TPREL16_LO names.R_PPC64_TPREL16 D laws.from_thread is_d_over
-  pub toc_vectors : (insn over : List ℕ) → IsRewritten kinds.BaseToToc insn over
-      → groups.VectorOverBase 2 names.R_PPC64_TOC16_LO_DS names.R_PPC64_TOC16_DS laws.from_toc insn over
-  pub thread_vectors : (insn over : List ℕ) → IsRewritten kinds.BaseToThread insn over
-      → groups.VectorOverBase 13 names.R_PPC64_TPREL16_LO_DS names.R_PPC64_TPREL16_DS laws.from_thread insn over
-  pub thread_words :
-      OverSteps 13 kinds.BaseToThread names.R_PPC64_TPREL16_LO_DS names.R_PPC64_TPREL16_DS Ds laws.from_thread
-      (laws.accesses is_ds_over_base ds_access)
-
-pub steps : relocation_laws.Displacements → Steps
-steps near =
-    record {
-      toc_sums = addi_over 2 _ _ _ _ (toc_d near);
-      toc_accesses = access_over 2 _ _ _ _ (toc_d near);
-      toc_words = word_access_over 2 _ _ _ _ (toc_ds near) (λ o x y a. (ds_after _ _ x y a.written).1)
-          (λ o x y a. (ds_after _ _ x y a.written).1);
-      toc_vectors = vector_over 2 _ _ _ _ (toc_ds near);
-      thread_vectors = vector_over 13 _ _ _ _ (thread_ds near);
-      thread_sums = addi_over 13 _ _ _ _ (thread_d near);
-      thread_accesses = access_over 13 _ _ _ _ (thread_d near);
-      thread_words = word_access_over 13 _ _ _ _ (thread_ds near) (λ o x y a. (ds_after _ _ x y a.written).1)
-          (λ o x y a. (ds_after _ _ x y a.written).1);
     }

@@ -1,18 +1,16 @@
 -- x86-64's groups.
 use Rattle.linker_laws.proofs.Imports.{◌≡◌, ℕ, zero, suc, ◌+◌, ◌-◌, ◌*◌, ◌^◌, ◌<◌, ◌≤◌, refl, sym, ◌∙◌, ap, ap₂, subst, arith, Bool, true, false, List, [], ◌∷◌, take, drop, Some, IsSomeAnd, inl, inr, length, get_or, lit≤, eqb-true, eq-eqb, and_parts, cond-true, cond-false, le-ltb, lt-ltb, ◌==◌, ◌&&◌, nat_lt, if◌then◌else◌, sum_64, difference_64, Operands, X86_64Relocation, rewritten, x86_64_relocation_after, Original, x86_64_rewrite, byte_at, go_to, put, with_register, Memory, State, Program, Kind, Kinds, Agree, AreOf, AreStored, Group, half, of_link, same}
 use Rattle.linker_laws.specs.Machine as shared
-use Rattle.linker_laws.specs.X86Groups.{Code, IsApart, IsCall, IsJump, IsKnownAfter, Others, KeepsRegisters, Reads, Stands, bytes_at, called, does, executed, flag, is_flag, left, link, machine, seen, CallOfDescriptor, IsLea, LeaOfDescriptor, LeaToEntry, LeaToOffset, LoadsNumber, MakesOffset, reg_after_rex, reg_after_rex2}
-use Rattle.linker_laws.specs.X86Groups as groups
+use Rattle.linker_laws.specs.X86Groups.{Code, IsApart, IsCall, IsJump, IsKnownAfter, KeepsRegisters, Reads, Stands, bytes_at, called, does, executed, flag, is_flag, left, link, machine, seen, CallOfDescriptor, IsLea, LeaOfDescriptor, LeaToEntry, LeaToOffset, LoadsNumber, MakesOffset, reg_after_rex, reg_after_rex2}
 use Rattle.linker_laws.specs.X86Machine as x86_machine
 use Rattle.linker_laws.specs.X86Machine.{MOV, lea, load, nop, operate, register, through, Decoded, bit_of, call, decode, direct, execute, indirect, jump, store_8}
 use Rattle.linker_laws.specs.X86RewriteLaws.{thread_offset}
 use Rattle.linker_elf.specs.declared.x86_64.relocations.X86_64Relocation.TheVariants as names
 use Rattle.linker_utils.specs.declared.x86_64.rewrites.RewriteKind.{RewriteKind}
 use Rattle.linker_utils.specs.declared.x86_64.rewrites.RewriteKind.TheVariants.{SkipTlsDescCall, TlsDescToInitialExec, TlsDescToLocalExec}
-use Rattle.linker_laws.proofs.Agreement.{agree_go, agree_open, agree_put, agree_put_old, both_true, group_of, others_agree}
+use Rattle.linker_laws.proofs.Agreement.{agree_go, agree_open, agree_put, agree_put_old, both_true, group_of}
 use Rattle.linker_laws.proofs.CoveredRuns.{holds_of, once, run_first}
 use Rattle.linker_laws.proofs.X86Branches.{Leads}
-use Rattle.linker_laws.proofs.X86Branches as branches
 use Rattle.linker_laws.proofs.X86Decoding.{Replaced, Replaces, map_some}
 use Rattle.linker_laws.proofs.X86Descriptors.{AreLea, LeaOf}
 use Rattle.linker_laws.proofs.X86Descriptors as leas
@@ -115,10 +113,10 @@ module _ (c : Code) (m : ℕ) (s : State)
       (holds_of (machine c.others c.new t) _ (v k known keeps t agree)
       (new_goes k known keeps t agree) (agree_after k known keeps t agree))))
 
-pub are_groups : (n : ℕ) (instructions : List Original) (name : X86_64Relocation) (kind : RewriteKind)
+pub one_for_another : (n : ℕ) (instructions : List Original) (name : X86_64Relocation) (kind : RewriteKind)
     (held : Operands → ℕ) → n + 4 ≤ 15 → Replaced n instructions name kind held
     → Reads n instructions name kind held
-are_groups n instructions name kind held few replaced =
+one_for_another n instructions name kind held few replaced =
     map_some (x86_64_relocation_after kind name) _ _
     (λ after replaces c s section original relaxed o operands before there matches was is at at' holds.
     one_group c (n + 4) s
@@ -194,10 +192,10 @@ still_same : (k : Kinds) → k.registers 4 ≡ same → (r : ℕ)
 still_same k is r = by (r == 4) refl
   where
     by : (b : Bool) → (r == 4) ≡ b → (if b then same else k.registers r) ≡ k.registers r
-    by true e = sym (ap k.registers (eqb-true r 4 e) ∙ is)
+    by true e = sym (ap k.registers (eqb-true _ _ e) ∙ is)
     by false e = refl
 
-is_call : (c : Code) (o : Operands) (s : State) → o.symbol < 2 ^ 64
+pub is_call : (c : Code) (o : Operands) (s : State) → o.symbol < 2 ^ 64
     → (load 8 (seen s) o.got_entry ≡ o.symbol
     → Leads call 6 (bytes_at 15 c.old s.pc) (bytes_at 15 c.new s.pc) o.symbol (seen s)) → IsCall c o s
 is_call c o s small by holds k k' stack registers memory =
@@ -237,7 +235,7 @@ is_call c o s small by holds k k' stack registers memory =
       outside = agree.outside;
     })))
 
-is_jump : (c : Code) (o : Operands) (s : State) → o.symbol < 2 ^ 64
+pub is_jump : (c : Code) (o : Operands) (s : State) → o.symbol < 2 ^ 64
     → (load 8 (seen s) o.got_entry ≡ o.symbol
     → Leads jump 5 (bytes_at 15 c.old s.pc) (bytes_at 15 c.new s.pc) o.symbol (seen s)) → IsJump c o s
 is_jump c o s small by holds k =
@@ -256,18 +254,6 @@ is_jump c o s small by holds k =
     (record { instruction = jump (direct l.to); size = 5 }) l.is
     ∙ ap (λ p. Some (go_to p t)) l.leads)
     (agree_go (link c) k s t o.symbol o.symbol agree small refl)))
-
-pub are_branches : groups.Branches
-are_branches = (
-  λ c s section original relaxed o operands before there matches was is at at'.
-      is_call c operands s before.addresses.symbol
-      (λ holds. branches.calls section original relaxed o operands (seen s) before there matches holds was
-      is (bytes_at 15 c.old s.pc) (bytes_at 15 c.new s.pc) at at'),
-  λ c s section original relaxed o operands before there matches was is at at'.
-      is_jump c operands s before.addresses.symbol
-      (λ holds. branches.jumps section original relaxed o operands (seen s) before there matches holds was
-      is (bytes_at 15 c.old s.pc) (bytes_at 15 c.new s.pc) at at'),
-)
 
 -- ---- descriptors
 
@@ -374,8 +360,3 @@ are_descriptor_calls c s calls at bytes matches old new h executes k k' s' has r
         first_two (a ∷ []) e = let long = ap length e in absurd (omega arith)
         first_two (a ∷ b ∷ rest) e =
             (rest, ap₂ (λ a b. a ∷ b ∷ rest) (ap (λ xs. get_or xs 0 0) e) (ap (λ xs. get_or xs 1 0) e))
-
--- ---- others
-
-pub are_others : Others
-are_others c = others_agree (λ code at. does c.others (bytes_at 15 code at)) (link c) (λ code s. refl)

@@ -133,9 +133,6 @@ AdrAndNop of_page =
 abbrev pub OfPages : (AArch64Relocation → Type 0) → Type 0
 OfPages Holds = Holds names.R_AARCH64_ADR_PREL_PG_HI21 × Holds names.R_AARCH64_ADR_PREL_PG_HI21_NC
 
-abbrev pub AddressToAdr : Type 0
-AddressToAdr = OfPages NopAndAdr
-
 -- ---- addresses by one instruction, whatever stands before it
 
 -- `add xD, xN`, where xN has the page of the address, becomes `adr xD`.
@@ -271,14 +268,11 @@ WeakBranches =
     BranchToNop names.R_AARCH64_JUMP26 is_b (λ k. k) go_to
     × BranchToNop names.R_AARCH64_CALL26 is_bl (with_register 30 anything) go_and_link
 
--- ---- other instructions
-
-abbrev pub Others : Type 0
-Others = (c : Code) → OthersAgree (does c.others) (link c)
+-- ---- all of them
 
 pub record Groups : Type 0 where
   pub loads : GotToAddress
-  pub nop_and_adr : AddressToAdr
+  pub nop_and_adr : OfPages NopAndAdr
   pub load_to_nop_and_adr : LoadToNopAndAdr
   pub adr_and_nop : OfPages AdrAndNop
   pub add_to_adr : AddToAdr
@@ -288,4 +282,4 @@ pub record Groups : Type 0 where
   pub descriptor_to_local_exec : DescriptorToLocalExec
   pub descriptor_to_initial_exec : DescriptorToInitialExec
   pub branches : WeakBranches
-  pub others : Others
+  pub others : (c : Code) → OthersAgree (does c.others) (link c)

@@ -1,8 +1,7 @@
 -- PowerPC64: rewritten instructions are groups of the simulation, each by itself, whatever stands
 -- before it. No code moves.
 use Rattle.std.specs.Prelude.{◌≡◌, ℕ, zero, suc, ◌+◌, ◌-◌, ◌*◌, ◌^◌, ◌<◌, ◌==◌, ◌&&◌, nat_lt, Bool}
-use Rattle.std.specs.Prelude.{if◌then◌else◌, List, drop, Option, Some, None, IsTrue, ⊤}
-use Rattle.std.specs.Prelude.{true}
+use Rattle.std.specs.Prelude.{if◌then◌else◌, List, drop, Option, Some, None, IsTrue, ⊤, true}
 use Rattle.linker_laws.specs.Imports.{ppc64_form, sum_64, Operands, Ppc64Form, Branch24, D}
 use Rattle.linker_laws.specs.Imports.{Ds, Ppc64Relocation, access_of, opcode_of, ppc64_rewrite}
 use Rattle.linker_laws.specs.Imports.{ra_of, rt_of}
@@ -13,18 +12,18 @@ use Rattle.linker_laws.specs.Ppc64Machine as ppc64_machine
 use Rattle.linker_laws.specs.Ppc64Machine.{Formats, access_with, go_on, shifted_sum, step}
 use Rattle.linker_laws.specs.Ppc64Machine.{step_prefixed, word_access_with}
 use Rattle.linker_laws.specs.Ppc64RewriteLaws.{HaveSameAccess, IsRelocated, IsRewritten, Leads}
-use Rattle.linker_laws.specs.Ppc64RewriteLaws.{address_read, is_vector_over_base, LowHalfLeads, Use}
+use Rattle.linker_laws.specs.Ppc64RewriteLaws.{address_read, is_over_base, LowHalfLeads, Use}
 use Rattle.linker_laws.specs.Ppc64RewriteLaws.{accesses, adds, ds_access, entry_from_toc, four_on}
 use Rattle.linker_laws.specs.Ppc64RewriteLaws.{from_thread, from_toc, indexed_access, is_d_over}
-use Rattle.linker_laws.specs.Ppc64RewriteLaws.{is_ds_over_base, prefixed_target, thread_offset}
-use Rattle.linker_laws.specs.Ppc64RewriteLaws.{word_of}
+use Rattle.linker_laws.specs.Ppc64RewriteLaws.{prefixed_target, thread_offset, word_of}
 use Rattle.linker_laws.specs.Schemes.{AreAddresses, symbol_address}
 use Rattle.linker_laws.specs.Simulation.{State, Program, Machine, Link, Kind, Kinds, Agree, Group}
 use Rattle.linker_laws.specs.Simulation.{anything, half, of_link, run, same}
 use Rattle.linker_utils.specs.Ppc64Rewrites.{is_add_of_thread, is_addi, is_addi_of_toc}
 use Rattle.linker_utils.specs.Ppc64Rewrites.{is_addis_of_entry, is_addis_of_toc, is_addis_over}
-use Rattle.linker_utils.specs.Ppc64Rewrites.{is_bl, is_call, is_indexed, is_indexed_any}
-use Rattle.linker_utils.specs.Ppc64Rewrites.{is_indexed_word, is_ld, is_pla, is_pld}
+use Rattle.linker_utils.specs.Ppc64Rewrites.{is_bl, is_call, is_ds_access, is_indexed}
+use Rattle.linker_utils.specs.Ppc64Rewrites.{is_indexed_any, is_indexed_word, is_ld, is_pla, is_pld}
+use Rattle.linker_utils.specs.Ppc64Rewrites.{is_vector_access}
 use Rattle.linker_utils.specs.declared.ppc64.rewrites.RewriteKind.{RewriteKind}
 use Rattle.linker_utils.specs.declared.ppc64.rewrites.RewriteKind.TheVariants as kinds
 
@@ -189,14 +188,6 @@ abbrev pub ModuleHigh : AreGroup
 ModuleHigh =
     ToNop 2 names.R_PPC64_GOT_TLSLD16_HA (Low names.R_PPC64_GOT_TLSLD16_LO D entry_from_toc)
 
-abbrev pub HighHalfToNop : Type 0
-HighHalfToNop =
-    Rewrites (is_addis_over 2) kinds.AddisToNop TocHigh
-    × Rewrites (is_addis_over 13) kinds.AddisThreadToNop ThreadHigh
-    × Rewrites (is_addis_over 2) kinds.AddisToNop OffsetHigh
-    × Rewrites (is_addis_over 2) kinds.AddisToNop GeneralHigh
-    × Rewrites (is_addis_over 2) kinds.AddisToNop ModuleHigh
-
 -- `addis rX,2` stays, with another relocation. Both are half h.
 abbrev pub Kept : (name after : Ppc64Relocation) → (OldLeads NewLeads : Operands → ℕ → ℕ → Type 0)
     → AreGroup
@@ -226,9 +217,6 @@ abbrev pub Stays : AreGroup → Type 0
 Stays AreSo =
     (addis : List ℕ) → IsTrue (is_addis_of_toc (word_of addis))
     → ppc64_rewrite kinds.KeepAddis ≡ None → AreSo addis addis
-
-abbrev pub HighHalfStays : Type 0
-HighHalfStays = Stays AddressHigh × Stays EntryHigh
 
 -- ---- low halves
 
@@ -274,7 +262,7 @@ LowOverBase register low whole address insn over =
 abbrev pub VectorOverBase : ℕ → (low whole : Ppc64Relocation) → (Operands → ℕ → ℕ) → AreGroup
 VectorOverBase register low whole address insn over =
     (o : Operands) (s t : ppc64_machine.State) → AreAddresses o
-    → IsTrue (is_vector_over_base (word_of insn))
+    → IsTrue (is_over_base is_vector_access (word_of insn))
     → Leads low Ds o (s.registers (ra_of (word_of insn))) (address o (t.registers register))
     → (low_of whole_of : List ℕ) → IsRelocated low o insn low_of → IsRelocated whole o over whole_of
     → (address_read (word_of low_of) s ≡ address_read (word_of whole_of) t)
@@ -283,19 +271,8 @@ VectorOverBase register low whole address insn over =
 -- loads and stores of whole words, and these
 abbrev pub WordOverBase : ℕ → (low whole : Ppc64Relocation) → (Operands → ℕ → ℕ) → AreGroup
 WordOverBase register low whole address insn over =
-    OverBase register low whole Ds address (accesses is_ds_over_base ds_access) insn over
+    OverBase register low whole Ds address (accesses (is_over_base is_ds_access) ds_access) insn over
     × VectorOverBase register low whole address insn over
-
-abbrev pub LowHalfOverBase : Type 0
-LowHalfOverBase =
-    Rewrites is_any kinds.BaseToToc
-    (LowOverBase 2 names.R_PPC64_TOC16_LO names.R_PPC64_TOC16 from_toc)
-    × Rewrites is_any kinds.BaseToToc
-    (WordOverBase 2 names.R_PPC64_TOC16_LO_DS names.R_PPC64_TOC16_DS from_toc)
-    × Rewrites is_any kinds.BaseToThread
-    (LowOverBase 13 names.R_PPC64_TPREL16_LO names.R_PPC64_TPREL16 from_thread)
-    × Rewrites is_any kinds.BaseToThread
-    (WordOverBase 13 names.R_PPC64_TPREL16_LO_DS names.R_PPC64_TPREL16_DS from_thread)
 
 -- ---- initial-exec
 
@@ -340,12 +317,6 @@ abbrev pub WordOverOffset : AreGroup
 WordOverOffset =
     OverOffset names.R_PPC64_TPREL16_LO_DS
     (accesses is_indexed_word (λ word. word_access_with (access_of word)))
-
-abbrev pub OffsetToLowHalf : Type 0
-OffsetToLowHalf =
-    Rewrites is_add_of_thread kinds.AddToAddi AddOverOffset
-    × Rewrites is_indexed kinds.IndexedToD AccessOverOffset
-    × Rewrites is_indexed_word kinds.IndexedToDs WordOverOffset
 
 -- ---- arguments of `__tls_get_addr`
 
@@ -430,14 +401,6 @@ add_block number thread = sum_64 number 0x1000
 abbrev pub keep_number : ℕ → ℕ → ℕ
 keep_number number thread = number
 
--- `nop` and `add 3,3,13`, `nop` and `addi 3,3,4096`, `nop`, and `add 3,3,13`
-abbrev pub Calls : Type 0
-Calls =
-    Rewrites is_any kinds.CallToAdd (CallTo 2 sum_64)
-    × Rewrites is_any kinds.CallToAddi4096 (CallTo 2 add_block)
-    × Rewrites is_any kinds.BranchToNop (CallTo 1 keep_number)
-    × Rewrites is_any kinds.BranchToAdd (CallTo 1 sum_64)
-
 -- ---- prefixed instructions
 
 -- Two words of 32 bits are of a sort.
@@ -492,11 +455,6 @@ LoadToVariable =
     MakesVariable names.R_PPC64_GOT_TPREL_PCREL34
     (λ o s number. (number ≡ thread_offset o) × (loaded 8 s.memory o.got_entry ≡ number))
 
-abbrev pub ToVariable : Type 0
-ToVariable =
-    RewritesBoth is_pla kinds.PaddiToPaddiThread ArgumentToVariable
-    × RewritesBoth is_pld kinds.PldToPaddiThread LoadToVariable
-
 -- `paddi rT` of the GOT entry of general-dynamic becomes `pld rT` of that of initial-exec.
 abbrev pub ArgumentToLoad : AreGroup
 ArgumentToLoad paddi pld =
@@ -530,11 +488,6 @@ SumOverVariable = OverVariable (adds is_add_of_thread)
 abbrev pub AccessOverVariable : AreGroup
 AccessOverVariable = OverVariable (accesses is_indexed_any indexed_access)
 
-abbrev pub SumToVariable : Type 0
-SumToVariable =
-    Rewrites is_add_of_thread kinds.AddToMove SumOverVariable
-    × Rewrites is_indexed_any kinds.IndexedToDirect AccessOverVariable
-
 -- ---- the TOC pointer
 
 -- `addis 2,12` and `addi 2,2` at the entry of a function, whose address r12 has, become `lis 2` and
@@ -560,22 +513,32 @@ RestoresToc call restored =
     → loaded 8 t.memory (sum_64 (t.registers 1) 24) ≡ s.registers 2)
     → Group (of_link (link c)) 1 k s (with_register 2 same k) (go_to (sum_64 s.pc 4) s)
 
--- ---- other instructions
-
-abbrev pub Others : Type 0
-Others =
-    (c : Code) → OthersAgree (λ code at. execute c.processor (instruction_at code at)) (link c)
+-- ---- all of them
 
 pub record Groups : Type 0 where
-  pub high_halves : HighHalfToNop
-  pub kept_high_halves : HighHalfStays
+  pub high_halves : Rewrites (is_addis_over 2) kinds.AddisToNop TocHigh
+      × Rewrites (is_addis_over 13) kinds.AddisThreadToNop ThreadHigh
+      × Rewrites (is_addis_over 2) kinds.AddisToNop OffsetHigh
+      × Rewrites (is_addis_over 2) kinds.AddisToNop GeneralHigh
+      × Rewrites (is_addis_over 2) kinds.AddisToNop ModuleHigh
+  pub kept_high_halves : Stays AddressHigh × Stays EntryHigh
   pub loads : Rewrites is_ld kinds.LdToAddi LoadToSum
-  pub low_halves : LowHalfOverBase
+  pub low_halves :
+      Rewrites is_any kinds.BaseToToc
+      (LowOverBase 2 names.R_PPC64_TOC16_LO names.R_PPC64_TOC16 from_toc)
+      × Rewrites is_any kinds.BaseToToc
+      (WordOverBase 2 names.R_PPC64_TOC16_LO_DS names.R_PPC64_TOC16_DS from_toc)
+      × Rewrites is_any kinds.BaseToThread
+      (LowOverBase 13 names.R_PPC64_TPREL16_LO names.R_PPC64_TPREL16 from_thread)
+      × Rewrites is_any kinds.BaseToThread
+      (WordOverBase 13 names.R_PPC64_TPREL16_LO_DS names.R_PPC64_TPREL16_DS from_thread)
   pub offsets :
       Rewrites is_ld kinds.LdToAddisThread (OffsetToHighHalf names.R_PPC64_GOT_TPREL16_LO_DS)
   pub near_offsets :
       Rewrites is_ld kinds.LdToAddisThread (OffsetToHighHalf names.R_PPC64_GOT_TPREL16_DS)
-  pub low_offsets : OffsetToLowHalf
+  pub low_offsets : Rewrites is_add_of_thread kinds.AddToAddi AddOverOffset
+      × Rewrites is_indexed kinds.IndexedToD AccessOverOffset
+      × Rewrites is_indexed_word kinds.IndexedToDs WordOverOffset
   pub arguments :
       Rewrites is_addi kinds.AddiToAddisThread (ArgumentToHighHalf names.R_PPC64_GOT_TLSGD16_LO)
   pub near_arguments :
@@ -589,13 +552,20 @@ pub record Groups : Type 0 where
   pub near_module_arguments :
       Rewrites is_addi kinds.AddiToAddisThread (ArgumentToThread names.R_PPC64_GOT_TLSLD16)
   pub call_low_halves : Rewrites is_any kinds.CallToAddi CallToLowHalf
-  pub calls : Calls
+  -- `nop` and `add 3,3,13`, `nop` and `addi 3,3,4096`, `nop`, and `add 3,3,13`
+  pub calls : Rewrites is_any kinds.CallToAdd (CallTo 2 sum_64)
+      × Rewrites is_any kinds.CallToAddi4096 (CallTo 2 add_block)
+      × Rewrites is_any kinds.BranchToNop (CallTo 1 keep_number)
+      × Rewrites is_any kinds.BranchToAdd (CallTo 1 sum_64)
   pub prefixed : RewritesBoth is_pld kinds.PldToPaddi PldToPaddi
-  pub variables : ToVariable
+  pub variables : RewritesBoth is_pla kinds.PaddiToPaddiThread ArgumentToVariable
+      × RewritesBoth is_pld kinds.PldToPaddiThread LoadToVariable
   pub prefixed_loads : RewritesBoth is_pla kinds.PaddiToPld ArgumentToLoad
   pub prefixed_blocks : RewritesBoth is_pla kinds.PaddiToPaddi4096 ArgumentToBlock
-  pub variable_sums : SumToVariable
+  pub variable_sums : Rewrites is_add_of_thread kinds.AddToMove SumOverVariable
+      × Rewrites is_indexed_any kinds.IndexedToDirect AccessOverVariable
   pub entries : TocAtEntry
   pub toc : RewritesBoth is_call kinds.NopToRestoreToc RestoresToc
   pub near_entries : NearEntries
-  pub others : Others
+  pub others :
+      (c : Code) → OthersAgree (λ code at. execute c.processor (instruction_at code at)) (link c)

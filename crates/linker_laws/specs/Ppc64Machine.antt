@@ -186,15 +186,13 @@ step f word s = execute f (decode word) word s
 -- their 8 bytes: its lower 32 bits are the prefix.
 abbrev pub step_prefixed : Formats → ℕ → State → Option State
 step_prefixed f both s =
-    if field both 18 32 == 0x104 && (opcode_of (both / 2 ^ 32) == 57 && ra_of (both / 2 ^ 32) == 0)
-    then Some (accessed f (loads 8) (rt_of (both / 2 ^ 32))
-    (moved s.pc ((ppc64_form Prefixed).machine both)) (go_to (sum_64 s.pc 8) s))
-    else (if field both 18 32 == 0x184
-    && (opcode_of (both / 2 ^ 32) == 14 && ra_of (both / 2 ^ 32) == 0)
-    then Some (write (rt_of (both / 2 ^ 32)) (moved s.pc ((ppc64_form Prefixed).machine both))
-    (go_to (sum_64 s.pc 8) s))
-    else (if field both 18 32 == 0x180 && opcode_of (both / 2 ^ 32) == 14
-    then Some (write (rt_of (both / 2 ^ 32))
-    (moved (base (ra_of (both / 2 ^ 32)) s) ((ppc64_form Prefixed).machine both))
-    (go_to (sum_64 s.pc 8) s))
+    let word = both / 2 ^ 32 in
+    let displacement = (ppc64_form Prefixed).machine both in
+    let next = go_to (sum_64 s.pc 8) s in
+    if field both 18 32 == 0x104 && (opcode_of word == 57 && ra_of word == 0)
+    then Some (accessed f (loads 8) (rt_of word) (moved s.pc displacement) next)
+    else (if field both 18 32 == 0x184 && (opcode_of word == 14 && ra_of word == 0)
+    then Some (write (rt_of word) (moved s.pc displacement) next)
+    else (if field both 18 32 == 0x180 && opcode_of word == 14
+    then Some (write (rt_of word) (moved (base (ra_of word) s) displacement) next)
     else None))

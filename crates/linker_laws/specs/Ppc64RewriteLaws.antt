@@ -2,7 +2,7 @@
 -- they lead to, and what they do with an address.
 use Rattle.std.specs.Prelude.{◌≡◌, ℕ, Bool, ◌==◌, ◌&&◌, not, List, IsSomeAnd, drop, if◌then◌else◌}
 use Rattle.std.specs.Int.{w64, from_le_bytes}
-use Rattle.linker_utils.specs.Ppc64Rewrites.{is_d_access, is_ds_access, is_vector_access}
+use Rattle.linker_utils.specs.Ppc64Rewrites.{is_d_access}
 use Rattle.linker_laws.specs.Imports.{ppc64_row, ppc64_reads, ppc64_rewrite, opcode_of, rt_of}
 use Rattle.linker_laws.specs.Imports.{ra_of, access_of, field, sum_64, difference_64, Operands}
 use Rattle.linker_laws.specs.Imports.{Ppc64Form, D, Ds, Ppc64Relocation, IsApplied}
@@ -73,20 +73,15 @@ LowHalfLeads o number target =
 abbrev pub access_number : ℕ → ℕ
 access_number word = field word 26 31
 
-abbrev pub is_d_over_base : ℕ → Bool
-is_d_over_base word = is_d_access word && not (ra_of word == 0)
+-- an access over a register
+abbrev pub is_over_base : (ℕ → Bool) → ℕ → Bool
+is_over_base is_access word = is_access word && not (ra_of word == 0)
 
 -- what `ld`, `lwa` and `std` access
 abbrev pub ds_access : ℕ → Access
 ds_access word =
     if opcode_of word == 62 then stores 8 else (
     if field word 0 2 == 0 then loads 8 else loads_signed 4)
-
-abbrev pub is_ds_over_base : ℕ → Bool
-is_ds_over_base word = is_ds_access word && not (ra_of word == 0)
-
-abbrev pub is_vector_over_base : ℕ → Bool
-is_vector_over_base word = is_vector_access word && not (ra_of word == 0)
 
 -- the base and the displacement
 abbrev pub address_read : ℕ → State → ℕ
@@ -126,4 +121,4 @@ accesses test access =
     }
 
 abbrev pub is_d_over : Use
-is_d_over = accesses is_d_over_base (λ word. access_with (access_number word))
+is_d_over = accesses (is_over_base is_d_access) (λ word. access_with (access_number word))

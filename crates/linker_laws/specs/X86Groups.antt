@@ -174,40 +174,15 @@ EachPrefix Holds =
 abbrev pub IsLoad : ℕ → X86_64Relocation → Type 0
 IsLoad n name = Reads n (legacy n 0x8b) name kinds.MovIndirectToLea address
 
-abbrev pub LoadsOfAddresses : Type 0
-LoadsOfAddresses = EachPrefix IsLoad × IsLoad 3 names.R_X86_64_GOTPCREL
-
 -- an immediate in place of the GOT entry
 abbrev pub TakesImmediate : (ℕ → RewriteKind) → Type 0
 TakesImmediate kind =
     EachPrefix (λ n name. Reads n (x86_64_originals (kind n)) name (kind n) address)
 
-abbrev pub AbsoluteAddresses : Type 0
-AbsoluteAddresses =
-    Reads 2 (legacy 2 0x8b) names.R_X86_64_GOTPCRELX kinds.MovIndirectToAbsolute address
-    × TakesImmediate kinds.RexMovIndirectToAbsolute
-
 -- by EVEX, with 6 bytes before the field
 abbrev pub TakesImmediateByEvex : (ℕ → RewriteKind) → Type 0
 TakesImmediateByEvex kind =
     Reads 6 (x86_64_originals (kind 6)) names.R_X86_64_CODE_6_GOTPCRELX (kind 6) address
-
-abbrev pub EvexOperations : Type 0
-EvexOperations =
-    TakesImmediateByEvex kinds.RexAddIndirectToAbsolute
-    × TakesImmediateByEvex kinds.RexAdcIndirectToAbsolute
-    × TakesImmediateByEvex kinds.RexAndIndirectToAbsolute
-    × TakesImmediateByEvex kinds.RexOrIndirectToAbsolute
-    × TakesImmediateByEvex kinds.RexSbbIndirectToAbsolute
-    × TakesImmediateByEvex kinds.RexXorIndirectToAbsolute
-
-abbrev pub Operations : Type 0
-Operations =
-    TakesImmediate kinds.RexAddIndirectToAbsolute × TakesImmediate kinds.RexSubIndirectToAbsolute
-    × TakesImmediate kinds.RexCmpIndirectToAbsolute × TakesImmediate kinds.RexAdcIndirectToAbsolute
-    × TakesImmediate kinds.RexAndIndirectToAbsolute × TakesImmediate kinds.RexOrIndirectToAbsolute
-    × TakesImmediate kinds.RexSbbIndirectToAbsolute × TakesImmediate kinds.RexXorIndirectToAbsolute
-    × TakesImmediate kinds.RexTestIndirectToAbsolute × EvexOperations
 
 -- ---- initial-exec, and local-exec
 
@@ -215,12 +190,6 @@ abbrev pub TakesOffset : (ℕ → RewriteKind) → Type 0
 TakesOffset kind =
     Reads 3 (x86_64_originals (kind 3)) names.R_X86_64_GOTTPOFF (kind 3) thread_offset
     × Reads 4 (x86_64_originals (kind 4)) names.R_X86_64_CODE_4_GOTTPOFF (kind 4) thread_offset
-
-abbrev pub ThreadOffsets : Type 0
-ThreadOffsets =
-    TakesOffset kinds.RexMovIndirectToAbsolute × TakesOffset kinds.RexAddIndirectToAbsolute
-    × Reads 6 (x86_64_originals (kinds.RexAddIndirectToAbsolute 6)) names.R_X86_64_CODE_6_GOTTPOFF
-    (kinds.RexAddIndirectToAbsolute 6) thread_offset
 
 -- ---- branches
 
@@ -254,13 +223,6 @@ abbrev pub IsJump : Code → Operands → State → Type 0
 IsJump c o s =
     load 8 (seen s) o.got_entry ≡ o.symbol
     → (k : Kinds) → Group (of_link (link c)) 1 k s k (go_to o.symbol s)
-
-abbrev pub Branches : Type 0
-Branches =
-    Rewritten 2 6 (x86_64_originals kinds.CallIndirectToRelative) names.R_X86_64_GOTPCRELX
-    kinds.CallIndirectToRelative (λ operands. operands) IsCall
-    × Rewritten 2 6 (x86_64_originals kinds.JmpIndirectToRelative) names.R_X86_64_GOTPCRELX
-    kinds.JmpIndirectToRelative (λ operands. operands) IsJump
 
 -- ---- TLS descriptors, each instruction by itself
 
@@ -445,20 +407,36 @@ BlockOffsets =
     LeadToTheSame 4 extended names.R_X86_64_DTPOFF32 names.R_X86_64_TPOFF32
     × LeadToTheSame 8 (λ offset. offset) names.R_X86_64_DTPOFF64 names.R_X86_64_TPOFF64
 
--- ---- other instructions
-
-abbrev pub Others : Type 0
-Others = (c : Code) → OthersAgree (λ code at. does c.others (bytes_at 15 code at)) (link c)
+-- ---- all of them
 
 pub record Groups : Type 0 where
-  pub loads : LoadsOfAddresses
-  pub absolute : AbsoluteAddresses
-  pub operations : Operations
-  pub thread : ThreadOffsets
-  pub branches : Branches
+  pub loads : EachPrefix IsLoad × IsLoad 3 names.R_X86_64_GOTPCREL
+  pub absolute :
+      Reads 2 (legacy 2 0x8b) names.R_X86_64_GOTPCRELX kinds.MovIndirectToAbsolute address
+      × TakesImmediate kinds.RexMovIndirectToAbsolute
+  pub operations :
+      TakesImmediate kinds.RexAddIndirectToAbsolute × TakesImmediate kinds.RexSubIndirectToAbsolute
+      × TakesImmediate kinds.RexCmpIndirectToAbsolute × TakesImmediate kinds.RexAdcIndirectToAbsolute
+      × TakesImmediate kinds.RexAndIndirectToAbsolute × TakesImmediate kinds.RexOrIndirectToAbsolute
+      × TakesImmediate kinds.RexSbbIndirectToAbsolute × TakesImmediate kinds.RexXorIndirectToAbsolute
+      × TakesImmediate kinds.RexTestIndirectToAbsolute
+      × (TakesImmediateByEvex kinds.RexAddIndirectToAbsolute
+      × TakesImmediateByEvex kinds.RexAdcIndirectToAbsolute
+      × TakesImmediateByEvex kinds.RexAndIndirectToAbsolute
+      × TakesImmediateByEvex kinds.RexOrIndirectToAbsolute
+      × TakesImmediateByEvex kinds.RexSbbIndirectToAbsolute
+      × TakesImmediateByEvex kinds.RexXorIndirectToAbsolute)
+  pub thread : TakesOffset kinds.RexMovIndirectToAbsolute × TakesOffset kinds.RexAddIndirectToAbsolute
+      × Reads 6 (x86_64_originals (kinds.RexAddIndirectToAbsolute 6)) names.R_X86_64_CODE_6_GOTTPOFF
+      (kinds.RexAddIndirectToAbsolute 6) thread_offset
+  pub branches : Rewritten 2 6 (x86_64_originals kinds.CallIndirectToRelative)
+      names.R_X86_64_GOTPCRELX kinds.CallIndirectToRelative (λ operands. operands) IsCall
+      × Rewritten 2 6 (x86_64_originals kinds.JmpIndirectToRelative) names.R_X86_64_GOTPCRELX
+      kinds.JmpIndirectToRelative (λ operands. operands) IsJump
   pub descriptor_address : LeaOfDescriptor
   pub descriptor_call : CallOfDescriptor
   pub general_dynamic : GeneralDynamic
   pub local_dynamic : LocalDynamic
   pub block_offsets : BlockOffsets
-  pub others : Others
+  pub others :
+      (c : Code) → OthersAgree (λ code at. does c.others (bytes_at 15 code at)) (link c)

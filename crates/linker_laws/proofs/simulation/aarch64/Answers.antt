@@ -1,6 +1,9 @@
 use Rattle.linker_laws.proofs.AArch64AdrGroups.{are_add_to_adr, are_adr_and_nop, are_ldr_to_adr, are_load_to_nop_and_adr, are_nop_and_adr}
 use Rattle.linker_laws.proofs.AArch64DescriptorGroups.{are_to_initial_exec, are_to_local_exec}
-use Rattle.linker_laws.proofs.AArch64Groups.{are_loads, are_high_halves, are_low_halves, are_branches, are_others}
+use Rattle.linker_laws.proofs.AArch64Groups.{are_loads, are_high_halves, are_low_halves, are_branches}
+use Rattle.linker_laws.proofs.Agreement.{others_agree}
+use Rattle.linker_laws.proofs.Imports.{refl}
+use Rattle.linker_laws.specs.AArch64Groups.{does, link}
 use Rattle.linker_laws.proofs.simulation.aarch64.Goals as goal
 
 pub returns : goal.returns
@@ -19,6 +22,6 @@ returns c =
         descriptor_to_local_exec = are_to_local_exec laws.entries laws.thread_moves;
         descriptor_to_initial_exec = are_to_initial_exec laws.entries;
         branches = are_branches laws.branches;
-        others = are_others;
+        others = λ c. others_agree (does c.others) (link c) (λ code s. refl);
       };
     }
