@@ -1,5 +1,5 @@
 -- AArch64's groups of TLS descriptors.
-use Rattle.linker_laws.proofs.Imports.{◌≡◌, ℕ, ◌+◌, ◌^◌, ◌<◌, Bool, true, false, refl, sym, ◌∙◌, ap, ap₂, subst, arith, cond, eqb, List, Some, pos, ◌+ℤ◌, cond-false, cond-true, eq-eqb, ne_eqb, aarch64_form, sum_64, Add, Operands, IsAdrp, IsLdr64, nop, rd_of, rn_of, go_to, put, loaded, AreAddresses, State, Program, Kinds, Agree, Group, of_link, run, suc-add}
+use Rattle.linker_laws.proofs.Imports.{◌≡◌, ℕ, ◌+◌, Bool, true, false, refl, sym, ◌∙◌, ap, ap₂, subst, arith, cond, eqb, List, Some, pos, ◌+ℤ◌, cond-false, cond-true, eq-eqb, ne_eqb, aarch64_form, sum_64, Add, Operands, IsAdrp, IsLdr64, nop, rd_of, rn_of, go_to, put, loaded, AreAddresses, State, Program, Kinds, Agree, Group, of_link, run, suc-add}
 use Rattle.linker_laws.specs.AArch64Groups.{Code, Descriptor, EndsInNops, called, executed, link, machine, seen}
 use Rattle.linker_laws.specs.AArch64Groups as groups
 use Rattle.linker_laws.specs.AArch64Machine.{added, adrp_address, in_64_bits, load_64, step}
@@ -13,6 +13,7 @@ use Rattle.linker_laws.proofs.AArch64Steps.{step_add, step_blr, step_ldr}
 use Rattle.linker_laws.proofs.AArch64Words.{add_after, adr_of_register, adrp_after, blr_of, ldr_of_register_after, masked_field, of_registers}
 use Rattle.linker_laws.proofs.Agreement.{value_group}
 use Rattle.linker_laws.proofs.CoveredRuns.{run_first, run_on}
+use Rattle.linker_laws.proofs.Relocated.{addresses as are_addresses}
 use Rattle.linker_laws.proofs.Sums.{eight, sum_on, three_words, sum_below}
 
 -- ---- the call
@@ -161,22 +162,12 @@ are_to_local_exec entries moves c o k k' s s' adrp ldr add blr movz movk nop1 no
     sets_twice c.others c.new t o.place (word_of high.relocated) (word_of low.relocated) 0 _ _ _
     (agree.pc ∙ d.at) (omega arith) high.stands low.stands m.first m.second m.value_is)
 
-small_entry : (entry : ℕ) (o : Operands) → entry < 2 ^ 64 → AreAddresses o
-    → AreAddresses (with_entry entry o)
-small_entry entry o below small =
-    record {
-      symbol = small.symbol;
-      place = small.place;
-      got_entry = below;
-      got_base = small.got_base;
-      plt_entry = small.plt_entry;
-      tls_base = small.tls_base;
-    }
-
 pub are_to_initial_exec : relocation_laws.EntryAddresses → groups.DescriptorToInitialExec
 are_to_initial_exec entries c o v entry k k' s s' adrp ldr add blr adrp0 ldr0 nop1 nop2 d ends below holds
     made_adrp made_ldr high low =
     let e = with_entry entry o in
+    let small : AreAddresses e =
+    are_addresses e d.small.symbol d.small.place below d.small.got_base d.small.plt_entry d.small.tls_base in
     let x = word_is 0x90000000 adrp0 (omega arith) made_adrp in
     let y = word_is 0xf9400000 ldr0 (omega arith) made_ldr in
     group_of entries c o v k k' s s' adrp ldr add blr nop1 nop2 d ends
@@ -187,7 +178,7 @@ are_to_initial_exec entries c o v entry k k' s s' adrp ldr add blr adrp0 ldr0 no
     (of_registers (ap rd_of y) (ap rn_of y) (ldr_of_register_after _ _ ldr0 low.relocated
     low.applied.written (subst IsLdr64 (sym y) refl)))
     (λ e. omega arith) (λ e. omega arith) (agree.pc ∙ d.at)
-    (entries.3 e (small_entry entry o below d.small) o.place adrp0 high.relocated high.applied tt
+    (entries.3 e small o.place adrp0 high.relocated high.applied tt
     (sum_64 o.place 4) ldr0 low.relocated low.applied tt) in
     sets_twice c.others c.new t o.place (word_of high.relocated) (word_of low.relocated) 0 _ _ v
     (agree.pc ∙ d.at) (omega arith) high.stands low.stands l.first l.second (l.value_is ∙ holds t agree))

@@ -5,7 +5,7 @@ use Rattle.linker_elf.specs.declared.aarch64.relocations.AArch64Relocation.{AArc
 use Rattle.linker_laws.specs.AArch64Groups.{Code, Descriptor, Groups, Has, Stands, called, does, link, machine, seen}
 use Rattle.linker_laws.specs.AArch64GroupsWorked.{IsAddress, IsOffset, IsPassed, IsRun, IsWorked, code, entries, first_adr, is_entry, known, new_halves, new_load, new_moves, old_branches, old_descriptor, old_halves, old_load, old_sum, others, second_adr, starting, words}
 use Rattle.linker_laws.specs.AArch64Machine.{load_64}
-use Rattle.linker_laws.specs.AArch64RewriteLaws.{IsPair, IsRelocated, following, with_entry, word_of}
+use Rattle.linker_laws.specs.AArch64RewriteLaws.{IsPair, IsRelocated, following, word_of}
 use Rattle.linker_laws.specs.SimulationWorked.{of_byte}
 use Rattle.linker_laws.proofs.Agreement.{agree_put}
 use Rattle.linker_laws.proofs.CoveredRuns.{holds_of}
@@ -59,77 +59,13 @@ symbol_page : IsRelocated names.R_AARCH64_ADR_PREL_PG_HI21 load
     (0x0 ∷ 0x0 ∷ 0x0 ∷ 0x90 ∷ []) (0x0 ∷ 0x1 ∷ 0x0 ∷ 0x90 ∷ [])
 symbol_page = applied (pos 0x20000) 0x90000000 refl (refl, tt, λ e. refl) refl (lit< tt) tt refl refl
 
-pair_page : IsRelocated names.R_AARCH64_ADR_PREL_PG_HI21 load
-    (0x0 ∷ 0x0 ∷ 0x0 ∷ 0x90 ∷ 0x0 ∷ 0x0 ∷ 0x0 ∷ 0x91 ∷ []) (0x0 ∷ 0x1 ∷ 0x0 ∷ 0x90 ∷ 0x0 ∷ 0x0 ∷ 0x0 ∷ 0x91 ∷ [])
-pair_page = applied (pos 0x20000) 0x90000000 refl (refl, tt, λ e. refl) refl (lit< tt) tt refl refl
-
 symbol_low : IsRelocated names.R_AARCH64_ADD_ABS_LO12_NC (following 4 load)
     (0x0 ∷ 0x0 ∷ 0x0 ∷ 0x91 ∷ []) (0x0 ∷ 0x80 ∷ 0x4 ∷ 0x91 ∷ [])
 symbol_low = applied (pos 0x420120) 0x91000000 refl (refl, tt, λ e. refl) refl (lit< tt) tt refl refl
 
-high_page : IsRelocated names.R_AARCH64_TLSIE_ADR_GOTTPREL_PAGE21 high
-    (0x1 ∷ 0x0 ∷ 0x0 ∷ 0x90 ∷ []) (0x81 ∷ 0x0 ∷ 0x0 ∷ 0xb0 ∷ [])
-high_page = applied (pos 0x11000) 0x90000001 refl (refl, tt, λ e. refl) refl (lit< tt) tt refl refl
-
-high_move : IsRelocated names.R_AARCH64_TLSLE_MOVW_TPREL_G1 high
-    (0x1 ∷ 0x0 ∷ 0xa0 ∷ 0xd2 ∷ []) (0x21 ∷ 0x0 ∷ 0xa0 ∷ 0xd2 ∷ [])
-high_move = applied (pos 0x12344) 0xd2a00001 refl (refl, tt, λ e. refl) refl (lit< tt) tt refl refl
-
-low_load : IsRelocated names.R_AARCH64_TLSIE_LD64_GOTTPREL_LO12_NC low
-    (0x42 ∷ 0x0 ∷ 0x40 ∷ 0xf9 ∷ []) (0x42 ∷ 0xc ∷ 0x40 ∷ 0xf9 ∷ [])
-low_load = applied (pos 0x411018) 0xf9400042 refl (refl, tt, λ e. refl) refl (lit< tt) tt refl refl
-
-low_move : IsRelocated names.R_AARCH64_TLSLE_MOVW_TPREL_G0_NC low
-    (0x2 ∷ 0x0 ∷ 0x80 ∷ 0xf2 ∷ []) (0x82 ∷ 0x68 ∷ 0x84 ∷ 0xf2 ∷ [])
-low_move = applied (pos 0x12344) 0xf2800002 refl (refl, tt, λ e. refl) refl (lit< tt) tt refl refl
-
 near_second : IsRelocated names.R_AARCH64_ADR_PREL_LO21 (following 4 load)
     (0x0 ∷ 0x0 ∷ 0x0 ∷ 0x10 ∷ []) (0xe0 ∷ 0x8 ∷ 0x10 ∷ 0x10 ∷ [])
 near_second = applied (pos 0x2011c) 0x10000000 refl (refl, tt, λ e. refl) refl (lit< tt) tt refl refl
-
-near_first : IsRelocated names.R_AARCH64_ADR_PREL_LO21 load
-    (0x0 ∷ 0x0 ∷ 0x0 ∷ 0x10 ∷ []) (0x0 ∷ 0x9 ∷ 0x10 ∷ 0x10 ∷ [])
-near_first = applied (pos 0x20120) 0x10000000 refl (refl, tt, λ e. refl) refl (lit< tt) tt refl refl
-
-near_load : IsRelocated names.R_AARCH64_ADR_PREL_LO21 (following 4 load)
-    (0x0 ∷ 0x0 ∷ 0x40 ∷ 0x70 ∷ []) (0xe0 ∷ 0x8 ∷ 0x10 ∷ 0x10 ∷ [])
-near_load = applied (pos 0x2011c) 0x10000000 refl (refl, tt, λ e. refl) refl (lit< tt) tt refl refl
-
-descriptor_page : IsRelocated names.R_AARCH64_TLSDESC_ADR_PAGE21 thread
-    (0x0 ∷ 0x0 ∷ 0x0 ∷ 0x90 ∷ []) (0x80 ∷ 0x0 ∷ 0x0 ∷ 0xb0 ∷ [])
-descriptor_page = applied (pos 0x11000) 0x90000000 refl (refl, tt, λ e. refl) refl (lit< tt) tt refl refl
-
-descriptor_low : IsRelocated names.R_AARCH64_TLSDESC_LD64_LO12 (following 4 thread)
-    (0x1 ∷ 0x0 ∷ 0x40 ∷ 0xf9 ∷ []) (0x1 ∷ 0x8 ∷ 0x40 ∷ 0xf9 ∷ [])
-descriptor_low = applied (pos 0x411010) 0xf9400001 refl (refl, tt, λ e. refl) refl (lit< tt) tt refl refl
-
-descriptor_sum : IsRelocated names.R_AARCH64_TLSDESC_ADD_LO12 (following 8 thread)
-    (0x0 ∷ 0x0 ∷ 0x0 ∷ 0x91 ∷ []) (0x0 ∷ 0x40 ∷ 0x0 ∷ 0x91 ∷ [])
-descriptor_sum = applied (pos 0x411010) 0x91000000 refl (refl, tt, λ e. refl) refl (lit< tt) tt refl refl
-
-offset_high : IsRelocated names.R_AARCH64_TLSLE_MOVW_TPREL_G1 thread
-    (0x0 ∷ 0x0 ∷ 0xa0 ∷ 0xd2 ∷ []) (0x20 ∷ 0x0 ∷ 0xa0 ∷ 0xd2 ∷ [])
-offset_high = applied (pos 0x12344) 0xd2a00000 refl (refl, tt, λ e. refl) refl (lit< tt) tt refl refl
-
-offset_low : IsRelocated names.R_AARCH64_TLSLE_MOVW_TPREL_G0_NC (following 4 thread)
-    (0x0 ∷ 0x0 ∷ 0x80 ∷ 0xf2 ∷ []) (0x80 ∷ 0x68 ∷ 0x84 ∷ 0xf2 ∷ [])
-offset_low = applied (pos 0x12344) 0xf2800000 refl (refl, tt, λ e. refl) refl (lit< tt) tt refl refl
-
-offset_page : IsRelocated names.R_AARCH64_TLSIE_ADR_GOTTPREL_PAGE21 (with_entry 0x411018 thread)
-    (0x0 ∷ 0x0 ∷ 0x0 ∷ 0x90 ∷ []) (0x80 ∷ 0x0 ∷ 0x0 ∷ 0xb0 ∷ [])
-offset_page = applied (pos 0x11000) 0x90000000 refl (refl, tt, λ e. refl) refl (lit< tt) tt refl refl
-
-offset_load : IsRelocated names.R_AARCH64_TLSIE_LD64_GOTTPREL_LO12_NC (following 4 (with_entry 0x411018 thread))
-    (0x0 ∷ 0x0 ∷ 0x40 ∷ 0xf9 ∷ []) (0x0 ∷ 0xc ∷ 0x40 ∷ 0xf9 ∷ [])
-offset_load = applied (pos 0x411018) 0xf9400000 refl (refl, tt, λ e. refl) refl (lit< tt) tt refl refl
-
-branch_on : IsRelocated names.R_AARCH64_JUMP26 jump
-    (0x0 ∷ 0x0 ∷ 0x0 ∷ 0x14 ∷ []) (0x1 ∷ 0x0 ∷ 0x0 ∷ 0x14 ∷ [])
-branch_on = applied (pos 0x4) 0x14000000 refl (refl, tt, λ e. refl) refl (lit< tt) tt refl refl
-
-call_on : IsRelocated names.R_AARCH64_CALL26 link_jump
-    (0x0 ∷ 0x0 ∷ 0x0 ∷ 0x94 ∷ []) (0x1 ∷ 0x0 ∷ 0x0 ∷ 0x94 ∷ [])
-call_on = applied (pos 0x4) 0x94000000 refl (refl, tt, λ e. refl) refl (lit< tt) tt refl refl
 
 -- ---- programs
 
@@ -174,10 +110,9 @@ runs old new first q m n Ends k s covered old_stops none old_ends new_ends =
       new_ends = new_ends;
     }
 
-has : (code : ℕ → ℕ) (name : AArch64Relocation) (o : Operands) (before after : List ℕ)
+has : {code : ℕ → ℕ} {name : AArch64Relocation} {o : Operands} {before : List ℕ} (after : List ℕ)
     → IsRelocated name o before after → Stands code o after → Has code name o before
-has code name o before after applied stands =
-    record { relocated = after; applied = applied; stands = stands }
+has after applied stands = record { relocated = after; applied = applied; stands = stands }
 
 -- what a register holds after m instructions
 abbrev Holds : List ℕ → ℕ → ℕ → ℕ → ℕ → Type 0
@@ -260,14 +195,16 @@ sum_of_one =
 p1 : Groups → Group (of_link (link c1)) 2 known s0 k1 s1
 p1 g =
     g.loads c1 load known s0 adrp_x0 ldr_x0 add_x0
-    load_is refl refl (has _ _ _ _ _ entry_page refl) (has _ _ _ _ _ entry_low refl)
-    (has _ _ _ _ _ symbol_page refl) (has _ _ _ _ _ symbol_low refl)
+    load_is refl refl (has _ entry_page refl) (has _ entry_low refl)
+    (has _ symbol_page refl) (has _ symbol_low refl)
 
 p2 : Groups → Group (of_link (link c1)) 1 k1 s1 k2 s2
 p2 g =
     g.high_halves c1 0 high k1 s1 (1 ∷ 0 ∷ 0 ∷ 0x90 ∷ []) (1 ∷ 0 ∷ 0xa0 ∷ 0xd2 ∷ [])
     (small high refl) refl refl refl refl
-    (λ e. omega arith) refl (has _ _ _ _ _ high_page refl) (has _ _ _ _ _ high_move refl)
+    (λ e. omega arith) refl
+    (has (0x81 ∷ 0 ∷ 0 ∷ 0xb0 ∷ []) (applied (pos 0x11000) 0x90000001 refl (refl, tt, λ e. refl) refl (lit< tt) tt refl refl) refl)
+    (has (0x21 ∷ 0 ∷ 0xa0 ∷ 0xd2 ∷ []) (applied (pos 0x12344) 0xd2a00001 refl (refl, tt, λ e. refl) refl (lit< tt) tt refl refl) refl)
 
 p3 : Groups → Other (of_link (link c1)) k2 s2 k3 s3
 p3 g =
@@ -282,7 +219,8 @@ p4 g =
     g.low_halves c1 0 low k3 s3 (0x42 ∷ 0 ∷ 0x40 ∷ 0xf9 ∷ []) (2 ∷ 0 ∷ 0x80 ∷ 0xf2 ∷ [])
     (small low refl) refl refl refl refl
     (record { same = refl; not_31 = λ e. omega arith }) refl refl refl refl
-    (has _ _ _ _ _ low_load refl) (has _ _ _ _ _ low_move refl)
+    (has (0x42 ∷ 0xc ∷ 0x40 ∷ 0xf9 ∷ []) (applied (pos 0x411018) 0xf9400042 refl (refl, tt, λ e. refl) refl (lit< tt) tt refl refl) refl)
+    (has (0x82 ∷ 0x68 ∷ 0x84 ∷ 0xf2 ∷ []) (applied (pos 0x12344) 0xf2800002 refl (refl, tt, λ e. refl) refl (lit< tt) tt refl refl) refl)
 
 halves_end :
     Holds old_halves 0x420120 5 0 0x420120 × Holds old_halves 0x420120 5 2 0x12344
@@ -314,24 +252,22 @@ nop_and_adr g =
     let c = code old_sum (second_adr 0xd503201f) in
     runs old_sum (second_adr 0xd503201f) 0x420120 1 2 2 (λ r. r 0 ≡ 0x420120) k1 there
     (group 0 2 0 _ _ _ _ _ _ (g.nop_and_adr.0 c load known s0 pair_of_sum nop_adr (pair IsAdd64 pair_of_sum add_x0 sum_of_one refl)
-    refl (has _ _ _ _ _ pair_page refl) (has _ _ _ _ _ symbol_low refl) refl (has _ _ _ _ _
-    near_second refl)) (ends _ _)) refl (λ t. refl) addresses_end.0 addresses_end.2
+    refl (has (0 ∷ 0x1 ∷ 0 ∷ 0x90 ∷ 0 ∷ 0 ∷ 0 ∷ 0x91 ∷ []) (applied (pos 0x20000) 0x90000000 refl (refl, tt, λ e. refl) refl (lit< tt) tt refl refl) refl) (has _ symbol_low refl) refl (has _ near_second refl)) (ends _ _)) refl (λ t. refl) addresses_end.0 addresses_end.2
 
 load_to_nop_and_adr : Groups → IsAddress old_load (second_adr 0xd503201f) 1
 load_to_nop_and_adr g =
     let c = code old_load (second_adr 0xd503201f) in
     runs old_load (second_adr 0xd503201f) 0x420120 1 2 2 (λ r. r 0 ≡ 0x420120) k1 there
     (group 0 2 0 _ _ _ _ _ _ (g.load_to_nop_and_adr c load known s0 adrp_x0 ldr_x0 pair_of_sum
-    nop_adr load_is refl refl refl (has _ _ _ _ _ entry_page refl) (has _ _ _ _ _ entry_low refl)
-    refl (has _ _ _ _ _ near_second refl)) (ends _ _)) refl (λ t. refl) addresses_end.1
+    nop_adr load_is refl refl refl (has _ entry_page refl) (has _ entry_low refl)
+    refl (has _ near_second refl)) (ends _ _)) refl (λ t. refl) addresses_end.1
     addresses_end.2
 
 adr_and_nop : Groups → IsAddress old_sum first_adr 1
 adr_and_nop g =
     runs old_sum first_adr 0x420120 1 2 2 (λ r. r 0 ≡ 0x420120) k1 there
     (group 0 2 0 _ _ _ _ _ _ (g.adr_and_nop.0 (code old_sum first_adr) load known s0 adrp_x0
-    add_x0 adr_x0 nop (pair IsAdd64 adrp_x0 add_x0 sum_of_one refl) refl refl (has _ _ _ _ _ symbol_page refl) (has _ _ _ _ _ symbol_low
-    refl) (has _ _ _ _ _ near_first refl) refl) (ends _ _)) refl (λ t. refl) addresses_end.0
+    add_x0 adr_x0 nop (pair IsAdd64 adrp_x0 add_x0 sum_of_one refl) refl refl (has _ symbol_page refl) (has _ symbol_low refl) (has (0 ∷ 0x9 ∷ 0x10 ∷ 0x10 ∷ []) (applied (pos 0x20120) 0x10000000 refl (refl, tt, λ e. refl) refl (lit< tt) tt refl refl) refl) refl) (ends _ _)) refl (λ t. refl) addresses_end.0
     addresses_end.3
 
 -- the `adrp` of both, by old's code
@@ -365,8 +301,7 @@ add_to_adr g =
     runs old_sum (second_adr 0x90000100) 0x420120 2 2 2 (λ r. r 0 ≡ 0x420120) (with_register 0 same k1) (put 0 0x420120 0x400008 u)
     (other 1 1 _ _ _ _ _ _ (other_adrp g old_sum (second_adr 0x90000100) 0x420000 refl page_is)
     (group 0 1 0 _ _ _ _ _ _ (g.add_to_adr (code old_sum (second_adr 0x90000100)) after_one k1 u
-    add_x0 adr_x0 (small after_one refl) refl refl (λ e. omega arith) refl refl (has _ _ _ _ _
-    symbol_low refl) (has _ _ _ _ _ near_second refl)) (ends _ _))) refl (λ t. refl)
+    add_x0 adr_x0 (small after_one refl) refl refl (λ e. omega arith) refl refl (has _ symbol_low refl) (has _ near_second refl)) (ends _ _))) refl (λ t. refl)
     addresses_end.0 addresses_end.4
 
 ldr_to_adr : Groups → IsAddress old_load (second_adr 0xb0000080) 2
@@ -376,8 +311,9 @@ ldr_to_adr g =
     (other 1 1 _ _ _ _ _ _ (other_adrp g old_load (second_adr 0xb0000080) 0x411000 refl
     entry_page_is) (group 0 1 0 _ _ _ _ _ _ ((g.ldr_to_adr (code old_load (second_adr
     0xb0000080)) after_one k1 u ldr_x0 (0 ∷ 0 ∷ 0x40 ∷ 0x70 ∷ []) (small after_one refl) refl refl refl
-    refl refl (has _ _ _ _ _ entry_low refl) (has _ _ _ _ _ near_load refl)).0 (λ e. omega
-    arith)) (ends _ _))) refl (λ t. refl) addresses_end.1 addresses_end.5
+    refl refl (has _ entry_low refl)
+    (has (0xe0 ∷ 0x8 ∷ 0x10 ∷ 0x10 ∷ []) (applied (pos 0x2011c) 0x10000000 refl (refl, tt, λ e. refl) refl (lit< tt) tt refl refl) refl)).0
+    (λ e. omega arith)) (ends _ _))) refl (λ t. refl) addresses_end.1 addresses_end.5
 
 -- ---- descriptors
 
@@ -442,9 +378,9 @@ the_descriptor new =
         add_into_x0 = refl;
         calls = refl;
       };
-      page = has _ _ _ _ _ descriptor_page refl;
-      low = has _ _ _ _ _ descriptor_low refl;
-      sum = has _ _ _ _ _ descriptor_sum refl;
+      page = has (0x80 ∷ 0x0 ∷ 0x0 ∷ 0xb0 ∷ []) (applied (pos 0x11000) 0x90000000 refl (refl, tt, λ e. refl) refl (lit< tt) tt refl refl) refl;
+      low = has (0x1 ∷ 0x8 ∷ 0x40 ∷ 0xf9 ∷ []) (applied (pos 0x411010) 0xf9400001 refl (refl, tt, λ e. refl) refl (lit< tt) tt refl refl) refl;
+      sum = has (0x0 ∷ 0x40 ∷ 0x0 ∷ 0x91 ∷ []) (applied (pos 0x411010) 0x91000000 refl (refl, tt, λ e. refl) refl (lit< tt) tt refl refl) refl;
       call = refl;
       executes = 2;
       returns = executes_two new;
@@ -468,7 +404,8 @@ to_moves g =
     g.descriptor_to_local_exec c_moves thread known open_then d0 returned adrp_x0 ldr_x1 add_x0 blr_x1
     (0 ∷ 0 ∷ 0xa0 ∷ 0xd2 ∷ []) (0 ∷ 0 ∷ 0x80 ∷ 0xf2 ∷ []) nop nop (the_descriptor new_moves)
     (record { first_made = refl; second_made = refl; first = refl; second = refl }) refl refl
-    (has _ _ _ _ _ offset_high refl) (has _ _ _ _ _ offset_low refl)
+    (has (0x20 ∷ 0 ∷ 0xa0 ∷ 0xd2 ∷ []) (applied (pos 0x12344) 0xd2a00000 refl (refl, tt, λ e. refl) refl (lit< tt) tt refl refl) refl)
+    (has (0x80 ∷ 0x68 ∷ 0x84 ∷ 0xf2 ∷ []) (applied (pos 0x12344) 0xf2800000 refl (refl, tt, λ e. refl) refl (lit< tt) tt refl refl) refl)
 
 -- new's entry has the offset
 holds_offset : (t : State) → Agree (link c_load) known d0 t → load_64 t.memory 0x411018 ≡ 0x12344
@@ -491,7 +428,9 @@ to_load g =
     g.descriptor_to_initial_exec c_load thread 0x12344 0x411018 known open_then d0 returned adrp_x0 ldr_x1
     add_x0 blr_x1 adrp_x0 ldr_x0 nop nop (the_descriptor new_load)
     (record { first_made = refl; second_made = refl; first = refl; second = refl }) (lit< tt) holds_offset
-    refl refl (has _ _ _ _ _ offset_page refl) (has _ _ _ _ _ offset_load refl)
+    refl refl
+    (has (0x80 ∷ 0 ∷ 0 ∷ 0xb0 ∷ []) (applied (pos 0x11000) 0x90000000 refl (refl, tt, λ e. refl) refl (lit< tt) tt refl refl) refl)
+    (has (0 ∷ 0xc ∷ 0x40 ∷ 0xf9 ∷ []) (applied (pos 0x411018) 0xf9400000 refl (refl, tt, λ e. refl) refl (lit< tt) tt refl refl) refl)
 
 offset_run : (new : List ℕ) → Group (of_link (link (code old_descriptor new))) 4 known d0 open_then returned
     → ((t : State) → machine others (words new) (go_to 0x400010 t) ≡ None)
@@ -515,9 +454,12 @@ branches g =
     let s = starting 0 in
     let u = go_to 0x400004 s in
     runs old_branches passed 0 2 2 2 (λ r. r 0 ≡ 0) (with_register 30 anything known) (put 30 0x400008 0x400008 u)
-    (group 1 1 1 _ _ _ _ _ _ (g.branches.0 c jump known s (0 ∷ 0 ∷ 0 ∷ 0x14 ∷ []) nop (small jump refl) refl refl refl refl (has _
-    _ _ _ _ branch_on refl) refl) (group 0 1 0 _ _ _ _ _ _ (g.branches.1 c link_jump known u (0 ∷
-    0 ∷ 0 ∷ 0x94 ∷ []) nop (small link_jump refl) refl refl refl refl (has _ _ _ _ _ call_on refl) refl) (ends _ _))) refl (λ t.
+    (group 1 1 1 _ _ _ _ _ _ (g.branches.0 c jump known s (0 ∷ 0 ∷ 0 ∷ 0x14 ∷ []) nop (small jump refl) refl refl refl refl
+    (has (0x1 ∷ 0 ∷ 0 ∷ 0x14 ∷ []) (applied (pos 0x4) 0x14000000 refl (refl, tt, λ e. refl) refl (lit< tt) tt refl refl) refl)
+    refl) (group 0 1 0 _ _ _ _ _ _ (g.branches.1 c link_jump known u (0 ∷
+    0 ∷ 0 ∷ 0x94 ∷ []) nop (small link_jump refl) refl refl refl refl
+    (has (0x1 ∷ 0 ∷ 0 ∷ 0x94 ∷ []) (applied (pos 0x4) 0x94000000 refl (refl, tt, λ e. refl) refl (lit< tt) tt refl refl) refl)
+    refl) (ends _ _))) refl (λ t.
     refl) branches_end.0 branches_end.1
 
 pub is_worked : Groups → IsWorked

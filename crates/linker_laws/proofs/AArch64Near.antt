@@ -1,5 +1,6 @@
 -- Where `adr` reaches an address, its page is near.
 use Rattle.linker_laws.proofs.Imports.{◌≡◌, ℕ, ◌^◌, ◌<◌, ◌≤◌, ◌-◌, ◌⊎◌, inl, inr, sym, ◌∙◌, ap, subst, arith, ℤ, pos, ◌+ℤ◌, Some, w64, cast_signed, cases_lt, ints, to_z_pos, cast_negative, IsWithin, bit_bounds, page, difference_64, sum_64, Signed, Operands, AreAddresses, symbol_address}
+use Rattle.linker_laws.proofs.Relocated.{addresses as are_addresses}
 use Rattle.linker_laws.proofs.Sums.{difference_below, sum_below}
 use Rattle.linker_laws.specs.AArch64RewriteLaws.{following}
 
@@ -68,14 +69,7 @@ near t p q small small' small'' following v w is is' within =
 
 pub small_after : (n : ℕ) (o : Operands) → AreAddresses o → AreAddresses (following n o)
 small_after n o small =
-    record {
-      symbol = small.symbol;
-      place = sum_below o.place n;
-      got_entry = small.got_entry;
-      got_base = small.got_base;
-      plt_entry = small.plt_entry;
-      tls_base = small.tls_base;
-    }
+    are_addresses _ small.symbol (sum_below o.place n) small.got_entry small.got_base small.plt_entry small.tls_base
 
 -- The page is near, where `adr` at the place, or after it, reaches the address.
 abbrev pub AreNear : Operands → ℕ → Type 0

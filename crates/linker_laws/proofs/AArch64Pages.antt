@@ -1,5 +1,5 @@
 -- Pages and offsets in them, of AArch64.
-use Rattle.linker_laws.proofs.Imports.{◌≡◌, ℕ, ◌+◌, ◌-◌, ◌*◌, ◌/◌, ◌%◌, ◌^◌, ◌<◌, ◌≤◌, Bool, true, refl, sym, ◌∙◌, ap, subst, arith, List, [], ◌∷◌, leb, ℤ, pos, ◌+ℤ◌, ◌*ℤ◌, Option, Some, w64, cast_signed, leb-true, bit_bounds, Signed, mod_below, pow_pos, pow-add, field, window_of, is_sound_layout, low_of, high_of, aarch64_form, aarch64_layout, IsWithin, page, reach_of, value_of, sum_64, difference_64, AArch64Instruction, Adr, Add, AllowedRange, PageMask, AArch64, RelocationKind, RowInfo, Operands, IsApplied, place_sum, subst_below, AreAddresses, Law, Premise, PremiseHolds, none}
+use Rattle.linker_laws.proofs.Imports.{◌≡◌, ℕ, ◌+◌, ◌-◌, ◌*◌, ◌/◌, ◌%◌, ◌^◌, ◌<◌, ◌≤◌, Bool, true, refl, sym, ◌∙◌, ap, subst, arith, List, [], ◌∷◌, leb, ℤ, pos, ◌+ℤ◌, ◌*ℤ◌, Option, Some, w64, cast_signed, leb-true, bit_bounds, Signed, mod_below, pow_pos, pow-add, field, window_of, is_sound_layout, low_of, high_of, aarch64_form, aarch64_layout, IsWithin, page, reach_of, value_of, sum_64, difference_64, AArch64Instruction, Adr, Add, AllowedRange, PageMask, AArch64, RelocationKind, RowInfo, Operands, IsApplied, place_sum, subst_below, AreAddresses, Law, Premise, PremiseHolds, none, LdSt}
 use Rattle.std.proofs.Math.Arith.{mod-mul}
 use Rattle.linker_laws.specs.AArch64RelocationLaws.{got_page, page_and_offset}
 use Rattle.linker_laws.proofs.Instructions.{FirstHasNumber, HasNumber, IsNumber, IsSmall, absolute, first_step, row_of, is_read, reads_bits, field_sum, multiple, step_of}
@@ -25,6 +25,12 @@ IsUnsigned f =
     (is_sound_layout (aarch64_layout f) ≡ true) × (low_of (aarch64_layout f) ≡ 0)
     × (high_of (aarch64_layout f) ≡ 12)
     × ((c x : ℕ) → (aarch64_form f).machine x ≡ pos (place_sum ((aarch64_form f).places c) x))
+
+pub add_is : IsUnsigned Add
+add_is = (refl, refl, refl, λ c x. refl)
+
+pub ldst_is : IsUnsigned LdSt
+ldst_is = (refl, refl, refl, λ c x. refl)
 
 pub offset_reads : (f : AArch64Instruction) → IsUnsigned f
     → (kind : RelocationKind) (k : ℕ) (mask : Option PageMask) (range : AllowedRange)

@@ -49,9 +49,3 @@ pub reads_ds : (x : ℕ) → opcode_of x ≡ 58 → ppc64_reads Ds x ≡ (ppc64_
 reads_ds x op =
     ap (λ n. cond (n == 56 || (n == 6 || n == 61 && field x 0 2 == 1))
     ((ppc64_form Ds).machine (x - x % 16)) ((ppc64_form Ds).machine x)) op
-
--- ---- `addis` and `ld` of an entry
-
--- ---- initial-exec
-
--- ---- near the TOC

@@ -1,11 +1,11 @@
 -- The worked program of PowerPC64.
-use Rattle.linker_laws.proofs.Imports.{◌≡◌, ℕ, ◌^◌, ◌<◌, true, false, refl, sym, subst, ap, [], ◌∷◌, lit<, pos, List, eqb-true, and_parts, ◌==◌, IsSomeAnd, Operands, D, Ds, is_add_of_thread, is_addi, place_sum, put, with_register, AreAddresses, Agree, Group, Kinds, State, anything, ends, group, half, of_link, run, same}
+use Rattle.linker_laws.proofs.Imports.{◌≡◌, ℕ, ◌<◌, true, false, refl, sym, subst, ap, [], ◌∷◌, lit<, pos, List, eqb-true, and_parts, ◌==◌, IsSomeAnd, Operands, D, Ds, is_add_of_thread, is_addi, place_sum, put, with_register, Agree, Group, Kinds, State, anything, ends, group, half, of_link, run, same, Ppc64Relocation, loaded}
 use Rattle.linker_elf.specs.declared.ppc64.relocations.Ppc64Relocation.TheVariants as names
-use Rattle.linker_laws.specs.Ppc64Groups.{Groups, Leaves, Low, NewLeads, execute, high_part, instruction_at, link, machine, used}
+use Rattle.linker_laws.specs.Ppc64Groups.{Groups, Leaves, Low, NewLeads, execute, high_part, instruction_at, link, machine, used, Has}
 use Rattle.linker_laws.specs.Ppc64GroupsWorked.{IsWorked, code, new, old, starting}
 use Rattle.linker_laws.specs.SimulationWorked.{all_same, words}
-use Rattle.linker_laws.specs.Ppc64RewriteLaws.{IsRelocated, LowHalfLeads, adds, entry_from_toc, from_thread, from_toc}
-use Rattle.linker_laws.proofs.Relocated.{applied}
+use Rattle.linker_laws.specs.Ppc64RewriteLaws.{IsRelocated, LowHalfLeads, adds, entry_from_toc, from_thread, from_toc, word_of}
+use Rattle.linker_laws.proofs.Relocated.{applied, small}
 use Rattle.linker_laws.proofs.Ppc64Groups.{sum_keeps}
 
 -- ---- operands
@@ -26,24 +26,13 @@ operands symbol =
       has_tls_base = true;
     }
 
-small : (symbol : ℕ) → symbol < 2 ^ 64 → AreAddresses (operands symbol)
-small symbol below =
-    record {
-      symbol = below;
-      place = lit< tt;
-      got_entry = lit< tt;
-      got_base = lit< tt;
-      plt_entry = lit< tt;
-      tls_base = lit< tt;
-    }
-
 abbrev near : Operands
 near = operands 0x20120
 
 abbrev variable : Operands
 variable = operands 0x54344
 
--- ---- relocations
+-- ---- bytes
 
 abbrev addis : List ℕ
 addis = 0x00 ∷ 0x00 ∷ 0x62 ∷ 0x3c ∷ []
@@ -78,26 +67,9 @@ direct = 0x00 ∷ 0x00 ∷ 0xa4 ∷ 0x38 ∷ []
 abbrev nop : List ℕ
 nop = 0x00 ∷ 0x00 ∷ 0x00 ∷ 0x60 ∷ []
 
-addis_is : IsRelocated names.R_PPC64_TOC16_HA near addis addis
-addis_is = applied (pos 0x8120) 0x3c620000 refl (refl, tt, λ e. refl) refl (lit< tt) tt refl refl
-
-addi_is : IsRelocated names.R_PPC64_TOC16_LO near addi (0x20 ∷ 0x01 ∷ 0x63 ∷ 0x38 ∷ [])
-addi_is = applied (pos 0x120) 0x38630000 refl (refl, tt, λ e. refl) refl (lit< tt) tt refl refl
-
-over_is : IsRelocated names.R_PPC64_TOC16 near over (0x20 ∷ 0x01 ∷ 0x62 ∷ 0x38 ∷ [])
-over_is = applied (pos 0x120) 0x38620000 refl (refl, tt, λ e. refl) refl (lit< tt) tt refl refl
-
-high_is : IsRelocated names.R_PPC64_GOT_TPREL16_HA variable high high
-high_is = applied (pos 0x8010) 0x3c820000 refl (refl, tt, λ e. refl) refl (lit< tt) tt refl refl
-
-load_is : IsRelocated names.R_PPC64_GOT_TPREL16_LO_DS variable load load_of
-load_is = applied (pos 0x10) 0xe8840000 refl (refl, (λ e. refl), λ e. refl) refl (lit< tt) tt refl refl
-
-high_13_is : IsRelocated names.R_PPC64_TPREL16_HA variable high_13 high_13_of
-high_13_is = applied (pos 0x5c344) 0x3c8d0000 refl (refl, tt, λ e. refl) refl (lit< tt) tt refl refl
-
-direct_is : IsRelocated names.R_PPC64_TPREL16_LO variable direct (0x44 ∷ 0x43 ∷ 0xa4 ∷ 0x38 ∷ [])
-direct_is = applied (pos 0x54344) 0x38a40000 refl (refl, tt, λ e. refl) refl (lit< tt) tt refl refl
+abbrev has : {code : ℕ → ℕ} {at : ℕ} {name : Ppc64Relocation} {o : Operands} {before : List ℕ} (after : List ℕ)
+    → IsRelocated name o before after → loaded 4 code at ≡ word_of after → Has 1 code at name o before
+has after applied stands = record { relocated = after; applied = applied; stands = (stands, tt) }
 
 -- ---- runs
 
@@ -161,30 +133,30 @@ module _ (g : Groups) where
       × Low names.R_PPC64_TOC16_LO_DS Ds from_toc near (high_part addis starting) (starting.registers 2))
       × Leaves 4 code all_same starting 3 anything (high_part addis starting)
   toc =
-      g.high_halves.0 addis nop refl refl code near all_same starting (small 0x20120 (lit< tt))
-      (record { relocated = addis; applied = addis_is; stands = (refl, tt) }) (refl, tt)
+      g.high_halves.0 addis nop refl refl code near all_same starting (small near refl)
+      (has addis (applied (pos 0x8120) 0x3c620000 refl (refl, tt, λ e. refl) refl (lit< tt) tt refl refl) refl) (refl, tt)
 
   p2 : Group (of_link (link code)) 1 k1 s1 k2 s2
   p2 =
-      (g.low_halves.0 addi over refl refl).0 code near k1 s1 (small 0x20120 (lit< tt)) refl refl (toc.0).0
-      (record { relocated = 0x20 ∷ 0x01 ∷ 0x63 ∷ 0x38 ∷ []; applied = addi_is; stands = (refl, tt) })
-      (record { relocated = 0x20 ∷ 0x01 ∷ 0x62 ∷ 0x38 ∷ []; applied = over_is; stands = (refl, tt) }) k2
+      (g.low_halves.0 addi over refl refl).0 code near k1 s1 (small near refl) refl refl (toc.0).0
+      (has (0x20 ∷ 0x01 ∷ 0x63 ∷ 0x38 ∷ []) (applied (pos 0x120) 0x38630000 refl (refl, tt, λ e. refl) refl (lit< tt) tt refl refl) refl)
+      (has (0x20 ∷ 0x01 ∷ 0x62 ∷ 0x38 ∷ []) (applied (pos 0x120) 0x38620000 refl (refl, tt, λ e. refl) refl (lit< tt) tt refl refl) refl) k2
       (λ t agree. sum_keeps code k1 s1 t is_addi 0x38630000 0x20120 agree)
 
   -- of initial-exec
   entry : Low names.R_PPC64_GOT_TPREL16_LO_DS Ds entry_from_toc variable (high_part high s2) (s2.registers 2)
       × Leaves 4 code k2 s2 4 anything (high_part high s2)
   entry =
-      g.high_halves.2 high nop refl refl code variable k2 s2 (small 0x54344 (lit< tt))
-      (record { relocated = high; applied = high_is; stands = (refl, tt) }) (refl, tt)
+      g.high_halves.2 high nop refl refl code variable k2 s2 (small variable refl)
+      (has high (applied (pos 0x8010) 0x3c820000 refl (refl, tt, λ e. refl) refl (lit< tt) tt refl refl) refl) (refl, tt)
 
   offset : LowHalfLeads variable (code.new_half 0) (from_thread variable (s3.registers 13))
       × Leaves 4 code k3 s3 4 (half 0) 0x54344
   offset =
-      g.offsets load high_13 refl refl code variable k3 s3 (small 0x54344 (lit< tt))
+      g.offsets load high_13 refl refl code variable k3 s3 (small variable refl)
       (record { at = 0x20010; leads = entry.0; holds = refl })
-      (record { relocated = load_of; applied = load_is; stands = (refl, tt) }) 0 refl
-      (record { relocated = high_13_of; applied = high_13_is; stands = (refl, tt) }) (refl, made_high)
+      (has load_of (applied (pos 0x10) 0xe8840000 refl (refl, (λ e. refl), λ e. refl) refl (lit< tt) tt refl refl) refl) 0 refl
+      (has high_13_of (applied (pos 0x5c344) 0x3c8d0000 refl (refl, tt, λ e. refl) refl (lit< tt) tt refl refl) refl) (refl, made_high)
 
   leads : NewLeads code variable k4 s4 4
   leads t agree =
@@ -194,7 +166,7 @@ module _ (g : Groups) where
   p5 : Group (of_link (link code)) 1 k4 s4 k5 s5
   p5 =
       g.low_offsets.0 add direct refl refl code variable k4 s4 refl leads (refl, tt)
-      (record { relocated = 0x44 ∷ 0x43 ∷ 0xa4 ∷ 0x38 ∷ []; applied = direct_is; stands = (refl, tt) }) k5
+      (has (0x44 ∷ 0x43 ∷ 0xa4 ∷ 0x38 ∷ []) (applied (pos 0x54344) 0x38a40000 refl (refl, tt, λ e. refl) refl (lit< tt) tt refl refl) refl) k5
       (λ t agree. sum_keeps code k4 s4 t is_add_of_thread 0x7ca46a14 0x54351 agree)
 
   pub is_worked : IsWorked

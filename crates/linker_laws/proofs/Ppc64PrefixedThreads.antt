@@ -115,8 +115,6 @@ module _ (prefixes : relocation_laws.Prefixes) where
       whole_from o.tls_base (symbol_address o) n ((ppc64_form Prefixed).machine (prefixed_of after)) small.tls_base
       (sum_below o.symbol _) (prefixes.8 o small o.place over after a tt)
 
--- ---- calls
-
 -- ---- sums and accesses
 
 step_move : (f : Formats) (x r a : ℕ) (s : State) → opcode_of x ≡ 31 → field x 0 11 ≡ 0x378 → rt_of x ≡ a → rb_of x ≡ a

@@ -112,5 +112,3 @@ pub step_bl : (f : Formats) (x : ℕ) (s : State) → opcode_of x ≡ 18 → fie
 step_bl f x s op low =
     ap (λ k. execute f (by_opcode k x) x s) op
     ∙ ap (λ i. execute f i x s) (cond-true (eqb (field x 0 2) 1) _ _ (eq-eqb _ _ low))
-
--- ---- sequences

@@ -5,7 +5,7 @@ use Rattle.linker_utils.specs.declared.x86_64.rewrites.RewriteKind.TheVariants a
 use Rattle.linker_laws.proofs.Sums.{difference_below}
 use Rattle.linker_laws.specs.X86RewriteLaws.{IsBefore, address}
 use Rattle.linker_laws.specs.X86Machine.{State, Target, Instruction, load, extended, call, jump, direct, indirect, decode}
-use Rattle.linker_laws.proofs.X86Bytes.{two_bytes}
+use Rattle.linker_laws.proofs.X86Bytes.{begin_with}
 use Rattle.linker_laws.proofs.X86Codes.{pattern_there, call_codes, jump_codes}
 use Rattle.linker_laws.proofs.X86Decoding.{Rewrites, begun, fewer}
 use Rattle.linker_laws.proofs.X86Fields.{entry_field, place_field, got_row, place_row}
@@ -64,7 +64,7 @@ pub calls : Rewrites 2 (x86_64_originals kinds.CallIndirectToRelative) names.R_X
     kinds.CallIndirectToRelative address (AreBranches call 6)
 calls section old new o operands s before there matches held was is code_old code_new at at' =
     let shape = pattern_there (original 2 (byte 0xff ∷ byte 0x15 ∷ field4)) section o there in
-    let code = two_bytes 0xff 0x15 (drop (o - 2) section)
+    let code = begin_with (0xff ∷ 0x15 ∷ []) field4 (drop (o - 2) section)
     (All-drop (λ b. b < 2 ^ 8) (o - 2) section before.bytes) shape.1 in
     let codes = call_codes section old new was.rest is.rest o was.whole 0xff 0x15 code.0 shape.0
     code.1 is.whole in
@@ -94,7 +94,7 @@ pub jumps : Rewrites 2 (x86_64_originals kinds.JmpIndirectToRelative) names.R_X8
     kinds.JmpIndirectToRelative address (AreBranches jump 5)
 jumps section old new o operands s before there matches held was is code_old code_new at at' =
     let shape = pattern_there (original 2 (byte 0xff ∷ byte 0x25 ∷ field4)) section o there in
-    let code = two_bytes 0xff 0x25 (drop (o - 2) section)
+    let code = begin_with (0xff ∷ 0x25 ∷ []) field4 (drop (o - 2) section)
     (All-drop (λ b. b < 2 ^ 8) (o - 2) section before.bytes) shape.1 in
     let codes = jump_codes section old new was.rest is.rest o was.whole 0xff 0x25 code.0 shape.0
     code.1 is.whole in

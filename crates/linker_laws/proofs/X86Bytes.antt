@@ -1,5 +1,5 @@
 -- What bytes of x86-64's instructions say, before and after a rewrite.
-use Rattle.linker_laws.proofs.Imports.{◌*◌, ◌≡◌, ℕ, zero, suc, ◌+◌, ◌^◌, ◌<◌, List, [], ◌∷◌, Bool, true, false, not, ◌&&◌, ◌||◌, refl, sym, ◌∙◌, ap, arith, bit_and, eqb, inl, inr, subst, cases_lt, eqb-true, and_parts, false≢true, bit_at, All, All-head, All-tail, begins, byte, rip_operand, rex, rex2, field4, evex_registers}
+use Rattle.linker_laws.proofs.Imports.{map, ◌++◌, ◌*◌, ◌≡◌, ℕ, zero, suc, ◌+◌, ◌^◌, ◌<◌, List, [], ◌∷◌, Bool, true, false, not, ◌&&◌, ◌||◌, refl, sym, ◌∙◌, ap, arith, bit_and, eqb, inl, inr, subst, cases_lt, eqb-true, and_parts, false≢true, bit_at, All, All-head, All-tail, begins, byte, rip_operand, rex, rex2, evex_registers}
 use Rattle.linker_utils.specs.X86Rewrites as x86
 use Rattle.linker_laws.specs.X86Machine.{is_relative, is_register, is_rex, reg_of, rm_of, is_map_4, evex_reg, evex_rm}
 
@@ -13,7 +13,7 @@ pub below : (n : ℕ) (test : ℕ → Bool) → all_below n test ≡ true → (k
     → test k ≡ true
 below zero test h k small = absurd (omega arith)
 below (suc n) test h k small =
-    let both = and_parts (test n) (all_below n test) h in
+    let both = and_parts _ _ h in
     elim (cases_lt k n) [
       | inl less ↦ below n test both.1 k less
       | inr more ↦ subst (λ i. test i ≡ true) (let e : n ≡ k = omega arith in e) both.0
@@ -26,8 +26,8 @@ implied false b h e = absurd (false≢true e)
 -- the bits under the mask of all
 pub same_byte : (b op : ℕ) → b < 2 ^ 8 → eqb (bit_and b 0xff) op ≡ true → b ≡ op
 same_byte b op small h =
-    sym (eqb-true (bit_and b 0xff) b (below 256 (λ b. eqb (bit_and b 0xff) b) refl b small))
-    ∙ eqb-true (bit_and b 0xff) op h
+    sym (eqb-true _ _ (below 256 (λ b. eqb (bit_and b 0xff) b) refl b small))
+    ∙ eqb-true _ _ h
 
 relative_byte : (m : ℕ) → m < 2 ^ 8 → eqb (bit_and m 0xc7) 5 ≡ true → is_relative m ≡ true
 relative_byte m small h =
@@ -46,19 +46,14 @@ rex_byte p small h =
     let all = below 256 (λ p. not (eqb (bit_and p 0xf3) 0x40) || (is_rex p && (is_rex (x86.rex_r_to_b p)
     && (eqb (bit_at (x86.rex_r_to_b p) 3) (bit_at p 3) && eqb (bit_at (x86.rex_r_to_b p) 0) (bit_at p 2)))))
     refl p small in
-    let a = and_parts (is_rex p) (is_rex (x86.rex_r_to_b p)
-    && (eqb (bit_at (x86.rex_r_to_b p) 3) (bit_at p 3) && eqb (bit_at (x86.rex_r_to_b p) 0) (bit_at p 2)))
-    (implied (eqb (bit_and p 0xf3) 0x40) (is_rex p && (is_rex (x86.rex_r_to_b p)
-    && (eqb (bit_at (x86.rex_r_to_b p) 3) (bit_at p 3) && eqb (bit_at (x86.rex_r_to_b p) 0) (bit_at p 2)))) all h) in
-    let b = and_parts (is_rex (x86.rex_r_to_b p))
-    (eqb (bit_at (x86.rex_r_to_b p) 3) (bit_at p 3) && eqb (bit_at (x86.rex_r_to_b p) 0) (bit_at p 2)) a.1 in
-    let c = and_parts (eqb (bit_at (x86.rex_r_to_b p) 3) (bit_at p 3))
-    (eqb (bit_at (x86.rex_r_to_b p) 0) (bit_at p 2)) b.1 in
+    let a = and_parts _ _ (implied _ _ all h) in
+    let b = and_parts _ _ a.1 in
+    let c = and_parts _ _ b.1 in
     record {
       is = a.0;
       after = b.0;
-      wide = eqb-true (bit_at (x86.rex_r_to_b p) 3) (bit_at p 3) c.0;
-      moved = eqb-true (bit_at (x86.rex_r_to_b p) 0) (bit_at p 2) c.1;
+      wide = eqb-true _ _ c.0;
+      moved = eqb-true _ _ c.1;
     }
 
 -- What the byte after d5 says, and what it says after the rewrite.
@@ -81,19 +76,15 @@ rex2_says p =
 
 pub rex2_byte : (p : ℕ) → p < 2 ^ 8 → eqb (bit_and p 0xb3) 0 ≡ true → IsRex2 p
 rex2_byte p small h =
-    let a = and_parts (eqb (bit_at p 7) 0) (eqb (bit_at (x86.rex2_r_to_b p) 7) 0 && rex2_moves p)
-    (implied (eqb (bit_and p 0xb3) 0) (rex2_says p)
+    let a = and_parts _ _ (implied _ _
     (below 256 (λ p. not (eqb (bit_and p 0xb3) 0) || rex2_says p) refl p small) h) in
-    let b = and_parts (eqb (bit_at (x86.rex2_r_to_b p) 7) 0) (rex2_moves p) a.1 in
-    let c = and_parts (eqb (bit_at (x86.rex2_r_to_b p) 3) (bit_at p 3))
-    (eqb (8 * bit_at (x86.rex2_r_to_b p) 0 + 16 * bit_at (x86.rex2_r_to_b p) 4)
-    (8 * bit_at p 2 + 16 * bit_at p 6)) b.1 in
+    let b = and_parts _ _ a.1 in
+    let c = and_parts _ _ b.1 in
     record {
       is = a.0;
       after = b.0;
-      wide = eqb-true (bit_at (x86.rex2_r_to_b p) 3) (bit_at p 3) c.0;
-      moved = eqb-true (8 * bit_at (x86.rex2_r_to_b p) 0 + 16 * bit_at (x86.rex2_r_to_b p) 4)
-          (8 * bit_at p 2 + 16 * bit_at p 6) c.1;
+      wide = eqb-true _ _ c.0;
+      moved = eqb-true _ _ c.1;
     }
 
 -- What the byte after 62 says, and what it says after the rewrite.
@@ -109,16 +100,13 @@ evex_says p =
 
 evex_byte : (p : ℕ) → p < 2 ^ 8 → eqb (bit_and p 0x6f) 0x64 ≡ true → IsEvexByte p
 evex_byte p small h =
-    let a = and_parts (is_map_4 p) (is_map_4 (x86.evex_reg_to_rm p)
-    && eqb (evex_rm (x86.evex_reg_to_rm p)) (evex_reg p))
-    (implied (eqb (bit_and p 0x6f) 0x64) (evex_says p)
+    let a = and_parts _ _ (implied _ _
     (below 256 (λ p. not (eqb (bit_and p 0x6f) 0x64) || evex_says p) refl p small) h) in
-    let b = and_parts (is_map_4 (x86.evex_reg_to_rm p))
-    (eqb (evex_rm (x86.evex_reg_to_rm p)) (evex_reg p)) a.1 in
+    let b = and_parts _ _ a.1 in
     record {
       is = a.0;
       after = b.0;
-      moved = eqb-true (evex_rm (x86.evex_reg_to_rm p)) (evex_reg p) b.1;
+      moved = eqb-true _ _ b.1;
     }
 
 -- A ModRM byte that names a register by its rm field, with an extension of the opcode in its reg.
@@ -141,17 +129,14 @@ pub modrm_byte : (k extension m : ℕ) → all_below 8 (moved_test k extension) 
     → IsMoved k extension m
 modrm_byte k extension m h =
     let r = reg_of m in
-    let a = and_parts (not (is_relative (k + r)))
-    (is_register (k + r) && (eqb (reg_of (k + r)) extension && eqb (rm_of (k + r)) r))
-    (below 8 (moved_test k extension) h r (omega arith)) in
-    let b = and_parts (is_register (k + r))
-    (eqb (reg_of (k + r)) extension && eqb (rm_of (k + r)) r) a.1 in
-    let c = and_parts (eqb (reg_of (k + r)) extension) (eqb (rm_of (k + r)) r) b.1 in
+    let a = and_parts _ _ (below 8 (moved_test k extension) h r (omega arith)) in
+    let b = and_parts _ _ a.1 in
+    let c = and_parts _ _ b.1 in
     record {
       not_relative = is_false (is_relative (k + r)) a.0;
       is = b.0;
-      extension = eqb-true (reg_of (k + r)) extension c.0;
-      moved = eqb-true (rm_of (k + r)) r c.1;
+      extension = eqb-true _ _ c.0;
+      moved = eqb-true _ _ c.1;
     }
 
 -- ---- instructions by their patterns
@@ -167,11 +152,10 @@ pub on_relative : (opcode : ℕ) (d : List ℕ) → All (λ b. b < 2 ^ 8) d
     → begins (rip_operand opcode) d ≡ true → IsOnRelative opcode d
 on_relative opcode [] bytes h = absurd (false≢true h)
 on_relative opcode (b ∷ []) bytes h =
-    absurd (false≢true (and_parts (eqb (bit_and b 0xff) opcode) false h).1)
+    absurd (false≢true (and_parts _ _ h).1)
 on_relative opcode (b ∷ m ∷ rest) bytes h =
-    let first = and_parts (eqb (bit_and b 0xff) opcode)
-    (eqb (bit_and m 0xc7) 5 && begins field4 rest) h in
-    let second = and_parts (eqb (bit_and m 0xc7) 5) (begins field4 rest) first.1 in
+    let first = and_parts _ _ h in
+    let second = and_parts _ _ first.1 in
     record {
       modrm = m;
       rest = rest;
@@ -193,7 +177,7 @@ pub after_rex : (opcode : ℕ) (d : List ℕ) → All (λ b. b < 2 ^ 8) d
     → begins (rex ∷ rip_operand opcode) d ≡ true → IsAfterRex opcode d
 after_rex opcode [] bytes h = absurd (false≢true h)
 after_rex opcode (p ∷ rest) bytes h =
-    let first = and_parts (eqb (bit_and p 0xf3) 0x40) (begins (rip_operand opcode) rest) h in
+    let first = and_parts _ _ h in
     record {
       prefix = p;
       rest = rest;
@@ -214,11 +198,10 @@ pub after_rex2 : (opcode : ℕ) (d : List ℕ) → All (λ b. b < 2 ^ 8) d
     → begins (byte 0xd5 ∷ rex2 ∷ rip_operand opcode) d ≡ true → IsAfterRex2 opcode d
 after_rex2 opcode [] bytes h = absurd (false≢true h)
 after_rex2 opcode (b ∷ []) bytes h =
-    absurd (false≢true (and_parts (eqb (bit_and b 0xff) 0xd5) false h).1)
+    absurd (false≢true (and_parts _ _ h).1)
 after_rex2 opcode (b ∷ p ∷ rest) bytes h =
-    let one = and_parts (eqb (bit_and b 0xff) 0xd5)
-    (eqb (bit_and p 0xb3) 0 && begins (rip_operand opcode) rest) h in
-    let two = and_parts (eqb (bit_and p 0xb3) 0) (begins (rip_operand opcode) rest) one.1 in
+    let one = and_parts _ _ h in
+    let two = and_parts _ _ one.1 in
     let tail = All-tail (λ b. b < 2 ^ 8) b (p ∷ rest) bytes in
     record {
       prefix = p;
@@ -248,25 +231,20 @@ pub after_evex : (opcode : ℕ) (second third : ℕ × ℕ) (d : List ℕ) → A
     → IsAfterEvex opcode second third d
 after_evex opcode second third [] bytes h = absurd (false≢true h)
 after_evex opcode second third (b ∷ []) bytes h =
-    absurd (false≢true (and_parts (eqb (bit_and b 0xff) 0x62) false h).1)
+    absurd (false≢true (and_parts _ _ h).1)
 after_evex opcode second third (b ∷ p ∷ []) bytes h =
-    let one = and_parts (eqb (bit_and b 0xff) 0x62) (eqb (bit_and p 0x6f) 0x64 && false) h in
-    absurd (false≢true (and_parts (eqb (bit_and p 0x6f) 0x64) false one.1).1)
+    let one = and_parts _ _ h in
+    absurd (false≢true (and_parts _ _ one.1).1)
 after_evex opcode second third (b ∷ p ∷ v ∷ []) bytes h =
     let one = and_parts (eqb (bit_and b 0xff) 0x62)
     (eqb (bit_and p 0x6f) 0x64 && (eqb (bit_and v second.0) second.1 && false)) h in
-    let two = and_parts (eqb (bit_and p 0x6f) 0x64) (eqb (bit_and v second.0) second.1 && false)
-    one.1 in
+    let two = and_parts (eqb (bit_and p 0x6f) 0x64) (eqb (bit_and v second.0) second.1 && false) one.1 in
     absurd (false≢true (and_parts (eqb (bit_and v second.0) second.1) false two.1).1)
 after_evex opcode second third (b ∷ p ∷ v ∷ c ∷ rest) bytes h =
-    let last = eqb (bit_and c third.0) third.1 && begins (rip_operand opcode) rest in
-    let one = and_parts (eqb (bit_and b 0xff) 0x62)
-    (eqb (bit_and p 0x6f) 0x64 && (eqb (bit_and v second.0) second.1 && last)) h in
-    let two = and_parts (eqb (bit_and p 0x6f) 0x64) (eqb (bit_and v second.0) second.1 && last)
-    one.1 in
-    let three = and_parts (eqb (bit_and v second.0) second.1) last two.1 in
-    let four = and_parts (eqb (bit_and c third.0) third.1) (begins (rip_operand opcode) rest)
-    three.1 in
+    let one = and_parts _ _ h in
+    let two = and_parts _ _ one.1 in
+    let three = and_parts _ _ two.1 in
+    let four = and_parts _ _ three.1 in
     let from_p = All-tail (λ b. b < 2 ^ 8) b (p ∷ v ∷ c ∷ rest) bytes in
     let from_v = All-tail (λ b. b < 2 ^ 8) p (v ∷ c ∷ rest) from_p in
     let from_c = All-tail (λ b. b < 2 ^ 8) v (c ∷ rest) from_v in
@@ -285,19 +263,15 @@ after_evex opcode second third (b ∷ p ∷ v ∷ c ∷ rest) bytes h =
       after = on_relative opcode rest (All-tail (λ b. b < 2 ^ 8) c rest from_c) four.1;
     }
 
--- two bytes
-pub two_bytes : (first second : ℕ) (d : List ℕ) → All (λ b. b < 2 ^ 8) d
-    → begins (byte first ∷ byte second ∷ field4) d ≡ true
-    → (rest : List ℕ) × (d ≡ first ∷ second ∷ rest)
-two_bytes first second [] bytes h = absurd (false≢true h)
-two_bytes first second (b ∷ []) bytes h =
-    absurd (false≢true (and_parts (eqb (bit_and b 0xff) first) false h).1)
-two_bytes first second (b ∷ m ∷ rest) bytes h =
-    let one = and_parts (eqb (bit_and b 0xff) first)
-    (eqb (bit_and m 0xff) second && begins field4 rest) h in
-    let two = and_parts (eqb (bit_and m 0xff) second) (begins field4 rest) one.1 in (
-      rest,
-      ap (λ x. x ∷ m ∷ rest) (same_byte b first (All-head (λ b. b < 2 ^ 8) b (m ∷ rest) bytes) one.0)
-          ∙ ap (λ x. first ∷ x ∷ rest) (same_byte m second (All-head (λ b. b < 2 ^ 8) m rest
-          (All-tail (λ b. b < 2 ^ 8) b (m ∷ rest) bytes)) two.0),
+-- bytes that begin with some
+pub begin_with : (bs : List ℕ) (ps : List (ℕ × ℕ)) (d : List ℕ) → All (λ b. b < 2 ^ 8) d
+    → begins (map byte bs ++ ps) d ≡ true → (rest : List ℕ) × (d ≡ bs ++ rest)
+begin_with [] ps d bytes h = (d, refl)
+begin_with (b ∷ bs) ps [] bytes h = absurd (false≢true h)
+begin_with (b ∷ bs) ps (x ∷ d) bytes h =
+    let both = and_parts _ _ h in
+    let rest = begin_with bs ps d (All-tail (λ b. b < 2 ^ 8) x d bytes) both.1 in (
+      rest.0,
+      ap (λ y. y ∷ d) (same_byte x b (All-head (λ b. b < 2 ^ 8) x d bytes) both.0)
+          ∙ ap (λ ys. b ∷ ys) rest.1,
     )

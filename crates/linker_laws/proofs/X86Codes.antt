@@ -1,5 +1,5 @@
 -- The code before and after each rewrite, from the instruction's first byte.
-use Rattle.linker_laws.proofs.Imports.{◌≡◌, ℕ, ◌+◌, ◌-◌, ◌<◌, ◌≤◌, List, [], ◌∷◌, ◌++◌, length, take, drop, sym, ◌∙◌, ap, arith, Some, true, IsTrue, leb, and_parts, leb-true, or-false, length-drop, Rewrite, rewritten, replaces, absolute, operand, prefixed_operand, evex_operand, puts, Original, is_one_at, is_at, begins}
+use Rattle.linker_laws.proofs.Imports.{◌≡◌, ℕ, ◌+◌, ◌-◌, ◌<◌, ◌≤◌, List, [], ◌∷◌, ◌++◌, length, take, drop, sym, ◌∙◌, ap, arith, Some, true, IsTrue, and_parts, leb-true, or-false, length-drop, Rewrite, rewritten, replaces, absolute, operand, prefixed_operand, evex_operand, puts, Original, is_one_at, is_at, begins}
 use Rattle.linker_utils.specs.X86Rewrites as x86
 use Rattle.linker_utils.specs.declared.x86_64.rewrites.RewriteKind.TheVariants.{JmpIndirectToRelative}
 use Rattle.linker_laws.proofs.X86Sections.{original_code, rewritten_code}
@@ -9,8 +9,7 @@ pub pattern_there : (r : Original) (section : List ℕ) (o : ℕ)
     → IsTrue (is_one_at (r ∷ []) section o)
     → (r.back ≤ o) × (begins r.bytes (drop (o - r.back) section) ≡ true)
 pattern_there r section o h =
-    let both = and_parts (leb r.back o) (begins r.bytes (drop (o - r.back) section))
-    (sym (or-false (is_at r section o)) ∙ h) in
+    let both = and_parts _ _ (sym (or-false (is_at r section o)) ∙ h) in
     (leb-true r.back o both.0, both.1)
 
 -- the offset is in the section

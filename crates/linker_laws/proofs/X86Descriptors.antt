@@ -4,11 +4,12 @@ use Rattle.linker_elf.specs.declared.x86_64.relocations.X86_64Relocation.TheVari
 use Rattle.linker_utils.specs.X86Rewrites as x86
 use Rattle.linker_utils.specs.declared.x86_64.rewrites.RewriteKind.{RewriteKind}
 use Rattle.linker_utils.specs.declared.x86_64.rewrites.RewriteKind.TheVariants as kinds
+use Rattle.linker_laws.proofs.Relocated.{addresses as are_addresses}
 use Rattle.linker_laws.proofs.Sums.{difference_below, sum_zero}
 use Rattle.linker_laws.specs.X86RewriteLaws.{IsBefore, IsRelocated, thread_offset}
 use Rattle.linker_laws.specs.X86Machine.{State, Operand, load, extended, decode, lea, operate, MOV, register, relative, immediate, operand_value, reg_of, rex_prefix, rex2_prefix, is_relative}
 use Rattle.linker_laws.specs.X86Groups.{reg_after_rex, reg_after_rex2}
-use Rattle.linker_laws.proofs.X86Bytes.{IsRex, IsRex2, rex_byte, rex2_byte, below, implied, same_byte, on_relative, modrm_byte}
+use Rattle.linker_laws.proofs.X86Bytes.{begin_with, IsRex, IsRex2, rex_byte, rex2_byte, below, implied, same_byte, on_relative, modrm_byte}
 use Rattle.linker_laws.proofs.X86Codes.{pattern_there, rex_lea_codes, rex2_lea_codes, rex_immediate_codes, rex2_immediate_codes}
 use Rattle.linker_laws.proofs.X86Decoding.{begun, from_relative, from_immediate, after_rex_byte, after_rex2_byte}
 use Rattle.linker_laws.proofs.X86Fields.{descriptor_field, descriptor_row, thread_field, tls_entry_field, thread_row, tls_got_row}
@@ -20,17 +21,16 @@ use Rattle.linker_laws.proofs.X86Threads.{itself}
 
 wide_rex : (p : ℕ) → p < 2 ^ 8 → eqb (bit_and p 0xfb) 0x48 ≡ true → (eqb (bit_and p 0xf3) 0x40 ≡ true) × (bit_at p 3 ≡ 1)
 wide_rex p small h =
-    let both = and_parts (eqb (bit_and p 0xf3) 0x40) (eqb (bit_at p 3) 1)
-    (implied (eqb (bit_and p 0xfb) 0x48) (eqb (bit_and p 0xf3) 0x40 && eqb (bit_at p 3) 1)
+    let both = and_parts _ _
+    (implied _ _
     (below 256 (λ p. not (eqb (bit_and p 0xfb) 0x48) || (eqb (bit_and p 0xf3) 0x40 && eqb (bit_at p 3) 1)) refl p small) h) in
-    (both.0, eqb-true (bit_at p 3) 1 both.1)
+    (both.0, eqb-true _ _ both.1)
 
 wide_rex2 : (p : ℕ) → p < 2 ^ 8 → eqb (bit_and p 0xbb) 0x08 ≡ true → (eqb (bit_and p 0xb3) 0 ≡ true) × (bit_at p 3 ≡ 1)
 wide_rex2 p small h =
-    let both = and_parts (eqb (bit_and p 0xb3) 0) (eqb (bit_at p 3) 1)
-    (implied (eqb (bit_and p 0xbb) 0x08) (eqb (bit_and p 0xb3) 0 && eqb (bit_at p 3) 1)
+    let both = and_parts _ _ (implied _ _
     (below 256 (λ p. not (eqb (bit_and p 0xbb) 0x08) || (eqb (bit_and p 0xb3) 0 && eqb (bit_at p 3) 1)) refl p small) h) in
-    (both.0, eqb-true (bit_at p 3) 1 both.1)
+    (both.0, eqb-true _ _ both.1)
 
 -- the `lea` after REX, of 64 bits
 record IsLea (d : List ℕ) : Type 0 where
@@ -45,7 +45,7 @@ record IsLea (d : List ℕ) : Type 0 where
 lea_there : (d : List ℕ) → All (λ b. b < 2 ^ 8) d → begins (rex_w ∷ rip_operand 0x8d) d ≡ true → IsLea d
 lea_there [] bytes h = absurd (false≢true h)
 lea_there (p ∷ rest) bytes h =
-    let first = and_parts (eqb (bit_and p 0xfb) 0x48) (begins (rip_operand 0x8d) rest) h in
+    let first = and_parts _ _ h in
     let small = All-head (λ b. b < 2 ^ 8) p rest bytes in
     let wide = wide_rex p small first.0 in
     let after = on_relative 0x8d rest (All-tail (λ b. b < 2 ^ 8) p rest bytes) first.1 in
@@ -71,11 +71,10 @@ record IsLea2 (d : List ℕ) : Type 0 where
 
 lea2_there : (d : List ℕ) → All (λ b. b < 2 ^ 8) d → begins (byte 0xd5 ∷ rex2_w ∷ rip_operand 0x8d) d ≡ true → IsLea2 d
 lea2_there [] bytes h = absurd (false≢true h)
-lea2_there (b ∷ []) bytes h = absurd (false≢true (and_parts (eqb (bit_and b 0xff) 0xd5) false h).1)
+lea2_there (b ∷ []) bytes h = absurd (false≢true (and_parts _ _ h).1)
 lea2_there (b ∷ p ∷ rest) bytes h =
-    let one = and_parts (eqb (bit_and b 0xff) 0xd5)
-    (eqb (bit_and p 0xbb) 0x08 && begins (rip_operand 0x8d) rest) h in
-    let two = and_parts (eqb (bit_and p 0xbb) 0x08) (begins (rip_operand 0x8d) rest) one.1 in
+    let one = and_parts _ _ h in
+    let two = and_parts _ _ one.1 in
     let tail = All-tail (λ b. b < 2 ^ 8) b (p ∷ rest) bytes in
     let small = All-head (λ b. b < 2 ^ 8) p rest tail in
     let wide = wide_rex2 p small two.0 in
@@ -129,14 +128,9 @@ module _ (n : ℕ) (few : n < 8) (section : List ℕ) (o : ℕ) (operands : Oper
       let place = operands.place in
       let p = difference_64 (sum_64 place o) o in
       let operands' : Operands = record operands { place = p; got_entry = entry } in
-      let addresses' : AreAddresses operands' = record {
-        symbol = before.addresses.symbol;
-        place = difference_below (sum_64 place o) o;
-        got_entry = small;
-        got_base = before.addresses.got_base;
-        plt_entry = before.addresses.plt_entry;
-        tls_base = before.addresses.tls_base;
-      } in
+      let small' = before.addresses in
+      let addresses' : AreAddresses operands' = are_addresses _ small'.symbol (difference_below (sum_64 place o) o) small
+      small'.got_base small'.plt_entry small'.tls_base in
       ap₂ (λ a f. load 8 t (sum_64 (sum_64 a (n + 4)) (extended f))) (sym at) f_is
       ∙ ap (load 8 t) (from_next n s.ip place (extended (number_of_bytes 4 rest)) entry few
       before.addresses.place small before.ip
@@ -317,20 +311,7 @@ call_code calls at bytes matches =
     let shape = pattern_there (x86.original 0 (byte 0xff ∷ byte 0x10 ∷ [])) calls at matches.1 in
     let same : at - 0 ≡ at = omega arith in
     subst (λ i. (rest : List ℕ) × (drop i calls ≡ 0xff ∷ 0x10 ∷ rest)) same
-    (there (drop (at - 0) calls) (All-drop (λ b. b < 2 ^ 8) (at - 0) calls bytes) shape.1)
-  where
-    there : (d : List ℕ) → All (λ b. b < 2 ^ 8) d → begins (byte 0xff ∷ byte 0x10 ∷ []) d ≡ true
-        → (rest : List ℕ) × (d ≡ 0xff ∷ 0x10 ∷ rest)
-    there [] bytes h = absurd (false≢true h)
-    there (b ∷ []) bytes h = absurd (false≢true (and_parts (eqb (bit_and b 0xff) 0xff) false h).1)
-    there (b ∷ m ∷ rest) bytes h =
-        let one = and_parts (eqb (bit_and b 0xff) 0xff) (eqb (bit_and m 0xff) 0x10 && true) h in
-        let two = and_parts (eqb (bit_and m 0xff) 0x10) true one.1 in (
-          rest,
-          ap (λ x. x ∷ m ∷ rest) (same_byte b 0xff (All-head (λ b. b < 2 ^ 8) b (m ∷ rest) bytes) one.0)
-              ∙ ap (λ x. 0xff ∷ x ∷ rest) (same_byte m 0x10 (All-head (λ b. b < 2 ^ 8) m rest
-              (All-tail (λ b. b < 2 ^ 8) b (m ∷ rest) bytes)) two.0),
-        )
+    (begin_with (0xff ∷ 0x10 ∷ []) [] (drop (at - 0) calls) (All-drop (λ b. b < 2 ^ 8) (at - 0) calls bytes) shape.1)
 
 -- what is left of the call
 pub nop_code : (calls : List ℕ) (at : ℕ) → x86_64_matches kinds.SkipTlsDescCall calls at

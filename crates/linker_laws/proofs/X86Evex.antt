@@ -71,8 +71,7 @@ no_v_byte : (v : ℕ) → v < 2 ^ 8 → eqb (bit_and v 0x7f) 0x7c ≡ true
     → (has_no_index v ≡ true) × (eqb (field v 3 7) 15 ≡ true)
 no_v_byte v small h =
     and_parts (has_no_index v) (eqb (field v 3 7) 15)
-    (implied (eqb (bit_and v 0x7f) 0x7c) (has_no_index v && eqb (field v 3 7) 15)
-    (below 256 (λ v. not (eqb (bit_and v 0x7f) 0x7c) || (has_no_index v && eqb (field v 3 7) 15))
+    (implied _ _ (below 256 (λ v. not (eqb (bit_and v 0x7f) 0x7c) || (has_no_index v && eqb (field v 3 7) 15))
     refl v small) h)
 
 module _ {opcode k number fixed : ℕ} {op : Operation}
@@ -82,12 +81,8 @@ module _ {opcode k number fixed : ℕ} {op : Operation}
   into_new : eqb (bit_and v 0x07) 0x04 ≡ true
       → eqb (bit_and c (bit_or 0xf3 fixed)) 0x10 ≡ true → IsInto op v c
   into_new h h' =
-      let a = and_parts (has_zeros c)
-      (is_in_map_4 op (is_without_flags c) && eqb (bit_at c 4) 1)
-      (implied (eqb (bit_and c (bit_or 0xf3 fixed)) 0x10)
-      (has_zeros c && (is_in_map_4 op (is_without_flags c) && eqb (bit_at c 4) 1))
-      (below 256 (new_test fixed op) promoted.new c small') h') in
-      let b = and_parts (is_in_map_4 op (is_without_flags c)) (eqb (bit_at c 4) 1) a.1 in
+      let a = and_parts _ _ (implied _ _ (below 256 (new_test fixed op) promoted.new c small') h') in
+      let b = and_parts _ _ a.1 in
       record {
         no_index = any_v_byte v small h;
         zeros = a.0;
@@ -101,18 +96,12 @@ module _ {opcode k number fixed : ℕ} {op : Operation}
       → eqb (bit_and c (bit_or 0xfb fixed)) 0x08 ≡ true → IsInto op v c
   into_same h h' =
       let says = no_v_byte v small h in
-      let a = and_parts (has_zeros c) (is_in_map_4 op (is_without_flags c)
-      && (not (eqb (bit_at c 4) 1) && eqb (bit_at c 3) 1))
-      (implied (eqb (bit_and c (bit_or 0xfb fixed)) 0x08)
-      (has_zeros c && (is_in_map_4 op (is_without_flags c)
-      && (not (eqb (bit_at c 4) 1) && eqb (bit_at c 3) 1)))
-      (below 256 (same_test fixed op) promoted.same c small') h') in
-      let b = and_parts (is_in_map_4 op (is_without_flags c))
-      (not (eqb (bit_at c 4) 1) && eqb (bit_at c 3) 1) a.1 in
-      let d = and_parts (not (eqb (bit_at c 4) 1)) (eqb (bit_at c 3) 1) b.1 in
+      let a = and_parts _ _ (implied _ _ (below 256 (same_test fixed op) promoted.same c small') h') in
+      let b = and_parts _ _ a.1 in
+      let d = and_parts _ _ b.1 in
       let none : v_register v c ≡ 0 =
-      ap (λ x. 31 - (x + 16 * bit_at c 3)) (eqb-true (field v 3 7) 15 says.1)
-      ∙ ap (λ x. 31 - (15 + 16 * x)) (eqb-true (bit_at c 3) 1 d.1) in
+      ap (λ x. 31 - (x + 16 * bit_at c 3)) (eqb-true _ _ says.1)
+      ∙ ap (λ x. 31 - (15 + 16 * x)) (eqb-true _ _ d.1) in
       record {
         no_index = says.0;
         zeros = a.0;

@@ -1,5 +1,6 @@
 -- Loads of addresses from the GOT, and `lea`.
 use Rattle.linker_laws.proofs.Imports.{◌≡◌, ℕ, ◌+◌, ◌-◌, ◌^◌, ◌<◌, List, [], ◌∷◌, take, drop, refl, sym, ◌∙◌, ap, ap₂, arith, Some, subst, inl, inr, eqb, ℤ, if◌then◌else◌, w64, cast_unsigned, bit_at, All-drop, cases_Bool, cond-true, cond-false, number_of_bytes, sum_64, difference_64, operands_after, x86_64_rewrite, rewritten, legacy, original, rip_operand, with_rex, rex, with_rex2, rex2, Operands, IsApplied, AreAddresses}
+use Rattle.linker_laws.proofs.Relocated.{addresses as are_addresses}
 use Rattle.linker_elf.specs.declared.x86_64.relocations.X86_64Relocation.TheVariants as names
 use Rattle.linker_utils.specs.declared.x86_64.rewrites.RewriteKind.TheVariants as kinds
 use Rattle.linker_laws.specs.X86RewriteLaws.{IsBefore, address}
@@ -25,14 +26,7 @@ from_next n ip place e t short small target begins leads = omega arith
 pub at_place : (o : Operands) (p : ℕ) (a : ℤ) → AreAddresses o → p < 2 ^ 64
     → AreAddresses (record o { place = p; addend = a })
 at_place o p a addresses small =
-    record {
-      symbol = addresses.symbol;
-      place = small;
-      got_entry = addresses.got_entry;
-      got_base = addresses.got_base;
-      plt_entry = addresses.plt_entry;
-      tls_base = addresses.tls_base;
-    }
+    are_addresses _ addresses.symbol small addresses.got_entry addresses.got_base addresses.plt_entry addresses.tls_base
 
 -- operands are of 32 or of 64 bits
 pub size_by : (w : ℕ) → IsSize (if eqb w 1 then 64 else 32)

@@ -1,5 +1,6 @@
 -- Local-dynamic TLS: the argument of the call, and offsets in a module's block.
 use Rattle.linker_laws.proofs.Imports.{◌≡◌, ℕ, ◌^◌, ◌<◌, List, [], ◌∷◌, ◌∙◌, ap, arith, w64, cast_unsigned, IsApplied, number_of_bytes, sum_64, difference_64, Operands, AreAddresses, symbol_address}
+use Rattle.linker_laws.proofs.Relocated.{addresses as are_addresses}
 use Rattle.linker_laws.specs.X86Groups.{BlockOffsets}
 use Rattle.linker_laws.specs.X86Machine.{State, extended}
 use Rattle.linker_laws.specs.X86RewriteLaws.{IsBefore}
@@ -30,14 +31,7 @@ nop_bytes =
 with_base : (o : Operands) (base : ℕ) → AreAddresses o → base < 2 ^ 64
     → AreAddresses (record o { tls_base = base })
 with_base o base addresses small =
-    record {
-      symbol = addresses.symbol;
-      place = addresses.place;
-      got_entry = addresses.got_entry;
-      got_base = addresses.got_base;
-      plt_entry = addresses.plt_entry;
-      tls_base = small;
-    }
+    are_addresses _ addresses.symbol addresses.place addresses.got_entry addresses.got_base addresses.plt_entry small
 
 -- offsets from where the block begins, and from where the thread pointer points
 same_sum : (image pointed x y a block pointer : ℕ) → image < 2 ^ 64 → pointed < 2 ^ 64

@@ -5,6 +5,7 @@ use Rattle.linker_laws.specs.X86Machine.{ADD, decode, execute, extended, lea, le
 use Rattle.linker_laws.specs.X86RewriteLaws.{IsBefore, IsRelocatedBy, thread_offset}
 use Rattle.linker_laws.proofs.Agreement.{agree_open, agree_put, both_true, group_of, last_counts}
 use Rattle.linker_laws.proofs.CoveredRuns.{holds_of, run_first, run_on}
+use Rattle.linker_laws.proofs.Relocated.{addresses as are_addresses}
 use Rattle.linker_laws.proofs.Sums.{difference_below, sum_on, sum_below}
 use Rattle.linker_laws.proofs.X86Codes.{inside}
 use Rattle.linker_laws.proofs.X86Decoding.{IsBegun, begun}
@@ -402,14 +403,9 @@ to_initial_exec entry small c s section old new o operands before there matches 
     let p = difference_64 (sum_64 operands.place (o + 8)) o in
     let operands' : Operands =
     record operands { place = p; addend = operands.addend; got_entry = entry } in
-    let addresses' : AreAddresses operands' = record {
-      symbol = before.addresses.symbol;
-      place = difference_below (sum_64 operands.place (o + 8)) o;
-      got_entry = small;
-      got_base = before.addresses.got_base;
-      plt_entry = before.addresses.plt_entry;
-      tls_base = before.addresses.tls_base;
-    } in
+    let b = before.addresses in
+    let addresses' : AreAddresses operands' = are_addresses _ b.symbol (difference_below (sum_64 operands.place (o + 8)) o)
+    small b.got_base b.plt_entry b.tls_base in
     let leads = from_second s.pc operands.place o (extended (number_of_bytes 4 is.rest)) entry
     (begins_with_lea section o before.bytes matches.1).0 before.offset before.addresses.place small
     before.ip

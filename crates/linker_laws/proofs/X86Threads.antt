@@ -1,28 +1,15 @@
 -- General-dynamic and local-exec TLS.
-use Rattle.linker_laws.proofs.Imports.{◌≡◌, ℕ, ◌+◌, ◌-◌, ◌%◌, ◌^◌, ◌<◌, ◌≤◌, List, [], ◌∷◌, ◌++◌, map, take, drop, sym, ◌∙◌, ap, arith, refl, pos, true, false, eqb, bit_and, IsTrue, inl, inr, leb, ◌&&◌, ◌||◌, ℤ, Some, IsApplied, w64, cast_unsigned, All, and_parts, false≢true, leb-true, or_cases, or-false, All-head, All-tail, All-drop, rewritten, number_of_bytes, sum_64, difference_64, puts, begins, byte, is_at, is_one_at, original, field4, lea_rdi, Original, Operands, general_dynamic}
+use Rattle.linker_laws.proofs.Imports.{◌≡◌, ℕ, ◌+◌, ◌-◌, ◌%◌, ◌^◌, ◌<◌, ◌≤◌, List, [], ◌∷◌, ◌++◌, map, take, drop, sym, ◌∙◌, ap, arith, pos, true, false, IsTrue, inl, inr, leb, ◌&&◌, ◌||◌, ℤ, Some, IsApplied, w64, cast_unsigned, All, and_parts, leb-true, or_cases, or-false, All-drop, rewritten, number_of_bytes, sum_64, difference_64, puts, begins, byte, is_at, is_one_at, original, field4, lea_rdi, Original, Operands, general_dynamic}
 use Rattle.linker_laws.specs.X86RewriteLaws.{IsBefore, thread_offset}
 use Rattle.linker_laws.specs.X86Groups.{HasThreadPointer}
 use Rattle.linker_laws.specs.X86Machine.{State, load, extended}
-use Rattle.linker_laws.proofs.X86Bytes.{same_byte}
+use Rattle.linker_laws.proofs.X86Bytes.{begin_with}
 use Rattle.linker_laws.proofs.X86Codes.{inside}
 use Rattle.linker_laws.proofs.X86Fields.{tls_pair_field, tls_pair_row, thread_field, thread_row}
 use Rattle.linker_laws.proofs.X86Immediates.{offset_is}
 use Rattle.linker_laws.proofs.X86Loads.{from_next, at_place}
 use Rattle.linker_laws.proofs.X86Sections.{original_code, rewritten_code}
 use Rattle.linker_laws.proofs.Sums.{sum_zero}
-
--- bytes that begin with some
-pub begin_with : (bs : List ℕ) (ps : List (ℕ × ℕ)) (d : List ℕ) → All (λ b. b < 2 ^ 8) d
-    → begins (map byte bs ++ ps) d ≡ true → (rest : List ℕ) × (d ≡ bs ++ rest)
-begin_with [] ps d bytes h = (d, refl)
-begin_with (b ∷ bs) ps [] bytes h = absurd (false≢true h)
-begin_with (b ∷ bs) ps (x ∷ d) bytes h =
-    let both = and_parts (eqb (bit_and x 0xff) b) (begins (map byte bs ++ ps) d) h in
-    let rest = begin_with bs ps d (All-tail (λ b. b < 2 ^ 8) x d bytes) both.1 in (
-      rest.0,
-      ap (λ y. y ∷ d) (same_byte x b (All-head (λ b. b < 2 ^ 8) x d bytes) both.0)
-          ∙ ap (λ ys. b ∷ ys) rest.1,
-    )
 
 -- `mov %fs:0, %rax`, and an instruction that begins so
 abbrev pub load_bytes : ℕ → ℕ → List ℕ
@@ -50,8 +37,7 @@ pub starts_with : (back : ℕ) (lead : List ℕ) (ps : List (ℕ × ℕ)) (secti
     → (leb back o && begins (map byte lead ++ ps) (drop (o - back) section)) ≡ true
     → (back ≤ o) × ((rest : List ℕ) × (drop (o - back) section ≡ lead ++ rest))
 starts_with back lead ps section o bytes h =
-    let both = and_parts (leb back o) (begins (map byte lead ++ ps) (drop (o - back) section))
-    h in (
+    let both = and_parts _ _ h in (
       leb-true back o both.0,
       begin_with lead ps (drop (o - back) section)
           (All-drop (λ b. b < 2 ^ 8) (o - back) section bytes) both.1,
