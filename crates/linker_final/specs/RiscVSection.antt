@@ -29,7 +29,7 @@ use Rattle.linker_final.specs.Packed.{site_offset, site_place, site_target}
 use Rattle.linker_laws.specs.RiscVGroups.{AreBefore, AreDeleted, AreNops, Code, Descriptor, Has}
 use Rattle.linker_laws.specs.RiscVGroups.{IsCall, IsLeftOut, LeavesAddress, LoadFromGot, LowPartBy}
 use Rattle.linker_laws.specs.RiscVGroups.{Stands, link, seen, upper, upper_from, uses}
-use Rattle.linker_laws.specs.RiscVRewriteLaws.{HaveOneOffset, HaveOneTarget, IsLow12, IsLowOffset}
+use Rattle.linker_laws.specs.RiscVRewriteLaws.{IsLow12, IsLowOffset}
 use Rattle.linker_laws.specs.RiscVRewriteLaws.{action_at, after_rewrite, low_row, of_entry}
 use Rattle.linker_laws.specs.RiscVRewriteLaws.{offset_row}
 use Rattle.linker_rewriting.specs.GlobalPointer.{address_of, base_for, based_relocation}
@@ -137,7 +137,7 @@ OffsetIsAlike l high m Said NewHas =
     → Descriptor c x (thread_offset x) k s k' s' (instruction_at l.section o)
     (instruction_at l.section (o + 4)) (instruction_at l.section (o + 8))
     (instruction_at l.section (o + 12))
-    → HaveOneOffset x y → Said y → AreNops c n m x at → NewHas y c at
+    → thread_offset x ≡ thread_offset y → Said y → AreNops c n m x at → NewHas y c at
     → Group (of_link (link c)) (n + m) k s k' s'
 
 -- The bytes of an instruction that became a nop of four bytes are one.
@@ -178,7 +178,7 @@ AddressIsAlike l high n Said NewHas =
     let auipc = instruction_at l.section o in
     let ld = instruction_at l.section (o + 4) in
     (c : Code) (x y : Operands) (k : Kinds) (s : State) → AreBefore c 8 (4 * n) x y s
-    → (load : LoadFromGot c x s auipc ld) → HaveOneTarget x y → Said y → NewHas y c
+    → (load : LoadFromGot c x s auipc ld) → symbol_address x ≡ symbol_address y → Said y → NewHas y c
     → LeavesAddress n c x k s auipc ld load
 
 -- ---- of what is left by the call that rewrites

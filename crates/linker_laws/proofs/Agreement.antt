@@ -1,5 +1,5 @@
 -- States that agree, after a register is written, and at other addresses.
-use Rattle.linker_laws.proofs.Imports.{◌≡◌, ℕ, suc, ◌-◌, ◌^◌, ◌<◌, Bool, true, false, refl, sym, ◌∙◌, ap, subst, eqb-true, Some, arith, inl, inr, IsSomeAnd, if◌then◌else◌, ◌&&◌, ◌==◌, ◌⊎◌, loaded, State, Program, Link, Kind, Kinds, AreOf, AreStored, Agree, Group, Other, anything, of_link, run, same, ChangesOpen, OthersAgree, put, go_to, with_register}
+use Rattle.linker_laws.proofs.Imports.{◌≡◌, ℕ, suc, ◌+◌, ◌-◌, nat_lt, cases_lt, cond-true, cond-false, lt-ltb, le-ltb, ne_eqb, ◌^◌, ◌<◌, Bool, true, false, refl, sym, ◌∙◌, ap, subst, eqb-true, Some, arith, inl, inr, IsSomeAnd, if◌then◌else◌, ◌&&◌, ◌==◌, ◌⊎◌, loaded, State, Program, Link, Kind, Kinds, AreOf, AreStored, Agree, Group, Other, anything, of_link, run, same, ChangesOpen, OthersAgree, put, go_to, with_register}
 use Rattle.linker_laws.proofs.CoveredRuns.{holds_of, once, run_first}
 
 pick : (l : Link) (b : Bool) (k k' : Kind) (x x' y y' : ℕ) → AreOf l 8 k x y → AreOf l 8 k' x' y'
@@ -12,6 +12,23 @@ pick_old : (l : Link) (b : Bool) (k k' : Kind) (x x' y : ℕ) → (b ≡ true �
     → AreOf l 8 k' x' y → AreOf l 8 (if b then k else k') (if b then x else x') y
 pick_old l true k k' x x' y here there = here refl
 pick_old l false k k' x x' y here there = there
+
+-- registers, of which those from 32 up have numbers of their own
+pub both_parts : (f : ℕ → ℕ) (r : ℕ) → (if nat_lt r 32 then f r else f (32 + (r - 32))) ≡ f r
+both_parts f r =
+    elim (cases_lt r 32) [
+      | inl low ↦ cond-true (nat_lt r 32) (f r) (f (32 + (r - 32))) (lt-ltb r 32 low)
+      | inr high ↦ cond-false (nat_lt r 32) (f r) (f (32 + (r - 32))) (le-ltb r 32 high)
+          ∙ ap f (let e : 32 + (r - 32) ≡ r = omega arith in e)
+    ]
+
+-- the same where one below 32 is written
+pub one_written : (f : ℕ → ℕ) (n v r : ℕ) → n < 32
+    → (if nat_lt r 32 then (if r == n then v else f r) else f (32 + (r - 32))) ≡ (if r == n then v else f r)
+one_written f n v r small =
+    ap (λ y. if nat_lt r 32 then (if r == n then v else f r) else y)
+    (sym (cond-false (32 + (r - 32) == n) v (f (32 + (r - 32))) (ne_eqb (32 + (r - 32)) n (λ e. omega arith))))
+    ∙ both_parts (λ r. if r == n then v else f r) r
 
 -- what was written last counts
 pub last_counts : (n u v a b : ℕ) (s : State) → put n v b (put n u a s) ≡ put n v b s

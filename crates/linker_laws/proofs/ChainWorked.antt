@@ -42,24 +42,18 @@ put_out_agrees l k s t x y next next' agree small at is =
       outside = ap₂ (λ x o. λ m. if m == 0 then x else o m) is agree.outside;
     }
 
-p1 : Group (of_link rewritten) 1 k0 s0 k1 s1
-p1 =
-    one rewritten (another rewritten refl (λ t agree.
-    agree_put rewritten k0 s0 t 1 same 7 7 0x11 0x11 agree (lit< tt) refl refl))
-
-p2 : Group (of_link rewritten) 1 k1 s1 k2 s2
-p2 =
-    one rewritten (another rewritten refl (λ t agree.
-    agree_put rewritten k1 s1 t 7 (half 0) 0 0x20 0x12 0x12 agree (lit< tt) refl refl))
-
-p3 : Other (of_link rewritten) k2 s2 k2 s3
-p3 =
-    another rewritten refl (λ t agree.
-    put_out_agrees rewritten k2 s2 t 7 (t.registers 1) 0x13 0x13 agree (lit< tt) refl (agree.registers 1))
-
 first : Covered (of_link rewritten) 3 3 k0 s0 k2 s3
 first =
-    group 2 1 2 _ _ _ _ _ _ p1 (group 1 1 1 _ _ _ _ _ _ p2 (other 0 0 _ _ _ _ _ _ p3 (ends _ _)))
+    group 2 1 2 _ k1 _ _ s1 _
+    (one rewritten (another rewritten refl (λ t agree.
+    agree_put rewritten k0 s0 t 1 same 7 7 0x11 0x11 agree (lit< tt) refl refl)))
+    (group 1 1 1 _ k2 _ _ s2 _
+    (one rewritten (another rewritten refl (λ t agree.
+    agree_put rewritten k1 s1 t 7 (half 0) 0 0x20 0x12 0x12 agree (lit< tt) refl refl)))
+    (other 0 0 _ _ _ _ _ _
+    (another rewritten refl (λ t agree.
+    put_out_agrees rewritten k2 s2 t 7 (t.registers 1) 0x13 0x13 agree (lit< tt) refl (agree.registers 1)))
+    (ends _ _)))
 
 -- ---- the second link, from any state of the code between
 
@@ -84,30 +78,24 @@ o1 u is =
     subst (λ a. IsSomeAnd (machine packed.new (go_to (packed.moved a) t)) (Agree packed h1 (u1 u))) (sym is)
     (agree_put packed all_same u t 1 same 7 7 0x11 0x11 agree (lit< tt) refl refl))
 
-o2 : (u : State) → Group (of_link packed) 0 h1 (u1 u) h2 (u2 u)
-o2 u =
-    record {
-      more = 0;
-      old_goes = refl;
-      new_goes =
-          λ t agree. agree_put_old packed h1 (u1 u) t 7 (half 0) 0x20 0x12 agree (lit< tt) agree.pc
-          refl;
-      forward = λ e. lit< tt;
-    }
-
-o3 : (u : State) → Other (of_link packed) h2 (u2 u) h2 (u3 u)
-o3 u =
-    another packed refl (λ t agree.
-    put_out_agrees packed h2 (u2 u) t 7 (t.registers 1) 0x13 0x12 agree (lit< tt) refl (agree.registers 1))
-
 second : (u u' : State) → Agree rewritten k0 s0 u → run 3 (machine packed.old) u ≡ Some u'
     → Agree rewritten k2 s3 u' → Covered (of_link packed) 3 2 all_same u h2 u'
 second u u' agree runs agree' =
     let is : u.pc ≡ 0x10 = agree.pc in
     let there = run_first 2 (machine packed.old) u (u1 u) (Some (u3 u)) (o1 u is).old_goes refl in
     subst (λ v. Covered (of_link packed) 3 2 all_same u h2 v) (same_value (u3 u) u' (sym there ∙ runs))
-    (other 2 1 _ _ _ _ _ _ (o1 u is) (group 1 0 1 _ _ _ _ _ _ (o2 u)
-    (other 0 0 _ _ _ _ _ _ (o3 u) (ends _ _))))
+    (other 2 1 _ _ _ _ _ _ (o1 u is)
+    (group 1 0 1 _ h2 _ _ (u2 u) _
+    (record {
+      more = 0;
+      old_goes = refl;
+      new_goes = λ t agree. agree_put_old packed h1 (u1 u) t 7 (half 0) 0x20 0x12 agree (lit< tt) agree.pc refl;
+      forward = λ e. lit< tt;
+    })
+    (other 0 0 _ _ _ _ (u3 u) _
+    (another packed refl (λ t agree.
+    put_out_agrees packed h2 (u2 u) t 7 (t.registers 1) 0x13 0x12 agree (lit< tt) refl (agree.registers 1)))
+    (ends _ _))))
 
 -- ---- both
 

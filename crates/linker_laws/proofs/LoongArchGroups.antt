@@ -1,5 +1,5 @@
 -- LoongArch's groups.
-use Rattle.linker_laws.proofs.Imports.{◌≡◌, ◌≢◌, ℕ, suc, ◌+◌, ◌-◌, ◌*◌, ◌/◌, ◌^◌, ◌<◌, Bool, true, false, refl, sym, ◌∙◌, ap, ap₂, subst, arith, List, drop, Some, pos, ◌+ℤ◌, ◌*ℤ◌, inl, inr, not, ℤ, w64, ◌==◌, if◌then◌else◌, nat_lt, cast_signed, cond-true, cond-false, cases_lt, eq-eqb, lt-ltb, le-ltb, ne_eqb, or_shifted, field, signed, RowIsWithin, IsWithin, loongarch_form, page, pcalau12i, loongarch_row, InstructionWritten, difference_64, sum_64, LoongArch64, Operands, Branch26, Shift10, Shift5, IsCall, IsLowOfDescriptor, rj_of, signed_12, signed_32, ValueIsWithin, ChangesOpen, go_to, put, with_register, Relocated, loaded, wrapped, AreAddresses, IsAddress, entry_and_addend, plt_address, symbol_address, tls_base, State, Agree, AreOf, Group, Kind, Kinds, anything, half, of_link, run, same}
+use Rattle.linker_laws.proofs.Imports.{◌≡◌, ◌≢◌, ℕ, suc, ◌+◌, ◌-◌, ◌*◌, ◌/◌, ◌^◌, ◌<◌, Bool, true, false, refl, sym, ◌∙◌, ap, ap₂, subst, arith, List, drop, Some, pos, ◌+ℤ◌, ◌*ℤ◌, not, ℤ, w64, ◌==◌, if◌then◌else◌, cast_signed, cond-false, eq-eqb, ne_eqb, or_shifted, field, signed, RowIsWithin, IsWithin, loongarch_form, page, pcalau12i, loongarch_row, InstructionWritten, difference_64, sum_64, LoongArch64, Operands, Branch26, Shift10, Shift5, IsCall, IsLowOfDescriptor, rj_of, signed_12, signed_32, ValueIsWithin, ChangesOpen, OthersAgree, go_to, put, with_register, Relocated, loaded, wrapped, AreAddresses, IsAddress, entry_and_addend, plt_address, symbol_address, tls_base, State, Agree, AreOf, Group, Kind, Kinds, anything, half, of_link, run, same}
 use Rattle.linker_elf.specs.declared.loongarch64.relocations.LoongArch64Relocation.{LoongArch64Relocation}
 use Rattle.linker_elf.specs.declared.loongarch64.relocations.LoongArch64Relocation.TheVariants as names
 use Rattle.linker_laws.specs.LoongArchGroups as groups
@@ -11,7 +11,7 @@ use Rattle.linker_laws.specs.LoongArchRewriteLaws.{Fits32, IsPair, IsRelocated, 
 use Rattle.linker_laws.specs.RiscVGroups.{of_place}
 use Rattle.linker_laws.proofs.AArch64Pairs.{word_made}
 use Rattle.linker_laws.proofs.AArch64Steps.{address_is}
-use Rattle.linker_laws.proofs.Agreement.{agree_go, agree_open, agree_put, agree_put_old, both_true, group_of, last_counts, others_agree}
+use Rattle.linker_laws.proofs.Agreement.{agree_go, agree_open, agree_put, agree_put_old, both_parts, both_true, group_of, last_counts, one_written, others_agree}
 use Rattle.linker_laws.proofs.CoveredRuns.{holds_of, run_first}
 use Rattle.linker_laws.proofs.Instructions.{relative}
 use Rattle.linker_laws.proofs.LoongArchCalls.{branch_after, call_is, decodes_b, decodes_bl, decodes_far, decodes_jirl, new_first, new_second, target_is}
@@ -27,36 +27,14 @@ use Rattle.linker_utils.specs.declared.loongarch64.rewrites.RewriteKind.TheVaria
 
 -- ---- states
 
--- the registers that `left` takes of what is seen
-kept : (s : State) (r : ℕ) → (if nat_lt r 32 then s.registers r else s.registers (32 + (r - 32))) ≡ s.registers r
-kept s r =
-    elim (cases_lt r 32) [
-      | inl low ↦ cond-true (nat_lt r 32) (s.registers r) (s.registers (32 + (r - 32))) (lt-ltb r 32 low)
-      | inr high ↦ cond-false (nat_lt r 32) (s.registers r) (s.registers (32 + (r - 32))) (le-ltb r 32 high)
-          ∙ ap s.registers (let e : 32 + (r - 32) ≡ r = omega arith in e)
-    ]
-
 -- an address is next
 went : (p : Processor) (s : State) (next : ℕ) → left s (loongarch_machine.go_to next (seen p s)) ≡ go_to next s
-went p s next = λ i. record s { pc = next; registers = λ r. kept s r i }
+went p s next = λ i. record s { pc = next; registers = λ r. both_parts s.registers r i }
 
 -- a register is written, and an address is next
 wrote : (p : Processor) (s : State) (n v next : ℕ) → n < 32
     → left s (loongarch_machine.go_to next (loongarch_machine.with_register n v (seen p s))) ≡ put n v next s
-wrote p s n v next small = λ i. record s { pc = next; registers = λ r. by r i }
-  where
-    by : (r : ℕ) → (if nat_lt r 32 then (if r == n then v else s.registers r) else s.registers (32 + (r - 32)))
-        ≡ (if r == n then v else s.registers r)
-    by r =
-        elim (cases_lt r 32) [
-          | inl low ↦ cond-true (nat_lt r 32) (if r == n then v else s.registers r) (s.registers (32 + (r - 32)))
-              (lt-ltb r 32 low)
-          | inr high ↦
-              cond-false (nat_lt r 32) (if r == n then v else s.registers r) (s.registers (32 + (r - 32)))
-              (le-ltb r 32 high)
-              ∙ ap s.registers (let e : 32 + (r - 32) ≡ r = omega arith in e)
-              ∙ sym (cond-false (r == n) v (s.registers r) (ne_eqb r n (λ e. omega arith)))
-        ]
+wrote p s n v next small = λ i. record s { pc = next; registers = λ r. one_written s.registers n v r small i }
 
 -- the same of any register, as an instruction writes it
 pub wrote_any : (p : Processor) (s : State) (n v : ℕ) → n < 32
@@ -227,18 +205,20 @@ high_half name after_name number x y before after made new c h k s small at halv
     (both_true (near_entry x == c.old_half h) (number y == c.new_half h) (eq-eqb _ _ (sym halves.0))
     (eq-eqb _ _ (sym halves.1)))
 
-page_of_entry : (x : Operands) (pcala of : List ℕ) → IsPcalau12i (word_of pcala) → AreAddresses x
-    → Fits32 names.R_LARCH_TLS_IE_PC_HI20 x → IsRelocated names.R_LARCH_TLS_IE_PC_HI20 x pcala of
-    → MakesPage (rd_of (word_of pcala)) x (word_of of)
+-- what relocations of a name make of a `pcalau12i`
+abbrev pub ArePages : LoongArch64Relocation → Type 0
+ArePages name =
+    (x : Operands) (pcala of : List ℕ) → IsPcalau12i (word_of pcala) → AreAddresses x → Fits32 name x
+    → IsRelocated name x pcala of → MakesPage (rd_of (word_of pcala)) x (word_of of)
+
+pub page_of_entry : ArePages names.R_LARCH_TLS_IE_PC_HI20
 page_of_entry x pcala of is small fits a =
     record {
       is = high_after 12 0x0d (rd_of (word_of pcala)) _ pcala of a.written is refl;
       page = page_made x small refl pcala of a (subst (ValueIsWithin signed_32) a.value_is fits);
     }
 
-page_of_descriptor : (x : Operands) (pcala of : List ℕ) → IsPcalau12i (word_of pcala) → AreAddresses x
-    → Fits32 names.R_LARCH_TLS_DESC_PC_HI20 x → IsRelocated names.R_LARCH_TLS_DESC_PC_HI20 x pcala of
-    → MakesPage (rd_of (word_of pcala)) x (word_of of)
+pub page_of_descriptor : ArePages names.R_LARCH_TLS_DESC_PC_HI20
 page_of_descriptor x pcala of is small fits a =
     record {
       is = high_after 12 0x0d (rd_of (word_of pcala)) _ pcala of a.written is refl;
@@ -258,16 +238,9 @@ high_goes y pcala lu12i of made b fits t =
     (high_made y (relative symbol_address tls_base y) (difference_below _ _) refl lu12i of b
     (subst (ValueIsWithin signed_32) b.value_is fits) ∙ ap page (offset_is y))
 
-pub are_high_halves : groups.HighHalfToLu12i names.R_LARCH_TLS_IE_PC_HI20
-are_high_halves x y pcala lu12i of is made b =
-    high_half names.R_LARCH_TLS_IE_PC_HI20 names.R_LARCH_TLS_LE_HI20 high_offset x y pcala of
-    (λ old. page_of_entry x pcala old is)
-    (λ fits t here. high_goes y pcala lu12i of made b fits t)
-
-pub are_descriptor_high_halves : groups.HighHalfToLu12i names.R_LARCH_TLS_DESC_PC_HI20
-are_descriptor_high_halves x y pcala lu12i of is made b =
-    high_half names.R_LARCH_TLS_DESC_PC_HI20 names.R_LARCH_TLS_LE_HI20 high_offset x y pcala of
-    (λ old. page_of_descriptor x pcala old is)
+pub high_half_made : (name : LoongArch64Relocation) → ArePages name → groups.HighHalfToLu12i name
+high_half_made name page x y pcala lu12i of is made b =
+    high_half name names.R_LARCH_TLS_LE_HI20 high_offset x y pcala of (λ old. page x pcala old is)
     (λ fits t here. high_goes y pcala lu12i of made b fits t)
 
 pub are_descriptor_pages : groups.PageOfDescriptor
@@ -281,22 +254,13 @@ are_descriptor_pages x y pcala of is b small =
 nop_is : (before nop : List ℕ) → IsRewritten kinds.ReplaceWithNop before nop → word_of nop ≡ 0x03400000
 nop_is before nop made = word_made (λ _. 0x03400000) before nop (omega arith) made
 
-no_high_half : (name : LoongArch64Relocation)
-    → ((x : Operands) (pcala of : List ℕ) → IsPcalau12i (word_of pcala) → AreAddresses x → Fits32 name x → IsRelocated name x pcala of
-    → MakesPage (rd_of (word_of pcala)) x (word_of of))
-    → groups.HighHalfToNop name
+pub no_high_half : (name : LoongArch64Relocation) → ArePages name → groups.HighHalfToNop name
 no_high_half name page c x k s pcala nop small at next is made fits old stands =
     let n = rd_of (word_of pcala) in
     let m = page x pcala old.relocated is small fits old.applied in
     old_sets c k s n (near_entry x) (word_of old.relocated) (word_of nop) next (below_32 (word_of pcala))
     (ap (loaded 4 c.old) at ∙ old.stands) stands (nop_is pcala nop made)
     (page_step x n (word_of old.relocated) (near_entry x) (seen c.processor s) m.is at m.page)
-
-pub are_no_high_halves : groups.HighHalfToNop names.R_LARCH_TLS_IE_PC_HI20
-are_no_high_halves = no_high_half names.R_LARCH_TLS_IE_PC_HI20 page_of_entry
-
-pub are_no_descriptor_high_halves : groups.HighHalfToNop names.R_LARCH_TLS_DESC_PC_HI20
-are_no_descriptor_high_halves = no_high_half names.R_LARCH_TLS_DESC_PC_HI20 page_of_descriptor
 
 pub are_deleted_descriptor_high_halves : groups.HighHalfIsDeleted names.R_LARCH_TLS_DESC_PC_HI20
 are_deleted_descriptor_high_halves c x k s pcala d small at is fits old =
@@ -790,5 +754,5 @@ are_calls calls branches = (
 
 -- ---- other instructions
 
-pub are_others : groups.Others
+pub are_others : (c : Code) → OthersAgree (groups.does c.processor) (link c)
 are_others c = others_agree (groups.does c.processor) (link c) (λ code s. refl)

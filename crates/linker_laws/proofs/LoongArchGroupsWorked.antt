@@ -1,10 +1,8 @@
 -- The worked program of LoongArch.
 use Rattle.linker_laws.proofs.Imports.{◌≡◌, ℕ, ◌+◌, ◌-◌, ◌<◌, Bool, true, false, refl, sym, ◌∙◌, ap, arith, [], ◌∷◌, lit<, pos, eqb-true, ◌==◌, IsSomeAnd, nat_lt, min, cond-false, cond-true, ltb-true, ints, Operands, place_sum, put, with_register, loaded, Agree, Group, Kinds, State, anything, ends, group, half, of_link, run, same, and_parts}
-use Rattle.linker_elf.specs.declared.loongarch64.relocations.LoongArch64Relocation.TheVariants as names
 use Rattle.linker_laws.specs.LoongArchGroups.{Groups, NewHas, executed, link, machine, seen}
 use Rattle.linker_laws.specs.LoongArchGroupsWorked.{EndsAt, IsWorked, code, moved, new, old, starting}
 use Rattle.linker_laws.specs.LoongArchMachine.{step}
-use Rattle.linker_laws.specs.LoongArchRewriteLaws.{IsRelocated, following}
 use Rattle.linker_laws.specs.SimulationWorked.{all_same, words}
 use Rattle.linker_laws.proofs.Relocated.{nothing, small, applied}
 
@@ -43,33 +41,6 @@ low = operands 0x54344 0x10010
 
 abbrev new_low : Operands
 new_low = operands 0x54344 0x10008
-
--- ---- relocations
-
-pcala_is : IsRelocated names.R_LARCH_PCALA_HI20 pair (0x04 ∷ 0x00 ∷ 0x00 ∷ 0x1a ∷ []) (0x64 ∷ 0x00 ∷ 0x00 ∷ 0x1a ∷ [])
-pcala_is = applied (pos 0x3000) 0x1a000004 refl (refl, tt, λ e. refl) refl (lit< tt) tt refl refl
-
-addi_is : IsRelocated names.R_LARCH_PCALA_LO12 (following 4 pair) (0x84 ∷ 0x00 ∷ 0xc0 ∷ 0x02 ∷ [])
-    (0x84 ∷ 0x80 ∷ 0xc4 ∷ 0x02 ∷ [])
-addi_is = applied (pos 0x13120) 0x02c00084 refl (refl, tt, λ e. refl) refl (lit< tt) tt refl refl
-
-pcaddi_is : IsRelocated names.R_LARCH_PCREL20_S2 pair (0x04 ∷ 0x00 ∷ 0x00 ∷ 0x18 ∷ []) (0x04 ∷ 0x89 ∷ 0x01 ∷ 0x18 ∷ [])
-pcaddi_is = applied (pos 0x3120) 0x18000004 refl (refl, tt, λ e. refl) refl (lit< tt) tt refl refl
-
-short_is : IsRelocated names.R_LARCH_TLS_LE_HI20_R short (0x05 ∷ 0x00 ∷ 0x00 ∷ 0x14 ∷ []) (0x05 ∷ 0x00 ∷ 0x00 ∷ 0x14 ∷ [])
-short_is = applied (pos 0x920) 0x14000005 refl (refl, tt, λ e. refl) refl (lit< tt) tt refl refl
-
-page_is : IsRelocated names.R_LARCH_TLS_IE_PC_HI20 high (0x06 ∷ 0x00 ∷ 0x00 ∷ 0x1a ∷ []) (0x46 ∷ 0x00 ∷ 0x00 ∷ 0x1a ∷ [])
-page_is = applied (pos 0x2000) 0x1a000006 refl (refl, tt, λ e. refl) refl (lit< tt) tt refl refl
-
-offset_is : IsRelocated names.R_LARCH_TLS_LE_HI20 new_high (0x06 ∷ 0x00 ∷ 0x00 ∷ 0x14 ∷ []) (0x86 ∷ 0x0a ∷ 0x00 ∷ 0x14 ∷ [])
-offset_is = applied (pos 0x54344) 0x14000006 refl (refl, tt, λ e. refl) refl (lit< tt) tt refl refl
-
-load_is : IsRelocated names.R_LARCH_TLS_IE_PC_LO12 low (0xc7 ∷ 0x00 ∷ 0xc0 ∷ 0x28 ∷ []) (0xc7 ∷ 0x40 ∷ 0xc0 ∷ 0x28 ∷ [])
-load_is = applied (pos 0x12010) 0x28c000c7 refl (refl, tt, λ e. refl) refl (lit< tt) tt refl refl
-
-ori_is : IsRelocated names.R_LARCH_TLS_LE_LO12 new_low (0xc7 ∷ 0x00 ∷ 0x80 ∷ 0x03 ∷ []) (0xc7 ∷ 0x10 ∷ 0x8d ∷ 0x03 ∷ [])
-ori_is = applied (pos 0x54344) 0x038000c7 refl (refl, tt, λ e. refl) refl (lit< tt) tt refl refl
 
 -- ---- runs
 
@@ -130,32 +101,34 @@ p1 g =
     (record {
       small = small pair refl;
       fits = (omega (arith, ints), omega (arith, ints));
-      high = record { relocated = 0x64 ∷ 0x00 ∷ 0x00 ∷ 0x1a ∷ []; applied = pcala_is; stands = refl };
-      low = record { relocated = 0x84 ∷ 0x80 ∷ 0xc4 ∷ 0x02 ∷ []; applied = addi_is; stands = refl };
+      high = record { relocated = 0x64 ∷ 0x00 ∷ 0x00 ∷ 0x1a ∷ []; applied = applied (pos 0x3000) 0x1a000004 refl (refl, tt, λ e. refl) refl (lit< tt) tt refl refl; stands = refl };
+      low = record { relocated = 0x84 ∷ 0x80 ∷ 0xc4 ∷ 0x02 ∷ []; applied = applied (pos 0x13120) 0x02c00084 refl (refl, tt, λ e. refl) refl (lit< tt) tt refl refl; stands = refl };
     })
-    refl (small pair refl) (record { relocated = 0x04 ∷ 0x89 ∷ 0x01 ∷ 0x18 ∷ []; applied = pcaddi_is; stands = refl })
+    refl (small pair refl) (record { relocated = 0x04 ∷ 0x89 ∷ 0x01 ∷ 0x18 ∷ []; applied = applied (pos 0x3120) 0x18000004 refl (refl, tt, λ e. refl) refl (lit< tt) tt refl refl; stands = refl })
     same (record { at = refl; place = refl; next = refl }) refl
 
 p2 : Groups → Group (of_link (link code)) 0 k1 s1 k2 s2
 p2 g =
     g.high_offsets code short k1 s1 (0x05 ∷ 0x00 ∷ 0x00 ∷ 0x14 ∷ []) (record { small = lit< tt; moved = refl })
     (small short refl) refl refl (omega (arith, ints), omega (arith, ints))
-    (record { relocated = 0x05 ∷ 0x00 ∷ 0x00 ∷ 0x14 ∷ []; applied = short_is; stands = refl })
+    (record { relocated = 0x05 ∷ 0x00 ∷ 0x00 ∷ 0x14 ∷ []; applied = applied (pos 0x920) 0x14000005 refl (refl, tt, λ e. refl) refl (lit< tt) tt refl refl; stands = refl })
 
 p3 : Groups → Group (of_link (link code)) 1 k2 s2 k3 s3
 p3 g =
     g.high_halves high new_high (0x06 ∷ 0x00 ∷ 0x00 ∷ 0x1a ∷ []) (0x06 ∷ 0x00 ∷ 0x00 ∷ 0x14 ∷ [])
-    (0x86 ∷ 0x0a ∷ 0x00 ∷ 0x14 ∷ []) refl refl offset_is code 0 k2 s2
+    (0x86 ∷ 0x0a ∷ 0x00 ∷ 0x14 ∷ []) refl refl
+    (applied (pos 0x54344) 0x14000006 refl (refl, tt, λ e. refl) refl (lit< tt) tt refl refl) code 0 k2 s2
     (small high refl) (record { at = refl; place = refl; next = refl }) (refl, refl)
     (omega (arith, ints), omega (arith, ints)) (omega (arith, ints), omega (arith, ints))
-    (record { relocated = 0x46 ∷ 0x00 ∷ 0x00 ∷ 0x1a ∷ []; applied = page_is; stands = refl }) refl
+    (record { relocated = 0x46 ∷ 0x00 ∷ 0x00 ∷ 0x1a ∷ []; applied = applied (pos 0x2000) 0x1a000006 refl (refl, tt, λ e. refl) refl (lit< tt) tt refl refl; stands = refl }) refl
 
 p4 : Groups → Group (of_link (link code)) 1 k3 s3 k4 s4
 p4 g =
     g.low_halves low new_low (0xc7 ∷ 0x00 ∷ 0xc0 ∷ 0x28 ∷ []) (0xc7 ∷ 0x00 ∷ 0x80 ∷ 0x03 ∷ [])
-    (0xc7 ∷ 0x10 ∷ 0x8d ∷ 0x03 ∷ []) refl refl ori_is code k3 s3
+    (0xc7 ∷ 0x10 ∷ 0x8d ∷ 0x03 ∷ []) refl refl
+    (applied (pos 0x54344) 0x038000c7 refl (refl, tt, λ e. refl) refl (lit< tt) tt refl refl) code k3 s3
     (small low refl) (record { at = refl; place = refl; next = refl }) refl refl refl has
-    (record { relocated = 0xc7 ∷ 0x40 ∷ 0xc0 ∷ 0x28 ∷ []; applied = load_is; stands = refl }) refl
+    (record { relocated = 0xc7 ∷ 0x40 ∷ 0xc0 ∷ 0x28 ∷ []; applied = applied (pos 0x12010) 0x28c000c7 refl (refl, tt, λ e. refl) refl (lit< tt) tt refl refl; stands = refl }) refl
   where
     has : NewHas code k3 s3 6 0x54000
     has t agree = eqb-true (t.registers 6) 0x54000 (and_parts true (t.registers 6 == 0x54000) (agree.registers 6)).1

@@ -4,7 +4,7 @@ use Rattle.linker_laws.specs.RiscVGroups as groups
 use Rattle.linker_laws.specs.RiscVGroups.{AreApart, BeginsAt, Code, HasRoom, left, link, seen, with_stored}
 use Rattle.linker_laws.specs.RiscVGroups.AreUsed.{as_loaded, as_loaded_float, as_stored, as_stored_float, as_sum, as_target, as_whole, as_word}
 use Rattle.linker_laws.specs.RiscVMachine.{boxed, bytes_of, goes_to, load_number, register, rs2_of, with_float, with_integer}
-use Rattle.linker_laws.proofs.Agreement.{agree_put}
+use Rattle.linker_laws.proofs.Agreement.{agree_put, both_parts}
 use Rattle.linker_laws.proofs.RiscVDescriptors.{whole_number}
 use Rattle.linker_laws.proofs.RiscVGroups.{below_32, counts, wrote}
 use Rattle.linker_laws.proofs.Sums.{sum_below}
@@ -34,15 +34,7 @@ wrote_float s rd v next = λ i. record s { pc = next; registers = λ r. by r i }
 -- memory is written
 wrote_memory : (s : State) (m : Memory) (next : ℕ)
     → left s (goes_to next (record (seen s) { memory = m })) ≡ record s { pc = next; memory = m }
-wrote_memory s m next = λ i. record s { pc = next; memory = m; registers = λ r. by r i }
-  where
-    by : (r : ℕ) → (if nat_lt r 32 then s.registers r else s.registers (32 + (r - 32))) ≡ s.registers r
-    by r =
-        elim (cases_lt r 32) [
-          | inl low ↦ cond-true (nat_lt r 32) (s.registers r) _ (lt-ltb r 32 low)
-          | inr high ↦ cond-false (nat_lt r 32) (s.registers r) _ (le-ltb r 32 high)
-              ∙ ap s.registers (let e : 32 + (r - 32) ≡ r = omega (arith, high) in e)
-        ]
+wrote_memory s m next = λ i. record s { pc = next; memory = m; registers = λ r. both_parts s.registers r i }
 
 -- ---- memory
 

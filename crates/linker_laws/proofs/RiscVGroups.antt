@@ -1,15 +1,13 @@
 -- RISC-V's groups.
-use Rattle.linker_laws.proofs.Imports.{Bool, add-one, zero, ◌≡◌, ◌≢◌, ℕ, suc, ◌+◌, ◌-◌, ◌*◌, ◌%◌, ◌^◌, ◌<◌, ◌≤◌, true, false, refl, sym, ◌∙◌, ap, ap₂, subst, arith, List, [], ◌∷◌, length, take, drop, Some, le_refl, w64, pos, ◌+ℤ◌, ◌-ℤ◌, ℤ, inl, inr, ◌==◌, if◌then◌else◌, nat_lt, option_map, IsSomeAnd, IsTrue, w16, w32, cast_signed, from_le_bytes, int_rem_euclid, cond-true, cond-false, cases_lt, lt-ltb, le-ltb, ne_eqb, ints, field, signed, rewritten, low_12_bounds, IsWithin, riscv_form, riscv_places, pair_row, riscv_row, difference_64, sum_64, RelocationKind, Absolute, TpOff, PltRelative, RowInfo, Operands, UType, IType, SType, CluiType, CjType, JType, UiType, IsCallPair, funct3_of, word_of_front, rewrites_word, with_rs1, IsApplied, Option, sum, ⊤, place_sum, GotRelative, GotTpOff, Relative, TlsDesc, go_to, put, with_register, AreBytes, loaded, moved, wrapped, AreAddresses, entry_and_addend, plt_address, symbol_address, State, Program, Agree, AreOf, Group, Kind, Kinds, anything, of_link, run, same, suc-add}
+use Rattle.linker_laws.proofs.Imports.{Bool, add-one, zero, ◌≡◌, ◌≢◌, ℕ, suc, ◌+◌, ◌-◌, ◌*◌, ◌%◌, ◌^◌, ◌<◌, ◌≤◌, true, false, refl, sym, ◌∙◌, ap, ap₂, subst, arith, List, [], ◌∷◌, length, take, drop, Some, le_refl, w64, pos, ◌+ℤ◌, ◌-ℤ◌, ℤ, ◌==◌, if◌then◌else◌, option_map, IsSomeAnd, IsTrue, w16, w32, cast_signed, from_le_bytes, int_rem_euclid, ne_eqb, ints, field, signed, rewritten, low_12_bounds, IsWithin, riscv_form, riscv_places, pair_row, riscv_row, difference_64, sum_64, RelocationKind, Absolute, TpOff, PltRelative, RowInfo, Operands, UType, IType, SType, CluiType, CjType, JType, UiType, IsCallPair, funct3_of, word_of_front, rewrites_word, with_rs1, IsApplied, Option, sum, ⊤, place_sum, GotRelative, GotTpOff, Relative, TlsDesc, go_to, put, with_register, AreBytes, loaded, moved, wrapped, AreAddresses, entry_and_addend, plt_address, symbol_address, State, Program, Agree, AreOf, OthersAgree, Group, Kind, Kinds, anything, of_link, run, same, suc-add}
 use Rattle.linker_elf.specs.declared.elf.RelocationKind.TheVariants.{RelativeRiscVLow12}
-use Rattle.linker_elf.specs.declared.riscv64.relocations.RiscVRelocation.TheVariants as names
-use Rattle.linker_laws.specs.RiscVGroups as groups
 use Rattle.linker_laws.specs.RiscVGroups.{AreBefore, AreDeleted, Code, Has, Stands, bytes_at, continued, instruction_at, left, link, machine, seen, LowPartOf, upper, upper_from, uses}
-use Rattle.linker_laws.specs.RiscVMachine.{Action, Hart, Instruction, action_of, add, adds, adds_word, auipc, executed, goes_to, i_type, jal, jumps, load_number, loads, loads_float, lui, of_half, of_word, register, rs1_of, rs2_of, s_type, step, stores, stores_float, sums, used, with_action, with_integer, with_number}
+use Rattle.linker_laws.specs.RiscVMachine.{Action, Hart, Instruction, action_of, add, adds, adds_word, auipc, executed, goes_to, i_type, jal, jumps, load_number, loads, loads_float, lui, of_half, of_word, register, rs1_of, rs2_of, s_type, step, stores, stores_float, sums, used, with_action, with_integer}
 use Rattle.linker_laws.specs.RiscVRelocationLaws.{AbsoluteAddresses, DescriptorAddresses, EntryAddresses, RelativeAddresses, ThreadAddresses, even}
 use Rattle.linker_laws.specs.RiscVRewriteLaws.{action_at, after_rewrite, IsLoadFromGot, IsLow12, low_row, of_entry, offset_row, t0, thread_offset, word_of}
 use Rattle.linker_laws.proofs.AArch64Moves.{distance_is}
 use Rattle.linker_laws.proofs.AArch64Steps.{in_two_steps}
-use Rattle.linker_laws.proofs.Agreement.{agree_open, agree_put, agree_put_old, group_of, last_counts, others_agree, unchanged, value_group}
+use Rattle.linker_laws.proofs.Agreement.{agree_open, agree_put, agree_put_old, group_of, last_counts, one_written, others_agree, unchanged, value_group}
 use Rattle.linker_laws.proofs.CoveredRuns.{holds_of, run_first, run_on}
 use Rattle.linker_laws.proofs.RiscVDescriptors.{load_word, lui_word, sum_word, upper_long, upper_word, call_word, low_long as low_long_word, made_word, ten, whole_number}
 use Rattle.linker_laws.proofs.RiscVHighParts.{IsFormulaOf, absolute_is, high_20, is_zero, low_12_number, near, no_high_part, of_address, of_offset, same_immediates, short_decodes, short_low, short_register, short_stands, upper_stands}
@@ -21,28 +19,18 @@ use Rattle.linker_laws.proofs.Words.{half_of_bytes, put_there, word_below, word_
 use Rattle.linker_riscv64.specs.RiscVFields.{opcode_of, rd_of}
 use Rattle.linker_utils.proofs.RiscVRewrites.{half_of_front}
 use Rattle.linker_utils.specs.RiscVRewrites.{a0, adds_low12, call_to_jal, clui_to_cli, half_at, hi20_to_clui, IsLui, load_to_addi, of_destination, riscv_matches, tail_to_cj, tail_to_jal}
-use Rattle.linker_utils.specs.declared.riscv64.rewrites.RewriteKind.TheVariants as kinds
 use Rattle.linker_utils.specs.declared.riscv64.rewrites.RewriteKind.{RewriteKind}
+use Rattle.std.proofs.lemmas.List.{take-take, drop-take}
+use Rattle.linker_elf.specs.declared.riscv64.relocations.RiscVRelocation.TheVariants as names
+use Rattle.linker_laws.specs.RiscVGroups as groups
+use Rattle.linker_utils.specs.declared.riscv64.rewrites.RewriteKind.TheVariants as kinds
 
 -- ---- states
 
 -- an integer register is written, and an address is next
 pub wrote : (s : State) (rd v next : ℕ) → rd < 32
     → left s (goes_to next (with_integer rd v (seen s))) ≡ put rd v next s
-wrote s rd v next small = λ i. record s { pc = next; registers = λ r. by r i }
-  where
-    by : (r : ℕ) → (if nat_lt r 32 then with_number rd v s.registers r else s.registers (32 + (r - 32)))
-        ≡ (if r == rd then v else s.registers r)
-    by r =
-        elim (cases_lt r 32) [
-          | inl low ↦ cond-true (nat_lt r 32) (with_number rd v s.registers r) (s.registers (32 + (r - 32)))
-              (lt-ltb r 32 low)
-          | inr high ↦
-              cond-false (nat_lt r 32) (with_number rd v s.registers r) (s.registers (32 + (r - 32)))
-              (le-ltb r 32 high)
-              ∙ ap s.registers (let e : 32 + (r - 32) ≡ r = omega arith in e)
-              ∙ sym (cond-false (r == rd) v (s.registers r) (ne_eqb r rd (λ e. omega arith)))
-        ]
+wrote s rd v next small = λ i. record s { pc = next; registers = λ r. one_written s.registers rd v r small i }
 
 pub below_32 : (word : ℕ) → rd_of word < 32
 below_32 word = omega arith
@@ -476,27 +464,13 @@ are_low_offsets low m =
 
 -- the words of 8 bytes
 first_stands : (code : ℕ → ℕ) (at : ℕ) (bytes : List ℕ) → Stands 8 code at bytes → Stands 4 code at bytes
-first_stands code at bytes stands = ap (take 4) stands ∙ front bytes
-  where
-    front : (xs : List ℕ) → take 4 (take 8 xs) ≡ take 4 xs
-    front [] = refl
-    front (a ∷ []) = refl
-    front (a ∷ b ∷ []) = refl
-    front (a ∷ b ∷ c ∷ []) = refl
-    front (a ∷ b ∷ c ∷ d ∷ xs) = refl
+first_stands code at bytes stands = ap (take 4) stands ∙ take-take 4 8 bytes (omega arith)
 
 second_stands : (code : ℕ → ℕ) (at : ℕ) (bytes : List ℕ) → Stands 8 code at bytes
     → Stands 4 code (sum_64 at 4) (drop 4 bytes)
 second_stands code at bytes stands =
     ap (bytes_at 4 code) (let e : sum_64 at 4 ≡ sum_64 (sum_64 (sum_64 (sum_64 at 1) 1) 1) 1 = omega arith in e)
-    ∙ ap (drop 4) stands ∙ back bytes
-  where
-    back : (xs : List ℕ) → drop 4 (take 8 xs) ≡ take 4 (drop 4 xs)
-    back [] = refl
-    back (a ∷ []) = refl
-    back (a ∷ b ∷ []) = refl
-    back (a ∷ b ∷ c ∷ []) = refl
-    back (a ∷ b ∷ c ∷ d ∷ xs) = refl
+    ∙ ap (drop 4) stands ∙ drop-take 4 4 bytes
 
 -- the address of a place, in old and in new
 pub counts : (a b : ℕ) → a ≡ b → b < 2 ^ 64
@@ -670,7 +644,7 @@ are_calls = (jal_group, jal_group)
 pub are_short_tail_calls : groups.ShortTailCalls
 are_short_tail_calls = (cj_group, cj_group)
 
-pub are_long_calls : groups.LongCalls
+pub are_long_calls : groups.CallStays names.R_RISCV_CALL × groups.CallStays names.R_RISCV_CALL_PLT
 are_long_calls = (long_group, long_group)
 
 pub are_rewritten_calls : groups.CallsAreRewritten
@@ -1100,6 +1074,6 @@ are_to_initial_exec descriptors entries c n offset x y k k' s s' auipc_bytes ld 
 
 -- ---- other instructions
 
-pub are_others : groups.Others
+pub are_others : (c : Code) → OthersAgree (λ code at. groups.does c.others (instruction_at code at)) (link c)
 are_others c =
     others_agree (λ code at. groups.does c.others (instruction_at code at)) (link c) (λ code s. refl)

@@ -1,11 +1,10 @@
 -- The worked program of RISC-V.
-use Rattle.linker_laws.proofs.Imports.{◌≡◌, ℕ, ◌+◌, ◌-◌, ◌^◌, ◌<◌, ◌≤◌, Bool, true, false, refl, sym, ◌∙◌, ap, subst, arith, List, [], ◌∷◌, length, Option, lit<, lit≤, pos, Some, inr, IsSomeAnd, nat_lt, min, cond-false, cond-true, ltb-true, ints, IsApplied, riscv_row, difference_64, sum_64, RowInfo, Operands, ◌%◌, unsigned_abs, place_sum, put, with_register, moved as plus, Agree, Group, Kinds, Other, State, anything, ends, group, of_link, other, run, same}
-use Rattle.linker_elf.specs.declared.riscv64.relocations.RiscVRelocation.TheVariants as names
+use Rattle.linker_laws.proofs.Imports.{◌≡◌, ℕ, ◌+◌, ◌-◌, ◌^◌, ◌<◌, ◌≤◌, Bool, true, false, refl, sym, ◌∙◌, ap, subst, arith, List, [], ◌∷◌, length, Option, lit<, lit≤, pos, Some, inr, IsSomeAnd, nat_lt, min, cond-false, cond-true, ltb-true, ints, IsApplied, difference_64, sum_64, RowInfo, Operands, ◌%◌, unsigned_abs, place_sum, put, with_register, moved as plus, Agree, Group, Kinds, Other, State, anything, ends, group, of_link, other, run, same}
 use Rattle.linker_laws.specs.RiscVGroups.{Groups, Has, Stands, continued, instruction_at, link, machine, HasRoom, left, of_place, seen, uses, with_stored}
 use Rattle.linker_laws.specs.RiscVGroups.AreUsed.{as_stored, as_sum}
 use Rattle.linker_laws.specs.RiscVGroupsWorked.{EndsAt, IsWorked, code, moved, new, old, others, starting}
 use Rattle.linker_laws.specs.RiscVMachine.{adds, goes_to, stores, step, with_integer}
-use Rattle.linker_laws.specs.RiscVRewriteLaws.{after_rewrite, of_entry}
+use Rattle.linker_laws.specs.RiscVRewriteLaws.{after_rewrite}
 use Rattle.linker_utils.specs.declared.riscv64.rewrites.RewriteKind.TheVariants as kinds
 use Rattle.linker_laws.specs.SimulationWorked.{all_same, words}
 use Rattle.linker_laws.proofs.Relocated.{nothing, small, all_small, are_bytes, applied}
@@ -50,9 +49,6 @@ operands symbol place =
 abbrev high : Operands
 high = operands 0x120 0x10000
 
-abbrev low : Operands
-low = operands 0x120 0x10004
-
 abbrev load : Operands
 load = operands 0x13000 0x1000c
 
@@ -65,54 +61,16 @@ calling = record (operands 0 0x10014) { plt_entry = 0x10020 }
 abbrev jumping : Operands
 jumping = operands 0x10018 0x10010
 
--- ---- relocations
+-- ---- instructions
 
 abbrev lui : List ℕ
 lui = 0xb7 ∷ 0x07 ∷ 0x00 ∷ 0x00 ∷ []
 
-lui_has : Has 4 (words old) 0x10000 (riscv_row names.R_RISCV_HI20) high lui
-unfolding place_sum
-lui_has =
-    has _ _ _ _ _ lui lui
-    (applied (pos 0x120) 0x7b7 refl (refl, tt, λ e. refl) refl (lit< tt) tt refl refl) refl refl refl refl
-
 abbrev addi : List ℕ
 addi = 0x13 ∷ 0x85 ∷ 0x07 ∷ 0x00 ∷ []
 
-addi_has : Has 4 (words old) 0x10004 (riscv_row names.R_RISCV_LO12_I) low addi
-unfolding place_sum
-addi_has =
-    has _ _ _ _ _ addi (0x13 ∷ 0x85 ∷ 0x07 ∷ 0x12 ∷ [])
-    (applied (pos 0x120) 0x78513 refl (refl, tt, λ e. refl) refl (lit< tt) tt refl refl) refl refl refl refl
-
-made_has : Has 4 (words new) 0x10000 (riscv_row names.R_RISCV_LO12_I) high
-    (after_rewrite kinds.Lo12Rs1ToZero addi 0)
-unfolding place_sum
-made_has =
-    has _ _ _ _ _ (0x13 ∷ 0x05 ∷ 0x00 ∷ 0x00 ∷ []) (0x13 ∷ 0x05 ∷ 0x00 ∷ 0x12 ∷ [])
-    (applied (pos 0x120) 0x513 refl (refl, tt, λ e. refl) refl (lit< tt) tt refl refl) refl refl refl refl
-
-abbrev kept : Operands
-kept = operands 0x128 0x10008
-
-abbrev kept_after : Operands
-kept_after = operands 0x128 0x10004
-
 abbrev sd : List ℕ
 sd = 0x23 ∷ 0xb0 ∷ 0xa7 ∷ 0x00 ∷ []
-
-sd_has : Has 4 (words old) 0x10008 (riscv_row names.R_RISCV_LO12_S) kept sd
-unfolding place_sum
-sd_has =
-    has _ _ _ _ _ sd (0x23 ∷ 0xb4 ∷ 0xa7 ∷ 0x12 ∷ [])
-    (applied (pos 0x128) 0xa7b023 refl (refl, tt, λ e. refl) refl (lit< tt) tt refl refl) refl refl refl refl
-
-sd_made : Has 4 (words new) 0x10004 (riscv_row names.R_RISCV_LO12_S) kept_after
-    (after_rewrite kinds.Lo12Rs1ToZero sd 0)
-unfolding place_sum
-sd_made =
-    has _ _ _ _ _ (0x23 ∷ 0x30 ∷ 0xa0 ∷ 0x00 ∷ []) (0x23 ∷ 0x34 ∷ 0xa0 ∷ 0x12 ∷ [])
-    (applied (pos 0x128) 0xa03023 refl (refl, tt, λ e. refl) refl (lit< tt) tt refl refl) refl refl refl refl
 
 abbrev auipc : List ℕ
 auipc = 0x97 ∷ 0x05 ∷ 0x00 ∷ 0x00 ∷ []
@@ -120,47 +78,8 @@ auipc = 0x97 ∷ 0x05 ∷ 0x00 ∷ 0x00 ∷ []
 abbrev ld : List ℕ
 ld = 0x83 ∷ 0xb5 ∷ 0x05 ∷ 0x00 ∷ []
 
-entry_has : Has 4 (words old) 0x1000c (riscv_row names.R_RISCV_GOT_HI20) load auipc
-unfolding place_sum
-entry_has =
-    has _ _ _ _ _ auipc (0x97 ∷ 0x25 ∷ 0x00 ∷ 0x00 ∷ [])
-    (applied (pos 0x2004) 0x597 refl (refl, tt, λ e. refl) refl (lit< tt) tt refl refl) refl refl refl refl
-
-ld_has : Has 4 (words old) 0x10010 (riscv_row names.R_RISCV_PCREL_LO12_I) (of_entry load) ld
-unfolding place_sum
-ld_has =
-    has _ _ _ _ _ ld (0x83 ∷ 0xb5 ∷ 0x45 ∷ 0x00 ∷ [])
-    (applied (pos 0x2004) 0x5b583 refl (refl, tt, λ e. refl) refl (lit< tt) tt refl refl) refl refl refl refl
-
-near_has : Has 4 (words new) 0x10008 (riscv_row names.R_RISCV_PCREL_HI20) sum_at auipc
-unfolding place_sum
-near_has =
-    has _ _ _ _ _ auipc (0x97 ∷ 0x35 ∷ 0x00 ∷ 0x00 ∷ [])
-    (applied (pos 0x2ff8) 0x597 refl (refl, tt, λ e. refl) refl (lit< tt) tt refl refl) refl refl refl refl
-
-rest_has : Has 4 (words new) 0x1000c (riscv_row names.R_RISCV_PCREL_LO12_I) sum_at
-    (after_rewrite kinds.LdToAddi ld 0)
-unfolding place_sum
-rest_has =
-    has _ _ _ _ _ (0x93 ∷ 0x85 ∷ 0x05 ∷ 0x00 ∷ []) (0x93 ∷ 0x85 ∷ 0x85 ∷ 0xff ∷ [])
-    (applied (pos 0x2ff8) 0x58593 refl (refl, tt, λ e. refl) refl (lit< tt) tt refl refl) refl refl refl refl
-
 abbrev call : List ℕ
 call = 0x97 ∷ 0x00 ∷ 0x00 ∷ 0x00 ∷ 0xe7 ∷ 0x80 ∷ 0x00 ∷ 0x00 ∷ []
-
-call_has : Has 8 (words old) 0x10014 (riscv_row names.R_RISCV_CALL_PLT) calling call
-unfolding place_sum
-call_has =
-    has _ _ _ _ _ call (0x97 ∷ 0x00 ∷ 0x00 ∷ 0x00 ∷ 0xe7 ∷ 0x80 ∷ 0xc0 ∷ 0x00 ∷ [])
-    (applied (pos 0xc) 0x80e700000097 refl (refl, tt, λ e. refl) refl (lit< tt) tt refl refl) refl refl refl refl
-
-jump_has : Has 4 (words new) 0x10010 (riscv_row names.R_RISCV_JAL) jumping
-    (after_rewrite kinds.CallToJal call 0)
-unfolding place_sum
-jump_has =
-    has _ _ _ _ _ (0xef ∷ 0x00 ∷ 0x00 ∷ 0x00 ∷ 0xe7 ∷ 0x80 ∷ 0x00 ∷ 0x00 ∷ [])
-    (0xef ∷ 0x00 ∷ 0x80 ∷ 0x00 ∷ 0xe7 ∷ 0x80 ∷ 0x00 ∷ 0x00 ∷ [])
-    (applied (pos 0x8) 0xef refl (refl, tt, λ e. refl) refl (lit< tt) tt refl refl) refl refl refl refl
 
 -- ---- runs
 
@@ -221,16 +140,24 @@ abbrev k6 : Kinds
 k6 = with_register 0 anything k5
 
 p1 : Groups → Group (of_link (link code)) 0 all_same starting k1 s1
+unfolding place_sum
 p1 g =
     g.no_high_parts code high all_same starting lui (record { small = lit< tt; moved = refl }) (lit≤ tt, refl)
-    refl (omega (arith, ints), omega (arith, ints)) lui_has
+    refl (omega (arith, ints), omega (arith, ints))
+    (has _ _ _ _ _ lui lui
+    (applied (pos 0x120) 0x7b7 refl (refl, tt, λ e. refl) refl (lit< tt) tt refl refl) refl refl refl refl)
 
 p2 : Groups → Group (of_link (link code)) 1 k1 s1 k2 s2
+unfolding place_sum
 p2 g =
     subst (λ u. Group (of_link (link code)) 1 k1 s1 k2 u) (wrote s1 10 0x120 0x10008 (lit< tt))
-    (g.low_parts addi (lit≤ tt, refl) code low high k1 k2 s1
+    (g.low_parts addi (lit≤ tt, refl) code (operands 0x120 0x10004) high k1 k2 s1
     (record { at = refl; small = lit< tt; place = refl; next = refl }) refl
-    (omega (arith, ints), omega (arith, ints)) refl tt addi_has made_has
+    (omega (arith, ints), omega (arith, ints)) refl tt
+    (has _ _ _ _ _ addi (0x13 ∷ 0x85 ∷ 0x07 ∷ 0x12 ∷ [])
+    (applied (pos 0x120) 0x78513 refl (refl, tt, λ e. refl) refl (lit< tt) tt refl refl) refl refl refl refl)
+    (has _ _ _ _ _ (0x13 ∷ 0x05 ∷ 0x00 ∷ 0x00 ∷ []) (0x13 ∷ 0x05 ∷ 0x00 ∷ 0x12 ∷ [])
+    (applied (pos 0x120) 0x513 refl (refl, tt, λ e. refl) refl (lit< tt) tt refl refl) refl refl refl refl)
     (g.accesses code adds 0x78513 0x120 k1 s1 k2 refl as_sum))
 
 room : HasRoom code k2 8 0x128
@@ -253,27 +180,44 @@ room =
     apart_there a below d false e = subst (λ m. 8 ≤ difference_64 m 0x128) (sym (cond-false _ (shorter a) a e)) d
 
 p3 : Groups → Group (of_link (link code)) 1 k2 s2 k3 s3
+unfolding place_sum
 p3 g =
-    g.low_parts sd (lit≤ tt, refl) code kept kept_after k2 k3 s2
+    g.low_parts sd (lit≤ tt, refl) code (operands 0x128 0x10008) (operands 0x128 0x10004) k2 k3 s2
     (record { at = refl; small = lit< tt; place = refl; next = refl }) refl
-    (omega (arith, ints), omega (arith, ints)) refl tt sd_has sd_made
+    (omega (arith, ints), omega (arith, ints)) refl tt
+    (has _ _ _ _ _ sd (0x23 ∷ 0xb4 ∷ 0xa7 ∷ 0x12 ∷ [])
+    (applied (pos 0x128) 0xa7b023 refl (refl, tt, λ e. refl) refl (lit< tt) tt refl refl) refl refl refl refl)
+    (has _ _ _ _ _ (0x23 ∷ 0x30 ∷ 0xa0 ∷ 0x00 ∷ []) (0x23 ∷ 0x34 ∷ 0xa0 ∷ 0x12 ∷ [])
+    (applied (pos 0x128) 0xa03023 refl (refl, tt, λ e. refl) refl (lit< tt) tt refl refl) refl refl refl refl)
     (g.accesses code (stores 3) 0xa7b023 0x128 k2 s2 k3 refl (as_stored 3 (inr refl) room))
 
 p4 : Groups → Group (of_link (link code)) 2 k3 s3 k4 s4
-unfolding place_sum entry_has has
+unfolding place_sum has
 p4 g =
     g.got code load sum_at k3 same s3 auipc ld (small load refl) (small sum_at refl)
     (record { at = refl; small = lit< tt; place = refl; next = refl }) (lit≤ tt)
     (record { first = refl; second = (refl, refl); base = refl; not_zero = λ e. omega arith })
-    refl refl entry_has ld_has near_has rest_has
+    refl refl
+    (has _ _ _ _ _ auipc (0x97 ∷ 0x25 ∷ 0x00 ∷ 0x00 ∷ [])
+    (applied (pos 0x2004) 0x597 refl (refl, tt, λ e. refl) refl (lit< tt) tt refl refl) refl refl refl refl)
+    (has _ _ _ _ _ ld (0x83 ∷ 0xb5 ∷ 0x45 ∷ 0x00 ∷ [])
+    (applied (pos 0x2004) 0x5b583 refl (refl, tt, λ e. refl) refl (lit< tt) tt refl refl) refl refl refl refl)
+    (has _ _ _ _ _ auipc (0x97 ∷ 0x35 ∷ 0x00 ∷ 0x00 ∷ [])
+    (applied (pos 0x2ff8) 0x597 refl (refl, tt, λ e. refl) refl (lit< tt) tt refl refl) refl refl refl refl)
+    (has _ _ _ _ _ (0x93 ∷ 0x85 ∷ 0x05 ∷ 0x00 ∷ []) (0x93 ∷ 0x85 ∷ 0x85 ∷ 0xff ∷ [])
+    (applied (pos 0x2ff8) 0x58593 refl (refl, tt, λ e. refl) refl (lit< tt) tt refl refl) refl refl refl refl)
 
 p5 : Groups → Group (of_link (link code)) 1 k4 s4 k5 s5
-unfolding place_sum call_has has
+unfolding place_sum has
 p5 g =
     g.calls.1 code calling jumping k4 s4 call (after_rewrite kinds.CallToJal call 0) (small calling refl) (small jumping refl)
     (record { at = refl; small = lit< tt; place = refl; next = refl }) refl
     (record { auipc_opcode = refl; jalr_opcode = refl; jalr_function = refl; base = refl }) (λ e. omega arith) refl
-    call_has jump_has
+    (has _ _ _ _ _ call (0x97 ∷ 0x00 ∷ 0x00 ∷ 0x00 ∷ 0xe7 ∷ 0x80 ∷ 0xc0 ∷ 0x00 ∷ [])
+    (applied (pos 0xc) 0x80e700000097 refl (refl, tt, λ e. refl) refl (lit< tt) tt refl refl) refl refl refl refl)
+    (has _ _ _ _ _ (0xef ∷ 0x00 ∷ 0x00 ∷ 0x00 ∷ 0xe7 ∷ 0x80 ∷ 0x00 ∷ 0x00 ∷ [])
+    (0xef ∷ 0x00 ∷ 0x80 ∷ 0x00 ∷ 0xe7 ∷ 0x80 ∷ 0x00 ∷ 0x00 ∷ [])
+    (applied (pos 0x8) 0xef refl (refl, tt, λ e. refl) refl (lit< tt) tt refl refl) refl refl refl refl)
 
 p6 : Groups → Other (of_link (link code)) k5 s5 k6 s6
 unfolding place_sum

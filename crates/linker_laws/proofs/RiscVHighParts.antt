@@ -1,12 +1,13 @@
 -- What `lui` and `c.lui` put in a register, once their relocations are applied.
-use Rattle.linker_laws.proofs.Imports.{◌≡◌, ◌≢◌, ℕ, zero, suc, ◌+◌, ◌-◌, ◌*◌, ◌/◌, ◌%◌, ◌^◌, ◌<◌, ◌≤◌, false, refl, sym, ◌∙◌, ap, subst, arith, List, length, ℤ, pos, negsuc, Some, None, inl, inr, ◌⊎◌, if◌then◌else◌, w64, Option, ◌==◌, ◌&&◌, ◌||◌, not, w16, w32, from_le_bytes, cast_signed, cases_lt, ints, to_z_pos, field, signed, BitRange, signed_cases, low_12_bounds, IsWithin, riscv_form, riscv_places, pair_row, sum_64, difference_64, value_of, RelocationKind, Absolute, TpOff, RiscVInstruction, Operands, UType, CluiType, CjType, cast_negative, IsApplied, place_sum, clui_bounds, symbol_address, wrapped}
+use Rattle.linker_laws.proofs.Imports.{◌≡◌, ◌≢◌, ℕ, zero, suc, ◌+◌, ◌-◌, ◌*◌, ◌/◌, ◌%◌, ◌^◌, ◌<◌, ◌≤◌, false, refl, sym, ◌∙◌, ap, ap₂, subst, cond-true, eqb-true, arith, List, length, ℤ, pos, negsuc, Some, None, inl, inr, ◌⊎◌, if◌then◌else◌, w64, ◌==◌, ◌&&◌, ◌||◌, not, w16, w32, from_le_bytes, cast_signed, cases_lt, ints, to_z_pos, field, signed, BitRange, signed_cases, low_12_bounds, IsWithin, riscv_form, riscv_places, pair_row, sum_64, difference_64, value_of, RelocationKind, Absolute, TpOff, RiscVInstruction, Operands, UType, CluiType, cast_negative, IsApplied, place_sum, clui_bounds, symbol_address, wrapped}
 use Rattle.linker_riscv64.specs.RiscVFields.{rd_of}
 use Rattle.linker_elf.proofs.RiscV.{u_laid, clui_laid}
 use Rattle.linker_laws.proofs.Applied.{value_is, taken_bits}
+use Rattle.linker_laws.proofs.RiscVMachine.{skip}
 use Rattle.linker_laws.proofs.Instructions.{unbiased}
 use Rattle.linker_laws.proofs.Sums.{sum_below}
 use Rattle.linker_laws.specs.RiscVRewriteLaws.{IsLow12, thread_offset}
-use Rattle.linker_laws.specs.RiscVMachine.{lui, sums, jal, of_half, of_clui, Instruction, adds, cli_immediate}
+use Rattle.linker_laws.specs.RiscVMachine.{lui, sums, of_half, of_clui, Instruction, adds, cli_immediate}
 use Rattle.linker_laws.proofs.Words.{kept_field}
 
 -- ---- numbers of 12 bits, and those of 18 that `c.lui` and a low part make
@@ -232,24 +233,10 @@ module _ (x : Operands) (before code : List ℕ)
   is_short_lui : of_half half ≡ Some loads_short
   unfolding loads_short
   is_short_lui =
-      let no_nop : (half == 1) ≡ false = grind (arith, function_kept) in
-      let otherwise : Option Instruction =
-      if field half 0 2 == 1 && (field half 13 16 == 2 && not (rd_of half == 0))
-      then Some (sums adds (rd_of half) 0 0 (cli_immediate half)) else None in
-      ap (λ b. if b then Some (sums adds 0 0 0 (pos 0))
-      else (if field half 0 2 == 1 && field half 13 16 == 5
-      then Some (jal 0 ((riscv_form CjType).machine half))
-      else (if field half 0 2 == 1 && field half 13 16 == 3
-      then of_clui (rd_of half) ((riscv_form CluiType).machine half) else otherwise))) no_nop
-      ∙ ap (λ n. if n == 1 && field half 13 16 == 5
-      then Some (jal 0 ((riscv_form CjType).machine half))
-      else (if n == 1 && field half 13 16 == 3
-      then of_clui (rd_of half) ((riscv_form CluiType).machine half) else otherwise)) short_kept
-      ∙ ap (λ n. if 1 == 1 && n == 5
-      then Some (jal 0 ((riscv_form CjType).machine half))
-      else (if 1 == 1 && n == 3
-      then of_clui (rd_of half) ((riscv_form CluiType).machine half) else otherwise)) function_kept
-      ∙ is_clui
+      let no_nop : half ≢ 1 = λ e. omega (arith, e, function_kept) in
+      skip (half == 1) _ _ _ (λ e. no_nop (eqb-true half 1 e))
+      (skip (field half 0 2 == 1 && field half 13 16 == 5) _ _ _ (λ e. grind (arith, e, function_kept))
+      (cond-true (field half 0 2 == 1 && field half 13 16 == 3) _ _ (grind (arith, short_kept, function_kept)) ∙ is_clui))
 
   -- the half is that `c.lui`
   pub short_low : field (from_le_bytes w16 code) 0 2 ≡ 1
@@ -281,26 +268,13 @@ module _ (half rd : ℕ) (is : half ≡ 0x4001 + rd * 128) (below : rd < 32) (so
 
   pub is_zero : of_half half ≡ Some (sums adds rd 0 0 (pos 0))
   is_zero =
-      let no_nop : (half == 1) ≡ false = grind (arith, zero_function) in
-      let there : (rd_of half == 0) ≡ false = grind (arith, some, zero_register) in
-      let jumps : Option Instruction = Some (jal 0 ((riscv_form CjType).machine half)) in
-      let high : Option Instruction = of_clui (rd_of half) ((riscv_form CluiType).machine half) in
-      let zero : Option Instruction = Some (sums adds (rd_of half) 0 0 (cli_immediate half)) in
-      ap (λ b. if b then Some (sums adds 0 0 0 (pos 0))
-      else (if field half 0 2 == 1 && field half 13 16 == 5 then jumps
-      else (if field half 0 2 == 1 && field half 13 16 == 3 then high
-      else (if field half 0 2 == 1 && (field half 13 16 == 2 && not (rd_of half == 0))
-      then zero else None)))) no_nop
-      ∙ ap (λ n. if n == 1 && field half 13 16 == 5 then jumps
-      else (if n == 1 && field half 13 16 == 3 then high
-      else (if n == 1 && (field half 13 16 == 2 && not (rd_of half == 0))
-      then zero else None))) zero_low
-      ∙ ap (λ n. if 1 == 1 && n == 5 then jumps
-      else (if 1 == 1 && n == 3 then high
-      else (if 1 == 1 && (n == 2 && not (rd_of half == 0)) then zero else None))) zero_function
-      ∙ ap (λ b. if not b then zero else None) there
-      ∙ ap (λ r. Some (sums adds r 0 0 (cli_immediate half))) zero_register
-      ∙ ap (λ i. Some (sums adds rd 0 0 i)) zero_immediate
+      let no_nop : half ≢ 1 = λ e. omega (arith, e, zero_function) in
+      skip (half == 1) _ _ _ (λ e. no_nop (eqb-true half 1 e))
+      (skip (field half 0 2 == 1 && field half 13 16 == 5) _ _ _ (λ e. grind (arith, e, zero_function))
+      (skip (field half 0 2 == 1 && field half 13 16 == 3) _ _ _ (λ e. grind (arith, e, zero_function))
+      (cond-true (field half 0 2 == 1 && (field half 13 16 == 2 && not (rd_of half == 0))) _ _
+      (grind (arith, zero_low, zero_function, some, zero_register))
+      ∙ ap₂ (λ r i. Some (sums adds r 0 0 i)) zero_register zero_immediate)))
 
 -- the two put the same
 pub same_immediates : (n h l : ℕ) → n < 2 ^ 64 → (n < 0x1f800) ⊎ (2 ^ 64 - 0x20800 ≤ n)

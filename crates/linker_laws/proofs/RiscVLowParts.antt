@@ -1,13 +1,13 @@
 -- The instructions that add a low part do the same with x0 as their base.
-use Rattle.linker_laws.proofs.Imports.{◌≡◌, ℕ, ◌+◌, ◌-◌, ◌*◌, ◌%◌, ◌^◌, ◌<◌, ◌≤◌, Bool, true, false, refl, sym, ◌∙◌, ap, subst, arith, List, length, drop, ◌++◌, ℤ, pos, ◌-ℤ◌, ◌+ℤ◌, Option, Some, None, inl, inr, ◌⊎◌, if◌then◌else◌, w64, int_lt, ◌==◌, ◌&&◌, ◌||◌, nat_lt, IsTrue, w32, from_le_bytes, to_le_bytes, cast_signed, and_parts, eqb-true, agree_below, ints, length-drop, field, signed, is_placed, rewritten, BitRange, layout_laid, always_clear, signed_cases, bits_taken, riscv_form, riscv_places, rewrites_word, with_rs1, RelocationKind, funct3_of, pair_row, sum_64, value_of, Operands, UType, IType, SType, JType, word_of_front, IsApplied, cond_both, place_sum, riscv_layout, word_at, AreBytes, moved}
+use Rattle.linker_laws.proofs.Imports.{◌≡◌, ℕ, ◌+◌, ◌-◌, ◌*◌, ◌%◌, ◌^◌, ◌<◌, ◌≤◌, Bool, true, false, refl, sym, ◌∙◌, ap, subst, arith, List, length, drop, ◌++◌, ℤ, pos, ◌-ℤ◌, ◌+ℤ◌, Option, Some, None, inl, inr, ◌⊎◌, if◌then◌else◌, w64, int_lt, ◌==◌, ◌&&◌, ◌||◌, nat_lt, IsTrue, w32, from_le_bytes, to_le_bytes, cast_signed, and_parts, eqb-true, agree_below, ints, length-drop, field, signed, is_placed, rewritten, BitRange, layout_laid, always_clear, signed_cases, bits_taken, riscv_places, rewrites_word, with_rs1, RelocationKind, funct3_of, pair_row, sum_64, value_of, Operands, IType, SType, word_of_front, IsApplied, cond_both, place_sum, riscv_layout, word_at, AreBytes, moved}
 use Rattle.linker_utils.specs.declared.riscv64.rewrites.RewriteKind.{RewriteKind}
-use Rattle.linker_riscv64.specs.RiscVFields.{opcode_of, rd_of}
+use Rattle.linker_riscv64.specs.RiscVFields.{opcode_of}
 use Rattle.linker_utils.specs.RiscVRewrites.{adds_low12}
 use Rattle.linker_utils.specs.declared.riscv64.rewrites.RewriteKind.TheVariants as kinds
 use Rattle.linker_laws.proofs.Applied.{value_is, taken_bits}
 use Rattle.linker_laws.specs.RiscVRewriteLaws.{after_rewrite}
-use Rattle.linker_laws.specs.RiscVMachine.{Action, adds, adds_word, jumps, loads, stores, loads_float, stores_float, lui, auipc, jal, rs1_of, rs2_of, action_of, with_action, of_word, is_add, add}
-use Rattle.linker_laws.proofs.RiscVMachine.{wrapped_is, written}
+use Rattle.linker_laws.specs.RiscVMachine.{Action, adds, adds_word, jumps, loads, stores, loads_float, stores_float, action_of, with_action, of_word, is_add}
+use Rattle.linker_laws.proofs.RiscVMachine.{skip, wrapped_is, written}
 use Rattle.linker_laws.proofs.Words.{kept_field, put_there, word_below, word_of_bytes}
 
 -- ---- which instruction a word is
@@ -18,27 +18,13 @@ no_action n f a e g = let c : None ≡ Some a = sym e ∙ g in cc
 pub is_action : (x : ℕ) (a : Action) → action_of (opcode_of x) (funct3_of x) ≡ Some a
     → of_word x ≡ with_action x (Some a)
 is_action x a is =
-    let here = with_action x (action_of (opcode_of x) (funct3_of x)) in
     let not_it : (n : ℕ) → action_of n (funct3_of x) ≡ None → (opcode_of x == n) ≡ true → ⊥
     = λ n e t. no_action n (funct3_of x) a e
     (subst (λ o. action_of o (funct3_of x) ≡ Some a) (eqb-true (opcode_of x) n t) is) in
-    cond_both (opcode_of x == 0x37) (Some (lui (rd_of x) ((riscv_form UType).machine x)))
-    (if opcode_of x == 0x17 then Some (auipc (rd_of x) ((riscv_form UType).machine x))
-    else (if opcode_of x == 0x6f then Some (jal (rd_of x) ((riscv_form JType).machine x))
-    else (if is_add x then Some (add (rd_of x) (rs1_of x) (rs2_of x)) else here)))
-    (λ r. r ≡ with_action x (Some a)) (λ t. absurd (not_it 0x37 refl t))
-    (λ _. cond_both (opcode_of x == 0x17) (Some (auipc (rd_of x) ((riscv_form UType).machine x)))
-    (if opcode_of x == 0x6f then Some (jal (rd_of x) ((riscv_form JType).machine x))
-    else (if is_add x then Some (add (rd_of x) (rs1_of x) (rs2_of x)) else here))
-    (λ r. r ≡ with_action x (Some a)) (λ t. absurd (not_it 0x17 refl t))
-    (λ _. cond_both (opcode_of x == 0x6f) (Some (jal (rd_of x) ((riscv_form JType).machine x)))
-    (if is_add x then Some (add (rd_of x) (rs1_of x) (rs2_of x)) else here)
-    (λ r. r ≡ with_action x (Some a)) (λ t. absurd (not_it 0x6f refl t))
-    (λ _. cond_both (is_add x) (Some (add (rd_of x) (rs1_of x) (rs2_of x))) here
-    (λ r. r ≡ with_action x (Some a))
-    (λ t. absurd (not_it 0x33 refl
-    (and_parts (opcode_of x == 0x33) (funct3_of x == 0 && field x 25 32 == 0) t).0))
-    (λ _. ap (with_action x) is))))
+    skip (opcode_of x == 0x37) _ _ _ (not_it 0x37 refl) (skip (opcode_of x == 0x17) _ _ _ (not_it 0x17 refl)
+    (skip (opcode_of x == 0x6f) _ _ _ (not_it 0x6f refl) (skip (is_add x) _ _ _
+    (λ t. not_it 0x33 refl (and_parts (opcode_of x == 0x33) (funct3_of x == 0 && field x 25 32 == 0) t).0)
+    (ap (with_action x) is))))
 
 -- each instruction that adds a low part has an action, and is one of 32 bits
 abbrev pub HasAction : ℕ → Option Action → Type 0
@@ -48,48 +34,20 @@ long_opcode : (o n : ℕ) (b : Bool) → (o == n && b) ≡ true → n % 4 ≡ 3 
 long_opcode o n b e long =
     ap (λ k. k % 4) (eqb-true o n (and_parts (o == n) b e).0) ∙ long
 
+either : (o n : ℕ) (b : Bool) (a : Action) (rest : Option Action) → n % 4 ≡ 3
+    → ((o == n && b) ≡ false → HasAction o rest) → HasAction o (if o == n && b then Some a else rest)
+either o n b a rest long =
+    cond_both (o == n && b) (Some a) rest (HasAction o) (λ t. (a, refl, long_opcode o n b t long))
+
 pub some_action : (o f : ℕ) → IsTrue (adds_low12 o f) → HasAction o (action_of o f)
 some_action o f is =
-    cond_both (o == 0x13 && f == 0) (Some adds)
-    (if o == 0x1b && f == 0 then Some adds_word
-    else (if o == 0x67 && f == 0 then Some jumps
-    else (if o == 0x03 && nat_lt f 7 then Some (loads f)
-    else (if o == 0x23 && nat_lt f 4 then Some (stores f)
-    else (if o == 0x07 && (nat_lt 0 f && nat_lt f 5) then Some (loads_float f)
-    else (if o == 0x27 && (nat_lt 0 f && nat_lt f 5) then Some (stores_float f) else None))))))
-    (HasAction o) (λ t. (adds, refl, long_opcode o 0x13 (f == 0) t refl))
-    (λ a. cond_both (o == 0x1b && f == 0) (Some adds_word)
-    (if o == 0x67 && f == 0 then Some jumps
-    else (if o == 0x03 && nat_lt f 7 then Some (loads f)
-    else (if o == 0x23 && nat_lt f 4 then Some (stores f)
-    else (if o == 0x07 && (nat_lt 0 f && nat_lt f 5) then Some (loads_float f)
-    else (if o == 0x27 && (nat_lt 0 f && nat_lt f 5) then Some (stores_float f) else None)))))
-    (HasAction o) (λ t. (adds_word, refl, long_opcode o 0x1b (f == 0) t refl))
-    (λ b. cond_both (o == 0x67 && f == 0) (Some jumps)
-    (if o == 0x03 && nat_lt f 7 then Some (loads f)
-    else (if o == 0x23 && nat_lt f 4 then Some (stores f)
-    else (if o == 0x07 && (nat_lt 0 f && nat_lt f 5) then Some (loads_float f)
-    else (if o == 0x27 && (nat_lt 0 f && nat_lt f 5) then Some (stores_float f) else None))))
-    (HasAction o) (λ t. (jumps, refl, long_opcode o 0x67 (f == 0) t refl))
-    (λ c. cond_both (o == 0x03 && nat_lt f 7) (Some (loads f))
-    (if o == 0x23 && nat_lt f 4 then Some (stores f)
-    else (if o == 0x07 && (nat_lt 0 f && nat_lt f 5) then Some (loads_float f)
-    else (if o == 0x27 && (nat_lt 0 f && nat_lt f 5) then Some (stores_float f) else None)))
-    (HasAction o) (λ t. (loads f, refl, long_opcode o 0x03 (nat_lt f 7) t refl))
-    (λ d. cond_both (o == 0x23 && nat_lt f 4) (Some (stores f))
-    (if o == 0x07 && (nat_lt 0 f && nat_lt f 5) then Some (loads_float f)
-    else (if o == 0x27 && (nat_lt 0 f && nat_lt f 5) then Some (stores_float f) else None))
-    (HasAction o) (λ t. (stores f, refl, long_opcode o 0x23 (nat_lt f 4) t refl))
-    (λ e. cond_both (o == 0x07 && (nat_lt 0 f && nat_lt f 5)) (Some (loads_float f))
-    (if o == 0x27 && (nat_lt 0 f && nat_lt f 5) then Some (stores_float f) else None)
-    (HasAction o)
-    (λ t. (loads_float f, refl, long_opcode o 0x07 (nat_lt 0 f && nat_lt f 5) t refl))
-    (λ g. cond_both (o == 0x27 && (nat_lt 0 f && nat_lt f 5)) (Some (stores_float f)) None
-    (HasAction o)
-    (λ t. (stores_float f, refl, long_opcode o 0x27 (nat_lt 0 f && nat_lt f 5) t refl))
-    (λ i. absurd (none_left (o == 0x13) (o == 0x1b) (o == 0x67) (f == 0) (o == 0x03) (nat_lt f 7)
-    (o == 0x23) (nat_lt f 4) (o == 0x07) (o == 0x27) (nat_lt 0 f) (nat_lt f 5) is a b c d e g
-    i))))))))
+    either o 0x13 (f == 0) adds _ refl (λ a. either o 0x1b (f == 0) adds_word _ refl (λ b.
+    either o 0x67 (f == 0) jumps _ refl (λ c. either o 0x03 (nat_lt f 7) (loads f) _ refl (λ d.
+    either o 0x23 (nat_lt f 4) (stores f) _ refl (λ e.
+    either o 0x07 (nat_lt 0 f && nat_lt f 5) (loads_float f) _ refl (λ g.
+    either o 0x27 (nat_lt 0 f && nat_lt f 5) (stores_float f) None refl (λ i.
+    absurd (none_left (o == 0x13) (o == 0x1b) (o == 0x67) (f == 0) (o == 0x03) (nat_lt f 7)
+    (o == 0x23) (nat_lt f 4) (o == 0x07) (o == 0x27) (nat_lt 0 f) (nat_lt f 5) is a b c d e g i))))))))
   where
     none_left : (p q r z l l7 s s4 m n some few : Bool)
         → IsTrue ((p || q || r) && z || l && l7 || s && s4 || (m || n) && some && few)

@@ -1,11 +1,11 @@
 -- What RISC-V's instructions are, by their bits, and what they leave.
-use Rattle.linker_laws.proofs.Imports.{◌≡◌, ◌≢◌, ℕ, ◌+◌, ◌-◌, ◌*◌, ◌/◌, ◌%◌, ◌^◌, ◌<◌, ◌≤◌, Bool, true, false, refl, sym, ◌∙◌, ap, arith, List, length, drop, ℤ, pos, negsuc, ◌+ℤ◌, ◌*ℤ◌, unsigned_abs, Option, Some, None, if◌then◌else◌, ◌==◌, ◌&&◌, nat_le, not, option_map, w16, w32, from_le_bytes, le-leb, ints, field, signed, replaced, consecutive_bits_sum, riscv_form, riscv_places, funct3_of, sum_64, difference_64, UType, IType, CjType, CluiType, JType, UiType, place_sum, ui_high, ui_low, IsAddress, wrapped, moved}
+use Rattle.linker_laws.proofs.Imports.{◌≡◌, ◌≢◌, ℕ, ◌+◌, ◌-◌, ◌*◌, ◌/◌, ◌%◌, ◌^◌, ◌<◌, ◌≤◌, Bool, true, false, refl, sym, ◌∙◌, ap, arith, List, length, drop, ℤ, pos, negsuc, ◌+ℤ◌, ◌*ℤ◌, unsigned_abs, Option, Some, None, if◌then◌else◌, ◌==◌, ◌&&◌, nat_le, option_map, w16, w32, from_le_bytes, le-leb, cond-true, eqb-true, ints, field, signed, replaced, consecutive_bits_sum, riscv_form, riscv_places, funct3_of, sum_64, difference_64, UType, IType, CjType, JType, UiType, place_sum, ui_high, ui_low, IsAddress, wrapped, moved}
 use Rattle.linker_riscv64.specs.RiscVFields.{opcode_of, rd_of}
 use Rattle.linker_laws.specs.RiscVRelocationLaws.{without_bit_0}
 use Rattle.linker_laws.proofs.RiscV.{bit_cleared}
 use Rattle.linker_laws.proofs.Sums.{lift}
 pub use Rattle.linker_laws.proofs.Sums.{wrapped_is}
-use Rattle.linker_laws.specs.RiscVMachine.{Hart, register, with_integer, Instruction, lui, auipc, jal, sums, jumps, rs1_of, rs2_of, action_of, with_action, add, adds, cli_immediate, of_clui, of_word, of_half, executed, sized, fetched, Steps}
+use Rattle.linker_laws.specs.RiscVMachine.{Hart, register, with_integer, Instruction, lui, auipc, jal, sums, jumps, rs1_of, rs2_of, action_of, with_action, add, of_word, of_half, executed, sized, fetched, Steps}
 use Rattle.linker_laws.proofs.Words.{same_low_two}
 
 -- ---- sums of addresses
@@ -56,6 +56,11 @@ pub at_second : (pc : ℕ) → pc < 2 ^ 64 → difference_64 (sum_64 pc 4) pc �
 at_second pc small = omega arith
 
 -- ---- instructions by their bits
+
+-- a test that fails
+pub skip : {A : Type 0} (b : Bool) (y z w : A) → (b ≡ true → ⊥) → z ≡ w → (if b then y else z) ≡ w
+skip true y z w fails e = absurd (fails refl)
+skip false y z w fails e = e
 
 pub is_long : (x : ℕ) (opcode : ℕ) → opcode_of x ≡ opcode → opcode % 4 ≡ 3 → field x 0 2 ≡ 3
 is_long x opcode e long = omega arith
@@ -135,19 +140,9 @@ module _ (x : ℕ) where
 pub is_cj : (half : ℕ) → field half 0 2 ≡ 1 → field half 13 16 ≡ 5
     → of_half half ≡ Some (jal 0 ((riscv_form CjType).machine half))
 is_cj half quadrant function =
-    let no_nop : (half == 1) ≡ false = grind (arith, function) in
-    let otherwise : Option Instruction =
-    if field half 0 2 == 1 && field half 13 16 == 3
-    then of_clui (rd_of half) ((riscv_form CluiType).machine half)
-    else (if field half 0 2 == 1 && (field half 13 16 == 2 && not (rd_of half == 0))
-    then Some (sums adds (rd_of half) 0 0 (cli_immediate half)) else None) in
-    ap (λ b. if b then Some (sums adds 0 0 0 (pos 0))
-    else (if field half 0 2 == 1 && field half 13 16 == 5
-    then Some (jal 0 ((riscv_form CjType).machine half)) else otherwise)) no_nop
-    ∙ ap (λ n. if n == 1 && field half 13 16 == 5
-    then Some (jal 0 ((riscv_form CjType).machine half)) else otherwise) quadrant
-    ∙ ap (λ n. if 1 == 1 && n == 5
-    then Some (jal 0 ((riscv_form CjType).machine half)) else otherwise) function
+    let no_nop : half ≢ 1 = λ e. omega (arith, e, function) in
+    skip (half == 1) _ _ _ (λ e. no_nop (eqb-true half 1 e))
+    (cond-true (field half 0 2 == 1 && field half 13 16 == 5) _ _ (grind (arith, quadrant, function)))
 
 -- ---- a window of two words
 

@@ -1,5 +1,5 @@
 -- The worked program.
-use Rattle.linker_laws.proofs.Imports.{◌≡◌, ◌≢◌, ℕ, ◌+◌, ◌-◌, ◌%◌, ◌^◌, ◌<◌, Bool, true, false, refl, arith, ap, ap₂, sym, ◌∙◌, subst, subst₂, true≢false, lit<, add-zero, pos, unsigned_abs, eqb-true, leb-true, leb-false, ne_eqb, cond-false, cond-true, eq-eqb, IsSomeAnd, if◌then◌else◌, ◌==◌, nat_le, [], ◌∷◌, Memory, loaded, State, Kind, Kinds, AreOf, AreStored, Agree, same, half, code, anything, Other, Group, Covered, ends, other, group, Stops, of_link, put, go_to, with_register}
+use Rattle.linker_laws.proofs.Imports.{◌≡◌, ◌≢◌, ℕ, ◌+◌, ◌-◌, ◌%◌, ◌^◌, ◌<◌, Bool, true, false, refl, arith, ap, ap₂, sym, ◌∙◌, subst, subst₂, true≢false, lit<, add-zero, pos, unsigned_abs, eqb-true, leb-true, leb-false, ne_eqb, cond-false, cond-true, eq-eqb, IsSomeAnd, if◌then◌else◌, ◌==◌, nat_le, [], ◌∷◌, Memory, loaded, State, Kind, Kinds, AreOf, AreStored, Agree, same, half, code, anything, Covered, ends, other, group, Stops, of_link, put, go_to, with_register}
 use Rattle.linker_laws.specs.SimulationWorked.{IsWorked, machine, link, first_old, first_new, put_byte, put_out, with_byte, case_less_base, first_known, of_byte, new_address}
 use Rattle.linker_laws.proofs.CoveredRuns.{once}
 use Rattle.linker_laws.proofs.Agreement.{agree_put, agree_put_old, agree_go, another, one}
@@ -195,133 +195,6 @@ k15 = with_register 9 (address 0x1e) k14
 at : (s t : State) (k : Kinds) → Agree link k s t → machine link.new t ≡ machine link.new (go_to (link.moved s.pc) t)
 at s t k agree = ap (λ a. machine link.new (go_to a t)) agree.pc
 
-p1 : Group (of_link link) 1 first_known first_old k1 s1
-p1 =
-    one link (another link refl (λ t agree.
-    agree_put link first_known first_old t 1 same 7 7 0x11 0x11 agree (lit< tt) refl refl))
-
-p2 : Group (of_link link) 1 k1 s1 k2 s2
-p2 =
-    one link (another link refl (λ t agree.
-    agree_put link k1 s1 t 2 (half 0) 0x30 0x20 0x12 0x12 agree (lit< tt) refl refl))
-
-p3 : Other (of_link link) k2 s2 k3 s3
-p3 =
-    another link refl (λ t agree.
-    agree_byte k2 s2 t (half 0) 0x30 (t.registers 2) 0x13 0x13 agree (lit< tt) refl
-    (λ a. are_bytes (a == 0xf0) (a == 0xf3)) (ap (λ y. y % 0x100 == 0x20) (eqb-true (t.registers 2) 0x20 (agree.registers 2))))
-
-p4 : Other (of_link link) k3 s3 k4 s4
-p4 =
-    another link refl (λ t agree.
-    agree_put link k3 s3 t 3 (half 0) 0x30 (t.memory 0xf8) 0x14 0x14 agree (lit< tt) refl
-    (subst (λ y. AreOf link 8 (half 0) 0x30 y) (add-zero (t.memory 0xf8)) (agree.memory 0xf8 (lit< tt))))
-
-p5 : Group (of_link link) 1 k4 s4 k5 s5
-p5 =
-    one link (another link refl (λ t agree.
-    agree_put link k4 s4 t 4 same 0x35 (t.registers 3 + 0x15) 0x15 0x15 agree (lit< tt) refl
-    (sym (ap (λ y. y + 0x15) (eqb-true (t.registers 3) 0x20 (agree.registers 3))))))
-
-p6 : Group (of_link link) 0 k5 s5 k6 s6
-p6 =
-    record {
-      more = 0;
-      old_goes = refl;
-      new_goes =
-          λ t agree. agree_put_old link k5 s5 t 7 (half 1) 0 0x16 agree (lit< tt) agree.pc refl;
-      forward = λ e. lit< tt;
-    }
-
-p7 : Group (of_link link) 1 k6 s6 k7 s7
-p7 =
-    one link (another link refl (λ t agree.
-    agree_put link k6 s6 t 8 same 3 3 0x17 0x16 agree (lit< tt) refl refl))
-
-p8 : Group (of_link link) 1 k7 s7 k8 s8
-p8 =
-    record {
-      more = 1;
-      old_goes = refl;
-      new_goes = λ t agree.
-          once (machine link.new) t (Agree link k8 s8)
-          (subst (λ o. IsSomeAnd o (Agree link k8 s8)) (sym (at s7 t k7 agree))
-          (agree_put link (with_register 5 anything k7) (put 5 0x20 0x18 s7) (go_to 0x17 t) 6
-          (address 0x19) 0x19 0x17 0x20 0x1d
-          (agree_put_old link k7 (go_to 0x18 s7) (go_to 0x17 t) 5 anything 0x20 0x18
-          (agree_go link k7 s7 t 0x18 0x17 agree (lit< tt) refl) (lit< tt) refl tt) (lit< tt) refl
-          (refl, refl)));
-      forward = λ e. lit< tt;
-    }
-
-p9 : Other (of_link link) k8 s8 k9 s9
-p9 =
-    another link refl (λ t agree.
-    agree_put link k8 s8 t 9 (address 0x24) 0x24 0x21 0x21 0x1e agree (lit< tt) refl
-    (refl, refl))
-
-p10 : Other (of_link link) k9 s9 k10 s10
-p10 =
-    another link refl (λ t agree.
-    agree_put link k9 s9 t 9 same 0x55 (t.memory (t.registers 9)) 0x22 0x1f agree (lit< tt)
-    refl (loads t agree))
-  where
-    loads : (t : State) → Agree link k9 s9 t → 0x55 ≡ t.memory (t.registers 9)
-    loads t agree =
-        agree.memory 0x24 (lit< tt) ∙ add-zero (t.memory 0x21)
-        ∙ ap t.memory (ap unsigned_abs (agree.registers 9).1)
-
-p11 : Other (of_link link) k10 s10 k11 s11
-p11 =
-    another link refl (λ t agree.
-    agree_put link k10 s10 t 4 same 0x8a (t.registers 4 + t.registers 9) 0x23 0x20 agree
-    (lit< tt) refl (ap₂ (λ x y. x + y) (agree.registers 4) (agree.registers 9)))
-
-p12 : Other (of_link link) k11 s11 k11 s12
-p12 =
-    another link refl (λ t agree.
-    agree_go link k11 s11 t 0x19 (t.registers 6) agree (lit< tt)
-    (sym (ap unsigned_abs (agree.registers 6).1)))
-
-p13 : Other (of_link link) k11 s12 k13 s13
-p13 =
-    another link refl (λ t agree.
-    agree_put link k11 s12 t 4 same 0x91 (t.registers 4 + t.registers 1) 0x1a 0x18 agree
-    (lit< tt) refl (ap₂ (λ x y. x + y) (agree.registers 4) (agree.registers 1)))
-
-p14 : Other (of_link link) k13 s13 k14 s14
-p14 =
-    another link refl (λ t agree.
-    agree_put link k13 s13 t 9 case_less_base 5 (t.memory 0xf3) 0x1b 0x19 agree (lit< tt)
-    refl (refl, (agree.memory 0xf3 (lit< tt)).1 ∙ ap pos (add-zero (t.memory 0xf3))))
-
-p15 : Other (of_link link) k14 s14 k15 s15
-p15 =
-    another link refl (λ t agree.
-    agree_put link k14 s14 t 9 (address 0x1e) 0x1e (t.registers 9 + t.registers 6) 0x1c 0x1a
-    agree (lit< tt) refl (
-      refl,
-      ap₂ (λ x y. pos (x + y)) (ap unsigned_abs (agree.registers 9).1)
-          (ap unsigned_abs (agree.registers 6).1),
-    ))
-
-p16 : Other (of_link link) k15 s15 k15 s16
-p16 =
-    another link refl (λ t agree.
-    agree_go link k15 s15 t 0x1e (t.registers 9) agree (lit< tt)
-    (sym (ap unsigned_abs (agree.registers 9).1)))
-
-p17 : Other (of_link link) k15 s16 k15 s17
-p17 =
-    another link {k = k15} {k' = k15} {s = s16} {s' = s17} refl (λ t agree.
-    record {
-      small = lit< tt;
-      pc = refl;
-      registers = agree.registers;
-      memory = agree.memory;
-      outside = ap₂ (λ x o. λ m. if m == 0 then x else o m) (agree.registers 4) agree.outside;
-    })
-
 stops : Stops (of_link link) k15 s17
 stops = record { old_stops = refl; new_stops = λ t agree. at s17 t k15 agree }
 
@@ -374,14 +247,103 @@ agree =
         (λ is. table (stays (a - 0) 0xf3 (lit< tt) is))
         (follows_code (a - 0)) (λ is. ap new_address is))
 
+-- new's load of the byte after f
+loads : (t : State) → Agree link k9 s9 t → 0x55 ≡ t.memory (t.registers 9)
+loads t agree =
+    agree.memory 0x24 (lit< tt) ∙ add-zero (t.memory 0x21)
+    ∙ ap t.memory (ap unsigned_abs (agree.registers 9).1)
+
 covered : Covered (of_link link) 17 16 first_known first_old k15 s17
 covered =
-    group 16 1 15 _ _ _ _ _ _ p1 (group 15 1 14 _ _ _ _ _ _ p2 (other 14 13 _ _ _ _ _ _ p3
-    (other 13 12 _ _ _ _ _ _ p4 (group 12 1 11 _ _ _ _ _ _ p5 (group 11 0 11 _ _ _ _ _ _ p6
-    (group 10 1 10 _ _ _ _ _ _ p7 (group 9 1 9 _ _ _ _ _ _ p8 (other 8 8 _ _ _ _ _ _ p9
-    (other 7 7 _ _ _ _ _ _ p10 (other 6 6 _ _ _ _ _ _ p11 (other 5 5 _ _ _ _ _ _ p12
-    (other 4 4 _ _ _ _ _ _ p13 (other 3 3 _ _ _ _ _ _ p14 (other 2 2 _ _ _ _ _ _ p15
-    (other 1 1 _ _ _ _ _ _ p16 (other 0 0 _ _ _ _ _ _ p17 (ends _ _)))))))))))))))))
+    group 16 1 15 _ k1 _ _ s1 _
+    (one link (another link refl (λ t agree.
+    agree_put link first_known first_old t 1 same 7 7 0x11 0x11 agree (lit< tt) refl refl)))
+    (group 15 1 14 _ k2 _ _ s2 _
+    (one link (another link refl (λ t agree.
+    agree_put link k1 s1 t 2 (half 0) 0x30 0x20 0x12 0x12 agree (lit< tt) refl refl)))
+    (other 14 13 _ k3 _ _ s3 _
+    (another link refl (λ t agree.
+    agree_byte k2 s2 t (half 0) 0x30 (t.registers 2) 0x13 0x13 agree (lit< tt) refl
+    (λ a. are_bytes (a == 0xf0) (a == 0xf3)) (ap (λ y. y % 0x100 == 0x20) (eqb-true (t.registers 2) 0x20 (agree.registers 2)))))
+    (other 13 12 _ k4 _ _ s4 _
+    (another link refl (λ t agree.
+    agree_put link k3 s3 t 3 (half 0) 0x30 (t.memory 0xf8) 0x14 0x14 agree (lit< tt) refl
+    (subst (λ y. AreOf link 8 (half 0) 0x30 y) (add-zero (t.memory 0xf8)) (agree.memory 0xf8 (lit< tt)))))
+    (group 12 1 11 _ k5 _ _ s5 _
+    (one link (another link refl (λ t agree.
+    agree_put link k4 s4 t 4 same 0x35 (t.registers 3 + 0x15) 0x15 0x15 agree (lit< tt) refl
+    (sym (ap (λ y. y + 0x15) (eqb-true (t.registers 3) 0x20 (agree.registers 3)))))))
+    (group 11 0 11 _ k6 _ _ s6 _
+    (record {
+      more = 0;
+      old_goes = refl;
+      new_goes =
+          λ t agree. agree_put_old link k5 s5 t 7 (half 1) 0 0x16 agree (lit< tt) agree.pc refl;
+      forward = λ e. lit< tt;
+    })
+    (group 10 1 10 _ k7 _ _ s7 _
+    (one link (another link refl (λ t agree.
+    agree_put link k6 s6 t 8 same 3 3 0x17 0x16 agree (lit< tt) refl refl)))
+    (group 9 1 9 _ k8 _ _ s8 _
+    (record {
+      more = 1;
+      old_goes = refl;
+      new_goes = λ t agree.
+          once (machine link.new) t (Agree link k8 s8)
+          (subst (λ o. IsSomeAnd o (Agree link k8 s8)) (sym (at s7 t k7 agree))
+          (agree_put link (with_register 5 anything k7) (put 5 0x20 0x18 s7) (go_to 0x17 t) 6
+          (address 0x19) 0x19 0x17 0x20 0x1d
+          (agree_put_old link k7 (go_to 0x18 s7) (go_to 0x17 t) 5 anything 0x20 0x18
+          (agree_go link k7 s7 t 0x18 0x17 agree (lit< tt) refl) (lit< tt) refl tt) (lit< tt) refl
+          (refl, refl)));
+      forward = λ e. lit< tt;
+    })
+    (other 8 8 _ k9 _ _ s9 _
+    (another link refl (λ t agree.
+    agree_put link k8 s8 t 9 (address 0x24) 0x24 0x21 0x21 0x1e agree (lit< tt) refl
+    (refl, refl)))
+    (other 7 7 _ k10 _ _ s10 _
+    (another link refl (λ t agree.
+    agree_put link k9 s9 t 9 same 0x55 (t.memory (t.registers 9)) 0x22 0x1f agree (lit< tt)
+    refl (loads t agree)))
+    (other 6 6 _ k11 _ _ s11 _
+    (another link refl (λ t agree.
+    agree_put link k10 s10 t 4 same 0x8a (t.registers 4 + t.registers 9) 0x23 0x20 agree
+    (lit< tt) refl (ap₂ (λ x y. x + y) (agree.registers 4) (agree.registers 9))))
+    (other 5 5 _ k11 _ _ s12 _
+    (another link refl (λ t agree.
+    agree_go link k11 s11 t 0x19 (t.registers 6) agree (lit< tt)
+    (sym (ap unsigned_abs (agree.registers 6).1))))
+    (other 4 4 _ k13 _ _ s13 _
+    (another link refl (λ t agree.
+    agree_put link k11 s12 t 4 same 0x91 (t.registers 4 + t.registers 1) 0x1a 0x18 agree
+    (lit< tt) refl (ap₂ (λ x y. x + y) (agree.registers 4) (agree.registers 1))))
+    (other 3 3 _ k14 _ _ s14 _
+    (another link refl (λ t agree.
+    agree_put link k13 s13 t 9 case_less_base 5 (t.memory 0xf3) 0x1b 0x19 agree (lit< tt)
+    refl (refl, (agree.memory 0xf3 (lit< tt)).1 ∙ ap pos (add-zero (t.memory 0xf3)))))
+    (other 2 2 _ k15 _ _ s15 _
+    (another link refl (λ t agree.
+    agree_put link k14 s14 t 9 (address 0x1e) 0x1e (t.registers 9 + t.registers 6) 0x1c 0x1a
+    agree (lit< tt) refl (
+      refl,
+      ap₂ (λ x y. pos (x + y)) (ap unsigned_abs (agree.registers 9).1)
+          (ap unsigned_abs (agree.registers 6).1),
+    )))
+    (other 1 1 _ k15 _ _ s16 _
+    (another link refl (λ t agree.
+    agree_go link k15 s15 t 0x1e (t.registers 9) agree (lit< tt)
+    (sym (ap unsigned_abs (agree.registers 9).1))))
+    (other 0 0 _ k15 _ _ s17 _
+    (another link {k = k15} {k' = k15} {s = s16} {s' = s17} refl (λ t agree.
+    record {
+      small = lit< tt;
+      pc = refl;
+      registers = agree.registers;
+      memory = agree.memory;
+      outside = ap₂ (λ x o. λ m. if m == 0 then x else o m) (agree.registers 4) agree.outside;
+    }))
+    (ends _ _)))))))))))))))))
 
 pub is_worked : IsWorked
 is_worked =

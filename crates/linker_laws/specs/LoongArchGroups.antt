@@ -466,11 +466,6 @@ Calls =
     (λ x s. put 1 (sum_64 x.place 8) s.pc s)
     × CallTo kinds.CallToB 0 (λ x k. k) (λ x s. s)
 
--- ---- other instructions
-
-abbrev pub Others : Type 0
-Others = (c : Code) → OthersAgree (does c.processor) (link c)
-
 pub record Groups : Type 0 where
   pub got : GotToAddress
   pub near_got : GotToPcaddi
@@ -495,4 +490,5 @@ pub record Groups : Type 0 where
   pub sums : SumIsDeleted
   pub low_offsets : LowPartFromThreadPointer
   pub calls : Calls
-  pub others : Others
+  -- other instructions
+  pub others : (c : Code) → OthersAgree (does c.processor) (link c)

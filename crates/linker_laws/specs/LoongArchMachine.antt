@@ -2,7 +2,8 @@
 -- address can be read and written, and code is apart from memory.
 use Rattle.std.specs.Prelude.{ℕ, pos, ◌+ℤ◌, ◌*ℤ◌, ◌*◌, ◌/◌, ◌%◌, ◌^◌, ◌==◌, List, [], ◌∷◌, Option}
 use Rattle.std.specs.Prelude.{Some, None, IsSomeAnd, ◌≡◌, Bool, false, bit_or, bit_and}
-use Rattle.std.specs.Prelude.{if◌then◌else◌}
+use Rattle.std.specs.Prelude.{if◌then◌else◌, ◌-◌, slice_get}
+use Rattle.std.specs.Option.{unwrap_or}
 use Rattle.linker_laws.specs.Imports.{field, signed, loongarch_form, pcalau12i, adds_low12, rj_of}
 use Rattle.linker_laws.specs.Imports.{sum_64, Shift5, Branch26}
 use Rattle.linker_utils.specs.LoongArchRewrites.{rd_of}
@@ -72,30 +73,19 @@ pub data Action : Type 0 where
   -- `preld`, which changes no register and no memory
   preloads : Action
 
--- by the upper 10 bits of a word, of those that `adds_low12` names
+-- the loads and stores of the upper 10 bits 0x0a0 to 0x0b3 of a word
+abbrev pub accesses : List Action
+accesses =
+    loads_signed 1 ∷ loads_signed 2 ∷ loads_signed 4 ∷ loads 8 ∷ stores 1 ∷ stores 2 ∷ stores 4
+    ∷ stores 8 ∷ loads 1 ∷ loads 2 ∷ loads 4 ∷ preloads ∷ loads_float 4 ∷ stores_float 4
+    ∷ loads_float 8 ∷ stores_float 8 ∷ loads_float 16 ∷ stores_float 16 ∷ loads_float 32
+    ∷ stores_float 32 ∷ []
+
+-- by these bits, of those that `adds_low12` names
 abbrev pub action_of : ℕ → Action
 action_of opcode =
     if opcode == 0x00a then adds_word else (
-    if opcode == 0x00b then adds else (
-    if opcode == 0x0a0 then loads_signed 1 else (
-    if opcode == 0x0a1 then loads_signed 2 else (
-    if opcode == 0x0a2 then loads_signed 4 else (
-    if opcode == 0x0a3 then loads 8 else (
-    if opcode == 0x0a4 then stores 1 else (
-    if opcode == 0x0a5 then stores 2 else (
-    if opcode == 0x0a6 then stores 4 else (
-    if opcode == 0x0a7 then stores 8 else (
-    if opcode == 0x0a8 then loads 1 else (
-    if opcode == 0x0a9 then loads 2 else (
-    if opcode == 0x0aa then loads 4 else (
-    if opcode == 0x0ab then preloads else (
-    if opcode == 0x0ac then loads_float 4 else (
-    if opcode == 0x0ad then stores_float 4 else (
-    if opcode == 0x0ae then loads_float 8 else (
-    if opcode == 0x0af then stores_float 8 else (
-    if opcode == 0x0b0 then loads_float 16 else (
-    if opcode == 0x0b1 then stores_float 16 else (
-    if opcode == 0x0b2 then loads_float 32 else stores_float 32))))))))))))))))))))
+    if opcode == 0x00b then adds else unwrap_or (slice_get accesses (opcode - 0x0a0)) preloads)
 
 -- what is done with a sum and register r
 abbrev pub used : Action → ℕ → ℕ → State → State
@@ -167,9 +157,6 @@ sum_of word s = wrapped (pos (read (rj_of word) s) +ℤ signed 12 (field word 10
 abbrev pub ored : ℕ → State → ℕ
 ored word s = bit_or (read (rj_of word) s) (field word 10 22)
 
-abbrev pub anded : ℕ → State → ℕ
-anded word s = bit_and (read (rj_of word) s) (field word 10 22)
-
 -- "JIRL": the immediate, in units of 4 bytes, is added to a register.
 abbrev pub register_target : ℕ → State → ℕ
 register_target word s =
@@ -191,7 +178,8 @@ execute pcaddu_18 word s = Some (go_on (write (rd_of word) (far_address word s) 
 execute lu12i_w word s = Some (go_on (write (rd_of word) (high_part word) s))
 execute (sums action) word s = Some (go_on (used action (rd_of word) (sum_of word s) s))
 execute ori word s = Some (go_on (write (rd_of word) (ored word s) s))
-execute andi word s = Some (go_on (write (rd_of word) (anded word s) s))
+execute andi word s =
+    Some (go_on (write (rd_of word) (bit_and (read (rj_of word) s) (field word 10 22)) s))
 execute jirl word s = Some (go_to (register_target word s) (write (rd_of word) (next_pc s) s))
 execute b word s = Some (go_to (branch_target word s) s)
 execute bl word s = Some (go_to (branch_target word s) (write 1 (next_pc s) s))

@@ -31,6 +31,9 @@ page_and_low o x y = pcalau12i o.place x +ℤ signed 12 (field y 10 22)
 abbrev pub PageAndLow : LoongArch64Relocation → Step → (Operands → ℕ) → Type 0
 PageAndLow high low target = Law (of_bits 32 Signed (row_here high) ∷ low ∷ []) page_and_low target
 
+abbrev pub PageOfEntry : (high low : LoongArch64Relocation) → Type 0
+PageOfEntry high low = PageAndLow high (row_anywhere low) entry_and_addend
+
 -- the low part of an instruction that is no `jirl`
 abbrev pub no_jump : Step → Step
 no_jump step = record step { premise = of_words (λ x. not (is_jirl x)) }
@@ -39,15 +42,11 @@ abbrev pub RelativeAddresses : Type 0
 RelativeAddresses =
     PageAndLow names.R_LARCH_PCALA_HI20 (no_jump (row_anywhere names.R_LARCH_PCALA_LO12))
     symbol_address
-    × PageAndLow names.R_LARCH_GOT_PC_HI20 (row_anywhere names.R_LARCH_GOT_PC_LO12) entry_and_addend
-    × PageAndLow names.R_LARCH_TLS_LD_PC_HI20 (row_anywhere names.R_LARCH_GOT_PC_LO12)
-    entry_and_addend
-    × PageAndLow names.R_LARCH_TLS_GD_PC_HI20 (row_anywhere names.R_LARCH_GOT_PC_LO12)
-    entry_and_addend
-    × PageAndLow names.R_LARCH_TLS_IE_PC_HI20 (row_anywhere names.R_LARCH_TLS_IE_PC_LO12)
-    entry_and_addend
-    × PageAndLow names.R_LARCH_TLS_DESC_PC_HI20 (row_anywhere names.R_LARCH_TLS_DESC_PC_LO12)
-    entry_and_addend
+    × PageOfEntry names.R_LARCH_GOT_PC_HI20 names.R_LARCH_GOT_PC_LO12
+    × PageOfEntry names.R_LARCH_TLS_LD_PC_HI20 names.R_LARCH_GOT_PC_LO12
+    × PageOfEntry names.R_LARCH_TLS_GD_PC_HI20 names.R_LARCH_GOT_PC_LO12
+    × PageOfEntry names.R_LARCH_TLS_IE_PC_HI20 names.R_LARCH_TLS_IE_PC_LO12
+    × PageOfEntry names.R_LARCH_TLS_DESC_PC_HI20 names.R_LARCH_TLS_DESC_PC_LO12
 
 -- `pcalau12i`, and a `jirl` that jumps by its 16 bits in two's complement, in units of 4 bytes
 -- ("JIRL")
@@ -55,14 +54,12 @@ abbrev pub page_and_jump : Operands → ℕ → ℕ → ℤ
 page_and_jump o x y =
     pcalau12i o.place x +ℤ ((loongarch_form Shift10).machine y *ℤ pos 4)
 
-abbrev pub a_jump : Step → Step
-a_jump step = record step { premise = of_words is_jirl }
-
 abbrev pub PageJumps : Type 0
 PageJumps =
     Law
     (of_bits 32 Signed (row_here names.R_LARCH_PCALA_HI20)
-    ∷ a_jump (row_anywhere names.R_LARCH_PCALA_LO12) ∷ []) page_and_jump symbol_address
+    ∷ record (row_anywhere names.R_LARCH_PCALA_LO12) { premise = of_words is_jirl } ∷ [])
+    page_and_jump symbol_address
 
 -- ---- addresses in 64 bits ("LU32I.D", "LU52I.D"; psABI, "Extreme code model")
 
@@ -146,12 +143,9 @@ ThreadAddresses =
 
 -- ---- high parts, of which no row is a low part ("LU12I.W", "PCADDU12I")
 
-abbrev pub high_number : ℕ → ℤ
-high_number x = signed 20 (field x 5 25)
-
 abbrev pub HighPart : LoongArch64Relocation → (Operands → ℕ) → (Operands → ℕ) → Type 0
 HighPart name begin target =
-    Adds (of_bits 32 Signed (row_here name)) begin high_number 4096 target
+    Adds (of_bits 32 Signed (row_here name)) begin (λ x. signed 20 (field x 5 25)) 4096 target
 
 abbrev pub HighParts : Type 0
 HighParts =

@@ -5,9 +5,8 @@ use Rattle.std.specs.Prelude.{false, nat_lt, if◌then◌else◌, List, [], ◌�
 use Rattle.std.specs.Prelude.{Option, Some, None, IsSomeAnd, ⊤, ◌⊎◌}
 use Rattle.std.specs.Int.{w16, w64, cast_signed, from_le_bytes}
 use Rattle.linker_laws.specs.Imports.{low_12_bounds, IsWithin, riscv_form, clui_row}
-use Rattle.linker_laws.specs.Imports.{riscv_relocation, riscv_row, difference_64, sum_64}
-use Rattle.linker_laws.specs.Imports.{RowInfo, Operands, UType, RiscVRelocation, rd_of}
-use Rattle.linker_laws.specs.Imports.{a0}
+use Rattle.linker_laws.specs.Imports.{riscv_relocation, riscv_row, difference_64, sum_64, RowInfo}
+use Rattle.linker_laws.specs.Imports.{Operands, UType, RiscVRelocation, rd_of, a0}
 use Rattle.linker_elf.specs.declared.riscv64.relocations.RiscVRelocation.TheVariants as names
 use Rattle.linker_laws.specs.Changes.{ChangesOpen, OthersAgree, put, with_register}
 use Rattle.linker_laws.specs.Machine.{Relocated, loaded, moved, wrapped}
@@ -15,7 +14,7 @@ use Rattle.linker_laws.specs.RiscVMachine.{Action, Hart, register, rs1_of, rs2_o
 use Rattle.linker_laws.specs.RiscVMachine.{adds_word, bytes_of, jumps, loads, loads_float, stores}
 use Rattle.linker_laws.specs.RiscVMachine.{stores_float}
 use Rattle.linker_laws.specs.RiscVRelocationLaws.{even}
-use Rattle.linker_laws.specs.RiscVRewriteLaws.{AreOfDescriptor, HaveOneOffset, HaveOneTarget}
+use Rattle.linker_laws.specs.RiscVRewriteLaws.{AreOfDescriptor}
 use Rattle.linker_laws.specs.RiscVRewriteLaws.{IsLoadFromGot, IsLow12, IsLowOffset, action_at}
 use Rattle.linker_laws.specs.RiscVRewriteLaws.{after_rewrite, low_row, of_entry, offset_row, t0}
 use Rattle.linker_laws.specs.RiscVRewriteLaws.{thread_offset, word_of}
@@ -131,7 +130,7 @@ upper_from at auipc = moved at ((riscv_form UType).machine (word_of auipc))
 abbrev pub LuiBecomesClui : Type 0
 LuiBecomesClui =
     (c : Code) (x y : Operands) (k : Kinds) (s : State) (lui : List ℕ) → AreBefore c 4 2 x y s
-    → riscv_matches kinds.Hi20ToCLui lui 0 → HaveOneTarget x y → ¬ IsLow12 x
+    → riscv_matches kinds.Hi20ToCLui lui 0 → symbol_address x ≡ symbol_address y → ¬ IsLow12 x
     → (old : Has 4 c.old x.place (riscv_row names.R_RISCV_HI20) x lui)
     → Has 2 c.new y.place (Some clui_row) y (after_rewrite kinds.Hi20ToCLui lui 0)
     → Group (of_link (link c)) 1 k s (with_register (rd_of (word_of lui)) same k)
@@ -250,9 +249,6 @@ CallStays name =
     → IsCallPair (word_of call) (word_of (drop 4 call)) → rd_of (word_of call) ≢ 0
     → (old : Has 8 c.old x.place (riscv_row name) x call)
     → Has 8 c.new y.place (riscv_row name) y call → IsCall c 2 x k s call old.relocated
-
-abbrev pub LongCalls : Type 0
-LongCalls = CallStays names.R_RISCV_CALL × CallStays names.R_RISCV_CALL_PLT
 
 -- `jal` of a register, and `c.j`, of distance 0
 abbrev pub IsJal : List ℕ → ℕ → Type 0
@@ -394,7 +390,7 @@ abbrev pub GotToFixedAddress : Type 0
 GotToFixedAddress =
     (c : Code) (x y : Operands) (k : Kinds) (s : State) (auipc ld : List ℕ)
     → AreBefore c 8 8 x y s → (load : LoadFromGot c x s auipc ld) → AreAddresses y
-    → HaveOneTarget x y
+    → symbol_address x ≡ symbol_address y
     → Has 4 c.new y.place (riscv_row names.R_RISCV_HI20) y (after_rewrite kinds.AuipcToLui auipc 0)
     → Has 4 c.new (sum_64 y.place 4) (riscv_row names.R_RISCV_LO12_I) y
     (after_rewrite kinds.LdToAddi ld 0)
@@ -404,7 +400,7 @@ GotToFixedAddress =
 abbrev pub GotToLowAddress : Type 0
 GotToLowAddress =
     (c : Code) (x y : Operands) (k : Kinds) (s : State) (auipc ld : List ℕ)
-    → AreBefore c 8 4 x y s → (load : LoadFromGot c x s auipc ld) → HaveOneTarget x y → IsLow12 y
+    → AreBefore c 8 4 x y s → (load : LoadFromGot c x s auipc ld) → symbol_address x ≡ symbol_address y → IsLow12 y
     → Has 4 c.new y.place (riscv_row names.R_RISCV_LO12_I) y
     (after_rewrite kinds.LdToAddiZero ld 0)
     → LeavesAddress 1 c x k s auipc ld load
@@ -463,7 +459,7 @@ DescriptorToLocalExec =
     (c : Code) (n at : ℕ) (x y : Operands) (k k' : Kinds) (s s' : State)
     (auipc ld addi jalr : List ℕ)
     → Descriptor c x (thread_offset x) k s k' s' auipc ld addi jalr → AreAddresses y
-    → HaveOneOffset x y → AreNops c n 2 x at → length addi ≡ 4 → length jalr ≡ 4
+    → thread_offset x ≡ thread_offset y → AreNops c n 2 x at → length addi ≡ 4 → length jalr ≡ 4
     → Has 4 c.new at (riscv_row names.R_RISCV_TPREL_HI20) y (after_rewrite kinds.AddiToLui addi 0)
     → Has 4 c.new (sum_64 at 4) (riscv_row names.R_RISCV_TPREL_LO12_I) y
     (after_rewrite kinds.CallToAddi jalr 0)
@@ -475,7 +471,7 @@ DescriptorToShortLocalExec =
     (c : Code) (n at : ℕ) (x y : Operands) (k k' : Kinds) (s s' : State)
     (auipc ld addi jalr : List ℕ)
     → Descriptor c x (thread_offset x) k s k' s' auipc ld addi jalr
-    → HaveOneOffset x y → IsLowOffset y → AreNops c n 1 x at → length jalr ≡ 4
+    → thread_offset x ≡ thread_offset y → IsLowOffset y → AreNops c n 1 x at → length jalr ≡ 4
     → Has 4 c.new at (riscv_row names.R_RISCV_TPREL_LO12_I) y
     (after_rewrite kinds.CallToAddiZero jalr 0)
     → Group (of_link (link c)) (n + 1) k s k' s'
@@ -495,11 +491,6 @@ DescriptorToInitialExec =
     (after_rewrite kinds.CallToLd jalr 0)
     → Group (of_link (link c)) (n + 2) k s k' s'
 
--- ---- other instructions
-
-abbrev pub Others : Type 0
-Others = (c : Code) → OthersAgree (λ code at. does c.others (instruction_at code at)) (link c)
-
 pub record Groups : Type 0 where
   pub short_high_parts : LuiBecomesClui
   pub short_zeros : CluiBecomesCli
@@ -511,7 +502,7 @@ pub record Groups : Type 0 where
   pub accesses : AccessesAgree
   pub calls : Calls
   pub short_tail_calls : ShortTailCalls
-  pub long_calls : LongCalls
+  pub long_calls : CallStays names.R_RISCV_CALL × CallStays names.R_RISCV_CALL_PLT
   pub rewritten_calls : CallsAreRewritten
   pub got : GotToAddress
   pub got_to_fixed_address : GotToFixedAddress
@@ -519,4 +510,5 @@ pub record Groups : Type 0 where
   pub descriptor_to_local_exec : DescriptorToLocalExec
   pub descriptor_to_short_local_exec : DescriptorToShortLocalExec
   pub descriptor_to_initial_exec : DescriptorToInitialExec
-  pub others : Others
+  -- other instructions
+  pub others : (c : Code) → OthersAgree (λ code at. does c.others (instruction_at code at)) (link c)

@@ -12,7 +12,6 @@ use Rattle.linker_elf.specs.declared.riscv64.relocations.RiscVRelocation.TheVari
 use Rattle.linker_utils.specs.declared.riscv64.rewrites.RewriteKind.{RewriteKind}
 pub use Rattle.linker_laws.specs.Machine.{word_of}
 pub use Rattle.linker_laws.specs.Schemes.{thread_offset}
-use Rattle.linker_laws.specs.Schemes.{symbol_address}
 use Rattle.linker_laws.specs.RiscVMachine.{Action, stores, stores_float, action_of, rs1_of}
 
 -- the section after a rewrite at an offset
@@ -24,10 +23,6 @@ after_rewrite kind section o = rewritten (riscv_rewrite kind) section o
 -- S + A is a number of 12 bits in two's complement
 abbrev pub IsLow12 : Operands → Type 0
 IsLow12 x = IsWithin (Some low_12_bounds) (symbol_and_addend x)
-
--- S + A is the same in both layouts
-abbrev pub HaveOneTarget : Operands → Operands → Type 0
-HaveOneTarget x y = symbol_address x ≡ symbol_address y
 
 -- ---- low parts (psABI, "Zero-page Relaxation")
 
@@ -44,11 +39,7 @@ action_at section o =
 
 -- ---- offsets from the thread pointer (psABI, "Local-Exec TLS Relaxation")
 
--- the offset is the same in both layouts
-abbrev pub HaveOneOffset : Operands → Operands → Type 0
-HaveOneOffset x y = thread_offset x ≡ thread_offset y
-
--- it is a number of 12 bits in two's complement
+-- the offset is a number of 12 bits in two's complement
 abbrev pub IsLowOffset : Operands → Type 0
 IsLowOffset x = IsWithin (Some low_12_bounds) (cast_signed w64 (thread_offset x))
 

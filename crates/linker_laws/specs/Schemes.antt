@@ -99,12 +99,7 @@ anywhere row = record { row = row; operands = λ o at. record o { place = at }; 
 
 -- one of an instruction n bytes after the first
 abbrev pub next : ℕ → Option RowInfo → Step
-next n row =
-    record {
-      row = row;
-      operands = λ o at. record o { place = sum_64 o.place n };
-      premise = none;
-    }
+next n row = record (here row) { operands = λ o at. record o { place = sum_64 o.place n } }
 
 -- one n bytes after the first, with as many more in its addend, so that S + A is more too
 abbrev pub moved_on : ℕ → Option RowInfo → Step

@@ -129,26 +129,21 @@ first_known =
     (with_byte 0xf3 case_less_base
     (with_register 2 anything (record { registers = λ r. same; memory = λ a. of_byte same })))
 
+-- a state before the code at an address
+abbrev pub before : ℕ → (ℕ → ℕ) → (ℕ → ℕ) → State
+before pc registers memory =
+    record { pc = pc; registers = registers; memory = memory; outside = λ n. 0 }
+
 abbrev pub first_old : State
 first_old =
-    record {
-      pc = 0x10;
-      registers = λ r. r;
-      memory = λ a.
-          if a == 0xf0 then 7 else (if a == 0xf3 then 5 else (if a == 0x24 then 0x55 else 0));
-      outside = λ n. 0;
-    }
+    before 0x10 (λ r. r)
+    (λ a. if a == 0xf0 then 7 else (if a == 0xf3 then 5 else (if a == 0x24 then 0x55 else 0)))
 
 -- the register and the entry that may differ do, and the jump table and the byte after f moved
 abbrev pub first_new : State
 first_new =
-    record {
-      pc = 0x10;
-      registers = λ r. if r == 2 then 0x77 else r;
-      memory = λ a.
-          if a == 0xf0 then 0x99 else (if a == 0xf3 then 4 else (if a == 0x21 then 0x55 else 0));
-      outside = λ n. 0;
-    }
+    before 0x10 (λ r. if r == 2 then 0x77 else r)
+    (λ a. if a == 0xf0 then 0x99 else (if a == 0xf3 then 4 else (if a == 0x21 then 0x55 else 0)))
 
 -- 8 bytes of a number from an address on, in memory that has nothing else
 abbrev pub entry : ℕ → ℕ → ℕ → ℕ
@@ -157,8 +152,7 @@ entry first number a =
 
 -- Code is at 0x10000.
 abbrev pub before_code : (ℕ → ℕ) → (ℕ → ℕ) → State
-before_code registers memory =
-    record { pc = 0x10000; registers = registers; memory = memory; outside = λ n. 0 }
+before_code = before 0x10000
 
 abbrev pub words : List ℕ → ℕ → ℕ
 words = words_from 0x10000
@@ -230,13 +224,7 @@ abbrev pub all_same : Kinds
 all_same = record { registers = λ r. same; memory = λ a. of_byte same }
 
 abbrev pub with_entry : ℕ → State
-with_entry number =
-    record {
-      pc = 0x10;
-      registers = λ r. r;
-      memory = λ a. if a == 0xf0 then number else 0;
-      outside = λ n. 0;
-    }
+with_entry number = before 0x10 (λ r. r) (λ a. if a == 0xf0 then number else 0)
 
 -- Old executes 3 instructions, which are a group of the chain, and new 2. Old alone reads the
 -- entry.

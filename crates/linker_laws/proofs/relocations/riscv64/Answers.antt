@@ -3,65 +3,53 @@ use Rattle.linker_laws.proofs.Imports.{refl, arith, UType, IType, SType, CluiTyp
 use Rattle.linker_laws.proofs.Fields.{holds_distance}
 use Rattle.linker_laws.proofs.Instructions.{adds, symbol_from_place, plt_from_place, entry_and_addend_from_place, symbol_from_tls, symbol_itself}
 use Rattle.linker_laws.proofs.Differences.{adds_distance, sets_distance, sets_distance_6}
-use Rattle.linker_laws.proofs.RiscV.{pairs, calls, Completes}
+use Rattle.linker_laws.proofs.RiscV.{pairs, calls}
 use Rattle.linker_laws.proofs.relocations.riscv64.Goals as goal
-
-by_load : Completes UType IType
-by_load bits v after h = h.0
-
-by_store : Completes UType SType
-by_store bits v after h = h.1
-
-clui_by_load : Completes CluiType IType
-clui_by_load bits v after h = h.0
-
-clui_by_store : Completes CluiType SType
-clui_by_store bits v after h = h.1
 
 pub returns-clause-absolute : goal.returns-clause-absolute
 returns-clause-absolute c = (
   (
-    pairs symbol_itself UType IType by_load _ (λ o. refl) (λ o at. refl),
-    pairs symbol_itself UType SType by_store _ (λ o. refl) (λ o at. refl),
+    pairs symbol_itself UType IType (λ bits v after h. h.0) _ (λ o. refl) (λ o at. refl),
+    pairs symbol_itself UType SType (λ bits v after h. h.1) _ (λ o. refl) (λ o at. refl),
   ),
   (
-    pairs symbol_itself CluiType IType clui_by_load _ (λ o. refl) (λ o at. refl),
-    pairs symbol_itself CluiType SType clui_by_store _ (λ o. refl) (λ o at. refl),
+    pairs symbol_itself CluiType IType (λ bits v after h. h.0) _ (λ o. refl) (λ o at. refl),
+    pairs symbol_itself CluiType SType (λ bits v after h. h.1) _ (λ o. refl) (λ o at. refl),
   ),
 )
 
 pub returns-clause-relative : goal.returns-clause-relative
 returns-clause-relative c = (
-  pairs symbol_from_place UType IType by_load _ (λ o. refl) (λ o at. refl),
-  pairs symbol_from_place UType SType by_store _ (λ o. refl) (λ o at. refl),
+  pairs symbol_from_place UType IType (λ bits v after h. h.0) _ (λ o. refl) (λ o at. refl),
+  pairs symbol_from_place UType SType (λ bits v after h. h.1) _ (λ o. refl) (λ o at. refl),
 )
 
 pub returns-clause-entries : goal.returns-clause-entries
 returns-clause-entries c = (
   (
-    pairs entry_and_addend_from_place UType IType by_load _ (λ o. refl) (λ o at. refl),
-    pairs entry_and_addend_from_place UType SType by_store _ (λ o. refl) (λ o at. refl),
+    pairs entry_and_addend_from_place UType IType (λ bits v after h. h.0) _ (λ o. refl) (λ o at. refl),
+    pairs entry_and_addend_from_place UType SType (λ bits v after h. h.1) _ (λ o. refl) (λ o at. refl),
   ),
   (
-    pairs entry_and_addend_from_place UType IType by_load _ (λ o. refl) (λ o at. refl),
-    pairs entry_and_addend_from_place UType SType by_store _ (λ o. refl) (λ o at. refl),
+    pairs entry_and_addend_from_place UType IType (λ bits v after h. h.0) _ (λ o. refl) (λ o at. refl),
+    pairs entry_and_addend_from_place UType SType (λ bits v after h. h.1) _ (λ o. refl) (λ o at. refl),
   ),
   (
-    pairs entry_and_addend_from_place UType IType by_load _ (λ o. refl) (λ o at. refl),
-    pairs entry_and_addend_from_place UType SType by_store _ (λ o. refl) (λ o at. refl),
+    pairs entry_and_addend_from_place UType IType (λ bits v after h. h.0) _ (λ o. refl) (λ o at. refl),
+    pairs entry_and_addend_from_place UType SType (λ bits v after h. h.1) _ (λ o. refl) (λ o at. refl),
   ),
 )
 
 pub returns-clause-descriptors : goal.returns-clause-descriptors
 returns-clause-descriptors c = (
-  pairs entry_and_addend_from_place UType IType by_load _ (λ o. refl) (λ o at. refl),
-  pairs entry_and_addend_from_place UType IType by_load _ (λ o. refl) (λ o at. refl),
+  pairs entry_and_addend_from_place UType IType (λ bits v after h. h.0) _ (λ o. refl) (λ o at. refl),
+  pairs entry_and_addend_from_place UType IType (λ bits v after h. h.0) _ (λ o. refl) (λ o at. refl),
 )
 
 pub returns-clause-thread : goal.returns-clause-thread
 returns-clause-thread c = (
-  pairs symbol_from_tls UType IType by_load _ (λ o. refl) (λ o at. refl),
-  pairs symbol_from_tls UType SType by_store _ (λ o. refl) (λ o at. refl),
+  pairs symbol_from_tls UType IType (λ bits v after h. h.0) _ (λ o. refl) (λ o at. refl),
+  pairs symbol_from_tls UType SType (λ bits v after h. h.1) _ (λ o. refl) (λ o at. refl),
 )
 
 pub returns-clause-calls : goal.returns-clause-calls

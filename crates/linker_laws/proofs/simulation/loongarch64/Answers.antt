@@ -1,3 +1,4 @@
+use Rattle.linker_elf.specs.declared.loongarch64.relocations.LoongArch64Relocation.TheVariants.{R_LARCH_TLS_DESC_PC_HI20, R_LARCH_TLS_IE_PC_HI20}
 use Rattle.linker_laws.proofs.LoongArchGroups as proofs
 use Rattle.linker_laws.proofs.simulation.loongarch64.Goals as goal
 
@@ -10,12 +11,12 @@ returns c =
         near_got = proofs.are_near_loads laws.relative laws.branches;
         address = proofs.are_near_sums laws.relative laws.branches;
         near_entries = proofs.are_near_entries laws.relative laws.branches;
-        high_halves = proofs.are_high_halves;
-        no_high_halves = proofs.are_no_high_halves;
+        high_halves = proofs.high_half_made R_LARCH_TLS_IE_PC_HI20 proofs.page_of_entry;
+        no_high_halves = proofs.no_high_half R_LARCH_TLS_IE_PC_HI20 proofs.page_of_entry;
         low_halves = proofs.are_low_halves;
         short_low_halves = proofs.are_short_low_halves;
-        descriptor_high_halves = proofs.are_descriptor_high_halves;
-        no_descriptor_high_halves = proofs.are_no_descriptor_high_halves;
+        descriptor_high_halves = proofs.high_half_made R_LARCH_TLS_DESC_PC_HI20 proofs.page_of_descriptor;
+        no_descriptor_high_halves = proofs.no_high_half R_LARCH_TLS_DESC_PC_HI20 proofs.page_of_descriptor;
         deleted_descriptor_high_halves = proofs.are_deleted_descriptor_high_halves;
         descriptor_entries = proofs.are_descriptor_pages;
         descriptor_low_halves = proofs.are_descriptor_low_halves;
