@@ -1,6 +1,8 @@
 -- States that agree, after a register is written, and at other addresses.
-use Rattle.linker_laws.proofs.Imports.{◌≡◌, ℕ, suc, ◌+◌, ◌-◌, nat_lt, cases_lt, cond-true, cond-false, lt-ltb, le-ltb, ne_eqb, ◌^◌, ◌<◌, Bool, true, false, refl, sym, ◌∙◌, ap, subst, eqb-true, Some, arith, inl, inr, IsSomeAnd, if◌then◌else◌, ◌&&◌, ◌==◌, ◌⊎◌, loaded, State, Program, Link, Kind, Kinds, AreOf, AreStored, Agree, Group, Other, anything, of_link, run, same, ChangesOpen, OthersAgree, put, go_to, with_register}
+use Rattle.linker_laws.proofs.Imports.{◌≡◌, ℕ, suc, ◌+◌, ◌-◌, nat_lt, ◌^◌, ◌<◌, Bool, true, false, refl, sym, ◌∙◌, ap, subst, eqb-true, Some, None, Covered, arith, inl, inr, IsSomeAnd, if◌then◌else◌, ◌&&◌, ◌==◌, ◌⊎◌, loaded, State, Program, Link, Kind, Kinds, AreOf, AreStored, Agree, Group, Other, anything, of_link, run, same, ChangesOpen, OthersAgree, put, go_to, with_register}
+use Rattle.linker_laws.specs.SimulationWorked.{AreRuns}
 use Rattle.linker_laws.proofs.CoveredRuns.{holds_of, once, run_first}
+use Rattle.std.proofs.lemmas.Bool.Decides.{nat_tests}
 
 pick : (l : Link) (b : Bool) (k k' : Kind) (x x' y y' : ℕ) → AreOf l 8 k x y → AreOf l 8 k' x' y'
     → AreOf l 8 (if b then k else k') (if b then x else x') (if b then y else y')
@@ -15,20 +17,12 @@ pick_old l false k k' x x' y here there = there
 
 -- registers, of which those from 32 up have numbers of their own
 pub both_parts : (f : ℕ → ℕ) (r : ℕ) → (if nat_lt r 32 then f r else f (32 + (r - 32))) ≡ f r
-both_parts f r =
-    elim (cases_lt r 32) [
-      | inl low ↦ cond-true (nat_lt r 32) (f r) (f (32 + (r - 32))) (lt-ltb r 32 low)
-      | inr high ↦ cond-false (nat_lt r 32) (f r) (f (32 + (r - 32))) (le-ltb r 32 high)
-          ∙ ap f (let e : 32 + (r - 32) ≡ r = omega arith in e)
-    ]
+both_parts f r = grind (arith, nat_tests)
 
 -- the same where one below 32 is written
 pub one_written : (f : ℕ → ℕ) (n v r : ℕ) → n < 32
     → (if nat_lt r 32 then (if r == n then v else f r) else f (32 + (r - 32))) ≡ (if r == n then v else f r)
-one_written f n v r small =
-    ap (λ y. if nat_lt r 32 then (if r == n then v else f r) else y)
-    (sym (cond-false (32 + (r - 32) == n) v (f (32 + (r - 32))) (ne_eqb (32 + (r - 32)) n (λ e. omega arith))))
-    ∙ both_parts (λ r. if r == n then v else f r) r
+one_written f n v r small = grind (arith, nat_tests)
 
 -- what was written last counts
 pub last_counts : (n u v a b : ℕ) (s : State) → put n v b (put n u a s) ≡ put n v b s
@@ -171,6 +165,35 @@ one l {k} {k'} {s} {s'} o =
       old_goes = run_first 0 (l.machine l.old) s s' (Some s') o.old_goes refl;
       new_goes = λ t agree. once (l.machine l.new) t (Agree l k' s') (o.new_goes t agree);
       forward = λ none. absurd (omega (arith, none));
+    }
+
+-- a group by the same, for which old executes some instructions
+pub several : (l : Link) (n more : ℕ) {k k' : Kinds} {s s' : State} → run (suc more) (l.machine l.old) s ≡ Some s'
+    → ((t : State) → Agree l k s t
+    → IsSomeAnd (run (suc n) (l.machine l.new) (go_to (l.moved s.pc) t)) (Agree l k' s'))
+    → Group (of_link l) (suc n) k s k' s'
+several l n more {k} {k'} {s} {s'} goes new =
+    group_of l n more goes (λ t agree.
+    subst (λ p. IsSomeAnd (run (suc n) (l.machine l.new) (go_to p t)) (Agree l k' s')) (sym agree.pc) (new t agree))
+
+-- a worked program's runs, by the covered one
+pub runs : (l : Link) {first kinds : Kinds} {s t state : State} {q m n : ℕ} {OldEnds NewEnds : State → Type 0}
+    → Agree l first s t → Covered (of_link l) q n first s kinds state
+    → l.machine l.old state ≡ None → ((t : State) → l.machine l.new (go_to (l.moved state.pc) t) ≡ None)
+    → IsSomeAnd (run m (l.machine l.old) s) OldEnds → IsSomeAnd (run n (l.machine l.new) t) NewEnds
+    → AreRuns l first s t q m n OldEnds NewEnds
+runs l {first} {kinds} {s} {t} {state} agree covered old_stops new_stops old_ends new_ends =
+    record {
+      kinds = kinds;
+      state = state;
+      agree = agree;
+      covered = covered;
+      stops = record {
+        old_stops = old_stops;
+        new_stops = λ t agree. subst (λ p. l.machine l.new (go_to p t) ≡ None) (sym agree.pc) (new_stops t);
+      };
+      old_ends = old_ends;
+      new_ends = new_ends;
     }
 
 pub others_agree : (does : (ℕ → ℕ) → ℕ → Program) (l : Link)

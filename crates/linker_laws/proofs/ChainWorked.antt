@@ -1,58 +1,37 @@
 -- The worked chain.
-use Rattle.linker_laws.proofs.Imports.{◌≡◌, ◌≢◌, ℕ, ◌+◌, ◌-◌, ◌^◌, ◌<◌, ◌≤◌, Bool, true, false, refl, Some, arith, ap, ap₂, sym, ◌∙◌, subst, lit<, leb-true, ne_eqb, cond-false, IsSomeAnd, if◌then◌else◌, ◌==◌, nat_le, State, Link, Kinds, AreStored, Agree, run, same, half, anything, Other, Group, Covered, ends, other, group, of_link, put, go_to, with_register}
+use Rattle.linker_laws.proofs.Imports.{◌≡◌, ◌≢◌, ℕ, ◌+◌, ◌-◌, ◌<◌, Bool, true, false, refl, Some, arith, ap, sym, ◌∙◌, subst, lit<, ne_eqb, cond-false, IsSomeAnd, if◌then◌else◌, ◌==◌, State, Kinds, AreStored, Agree, run, same, half, anything, Other, Group, Covered, ends, other, group, of_link, put, go_to, with_register}
 use Rattle.linker_laws.specs.SimulationWorked.{machine, put_out, with_byte, of_byte, rewritten, packed, chain, all_same, with_entry, IsChainWorked}
 use Rattle.linker_laws.specs.Chains.{of_chain}
 use Rattle.linker_laws.proofs.CoveredRuns.{run_first, same_value, composes}
 use Rattle.linker_laws.proofs.Agreement.{agree_put, agree_put_old, another, one}
-use Rattle.linker_laws.proofs.SimulationWorked.{apart}
+use Rattle.linker_laws.proofs.SimulationWorked.{apart, put_out_agrees}
+use Rattle.std.proofs.lemmas.Bool.Decides.{nat_tests}
 
 -- ---- the first link
 
 abbrev s0 : State
 s0 = with_entry 7
 
-abbrev s1 : State
-s1 = put 1 7 0x11 s0
-
-abbrev s2 : State
-s2 = put 7 0 0x12 s1
-
 abbrev s3 : State
-s3 = put_out 7 0x13 s2
+s3 = put_out 7 0x13 (put 7 0 0x12 (put 1 7 0x11 s0))
 
 abbrev k0 : Kinds
 k0 = with_byte 0xf0 anything all_same
 
-abbrev k1 : Kinds
-k1 = with_register 1 same k0
-
 abbrev k2 : Kinds
-k2 = with_register 7 (half 0) k1
-
--- what is put out agrees
-put_out_agrees : (l : Link) (k : Kinds) (s t : State) (x y next next' : ℕ) → Agree l k s t
-    → next < 2 ^ 64 → next' ≡ l.moved next → x ≡ y
-    → Agree l k (put_out x next s) (put_out y next' t)
-put_out_agrees l k s t x y next next' agree small at is =
-    record {
-      small = small;
-      pc = at;
-      registers = agree.registers;
-      memory = agree.memory;
-      outside = ap₂ (λ x o. λ m. if m == 0 then x else o m) is agree.outside;
-    }
+k2 = with_register 7 (half 0) (with_register 1 same k0)
 
 first : Covered (of_link rewritten) 3 3 k0 s0 k2 s3
 first =
-    group 2 1 2 _ k1 _ _ s1 _
+    group 2 1 2 _ _ _ _ _ _
     (one rewritten (another rewritten refl (λ t agree.
-    agree_put rewritten k0 s0 t 1 same 7 7 0x11 0x11 agree (lit< tt) refl refl)))
-    (group 1 1 1 _ k2 _ _ s2 _
+    agree_put rewritten _ _ t 1 same 7 7 0x11 0x11 agree (lit< tt) refl refl)))
+    (group 1 1 1 _ _ _ _ _ _
     (one rewritten (another rewritten refl (λ t agree.
-    agree_put rewritten k1 s1 t 7 (half 0) 0 0x20 0x12 0x12 agree (lit< tt) refl refl)))
+    agree_put rewritten _ _ t 7 (half 0) 0 0x20 0x12 0x12 agree (lit< tt) refl refl)))
     (other 0 0 _ _ _ _ _ _
     (another rewritten refl (λ t agree.
-    put_out_agrees rewritten k2 s2 t 7 (t.registers 1) 0x13 0x13 agree (lit< tt) refl (agree.registers 1)))
+    put_out_agrees rewritten _ _ t 7 (t.registers 1) 0x13 0x13 agree (lit< tt) refl (agree.registers 1)))
     (ends _ _)))
 
 -- ---- the second link, from any state of the code between
@@ -66,11 +45,8 @@ h2 = with_register 7 (half 0) h1
 abbrev u1 : State → State
 u1 u = put 1 7 0x11 u
 
-abbrev u2 : State → State
-u2 u = put 7 0x20 0x12 (u1 u)
-
 abbrev u3 : State → State
-u3 u = put_out 7 0x13 (u2 u)
+u3 u = put_out 7 0x13 (put 7 0x20 0x12 (u1 u))
 
 o1 : (u : State) → u.pc ≡ 0x10 → Other (of_link packed) all_same u h1 (u1 u)
 o1 u is =
@@ -85,16 +61,16 @@ second u u' agree runs agree' =
     let there = run_first 2 (machine packed.old) u (u1 u) (Some (u3 u)) (o1 u is).old_goes refl in
     subst (λ v. Covered (of_link packed) 3 2 all_same u h2 v) (same_value (u3 u) u' (sym there ∙ runs))
     (other 2 1 _ _ _ _ _ _ (o1 u is)
-    (group 1 0 1 _ h2 _ _ (u2 u) _
+    (group 1 0 1 _ _ _ _ _ _
     (record {
       more = 0;
       old_goes = refl;
-      new_goes = λ t agree. agree_put_old packed h1 (u1 u) t 7 (half 0) 0x20 0x12 agree (lit< tt) agree.pc refl;
+      new_goes = λ t agree. agree_put_old packed _ _ t 7 (half 0) 0x20 0x12 agree (lit< tt) agree.pc refl;
       forward = λ e. lit< tt;
     })
-    (other 0 0 _ _ _ _ (u3 u) _
+    (other 0 0 _ _ _ _ _ _
     (another packed refl (λ t agree.
-    put_out_agrees packed h2 (u2 u) t 7 (t.registers 1) 0x13 0x12 agree (lit< tt) refl (agree.registers 1)))
+    put_out_agrees packed _ _ t 7 (t.registers 1) 0x13 0x12 agree (lit< tt) refl (agree.registers 1)))
     (ends _ _))))
 
 -- ---- both
@@ -126,23 +102,8 @@ last =
       outside = refl;
     }
   where
-    by : (a : ℕ) (p q : Bool) → nat_le a 0x11 ≡ p → nat_le a 0x13 ≡ q
-        → (a == 0xf0) ≡ ((if p then a else (if q then a - 1 else a)) == 0xf0)
-    by a true q e f = refl
-    by a false true e f =
-        let small = leb-true a 0x13 f in
-        ne_eqb a 0xf0 (let z : a ≢ 0xf0 = λ is. not_below a small is in z)
-        ∙ sym (ne_eqb (a - 1) 0xf0 (λ is. not_next a small is))
-      where
-        not_below : (a : ℕ) → a ≤ 0x13 → a ≡ 0xf0 → ⊥
-        not_below a small is = omega arith
-
-        not_next : (a : ℕ) → a ≤ 0x13 → a - 1 ≡ 0xf0 → ⊥
-        not_next a small is = omega arith
-    by a false false e f = refl
-
     apart_alike : (a : ℕ) → (a == 0xf0) ≡ (packed.moved a == 0xf0)
-    apart_alike a = by a (nat_le a 0x11) (nat_le a 0x13) refl refl
+    apart_alike a = grind (arith, nat_tests)
 
 pub is_chain_worked : IsChainWorked
 is_chain_worked =

@@ -1,6 +1,6 @@
 -- Addresses of LoongArch in parts.
 use Rattle.linker_laws.proofs.Sums.{high_sum, halves_sum, page_halves_sum, signed_12, sum_below, goes, difference_below, once}
-use Rattle.linker_laws.proofs.Imports.{◌≡◌, ℕ, ◌+◌, ◌-◌, ◌*◌, ◌/◌, ◌%◌, ◌^◌, ◌<◌, Bool, refl, sym, ◌∙◌, ap, subst, true, false, arith, List, [], ◌∷◌, ℤ, pos, ◌+ℤ◌, ◌-ℤ◌, ◌*ℤ◌, inl, inr, Option, Some, w64, cast_signed, int_rem_euclid, ints, int_rem_euclid_is, mod_below, pow_pos, field, signed, window_of, signed_cases, bits_from, IsWithin, bit_bounds, loongarch_form, page, reach, value_of, sum_64, difference_64, AllowedRange, PageMask, Shift5, Shift10, Call36, LoongArch64, RelocationKind, Signed, Operands, page_and_distance, IsApplied, plain_written, AgreesInReach, is_jirl, is_low_jump, taken_below, shift5_sum, without_low, AreAddresses, Law, place, Premise, PremiseHolds, none, of_values, of_words, high_distance, shift10_low_sum, shift10_low_field, made, first_of_five, high_of_five, five_from}
+use Rattle.linker_laws.proofs.Imports.{◌≡◌, ℕ, ◌+◌, ◌-◌, ◌*◌, ◌/◌, ◌%◌, ◌^◌, ◌<◌, Bool, refl, sym, ◌∙◌, ap, subst, true, false, arith, List, [], ◌∷◌, ℤ, pos, ◌+ℤ◌, ◌-ℤ◌, ◌*ℤ◌, inl, inr, Option, Some, w64, cast_signed, int_rem_euclid, ints, int_rem_euclid_is, mod_below, pow_pos, field, signed, window_of, BitRange, signed_cases, bits_from, IsWithin, bit_bounds, loongarch_form, page, reach, value_of, sum_64, difference_64, AllowedRange, PageMask, Shift5, Shift10, Call36, LoongArch64, RelocationKind, Signed, Operands, page_and_distance, IsApplied, plain_written, AgreesInReach, is_jirl, is_low_jump, taken_below, shift5_sum, without_low, AreAddresses, Law, place, Premise, PremiseHolds, none, of_values, of_words, high_distance, shift10_low_sum, shift10_low_field, made, first_of_five, high_of_five, five_from}
 use Rattle.linker_laws.specs.LoongArchRelocationLaws.{five, four, page_and_jump, page_and_low, upper_and_or}
 use Rattle.linker_laws.proofs.Applied.{holds, reads, value_is, taken_bits}
 use Rattle.linker_laws.proofs.Rounded.{IsRounded}
@@ -8,67 +8,57 @@ use Rattle.linker_laws.proofs.Instructions.{FirstHasNumber, HasNumber, IsNumber,
 
 -- ---- the immediates
 
--- an immediate of 20 bits
-pub high_field : (kind : RelocationKind) (start : ℕ) (mask : Option PageMask)
-    (range : AllowedRange) (a : ℕ) (bias : Option ℕ) (thunkable implicit : Bool) (o : Operands)
-    (before after : List ℕ)
-    (applied : IsApplied (row_of kind start (start + 20) (LoongArch64 Shift5) mask range a bias
-    thunkable implicit) o before after) (n : ℕ) → n < 2 ^ 64 → start + 20 < 65
-    → value_of (row_of kind start (start + 20) (LoongArch64 Shift5) mask range a bias thunkable
-    implicit) o ≡ Some (cast_signed w64 n)
-    → field (window_of (loongarch_form Shift5) after) 5 25 ≡ field n start (start + 20)
-high_field kind start mask range a bias thunkable implicit o before after applied n below inside e =
-    let sum = field_sum kind start (start + 20) (LoongArch64 Shift5) mask range a bias thunkable
-    implicit o before after applied refl refl (omega arith) n below e in
-    let width : start + 20 - start ≡ 20 = omega arith in
-    let small : field n start (start + 20) < 2 ^ 20 =
-    subst (λ w. field n start (start + 20) < 2 ^ w) width
-    (mod_below (n / 2 ^ start) (2 ^ (start + 20 - start)) (pow_pos (start + 20 - start))) in
-    sym (shift5_sum (window_of (loongarch_form Shift5) after)) ∙ sum ∙ omega arith
+module _ {kind : RelocationKind} {mask : Option PageMask} {range : AllowedRange} {a : ℕ}
+    {bias : Option ℕ} {thunkable implicit : Bool} (o : Operands) (before after : List ℕ) where
+  -- an immediate of 20 bits
+  high_field : (start : ℕ)
+      (applied : IsApplied (row_of kind start (start + 20) (LoongArch64 Shift5) mask range a bias thunkable implicit) o before after)
+      (n : ℕ) → n < 2 ^ 64 → start + 20 < 65
+      → value_of (row_of kind start (start + 20) (LoongArch64 Shift5) mask range a bias thunkable implicit) o
+      ≡ Some (cast_signed w64 n)
+      → field (window_of (loongarch_form Shift5) after) 5 25 ≡ field n start (start + 20)
+  high_field start applied n below inside e =
+      let sum = field_sum kind start (start + 20) (LoongArch64 Shift5) mask range a bias thunkable
+      implicit o before after applied refl refl (omega arith) n below e in
+      let width : start + 20 - start ≡ 20 = omega arith in
+      let small : field n start (start + 20) < 2 ^ 20 =
+      subst (λ w. field n start (start + 20) < 2 ^ w) width
+      (mod_below (n / 2 ^ start) (2 ^ (start + 20 - start)) (pow_pos (start + 20 - start))) in
+      sym (shift5_sum (window_of (loongarch_form Shift5) after)) ∙ sum ∙ omega arith
 
--- one of 12 bits
-pub low_field : (kind : RelocationKind) (start : ℕ) (mask : Option PageMask)
-    (range : AllowedRange) (a : ℕ) (bias : Option ℕ) (thunkable implicit : Bool) (o : Operands)
-    (before after : List ℕ)
-    (applied : IsApplied (row_of kind start (start + 12) (LoongArch64 Shift10) mask range a bias
-    thunkable implicit) o before after) (n : ℕ) → n < 2 ^ 64 → start + 12 < 65
-    → value_of (row_of kind start (start + 12) (LoongArch64 Shift10) mask range a bias thunkable
-    implicit) o ≡ Some (cast_signed w64 n)
-    → is_low_jump (LoongArch64 Shift10) kind (window_of (loongarch_form Shift10) before) ≡ false
-    → field (window_of (loongarch_form Shift10) after) 10 22 ≡ field n start (start + 12)
-low_field kind start mask range a bias thunkable implicit o before after applied n below inside e
-    plain =
-    let row = row_of kind start (start + 12) (LoongArch64 Shift10) mask range a bias thunkable
-    implicit in
-    let f = field n start (start + 12) in
-    let bits = taken_bits (record { start = start; end = start + 12 }) n applied.value below
-    (value_is row o before after applied (cast_signed w64 n) e) in
-    let width : start + 12 - start ≡ 12 = omega arith in
-    let small : f < 2 ^ 12 =
-    subst (λ w. f < 2 ^ w) width
-    (mod_below (n / 2 ^ start) (2 ^ (start + 12 - start)) (pow_pos (start + 12 - start))) in
-    let w = plain_written (LoongArch64 Shift10) kind (record { start = start; end = start + 12 })
-    applied.value before after refl plain applied.written in
-    sym (shift10_low_field (window_of (loongarch_form Shift10) after))
-    ∙ shift10_low_sum _ w.clear (window_of (loongarch_form Shift10) after)
-    (taken_below (record { start = start; end = start + 12 }) applied.value (omega arith))
-    w.written
-    ∙ ap (λ x. x % 2 ^ 12) bits ∙ omega arith
+  -- one of 12 bits
+  low_field : (start : ℕ)
+      (applied : IsApplied (row_of kind start (start + 12) (LoongArch64 Shift10) mask range a bias thunkable implicit) o before after)
+      (n : ℕ) → n < 2 ^ 64 → start + 12 < 65
+      → value_of (row_of kind start (start + 12) (LoongArch64 Shift10) mask range a bias thunkable implicit) o
+      ≡ Some (cast_signed w64 n)
+      → is_low_jump (LoongArch64 Shift10) kind (window_of (loongarch_form Shift10) before) ≡ false
+      → field (window_of (loongarch_form Shift10) after) 10 22 ≡ field n start (start + 12)
+  low_field start applied n below inside e plain =
+      let f = field n start (start + 12) in
+      let bits : BitRange = record { start = start; end = start + 12 } in
+      let taken = taken_bits bits n applied.value below (value_is _ o before after applied (cast_signed w64 n) e) in
+      let width : start + 12 - start ≡ 12 = omega arith in
+      let small : f < 2 ^ 12 =
+      subst (λ w. f < 2 ^ w) width
+      (mod_below (n / 2 ^ start) (2 ^ (start + 12 - start)) (pow_pos (start + 12 - start))) in
+      let w = plain_written (LoongArch64 Shift10) kind bits applied.value before after refl plain applied.written in
+      sym (shift10_low_field (window_of (loongarch_form Shift10) after))
+      ∙ shift10_low_sum _ w.clear (window_of (loongarch_form Shift10) after)
+      (taken_below bits applied.value (omega arith)) w.written
+      ∙ ap (λ x. x % 2 ^ 12) taken ∙ omega arith
 
--- what a high immediate in two's complement reads, of a number of 32 bits
-high_reads : (kind : RelocationKind) (mask : Option PageMask) (range : AllowedRange) (a : ℕ)
-    (bias : Option ℕ) (thunkable implicit : Bool) (o : Operands) (before after : List ℕ)
-    (applied : IsApplied (row_of kind 12 32 (LoongArch64 Shift5) mask range a bias
-    thunkable implicit) o before after) → IsWithin (Some (bit_bounds 32 Signed)) applied.value
-    → (n : ℕ) → n < 2 ^ 64
-    → value_of (row_of kind 12 32 (LoongArch64 Shift5) mask range a bias thunkable
-    implicit) o ≡ Some (cast_signed w64 n)
-    → signed 20 (field (window_of (loongarch_form Shift5) after) 5 25)
-    ≡ bits_from 12 (cast_signed w64 n)
-high_reads kind mask range a bias thunkable implicit o before after applied within n below e =
-    ap (signed 20) (sym (shift5_sum (window_of (loongarch_form Shift5) after)))
-    ∙ reads_bits kind 12 32 (LoongArch64 Shift5) mask range a bias thunkable implicit o before after
-    applied (bit_bounds 32 Signed) within refl n below e
+  -- what a high immediate in two's complement reads, of a number of 32 bits
+  high_reads : (applied : IsApplied (row_of kind 12 32 (LoongArch64 Shift5) mask range a bias thunkable implicit) o before after)
+      → IsWithin (Some (bit_bounds 32 Signed)) applied.value → (n : ℕ) → n < 2 ^ 64
+      → value_of (row_of kind 12 32 (LoongArch64 Shift5) mask range a bias thunkable implicit) o
+      ≡ Some (cast_signed w64 n)
+      → signed 20 (field (window_of (loongarch_form Shift5) after) 5 25)
+      ≡ bits_from 12 (cast_signed w64 n)
+  high_reads applied within n below e =
+      ap (signed 20) (sym (shift5_sum (window_of (loongarch_form Shift5) after)))
+      ∙ reads_bits kind 12 32 (LoongArch64 Shift5) mask range a bias thunkable implicit o before after
+      applied (bit_bounds 32 Signed) within refl n below e
 
 -- ---- two instructions
 
@@ -115,7 +105,7 @@ high_parts {begin} {number} from target r is e = λ o small at before after high
     let same = is o small in
     let below : number o < 2 ^ 64 =
     subst (λ x. x < 2 ^ 64) (sym same) (difference_below (sum_64 (target o) r) (begin o)) in
-    let h = high_reads _ _ _ _ _ _ _ o before after high within (number o) below (e o) in
+    let h = high_reads o before after high within (number o) below (e o) in
     high_sum 12 r (begin o) (target o) (number o)
     (signed 20 (field (window_of (loongarch_form Shift5) after) 5 25)) (omega arith) (from o small)
     same h
@@ -188,8 +178,8 @@ module _ {kind : RelocationKind} {mask : Option PageMask} {range : AllowedRange}
       let m = page_distance target o in
       let t = target o in
       let below = difference_below (page (sum_64 t 0x800)) (page o.place) in
-      let h = high_reads _ _ _ _ _ _ _ o before after step within m below (e o small) in
-      let l = low_field _ 0 _ _ _ _ _ _ _ before2 after2 step2 (sum_64 t 0) (sum_below t 0)
+      let h = high_reads o before after step within m below (e o small) in
+      let l = low_field _ before2 after2 0 step2 (sum_64 t 0) (sum_below t 0)
       (omega arith) (e2 o small at2) (plain _ _ any2) in
       ap (λ z. int_rem_euclid
       (z +ℤ signed 12 (field (window_of (loongarch_form Shift10) after2) 10 22)) (pos (2 ^ 64)))
@@ -216,7 +206,7 @@ module _ {kind : RelocationKind} {mask : Option PageMask} {range : AllowedRange}
       let t = target o in
       let n = sum_64 t 0 in
       let below = difference_below (page (sum_64 t 0x800)) (page o.place) in
-      let h = high_reads _ _ _ _ _ _ _ o before after step within m below (e o small) in
+      let h = high_reads o before after step within m below (e o small) in
       let is = value_is _ (operands o at2) before2 after2 step2 (cast_signed w64 n) (e2 o small at2) in
       let l = (reads _ (operands o at2) before2 after2 step2 n (sum_below t 0) is false agrees).jump
       (jumps (window_of (loongarch_form Shift10) before2) jump) in
@@ -247,8 +237,8 @@ module _ {kind : RelocationKind} {mask : Option PageMask} {range : AllowedRange}
       let numbers = leads o small in
       let x = window_of (loongarch_form Shift5) after in
       let y = window_of (loongarch_form Shift10) after2 in
-      let h = high_reads _ _ _ _ _ _ _ o before after step within n numbers.below (e o small) in
-      let l = low_field _ 0 _ _ _ _ _ _ _ before2 after2 step2 n numbers.below (omega arith)
+      let h = high_reads o before after step within n numbers.below (e o small) in
+      let l = low_field _ before2 after2 0 step2 n numbers.below (omega arith)
       (e2 o small at2) (plain _ step2.value tt) in
       let low : field y 10 22 ≡ n % 2 ^ 12 = l ∙ omega arith in
       ap (λ z. int_rem_euclid z (pos (2 ^ 64)))
@@ -273,8 +263,8 @@ module _ {kind : RelocationKind} {mask : Option PageMask} {range : AllowedRange}
       let below : rounded o < 2 ^ 64 = subst (λ k. k < 2 ^ 64) (sym is) (sum_below n 0x800) in
       let x = window_of (loongarch_form Shift5) after in
       let y = window_of (loongarch_form Shift10) after2 in
-      let h = high_reads _ _ _ _ _ _ _ o before after step within (rounded o) below (e o small) in
-      let l = low_field _ 0 _ _ _ _ _ _ _ before2 after2 step2 n numbers.below (omega arith)
+      let h = high_reads o before after step within (rounded o) below (e o small) in
+      let l = low_field _ before2 after2 0 step2 n numbers.below (omega arith)
       (e2 o small at2) (plain _ step2.value tt) in
       halves_sum 12 0x800 (begin o) (target o) n (rounded o) (signed 20 (field x 5 25))
       (signed 12 (field y 10 22))
@@ -304,13 +294,13 @@ module _ {kind : RelocationKind} {mask : Option PageMask} {range : AllowedRange}
         let n = number o in
         let numbers = leads o small in
         let there = numbers.leads in
-        let f = high_field _ 12 _ _ _ _ _ _ _ before after step n numbers.below (omega arith)
+        let f = high_field _ before after 12 step n numbers.below (omega arith)
         (e o small) in
-        let l = low_field _ 0 _ _ _ _ _ _ _ before2 after2 step2 n numbers.below (omega arith)
+        let l = low_field _ before2 after2 0 step2 n numbers.below (omega arith)
         (e2 o small at2) (plain _ step2.value tt) in
-        let m = high_field _ 32 _ _ _ _ _ _ _ before3 after3 step3 n numbers.below (omega arith)
+        let m = high_field _ before3 after3 32 step3 n numbers.below (omega arith)
         (e3 o small at3) in
-        let u = low_field _ 52 _ _ _ _ _ _ _ before4 after4 step4 n numbers.below (omega arith)
+        let u = low_field _ before4 after4 52 step4 n numbers.below (omega arith)
         (e4 o small at4) (upper _ step4.value tt) in
         ap (λ z. int_rem_euclid (pos (begin o) +ℤ z) (pos (2 ^ 64)))
         (four_of (field (window_of (loongarch_form Shift5) after) 5 25)
@@ -338,13 +328,13 @@ module _ {kind : RelocationKind} {mask : Option PageMask} {range : AllowedRange}
         let h = far_distance target o in
         let below = far_below target o in
         let same : sum_64 t 0 ≡ t = unbiased t (to o small) in
-        let f = high_field _ 12 _ _ _ _ _ _ _ before after step (page_distance target o)
+        let f = high_field _ before after 12 step (page_distance target o)
         (difference_below (page (sum_64 t 0x800)) (page o.place)) (omega arith) (e o small) in
-        let l = low_field _ 0 _ _ _ _ _ _ _ before2 after2 step2 (sum_64 t 0) (sum_below t 0)
+        let l = low_field _ before2 after2 0 step2 (sum_64 t 0) (sum_below t 0)
         (omega arith) (e2 o small at2) (plain _ _ any2) in
-        let m = high_field _ 32 _ _ _ _ _ _ _ before3 after3 step3 h below (omega arith)
+        let m = high_field _ before3 after3 32 step3 h below (omega arith)
         (e3 o small at3) in
-        let u = low_field _ 52 _ _ _ _ _ _ _ before4 after4 step4 h below (omega arith)
+        let u = low_field _ before4 after4 52 step4 h below (omega arith)
         (e4 o small at4 ∙ ap (λ n. Some (cast_signed w64 n)) (fourth_is_far target o))
         (upper _ step4.value tt) in
         let pc = o.place in

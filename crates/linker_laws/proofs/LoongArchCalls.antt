@@ -1,5 +1,6 @@
 -- Calls of LoongArch, by two instructions and by one.
-use Rattle.linker_laws.proofs.Imports.{◌≡◌, ◌≢◌, ℕ, ◌/◌, ◌^◌, ◌<◌, refl, ◌∙◌, ap, arith, List, ◌++◌, drop, ℤ, pos, ◌+ℤ◌, ◌*ℤ◌, eqb, if◌then◌else◌, w64, from_le_bytes, ne_eqb, cond-true, cond-false, ints, length-drop, All-drop, field, signed, bits_to, reach, IsCall, adds_low12, loongarch_row, rj_of, InstructionWritten, ored_cleared, LoongArch64, Operands, Branch26, Call36, call36_high, call36_low, IsAddress, plt_address, wrapped, Relocated}
+use Rattle.std.proofs.lemmas.Bool.Decides.{nat_tests}
+use Rattle.linker_laws.proofs.Imports.{◌≡◌, ◌≢◌, ℕ, ◌/◌, ◌^◌, ◌<◌, refl, ◌∙◌, ap, arith, List, ◌++◌, drop, ℤ, pos, ◌+ℤ◌, ◌*ℤ◌, w64, from_le_bytes, ints, length-drop, All-drop, field, signed, bits_to, reach, IsCall, loongarch_row, rj_of, InstructionWritten, ored_cleared, LoongArch64, Operands, Branch26, Call36, call36_high, call36_low, IsAddress, plt_address, wrapped, Relocated}
 use Rattle.linker_elf.specs.declared.loongarch64.relocations.LoongArch64Relocation.TheVariants as names
 use Rattle.linker_utils.specs.LoongArchRewrites.{rd_of}
 use Rattle.linker_laws.specs.LoongArchRewriteLaws.{word_of, pair}
@@ -8,42 +9,20 @@ use Rattle.linker_laws.proofs.AArch64Steps.{address_is, in_two_steps}
 use Rattle.linker_laws.proofs.AArch64Words.{field_kept, top_kept}
 use Rattle.linker_laws.proofs.Words.{two_words, word_below}
 use Rattle.linker_laws.proofs.LoongArchSteps.{set, read_back}
-use Rattle.linker_laws.proofs.LoongArchWords.{no_low12}
 
 -- ---- which instruction a word is
 
 pub decodes_far : (x : ℕ) → x / 2 ^ 25 ≡ 0x0f → decode x ≡ pcaddu_18
-decodes_far x op =
-    cond-false _ _ _ (ap (λ t. eqb t 0x0d) op) ∙ cond-false _ _ _ (ap (λ t. eqb t 0x0c) op)
-    ∙ cond-true _ _ _ (ap (λ t. eqb t 0x0f) op)
-
--- one whose highest six bits are at least 0x13 and at most 0x15
-module _ (x k : ℕ) (op : x / 2 ^ 26 ≡ k) (from : 0x12 < k) (to : k < 0x16) where
-  pub not_higher : {A : Type 0} (a c d e f g h i : A)
-      → (if eqb (x / 2 ^ 25) 0x0d then a else (if eqb (x / 2 ^ 25) 0x0c then c else (if eqb (x / 2 ^ 25) 0x0f then d else (if eqb (x / 2 ^ 25) 0x0a then e
-      else (if adds_low12 (x / 2 ^ 22) then f else (if eqb (x / 2 ^ 22) 0x00e then g else (if eqb (x / 2 ^ 22) 0x00d then h else i))))))) ≡ i
-  not_higher a c d e f g h i =
-      cond-false _ _ _ (ne_eqb (x / 2 ^ 25) 0x0d (λ z. omega arith))
-      ∙ cond-false _ _ _ (ne_eqb (x / 2 ^ 25) 0x0c (λ z. omega arith))
-      ∙ cond-false _ _ _ (ne_eqb (x / 2 ^ 25) 0x0f (λ z. omega arith))
-      ∙ cond-false _ _ _ (ne_eqb (x / 2 ^ 25) 0x0a (λ z. omega arith))
-      ∙ cond-false _ _ _ (no_low12 (x / 2 ^ 22) (omega arith))
-      ∙ cond-false _ _ _ (ne_eqb (x / 2 ^ 22) 0x00e (λ z. omega arith))
-      ∙ cond-false _ _ _ (ne_eqb (x / 2 ^ 22) 0x00d (λ z. omega arith))
+decodes_far x op = grind (arith, nat_tests)
 
 pub decodes_jirl : (x : ℕ) → x / 2 ^ 26 ≡ 0x13 → decode x ≡ jirl
-decodes_jirl x op =
-    not_higher x 0x13 op (omega arith) (omega arith) _ _ _ _ _ _ _ _ ∙ cond-true _ _ _ (ap (λ t. eqb t 0x13) op)
+decodes_jirl x op = grind (arith, nat_tests)
 
 pub decodes_b : (x : ℕ) → x / 2 ^ 26 ≡ 0x14 → decode x ≡ b
-decodes_b x op =
-    not_higher x 0x14 op (omega arith) (omega arith) _ _ _ _ _ _ _ _
-    ∙ cond-false _ _ _ (ap (λ t. eqb t 0x13) op) ∙ cond-true _ _ _ (ap (λ t. eqb t 0x14) op)
+decodes_b x op = grind (arith, nat_tests)
 
 pub decodes_bl : (x : ℕ) → x / 2 ^ 26 ≡ 0x15 → decode x ≡ bl
-decodes_bl x op =
-    not_higher x 0x15 op (omega arith) (omega arith) _ _ _ _ _ _ _ _
-    ∙ cond-false _ _ _ (ap (λ t. eqb t 0x13) op) ∙ cond-false _ _ _ (ap (λ t. eqb t 0x14) op) ∙ cond-true _ _ _ (ap (λ t. eqb t 0x15) op)
+decodes_bl x op = grind (arith, nat_tests)
 
 -- ---- the words of a pair
 

@@ -1,10 +1,13 @@
 -- The worked program of LoongArch.
-use Rattle.linker_laws.proofs.Imports.{◌≡◌, ℕ, ◌+◌, ◌-◌, ◌<◌, Bool, true, false, refl, sym, ◌∙◌, ap, arith, [], ◌∷◌, lit<, pos, eqb-true, ◌==◌, IsSomeAnd, nat_lt, min, cond-false, cond-true, ltb-true, ints, Operands, place_sum, put, with_register, loaded, Agree, Group, Kinds, State, anything, ends, group, half, of_link, run, same, and_parts}
-use Rattle.linker_laws.specs.LoongArchGroups.{Groups, NewHas, executed, link, machine, seen}
+use Rattle.linker_laws.proofs.Imports.{List, ◌≡◌, ℕ, ◌+◌, ◌-◌, ◌<◌, true, false, refl, ap, arith, [], ◌∷◌, lit<, pos, eqb-true, ◌==◌, IsSomeAnd, ints, Operands, place_sum, Agree, ends, group, run, same, and_parts}
+use Rattle.linker_elf.specs.declared.loongarch64.relocations.LoongArch64Relocation.{LoongArch64Relocation}
+use Rattle.linker_laws.specs.LoongArchRewriteLaws.{IsRelocated}
+use Rattle.linker_laws.proofs.Agreement.{runs}
+use Rattle.linker_laws.specs.LoongArchGroups.{Has, Stands, Groups, link, machine}
 use Rattle.linker_laws.specs.LoongArchGroupsWorked.{EndsAt, IsWorked, code, moved, new, old, starting}
-use Rattle.linker_laws.specs.LoongArchMachine.{step}
 use Rattle.linker_laws.specs.SimulationWorked.{all_same, words}
-use Rattle.linker_laws.proofs.Relocated.{nothing, small, applied}
+use Rattle.linker_laws.proofs.Relocated.{small, applied}
+use Rattle.std.proofs.lemmas.Bool.Decides.{nat_tests}
 
 -- ---- operands
 
@@ -42,6 +45,10 @@ low = operands 0x54344 0x10010
 abbrev new_low : Operands
 new_low = operands 0x54344 0x10008
 
+has : {code : ℕ → ℕ} {name : LoongArch64Relocation} {o : Operands} {before : List ℕ} (after : List ℕ)
+    → IsRelocated name o before after → Stands code o.place after → Has code name o before
+has after applied stands = record { relocated = after; applied = applied; stands = stands }
+
 -- ---- runs
 
 starts : Agree (link code) all_same starting starting
@@ -50,45 +57,26 @@ starts =
       small = lit< tt;
       pc = refl;
       registers = λ r. refl;
-      memory = λ a below. ap (λ n. n + 0) (by (a - 0) (nat_lt (a - 0) 0x10018) refl);
+      memory = λ a below. ap (λ n. n + 0) (by (a - 0));
       outside = refl;
     }
   where
-    by : (a : ℕ) (b : Bool) → nat_lt a 0x10018 ≡ b → starting.memory a ≡ starting.memory (moved a)
-    by a true e =
-        let below = ltb-true a 0x10018 e in
-        nothing 0x12010 0x54344 a (omega arith)
-        ∙ sym (ap starting.memory (cond-true _ (a - min 8 (a - 0x10004)) a e)
-        ∙ nothing 0x12010 0x54344 (a - min 8 (a - 0x10004)) (omega arith))
-    by a false e = sym (ap starting.memory (cond-false _ (a - min 8 (a - 0x10004)) a e))
+    by : (a : ℕ) → starting.memory a ≡ starting.memory (moved a)
+    by a = grind (arith, nat_tests)
 
-abbrev s1 : State
-s1 = put 4 0x13120 0x10008 starting
+old_end : IsSomeAnd (run 5 (machine code.processor (words old)) starting) (EndsAt 0x10014)
+unfolding place_sum
+old_end = (refl, refl, refl)
 
-abbrev s2 : State
-s2 = put 5 0 0x1000c s1
+new_end : IsSomeAnd (run 3 (machine code.processor (words new)) starting) (EndsAt 0x1000c)
+unfolding place_sum
+new_end = (refl, refl, refl)
 
-abbrev s3 : State
-s3 = put 6 0x12000 0x10010 s2
-
-abbrev s4 : State
-s4 = put 7 0x54344 0x10014 s3
-
-abbrev k1 : Kinds
-k1 = with_register 4 same all_same
-
-abbrev k2 : Kinds
-k2 = with_register 5 anything k1
-
-abbrev k3 : Kinds
-k3 = with_register 6 (half 0) k2
-
-abbrev k4 : Kinds
-k4 = with_register 7 same k3
-
-p1 : Groups → Group (of_link (link code)) 1 all_same starting k1 s1
-p1 g =
-    g.address code pair pair all_same starting (0x04 ∷ 0x00 ∷ 0x00 ∷ 0x1a ∷ []) (0x84 ∷ 0x00 ∷ 0xc0 ∷ 0x02 ∷ [])
+pub is_worked : Groups → IsWorked
+is_worked g =
+    runs (link code) starts
+    (group 3 1 2 _ _ _ _ _ _
+    (g.address code pair pair _ _ (0x04 ∷ 0x00 ∷ 0x00 ∷ 0x1a ∷ []) (0x84 ∷ 0x00 ∷ 0xc0 ∷ 0x02 ∷ [])
     (0x04 ∷ 0x00 ∷ 0x00 ∷ 0x18 ∷ [])
     (record {
       one_register = record {
@@ -101,61 +89,34 @@ p1 g =
     (record {
       small = small pair refl;
       fits = (omega (arith, ints), omega (arith, ints));
-      high = record { relocated = 0x64 ∷ 0x00 ∷ 0x00 ∷ 0x1a ∷ []; applied = applied (pos 0x3000) 0x1a000004 refl (refl, tt, λ e. refl) refl (lit< tt) tt refl refl; stands = refl };
-      low = record { relocated = 0x84 ∷ 0x80 ∷ 0xc4 ∷ 0x02 ∷ []; applied = applied (pos 0x13120) 0x02c00084 refl (refl, tt, λ e. refl) refl (lit< tt) tt refl refl; stands = refl };
+      high = has (0x64 ∷ 0x00 ∷ 0x00 ∷ 0x1a ∷ [])
+          (applied (pos 0x3000) 0x1a000004 refl (refl, tt, λ e. refl) refl (lit< tt) tt refl refl) refl;
+      low = has (0x84 ∷ 0x80 ∷ 0xc4 ∷ 0x02 ∷ [])
+          (applied (pos 0x13120) 0x02c00084 refl (refl, tt, λ e. refl) refl (lit< tt) tt refl refl) refl;
     })
-    refl (small pair refl) (record { relocated = 0x04 ∷ 0x89 ∷ 0x01 ∷ 0x18 ∷ []; applied = applied (pos 0x3120) 0x18000004 refl (refl, tt, λ e. refl) refl (lit< tt) tt refl refl; stands = refl })
-    same (record { at = refl; place = refl; next = refl }) refl
-
-p2 : Groups → Group (of_link (link code)) 0 k1 s1 k2 s2
-p2 g =
-    g.high_offsets code short k1 s1 (0x05 ∷ 0x00 ∷ 0x00 ∷ 0x14 ∷ []) (record { small = lit< tt; moved = refl })
+    refl (small pair refl) (has (0x04 ∷ 0x89 ∷ 0x01 ∷ 0x18 ∷ [])
+    (applied (pos 0x3120) 0x18000004 refl (refl, tt, λ e. refl) refl (lit< tt) tt refl refl) refl)
+    same (record { at = refl; place = refl; next = refl }) refl)
+    (group 2 0 2 _ _ _ _ _ _
+    (g.high_offsets code short _ _ (0x05 ∷ 0x00 ∷ 0x00 ∷ 0x14 ∷ []) (record { small = lit< tt; moved = refl })
     (small short refl) refl refl (omega (arith, ints), omega (arith, ints))
-    (record { relocated = 0x05 ∷ 0x00 ∷ 0x00 ∷ 0x14 ∷ []; applied = applied (pos 0x920) 0x14000005 refl (refl, tt, λ e. refl) refl (lit< tt) tt refl refl; stands = refl })
-
-p3 : Groups → Group (of_link (link code)) 1 k2 s2 k3 s3
-p3 g =
-    g.high_halves high new_high (0x06 ∷ 0x00 ∷ 0x00 ∷ 0x1a ∷ []) (0x06 ∷ 0x00 ∷ 0x00 ∷ 0x14 ∷ [])
+    (has (0x05 ∷ 0x00 ∷ 0x00 ∷ 0x14 ∷ [])
+    (applied (pos 0x920) 0x14000005 refl (refl, tt, λ e. refl) refl (lit< tt) tt refl refl) refl))
+    (group 1 1 1 _ _ _ _ _ _
+    (g.high_halves high new_high (0x06 ∷ 0x00 ∷ 0x00 ∷ 0x1a ∷ []) (0x06 ∷ 0x00 ∷ 0x00 ∷ 0x14 ∷ [])
     (0x86 ∷ 0x0a ∷ 0x00 ∷ 0x14 ∷ []) refl refl
-    (applied (pos 0x54344) 0x14000006 refl (refl, tt, λ e. refl) refl (lit< tt) tt refl refl) code 0 k2 s2
+    (applied (pos 0x54344) 0x14000006 refl (refl, tt, λ e. refl) refl (lit< tt) tt refl refl) code 0 _ _
     (small high refl) (record { at = refl; place = refl; next = refl }) (refl, refl)
     (omega (arith, ints), omega (arith, ints)) (omega (arith, ints), omega (arith, ints))
-    (record { relocated = 0x46 ∷ 0x00 ∷ 0x00 ∷ 0x1a ∷ []; applied = applied (pos 0x2000) 0x1a000006 refl (refl, tt, λ e. refl) refl (lit< tt) tt refl refl; stands = refl }) refl
-
-p4 : Groups → Group (of_link (link code)) 1 k3 s3 k4 s4
-p4 g =
-    g.low_halves low new_low (0xc7 ∷ 0x00 ∷ 0xc0 ∷ 0x28 ∷ []) (0xc7 ∷ 0x00 ∷ 0x80 ∷ 0x03 ∷ [])
+    (has (0x46 ∷ 0x00 ∷ 0x00 ∷ 0x1a ∷ [])
+    (applied (pos 0x2000) 0x1a000006 refl (refl, tt, λ e. refl) refl (lit< tt) tt refl refl) refl) refl)
+    (group 0 1 0 _ _ _ _ _ _
+    (g.low_halves low new_low (0xc7 ∷ 0x00 ∷ 0xc0 ∷ 0x28 ∷ []) (0xc7 ∷ 0x00 ∷ 0x80 ∷ 0x03 ∷ [])
     (0xc7 ∷ 0x10 ∷ 0x8d ∷ 0x03 ∷ []) refl refl
-    (applied (pos 0x54344) 0x038000c7 refl (refl, tt, λ e. refl) refl (lit< tt) tt refl refl) code k3 s3
-    (small low refl) (record { at = refl; place = refl; next = refl }) refl refl refl has
-    (record { relocated = 0xc7 ∷ 0x40 ∷ 0xc0 ∷ 0x28 ∷ []; applied = applied (pos 0x12010) 0x28c000c7 refl (refl, tt, λ e. refl) refl (lit< tt) tt refl refl; stands = refl }) refl
-  where
-    has : NewHas code k3 s3 6 0x54000
-    has t agree = eqb-true (t.registers 6) 0x54000 (and_parts true (t.registers 6 == 0x54000) (agree.registers 6)).1
-
-old_end : IsSomeAnd (run 5 (machine code.processor (words old)) starting) (EndsAt 0x10014)
-unfolding place_sum
-old_end = (refl, refl, refl)
-
-new_end : IsSomeAnd (run 3 (machine code.processor (words new)) starting) (EndsAt 0x1000c)
-unfolding place_sum
-new_end = (refl, refl, refl)
-
-pub is_worked : Groups → IsWorked
-is_worked g =
-    record {
-      kinds = k4;
-      state = s4;
-      agree = starts;
-      covered =
-          group 3 1 2 _ _ _ _ _ _ (p1 g) (group 2 0 2 _ _ _ _ _ _ (p2 g)
-          (group 1 1 1 _ _ _ _ _ _ (p3 g) (group 0 1 0 _ _ _ _ _ _ (p4 g) (ends _ _))));
-      stops = record {
-        old_stops = refl;
-        new_stops = λ t agree.
-            ap (λ a. let word = loaded 4 (words new) a in
-            executed code.processor.others word t (step word (seen code.processor t))) agree.pc;
-      };
-      old_ends = old_end;
-      new_ends = new_end;
-    }
+    (applied (pos 0x54344) 0x038000c7 refl (refl, tt, λ e. refl) refl (lit< tt) tt refl refl) code _ _
+    (small low refl) (record { at = refl; place = refl; next = refl }) refl refl refl
+    (λ t agree. eqb-true (t.registers 6) 0x54000 (and_parts true (t.registers 6 == 0x54000) (agree.registers 6)).1)
+    (has (0xc7 ∷ 0x40 ∷ 0xc0 ∷ 0x28 ∷ [])
+    (applied (pos 0x12010) 0x28c000c7 refl (refl, tt, λ e. refl) refl (lit< tt) tt refl refl) refl) refl)
+    (ends _ _)))))
+    refl (λ t. refl) old_end new_end

@@ -1,5 +1,6 @@
 -- Instructions of an offset of 12 bits from the thread pointer.
-use Rattle.linker_laws.proofs.Imports.{◌≡◌, ℕ, ◌+◌, ◌-◌, ◌/◌, ◌%◌, ◌^◌, ◌<◌, true, refl, sym, ◌∙◌, ap, subst, arith, List, eqb, ℤ, pos, ◌+ℤ◌, Some, inl, inr, w64, cast_signed, cond-true, cond-false, ints, to_z_pos, field, signed, sum_64, difference_64, Operands, RowIsWithin, IsWithin, page, signed_32, signed_12, loongarch_row, adds_low12, rj_of, AreAddresses, symbol_address, wrapped}
+use Rattle.std.proofs.lemmas.Bool.Decides.{nat_tests}
+use Rattle.linker_laws.proofs.Imports.{◌≡◌, ℕ, ◌+◌, ◌/◌, ◌%◌, ◌^◌, ◌<◌, true, refl, sym, ◌∙◌, ap, subst, arith, List, ℤ, pos, ◌+ℤ◌, Some, inl, inr, w64, cast_signed, ints, to_z_pos, field, signed, sum_64, difference_64, Operands, RowIsWithin, IsWithin, page, signed_32, signed_12, loongarch_row, adds_low12, rj_of, AreAddresses, symbol_address, wrapped}
 use Rattle.linker_elf.specs.declared.loongarch64.relocations.LoongArch64Relocation.TheVariants as names
 use Rattle.linker_utils.specs.LoongArchRewrites.{rd_of}
 use Rattle.linker_laws.proofs.Applied.{value_is, taken_bits}
@@ -8,21 +9,14 @@ use Rattle.linker_laws.specs.LoongArchRewriteLaws as laws
 use Rattle.linker_laws.specs.LoongArchMachine.{State, step, read, go_on, decode, execute, high_part, sum_of, add_d, action_of, used}
 use Rattle.linker_laws.proofs.LoongArchHalves.{high_made}
 use Rattle.linker_laws.proofs.LoongArchSteps.{written}
-use Rattle.linker_laws.proofs.LoongArchWords.{not_high, decodes_action, low_is}
+use Rattle.linker_laws.proofs.LoongArchWords.{decodes_action, low_is}
 use Rattle.linker_laws.proofs.RiscVHighParts.{low_12_number}
 use Rattle.linker_laws.proofs.RiscVLowParts.{low_sum}
 
 -- ---- `add.d rd, rj, tp`
 
 pub decodes_add : (x : ℕ) → x / 2 ^ 10 ≡ 0x422 → decode x ≡ add_d
-decodes_add x op =
-    let high : x / 2 ^ 22 ≡ 0 = omega arith in
-    let branch : x / 2 ^ 26 ≡ 0 = omega arith in
-    let sum : x / 2 ^ 15 ≡ 0x21 = omega arith in
-    not_high x 0 high (λ i. omega arith) (λ i. omega arith) (λ i. omega arith) (λ i. omega arith) _ _ _ _ _
-    ∙ cond-false _ _ _ (ap adds_low12 high) ∙ cond-false _ _ _ (ap (λ t. eqb t 0x00e) high) ∙ cond-false _ _ _ (ap (λ t. eqb t 0x00d) high)
-    ∙ cond-false _ _ _ (ap (λ t. eqb t 0x13) branch) ∙ cond-false _ _ _ (ap (λ t. eqb t 0x14) branch)
-    ∙ cond-false _ _ _ (ap (λ t. eqb t 0x15) branch) ∙ cond-true _ _ _ (ap (λ t. eqb t 0x21) sum)
+decodes_add x op = grind (arith, nat_tests)
 
 pub step_action : (x op r : ℕ) (s : State) → x / 2 ^ 22 ≡ op → adds_low12 op ≡ true → rd_of x ≡ r
     → step x s ≡ Some (go_on (used (action_of op) r (sum_of x s) s))

@@ -1,5 +1,6 @@
 -- Words of LoongArch to which a relocation was applied, and which instructions they are.
-use Rattle.linker_laws.proofs.Imports.{◌≡◌, ◌≢◌, ℕ, ◌+◌, ◌-◌, ◌/◌, ◌%◌, ◌^◌, ◌<◌, ◌≤◌, ◌⊎◌, inl, inr, refl, max, sym, ◌∙◌, ap, subst, arith, List, [], eqb, ltb, if◌then◌else◌, ℤ, true, false, ◌==◌, ◌&&◌, ◌||◌, nat_le, bit_at, w32, from_le_bytes, All-nil, ne_eqb, cond-true, cond-false, or_cases, and_parts, eqb-true, leb-true, field, ImmediateBit, BitsWritten, bit_for, placed_bit, adds_low12, rj_of, InstructionWritten, bits_taken, ored_cleared, Shift5, Shift10, LoongArch64, high_kept, same_window, shift5_places, false_from_ne_true, ored, shift10_places, shift10_field}
+use Rattle.std.proofs.lemmas.Bool.Decides.{nat_tests}
+use Rattle.linker_laws.proofs.Imports.{◌≡◌, ℕ, ◌+◌, ◌-◌, ◌/◌, ◌%◌, ◌^◌, ◌<◌, ◌≤◌, ◌⊎◌, inl, inr, refl, max, ◌∙◌, subst, arith, List, [], ltb, if◌then◌else◌, ℤ, true, false, ◌==◌, ◌&&◌, ◌||◌, nat_le, bit_at, w32, from_le_bytes, All-nil, or_cases, and_parts, eqb-true, leb-true, field, ImmediateBit, BitsWritten, bit_for, placed_bit, adds_low12, rj_of, InstructionWritten, bits_taken, ored_cleared, Shift5, Shift10, LoongArch64, high_kept, same_window, shift5_places, ored, shift10_places, shift10_field}
 use Rattle.linker_utils.specs.LoongArchRewrites.{rd_of}
 use Rattle.linker_laws.specs.LoongArchMachine.{decode, pcalau_12, pcadd_2, lu12i_w, sums, action_of, adds, loads, ori}
 use Rattle.linker_laws.proofs.AArch64Words.{field_kept, top_kept}
@@ -7,15 +8,13 @@ use Rattle.linker_laws.proofs.AArch64Words.{field_kept, top_kept}
 -- ---- which instruction a word is
 
 pub decodes_page : (x : ℕ) → x / 2 ^ 25 ≡ 0x0d → decode x ≡ pcalau_12
-decodes_page x op = cond-true _ _ _ (ap (λ t. eqb t 0x0d) op)
+decodes_page x op = grind (arith, nat_tests)
 
 pub decodes_near : (x : ℕ) → x / 2 ^ 25 ≡ 0x0c → decode x ≡ pcadd_2
-decodes_near x op = cond-false _ _ _ (ap (λ t. eqb t 0x0d) op) ∙ cond-true _ _ _ (ap (λ t. eqb t 0x0c) op)
+decodes_near x op = grind (arith, nat_tests)
 
 pub decodes_high : (x : ℕ) → x / 2 ^ 25 ≡ 0x0a → decode x ≡ lu12i_w
-decodes_high x op =
-    cond-false _ _ _ (ap (λ t. eqb t 0x0d) op) ∙ cond-false _ _ _ (ap (λ t. eqb t 0x0c) op)
-    ∙ cond-false _ _ _ (ap (λ t. eqb t 0x0f) op) ∙ cond-true _ _ _ (ap (λ t. eqb t 0x0a) op)
+decodes_high x op = grind (arith, nat_tests)
 
 -- ---- those that add a low half
 
@@ -39,35 +38,10 @@ low12_is op is =
     ]
 
 pub no_low12 : (op : ℕ) → 0x0b3 < op → adds_low12 op ≡ false
-no_low12 op high = false_from_ne_true (adds_low12 op) (λ is. let below = (low12_is op is).below in omega arith)
-
--- which isn't one of the first four
-low12_not : (op k : ℕ) → adds_low12 op ≡ true → 1 < k → k < 20 → op / 8 ≢ k
-low12_not op k is from to e =
-    elim (low12_is op is).is [
-      | inl near ↦ omega arith
-      | inr far ↦ omega arith
-    ]
-
--- none of the first four
-module _ (x : ℕ) (k : ℕ) (op : x / 2 ^ 22 ≡ k) (first : k / 8 ≢ 0x0d) (second : k / 8 ≢ 0x0c) (third : k / 8 ≢ 0x0f) (fourth : k / 8 ≢ 0x0a) where
-  high_is : x / 2 ^ 25 ≡ k / 8
-  high_is = omega arith
-
-  pub not_high : {A : Type 0} (a b c d e : A)
-      → (if eqb (x / 2 ^ 25) 0x0d then a else (if eqb (x / 2 ^ 25) 0x0c then b else (if eqb (x / 2 ^ 25) 0x0f then c else (if eqb (x / 2 ^ 25) 0x0a then d else e)))) ≡ e
-  not_high a b c d e =
-      let h = high_is in
-      cond-false _ _ _ (ne_eqb (x / 2 ^ 25) 0x0d (λ i. first (sym h ∙ i)))
-      ∙ cond-false _ _ _ (ne_eqb (x / 2 ^ 25) 0x0c (λ i. second (sym h ∙ i)))
-      ∙ cond-false _ _ _ (ne_eqb (x / 2 ^ 25) 0x0f (λ i. third (sym h ∙ i)))
-      ∙ cond-false _ _ _ (ne_eqb (x / 2 ^ 25) 0x0a (λ i. fourth (sym h ∙ i)))
+no_low12 op high = grind (arith, nat_tests)
 
 pub decodes_action : (x op : ℕ) → x / 2 ^ 22 ≡ op → adds_low12 op ≡ true → decode x ≡ sums (action_of op)
-decodes_action x op is low =
-    not_high x op is (low12_not op 0x0d low (omega arith) (omega arith)) (low12_not op 0x0c low (omega arith) (omega arith))
-    (low12_not op 0x0f low (omega arith) (omega arith)) (low12_not op 0x0a low (omega arith) (omega arith)) _ _ _ _ _
-    ∙ cond-true _ _ _ (ap adds_low12 is ∙ low) ∙ ap (λ k. sums (action_of k)) is
+decodes_action x op is low = grind (arith, nat_tests)
 
 pub decodes_sum : (x : ℕ) → x / 2 ^ 22 ≡ 0x00b → decode x ≡ sums adds
 decodes_sum x op = decodes_action x 0x00b op refl
@@ -76,9 +50,7 @@ pub decodes_load : (x : ℕ) → x / 2 ^ 22 ≡ 0x0a3 → decode x ≡ sums (loa
 decodes_load x op = decodes_action x 0x0a3 op refl
 
 pub decodes_or : (x : ℕ) → x / 2 ^ 22 ≡ 0x00e → decode x ≡ ori
-decodes_or x op =
-    not_high x 0x00e op (λ i. omega arith) (λ i. omega arith) (λ i. omega arith) (λ i. omega arith) _ _ _ _ _
-    ∙ cond-false _ _ _ (ap adds_low12 op) ∙ cond-true _ _ _ (ap (λ t. eqb t 0x00e) op)
+decodes_or x op = grind (arith, nat_tests)
 
 -- ---- words after a relocation
 

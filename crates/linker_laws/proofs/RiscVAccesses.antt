@@ -1,5 +1,5 @@
 -- RISC-V: what loads, stores and sums leave of states that agree.
-use Rattle.linker_laws.proofs.Imports.{◌≡◌, ◌⊎◌, ℕ, zero, suc, ◌+◌, ◌-◌, ◌*◌, ◌%◌, ◌^◌, ◌<◌, ◌≤◌, refl, sym, ◌∙◌, ap, ap₂, subst, arith, inl, inr, pos, true≢false, ℤ, int_rem_euclid, ◌==◌, if◌then◌else◌, nat_lt, cond-false, cond-true, cases_lt, le-ltb, lt-ltb, ne_eqb, rem_below, difference_64, sum_64, put, with_register, Memory, extended, loaded, stored, State, Agree, AreOf, AreStored, Kind, Kinds, anything, code, half, same}
+use Rattle.linker_laws.proofs.Imports.{◌≡◌, ◌⊎◌, ℕ, zero, suc, ◌+◌, ◌-◌, ◌*◌, ◌%◌, ◌^◌, ◌<◌, ◌≤◌, refl, sym, ◌∙◌, ap, ap₂, subst, arith, inl, inr, pos, true≢false, ℤ, int_rem_euclid, ◌==◌, if◌then◌else◌, nat_lt, cond-false, cond-true, cases_lt, le-ltb, lt-ltb, rem_below, difference_64, sum_64, put, with_register, Memory, extended, loaded, stored, State, Agree, AreOf, AreStored, Kind, Kinds, anything, code, half, same}
 use Rattle.linker_laws.specs.RiscVGroups as groups
 use Rattle.linker_laws.specs.RiscVGroups.{AreApart, BeginsAt, Code, HasRoom, left, link, seen, with_stored}
 use Rattle.linker_laws.specs.RiscVGroups.AreUsed.{as_loaded, as_loaded_float, as_stored, as_stored_float, as_sum, as_target, as_whole, as_word}
@@ -9,27 +9,18 @@ use Rattle.linker_laws.proofs.RiscVDescriptors.{whole_number}
 use Rattle.linker_laws.proofs.RiscVGroups.{below_32, counts, wrote}
 use Rattle.linker_laws.proofs.Sums.{sum_below}
 use Rattle.linker_riscv64.specs.RiscVFields.{rd_of}
+use Rattle.std.proofs.lemmas.Bool.Decides.{nat_tests}
 
 -- ---- states
 
 -- a floating-point register is written
 wrote_float : (s : State) (rd v next : ℕ)
     → left s (goes_to next (with_float rd v (seen s))) ≡ put (32 + rd) v next s
-wrote_float s rd v next = λ i. record s { pc = next; registers = λ r. by r i }
+wrote_float s rd v next = λ i. record s { pc = next; registers = λ r. by s.registers r i }
   where
-    same_test : (r : ℕ) → 32 ≤ r → ((r - 32) == rd) ≡ (r == 32 + rd)
-    same_test r high = grind (arith, high)
-
-    by : (r : ℕ) → (if nat_lt r 32 then s.registers r else (if (r - 32) == rd then v else s.registers (32 + (r - 32))))
-        ≡ (if r == 32 + rd then v else s.registers r)
-    by r =
-        elim (cases_lt r 32) [
-          | inl low ↦ cond-true (nat_lt r 32) (s.registers r) _ (lt-ltb r 32 low)
-              ∙ sym (cond-false (r == 32 + rd) v (s.registers r) (ne_eqb r (32 + rd) (λ e. omega (arith, low, e))))
-          | inr high ↦ cond-false (nat_lt r 32) (s.registers r) _ (le-ltb r 32 high)
-              ∙ ap₂ (λ b q. if b then v else s.registers q) (same_test r high)
-              (let e : 32 + (r - 32) ≡ r = omega (arith, high) in e)
-        ]
+    by : (f : ℕ → ℕ) (r : ℕ) → (if nat_lt r 32 then f r else (if (r - 32) == rd then v else f (32 + (r - 32))))
+        ≡ (if r == 32 + rd then v else f r)
+    by f r = grind (arith, nat_tests)
 
 -- memory is written
 wrote_memory : (s : State) (m : Memory) (next : ℕ)

@@ -1,15 +1,16 @@
 -- The worked program of RISC-V.
-use Rattle.linker_laws.proofs.Imports.{◌≡◌, ℕ, ◌+◌, ◌-◌, ◌^◌, ◌<◌, ◌≤◌, Bool, true, false, refl, sym, ◌∙◌, ap, subst, arith, List, [], ◌∷◌, length, Option, lit<, lit≤, pos, Some, inr, IsSomeAnd, nat_lt, min, cond-false, cond-true, ltb-true, ints, IsApplied, difference_64, sum_64, RowInfo, Operands, ◌%◌, unsigned_abs, place_sum, put, with_register, moved as plus, Agree, Group, Kinds, Other, State, anything, ends, group, of_link, other, run, same}
-use Rattle.linker_laws.specs.RiscVGroups.{Groups, Has, Stands, continued, instruction_at, link, machine, HasRoom, left, of_place, seen, uses, with_stored}
+use Rattle.linker_laws.proofs.Imports.{◌≡◌, ℕ, ◌+◌, ◌-◌, ◌^◌, ◌<◌, ◌≤◌, true, false, refl, sym, ap, subst, arith, List, [], ◌∷◌, length, Option, lit<, lit≤, pos, Some, inr, IsSomeAnd, ints, IsApplied, difference_64, sum_64, RowInfo, Operands, ◌%◌, unsigned_abs, place_sum, put, with_register, moved as plus, Agree, Kinds, Other, State, anything, ends, group, of_link, other, run, same}
+use Rattle.linker_laws.specs.RiscVGroups.{Groups, Has, Stands, link, machine, HasRoom, left, of_place, seen, uses, with_stored}
 use Rattle.linker_laws.specs.RiscVGroups.AreUsed.{as_stored, as_sum}
 use Rattle.linker_laws.specs.RiscVGroupsWorked.{EndsAt, IsWorked, code, moved, new, old, others, starting}
-use Rattle.linker_laws.specs.RiscVMachine.{adds, goes_to, stores, step, with_integer}
+use Rattle.linker_laws.specs.RiscVMachine.{adds, goes_to, stores, with_integer}
 use Rattle.linker_laws.specs.RiscVRewriteLaws.{after_rewrite}
 use Rattle.linker_utils.specs.declared.riscv64.rewrites.RewriteKind.TheVariants as kinds
 use Rattle.linker_laws.specs.SimulationWorked.{all_same, words}
-use Rattle.linker_laws.proofs.Relocated.{nothing, small, all_small, are_bytes, applied}
-use Rattle.linker_laws.proofs.Agreement.{agree_put}
+use Rattle.linker_laws.proofs.Relocated.{small, all_small, are_bytes, applied}
+use Rattle.linker_laws.proofs.Agreement.{agree_put, runs}
 use Rattle.linker_laws.proofs.RiscVGroups.{wrote}
+use Rattle.std.proofs.lemmas.Bool.Decides.{nat_tests}
 
 -- ---- bytes
 
@@ -83,82 +84,38 @@ call = 0x97 ∷ 0x00 ∷ 0x00 ∷ 0x00 ∷ 0xe7 ∷ 0x80 ∷ 0x00 ∷ 0x00 ∷ [
 
 -- ---- runs
 
-abbrev shorter : ℕ → ℕ
-shorter a = (a - min 4 (a - 0x10000)) - min 4 (a - 0x10018)
-
 starts : Agree (link code) all_same starting starting
 starts =
     record {
       small = lit< tt;
       pc = refl;
       registers = λ r. refl;
-      memory = λ a below. ap (λ n. n + 0) (by (a - 0) (nat_lt (a - 0) 0x10028) refl);
+      memory = λ a below. ap (λ n. n + 0) (by (a - 0));
       outside = refl;
     }
   where
-    by : (a : ℕ) (b : Bool) → nat_lt a 0x10028 ≡ b → starting.memory a ≡ starting.memory (moved a)
-    by a true e =
-        let below = ltb-true a 0x10028 e in
-        nothing 0x12010 0x13000 a (omega arith)
-        ∙ sym (ap starting.memory (cond-true _ (shorter a) a e) ∙ nothing 0x12010 0x13000 (shorter a) (omega arith))
-    by a false e = sym (ap starting.memory (cond-false _ (shorter a) a e))
+    by : (a : ℕ) → starting.memory a ≡ starting.memory (moved a)
+    by a = grind (arith, nat_tests)
 
-abbrev s1 : State
-s1 = put 15 0 0x10004 starting
+-- what is known after two groups, and before the return
+abbrev k2 : Kinds
+k2 = with_register 10 same (with_register 15 anything all_same)
 
-abbrev s2 : State
-s2 = put 10 0x120 0x10008 s1
-
-abbrev s3 : State
-s3 = uses (stores 3) 0xa7b023 0x128 s2
-
-abbrev s4 : State
-s4 = put 11 0x13000 0x10014 (put 11 0x1200c 0x10010 s3)
+abbrev k5 : Kinds
+k5 =
+    with_register 1 (of_place 0x1001c) (with_register 1 anything
+    (with_register 11 same (with_register 11 anything (with_stored 8 0x128 k2))))
 
 abbrev s5 : State
-s5 = put 1 0x1001c 0x10020 (put 1 0x10014 0x10018 s4)
+s5 =
+    put 1 0x1001c 0x10020 (put 1 0x10014 0x10018 (put 11 0x13000 0x10014 (put 11 0x1200c 0x10010
+    (uses (stores 3) 0xa7b023 0x128 (uses adds 0x78513 0x120 (put 15 0 0x10004 starting))))))
 
 abbrev s6 : State
 s6 = put 0 0x10024 0x1001c s5
 
-abbrev k1 : Kinds
-k1 = with_register 15 anything all_same
-
-abbrev k2 : Kinds
-k2 = with_register 10 same k1
-
-abbrev k3 : Kinds
-k3 = with_stored 8 0x128 k2
-
-abbrev k4 : Kinds
-k4 = with_register 11 same (with_register 11 anything k3)
-
-abbrev k5 : Kinds
-k5 = with_register 1 (of_place 0x1001c) (with_register 1 anything k4)
-
 abbrev k6 : Kinds
 k6 = with_register 0 anything k5
-
-p1 : Groups → Group (of_link (link code)) 0 all_same starting k1 s1
-unfolding place_sum
-p1 g =
-    g.no_high_parts code high all_same starting lui (record { small = lit< tt; moved = refl }) (lit≤ tt, refl)
-    refl (omega (arith, ints), omega (arith, ints))
-    (has _ _ _ _ _ lui lui
-    (applied (pos 0x120) 0x7b7 refl (refl, tt, λ e. refl) refl (lit< tt) tt refl refl) refl refl refl refl)
-
-p2 : Groups → Group (of_link (link code)) 1 k1 s1 k2 s2
-unfolding place_sum
-p2 g =
-    subst (λ u. Group (of_link (link code)) 1 k1 s1 k2 u) (wrote s1 10 0x120 0x10008 (lit< tt))
-    (g.low_parts addi (lit≤ tt, refl) code (operands 0x120 0x10004) high k1 k2 s1
-    (record { at = refl; small = lit< tt; place = refl; next = refl }) refl
-    (omega (arith, ints), omega (arith, ints)) refl tt
-    (has _ _ _ _ _ addi (0x13 ∷ 0x85 ∷ 0x07 ∷ 0x12 ∷ [])
-    (applied (pos 0x120) 0x78513 refl (refl, tt, λ e. refl) refl (lit< tt) tt refl refl) refl refl refl refl)
-    (has _ _ _ _ _ (0x13 ∷ 0x05 ∷ 0x00 ∷ 0x00 ∷ []) (0x13 ∷ 0x05 ∷ 0x00 ∷ 0x12 ∷ [])
-    (applied (pos 0x120) 0x513 refl (refl, tt, λ e. refl) refl (lit< tt) tt refl refl) refl refl refl refl)
-    (g.accesses code adds 0x78513 0x120 k1 s1 k2 refl as_sum))
 
 room : HasRoom code k2 8 0x128
 room =
@@ -167,57 +124,12 @@ room =
       moved = refl;
       apart = λ a below d. inr (
         (let e : 8 ≤ difference_64 (a - 0) 0x128 = omega (arith, d) in e, tt),
-        (apart_there (a - 0) (omega (arith, below)) (omega (arith, d)) (nat_lt (a - 0) 0x10028) refl, tt),
+        (apart_there (a - 0) (omega (arith, below)) (omega (arith, d)), tt),
       );
     }
   where
-    apart_there : (a : ℕ) → a < 2 ^ 64 → 8 ≤ difference_64 a 0x128 → (b : Bool) → nat_lt a 0x10028 ≡ b
-        → 8 ≤ difference_64 (moved a) 0x128
-    apart_there a below d true e =
-        let small = ltb-true a 0x10028 e in
-        subst (λ m. 8 ≤ difference_64 m 0x128) (sym (cond-true _ (shorter a) a e))
-        (let f : 8 ≤ difference_64 (shorter a) 0x128 = omega (arith, small, d) in f)
-    apart_there a below d false e = subst (λ m. 8 ≤ difference_64 m 0x128) (sym (cond-false _ (shorter a) a e)) d
-
-p3 : Groups → Group (of_link (link code)) 1 k2 s2 k3 s3
-unfolding place_sum
-p3 g =
-    g.low_parts sd (lit≤ tt, refl) code (operands 0x128 0x10008) (operands 0x128 0x10004) k2 k3 s2
-    (record { at = refl; small = lit< tt; place = refl; next = refl }) refl
-    (omega (arith, ints), omega (arith, ints)) refl tt
-    (has _ _ _ _ _ sd (0x23 ∷ 0xb4 ∷ 0xa7 ∷ 0x12 ∷ [])
-    (applied (pos 0x128) 0xa7b023 refl (refl, tt, λ e. refl) refl (lit< tt) tt refl refl) refl refl refl refl)
-    (has _ _ _ _ _ (0x23 ∷ 0x30 ∷ 0xa0 ∷ 0x00 ∷ []) (0x23 ∷ 0x34 ∷ 0xa0 ∷ 0x12 ∷ [])
-    (applied (pos 0x128) 0xa03023 refl (refl, tt, λ e. refl) refl (lit< tt) tt refl refl) refl refl refl refl)
-    (g.accesses code (stores 3) 0xa7b023 0x128 k2 s2 k3 refl (as_stored 3 (inr refl) room))
-
-p4 : Groups → Group (of_link (link code)) 2 k3 s3 k4 s4
-unfolding place_sum has
-p4 g =
-    g.got code load sum_at k3 same s3 auipc ld (small load refl) (small sum_at refl)
-    (record { at = refl; small = lit< tt; place = refl; next = refl }) (lit≤ tt)
-    (record { first = refl; second = (refl, refl); base = refl; not_zero = λ e. omega arith })
-    refl refl
-    (has _ _ _ _ _ auipc (0x97 ∷ 0x25 ∷ 0x00 ∷ 0x00 ∷ [])
-    (applied (pos 0x2004) 0x597 refl (refl, tt, λ e. refl) refl (lit< tt) tt refl refl) refl refl refl refl)
-    (has _ _ _ _ _ ld (0x83 ∷ 0xb5 ∷ 0x45 ∷ 0x00 ∷ [])
-    (applied (pos 0x2004) 0x5b583 refl (refl, tt, λ e. refl) refl (lit< tt) tt refl refl) refl refl refl refl)
-    (has _ _ _ _ _ auipc (0x97 ∷ 0x35 ∷ 0x00 ∷ 0x00 ∷ [])
-    (applied (pos 0x2ff8) 0x597 refl (refl, tt, λ e. refl) refl (lit< tt) tt refl refl) refl refl refl refl)
-    (has _ _ _ _ _ (0x93 ∷ 0x85 ∷ 0x05 ∷ 0x00 ∷ []) (0x93 ∷ 0x85 ∷ 0x85 ∷ 0xff ∷ [])
-    (applied (pos 0x2ff8) 0x58593 refl (refl, tt, λ e. refl) refl (lit< tt) tt refl refl) refl refl refl refl)
-
-p5 : Groups → Group (of_link (link code)) 1 k4 s4 k5 s5
-unfolding place_sum has
-p5 g =
-    g.calls.1 code calling jumping k4 s4 call (after_rewrite kinds.CallToJal call 0) (small calling refl) (small jumping refl)
-    (record { at = refl; small = lit< tt; place = refl; next = refl }) refl
-    (record { auipc_opcode = refl; jalr_opcode = refl; jalr_function = refl; base = refl }) (λ e. omega arith) refl
-    (has _ _ _ _ _ call (0x97 ∷ 0x00 ∷ 0x00 ∷ 0x00 ∷ 0xe7 ∷ 0x80 ∷ 0xc0 ∷ 0x00 ∷ [])
-    (applied (pos 0xc) 0x80e700000097 refl (refl, tt, λ e. refl) refl (lit< tt) tt refl refl) refl refl refl refl)
-    (has _ _ _ _ _ (0xef ∷ 0x00 ∷ 0x00 ∷ 0x00 ∷ 0xe7 ∷ 0x80 ∷ 0x00 ∷ 0x00 ∷ [])
-    (0xef ∷ 0x00 ∷ 0x80 ∷ 0x00 ∷ 0xe7 ∷ 0x80 ∷ 0x00 ∷ 0x00 ∷ [])
-    (applied (pos 0x8) 0xef refl (refl, tt, λ e. refl) refl (lit< tt) tt refl refl) refl refl refl refl)
+    apart_there : (a : ℕ) → a < 2 ^ 64 → 8 ≤ difference_64 a 0x128 → 8 ≤ difference_64 (moved a) 0x128
+    apart_there a below d = grind (arith, nat_tests)
 
 p6 : Groups → Other (of_link (link code)) k5 s5 k6 s6
 unfolding place_sum
@@ -240,20 +152,53 @@ unfolding place_sum
 new_end = (refl, refl, refl, refl, refl)
 
 pub is_worked : Groups → IsWorked
+unfolding place_sum has
 is_worked g =
-    record {
-      kinds = k6;
-      state = s6;
-      agree = starts;
-      covered =
-          group 5 0 6 _ _ _ _ _ _ (p1 g) (group 4 1 5 _ _ _ _ _ _ (p2 g)
-          (group 3 1 4 _ _ _ _ _ _ (p3 g) (group 2 2 2 _ _ _ _ _ _ (p4 g)
-          (group 1 1 1 _ _ _ _ _ _ (p5 g) (other 0 0 _ _ _ _ _ _ (p6 g) (ends _ _))))));
-      stops = record {
-        old_stops = refl;
-        new_stops = λ t agree.
-            ap (λ a. let b = instruction_at (words new) a in continued others b t (step b (seen t))) agree.pc;
-      };
-      old_ends = old_end;
-      new_ends = new_end;
-    }
+    runs (link code) starts
+    (group 5 0 6 _ _ _ _ _ _
+    (g.no_high_parts code high _ _ lui (record { small = lit< tt; moved = refl }) (lit≤ tt, refl)
+    refl (omega (arith, ints), omega (arith, ints))
+    (has _ _ _ _ _ lui lui
+    (applied (pos 0x120) 0x7b7 refl (refl, tt, λ e. refl) refl (lit< tt) tt refl refl) refl refl refl refl))
+    (group 4 1 5 _ _ _ _ _ _
+    (g.low_parts addi (lit≤ tt, refl) code (operands 0x120 0x10004) high _ _ _
+    (record { at = refl; small = lit< tt; place = refl; next = refl }) refl
+    (omega (arith, ints), omega (arith, ints)) refl tt
+    (has _ _ _ _ _ addi (0x13 ∷ 0x85 ∷ 0x07 ∷ 0x12 ∷ [])
+    (applied (pos 0x120) 0x78513 refl (refl, tt, λ e. refl) refl (lit< tt) tt refl refl) refl refl refl refl)
+    (has _ _ _ _ _ (0x13 ∷ 0x05 ∷ 0x00 ∷ 0x00 ∷ []) (0x13 ∷ 0x05 ∷ 0x00 ∷ 0x12 ∷ [])
+    (applied (pos 0x120) 0x513 refl (refl, tt, λ e. refl) refl (lit< tt) tt refl refl) refl refl refl refl)
+    (g.accesses code adds 0x78513 0x120 _ _ _ refl as_sum))
+    (group 3 1 4 _ _ _ _ _ _
+    (g.low_parts sd (lit≤ tt, refl) code (operands 0x128 0x10008) (operands 0x128 0x10004) _ _ _
+    (record { at = refl; small = lit< tt; place = refl; next = refl }) refl
+    (omega (arith, ints), omega (arith, ints)) refl tt
+    (has _ _ _ _ _ sd (0x23 ∷ 0xb4 ∷ 0xa7 ∷ 0x12 ∷ [])
+    (applied (pos 0x128) 0xa7b023 refl (refl, tt, λ e. refl) refl (lit< tt) tt refl refl) refl refl refl refl)
+    (has _ _ _ _ _ (0x23 ∷ 0x30 ∷ 0xa0 ∷ 0x00 ∷ []) (0x23 ∷ 0x34 ∷ 0xa0 ∷ 0x12 ∷ [])
+    (applied (pos 0x128) 0xa03023 refl (refl, tt, λ e. refl) refl (lit< tt) tt refl refl) refl refl refl refl)
+    (g.accesses code (stores 3) 0xa7b023 0x128 _ _ _ refl (as_stored 3 (inr refl) room)))
+    (group 2 2 2 _ _ _ _ _ _
+    (g.got code load sum_at _ same _ auipc ld (small load refl) (small sum_at refl)
+    (record { at = refl; small = lit< tt; place = refl; next = refl }) (lit≤ tt)
+    (record { first = refl; second = (refl, refl); base = refl; not_zero = λ e. omega arith })
+    refl refl
+    (has _ _ _ _ _ auipc (0x97 ∷ 0x25 ∷ 0x00 ∷ 0x00 ∷ [])
+    (applied (pos 0x2004) 0x597 refl (refl, tt, λ e. refl) refl (lit< tt) tt refl refl) refl refl refl refl)
+    (has _ _ _ _ _ ld (0x83 ∷ 0xb5 ∷ 0x45 ∷ 0x00 ∷ [])
+    (applied (pos 0x2004) 0x5b583 refl (refl, tt, λ e. refl) refl (lit< tt) tt refl refl) refl refl refl refl)
+    (has _ _ _ _ _ auipc (0x97 ∷ 0x35 ∷ 0x00 ∷ 0x00 ∷ [])
+    (applied (pos 0x2ff8) 0x597 refl (refl, tt, λ e. refl) refl (lit< tt) tt refl refl) refl refl refl refl)
+    (has _ _ _ _ _ (0x93 ∷ 0x85 ∷ 0x05 ∷ 0x00 ∷ []) (0x93 ∷ 0x85 ∷ 0x85 ∷ 0xff ∷ [])
+    (applied (pos 0x2ff8) 0x58593 refl (refl, tt, λ e. refl) refl (lit< tt) tt refl refl) refl refl refl refl))
+    (group 1 1 1 _ _ _ _ _ _
+    (g.calls.1 code calling jumping _ _ call (after_rewrite kinds.CallToJal call 0) (small calling refl) (small jumping refl)
+    (record { at = refl; small = lit< tt; place = refl; next = refl }) refl
+    (record { auipc_opcode = refl; jalr_opcode = refl; jalr_function = refl; base = refl }) (λ e. omega arith) refl
+    (has _ _ _ _ _ call (0x97 ∷ 0x00 ∷ 0x00 ∷ 0x00 ∷ 0xe7 ∷ 0x80 ∷ 0xc0 ∷ 0x00 ∷ [])
+    (applied (pos 0xc) 0x80e700000097 refl (refl, tt, λ e. refl) refl (lit< tt) tt refl refl) refl refl refl refl)
+    (has _ _ _ _ _ (0xef ∷ 0x00 ∷ 0x00 ∷ 0x00 ∷ 0xe7 ∷ 0x80 ∷ 0x00 ∷ 0x00 ∷ [])
+    (0xef ∷ 0x00 ∷ 0x80 ∷ 0x00 ∷ 0xe7 ∷ 0x80 ∷ 0x00 ∷ 0x00 ∷ [])
+    (applied (pos 0x8) 0xef refl (refl, tt, λ e. refl) refl (lit< tt) tt refl refl) refl refl refl refl))
+    (other 0 0 _ _ _ _ _ _ (p6 g) (ends _ _)))))))
+    refl (λ t. refl) old_end new_end

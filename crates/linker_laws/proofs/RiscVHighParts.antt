@@ -1,14 +1,14 @@
 -- What `lui` and `c.lui` put in a register, once their relocations are applied.
-use Rattle.linker_laws.proofs.Imports.{◌≡◌, ◌≢◌, ℕ, zero, suc, ◌+◌, ◌-◌, ◌*◌, ◌/◌, ◌%◌, ◌^◌, ◌<◌, ◌≤◌, false, refl, sym, ◌∙◌, ap, ap₂, subst, cond-true, eqb-true, arith, List, length, ℤ, pos, negsuc, Some, None, inl, inr, ◌⊎◌, if◌then◌else◌, w64, ◌==◌, ◌&&◌, ◌||◌, not, w16, w32, from_le_bytes, cast_signed, cases_lt, ints, to_z_pos, field, signed, BitRange, signed_cases, low_12_bounds, IsWithin, riscv_form, riscv_places, pair_row, sum_64, difference_64, value_of, RelocationKind, Absolute, TpOff, RiscVInstruction, Operands, UType, CluiType, cast_negative, IsApplied, place_sum, clui_bounds, symbol_address, wrapped}
+use Rattle.linker_laws.proofs.Imports.{◌≡◌, ◌≢◌, ℕ, zero, suc, ◌+◌, ◌-◌, ◌*◌, ◌/◌, ◌%◌, ◌^◌, ◌<◌, ◌≤◌, refl, sym, ◌∙◌, ap, subst, arith, List, length, ℤ, pos, negsuc, Some, inl, inr, ◌⊎◌, w64, w16, w32, from_le_bytes, cast_signed, cases_lt, ints, to_z_pos, field, signed, BitRange, signed_cases, low_12_bounds, IsWithin, riscv_form, riscv_places, pair_row, sum_64, difference_64, value_of, RelocationKind, Absolute, TpOff, RiscVInstruction, Operands, UType, CluiType, cast_negative, IsApplied, place_sum, clui_bounds, symbol_address, wrapped}
 use Rattle.linker_riscv64.specs.RiscVFields.{rd_of}
 use Rattle.linker_elf.proofs.RiscV.{u_laid, clui_laid}
 use Rattle.linker_laws.proofs.Applied.{value_is, taken_bits}
-use Rattle.linker_laws.proofs.RiscVMachine.{skip}
 use Rattle.linker_laws.proofs.Instructions.{unbiased}
 use Rattle.linker_laws.proofs.Sums.{sum_below}
 use Rattle.linker_laws.specs.RiscVRewriteLaws.{IsLow12, thread_offset}
 use Rattle.linker_laws.specs.RiscVMachine.{lui, sums, of_half, of_clui, Instruction, adds, cli_immediate}
 use Rattle.linker_laws.proofs.Words.{kept_field}
+use Rattle.std.proofs.lemmas.Bool.Decides.{nat_tests}
 
 -- ---- numbers of 12 bits, and those of 18 that `c.lui` and a low part make
 
@@ -148,16 +148,8 @@ module _ (kind : RelocationKind) (x : Operands) (n : ℕ) (before code : List �
 
 clui_of : (rd : ℕ) (i : ℤ) → i ≢ pos 0 → rd ≢ 0 → rd ≢ 2 → of_clui rd i ≡ Some (lui rd i)
 clui_of rd (pos zero) some a b = absurd (some refl)
-clui_of rd (pos (suc n)) some a b =
-    let e : (rd == 0) ≡ false = grind arith in
-    let f : (rd == 2) ≡ false = grind arith in
-    ap (λ t. if t || rd == 2 then None else Some (lui rd (pos (suc n)))) e
-    ∙ ap (λ t. if t then None else Some (lui rd (pos (suc n)))) f
-clui_of rd (negsuc n) some a b =
-    let e : (rd == 0) ≡ false = grind arith in
-    let f : (rd == 2) ≡ false = grind arith in
-    ap (λ t. if t || rd == 2 then None else Some (lui rd (negsuc n))) e
-    ∙ ap (λ t. if t then None else Some (lui rd (negsuc n))) f
+clui_of rd (pos (suc n)) some a b = grind (arith, nat_tests)
+clui_of rd (negsuc n) some a b = grind (arith, nat_tests)
 
 module _ (x : Operands) (before code : List ℕ)
     (applied : IsApplied (pair_row Absolute 32 CluiType) x before code)
@@ -233,10 +225,7 @@ module _ (x : Operands) (before code : List ℕ)
   is_short_lui : of_half half ≡ Some loads_short
   unfolding loads_short
   is_short_lui =
-      let no_nop : half ≢ 1 = λ e. omega (arith, e, function_kept) in
-      skip (half == 1) _ _ _ (λ e. no_nop (eqb-true half 1 e))
-      (skip (field half 0 2 == 1 && field half 13 16 == 5) _ _ _ (λ e. grind (arith, e, function_kept))
-      (cond-true (field half 0 2 == 1 && field half 13 16 == 3) _ _ (grind (arith, short_kept, function_kept)) ∙ is_clui))
+      grind (arith, nat_tests, short_kept, function_kept, is_clui)
 
   -- the half is that `c.lui`
   pub short_low : field (from_le_bytes w16 code) 0 2 ≡ 1
@@ -268,13 +257,7 @@ module _ (half rd : ℕ) (is : half ≡ 0x4001 + rd * 128) (below : rd < 32) (so
 
   pub is_zero : of_half half ≡ Some (sums adds rd 0 0 (pos 0))
   is_zero =
-      let no_nop : half ≢ 1 = λ e. omega (arith, e, zero_function) in
-      skip (half == 1) _ _ _ (λ e. no_nop (eqb-true half 1 e))
-      (skip (field half 0 2 == 1 && field half 13 16 == 5) _ _ _ (λ e. grind (arith, e, zero_function))
-      (skip (field half 0 2 == 1 && field half 13 16 == 3) _ _ _ (λ e. grind (arith, e, zero_function))
-      (cond-true (field half 0 2 == 1 && (field half 13 16 == 2 && not (rd_of half == 0))) _ _
-      (grind (arith, zero_low, zero_function, some, zero_register))
-      ∙ ap₂ (λ r i. Some (sums adds r 0 0 i)) zero_register zero_immediate)))
+      grind (arith, nat_tests, zero_low, zero_function, zero_register, zero_immediate)
 
 -- the two put the same
 pub same_immediates : (n h l : ℕ) → n < 2 ^ 64 → (n < 0x1f800) ⊎ (2 ^ 64 - 0x20800 ≤ n)

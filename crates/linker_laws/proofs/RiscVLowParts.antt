@@ -1,30 +1,21 @@
 -- The instructions that add a low part do the same with x0 as their base.
-use Rattle.linker_laws.proofs.Imports.{◌≡◌, ℕ, ◌+◌, ◌-◌, ◌*◌, ◌%◌, ◌^◌, ◌<◌, ◌≤◌, Bool, true, false, refl, sym, ◌∙◌, ap, subst, arith, List, length, drop, ◌++◌, ℤ, pos, ◌-ℤ◌, ◌+ℤ◌, Option, Some, None, inl, inr, ◌⊎◌, if◌then◌else◌, w64, int_lt, ◌==◌, ◌&&◌, ◌||◌, nat_lt, IsTrue, w32, from_le_bytes, to_le_bytes, cast_signed, and_parts, eqb-true, agree_below, ints, length-drop, field, signed, is_placed, rewritten, BitRange, layout_laid, always_clear, signed_cases, bits_taken, riscv_places, rewrites_word, with_rs1, RelocationKind, funct3_of, pair_row, sum_64, value_of, Operands, IType, SType, word_of_front, IsApplied, cond_both, place_sum, riscv_layout, word_at, AreBytes, moved}
+use Rattle.std.proofs.lemmas.Bool.Decides.{nat_tests}
+use Rattle.linker_laws.proofs.Imports.{◌≡◌, ℕ, ◌+◌, ◌-◌, ◌*◌, ◌%◌, ◌^◌, ◌<◌, ◌≤◌, Bool, true, false, refl, ◌∙◌, ap, arith, List, length, drop, ◌++◌, ℤ, pos, ◌-ℤ◌, ◌+ℤ◌, Option, Some, None, inl, inr, ◌⊎◌, if◌then◌else◌, w64, int_lt, ◌==◌, ◌&&◌, ◌||◌, nat_lt, IsTrue, w32, from_le_bytes, to_le_bytes, cast_signed, and_parts, eqb-true, agree_below, ints, length-drop, field, signed, is_placed, rewritten, BitRange, layout_laid, always_clear, signed_cases, bits_taken, riscv_places, rewrites_word, with_rs1, RelocationKind, funct3_of, pair_row, sum_64, value_of, Operands, IType, SType, word_of_front, IsApplied, cond_both, place_sum, riscv_layout, word_at, AreBytes, moved}
 use Rattle.linker_utils.specs.declared.riscv64.rewrites.RewriteKind.{RewriteKind}
 use Rattle.linker_riscv64.specs.RiscVFields.{opcode_of}
 use Rattle.linker_utils.specs.RiscVRewrites.{adds_low12}
 use Rattle.linker_utils.specs.declared.riscv64.rewrites.RewriteKind.TheVariants as kinds
 use Rattle.linker_laws.proofs.Applied.{value_is, taken_bits}
 use Rattle.linker_laws.specs.RiscVRewriteLaws.{after_rewrite}
-use Rattle.linker_laws.specs.RiscVMachine.{Action, adds, adds_word, jumps, loads, stores, loads_float, stores_float, action_of, with_action, of_word, is_add}
-use Rattle.linker_laws.proofs.RiscVMachine.{skip, wrapped_is, written}
+use Rattle.linker_laws.specs.RiscVMachine.{Action, adds, adds_word, jumps, loads, stores, loads_float, stores_float, action_of, with_action, of_word}
+use Rattle.linker_laws.proofs.RiscVMachine.{wrapped_is, written}
 use Rattle.linker_laws.proofs.Words.{kept_field, put_there, word_below, word_of_bytes}
 
 -- ---- which instruction a word is
 
-no_action : (n f : ℕ) (a : Action) → action_of n f ≡ None → action_of n f ≡ Some a → ⊥
-no_action n f a e g = let c : None ≡ Some a = sym e ∙ g in cc
-
 pub is_action : (x : ℕ) (a : Action) → action_of (opcode_of x) (funct3_of x) ≡ Some a
     → of_word x ≡ with_action x (Some a)
-is_action x a is =
-    let not_it : (n : ℕ) → action_of n (funct3_of x) ≡ None → (opcode_of x == n) ≡ true → ⊥
-    = λ n e t. no_action n (funct3_of x) a e
-    (subst (λ o. action_of o (funct3_of x) ≡ Some a) (eqb-true (opcode_of x) n t) is) in
-    skip (opcode_of x == 0x37) _ _ _ (not_it 0x37 refl) (skip (opcode_of x == 0x17) _ _ _ (not_it 0x17 refl)
-    (skip (opcode_of x == 0x6f) _ _ _ (not_it 0x6f refl) (skip (is_add x) _ _ _
-    (λ t. not_it 0x33 refl (and_parts (opcode_of x == 0x33) (funct3_of x == 0 && field x 25 32 == 0) t).0)
-    (ap (with_action x) is))))
+is_action x a is = grind (arith, nat_tests, ap (with_action x) is)
 
 -- each instruction that adds a low part has an action, and is one of 32 bits
 abbrev pub HasAction : ℕ → Option Action → Type 0

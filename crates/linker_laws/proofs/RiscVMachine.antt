@@ -1,5 +1,5 @@
 -- What RISC-V's instructions are, by their bits, and what they leave.
-use Rattle.linker_laws.proofs.Imports.{◌≡◌, ◌≢◌, ℕ, ◌+◌, ◌-◌, ◌*◌, ◌/◌, ◌%◌, ◌^◌, ◌<◌, ◌≤◌, Bool, true, false, refl, sym, ◌∙◌, ap, arith, List, length, drop, ℤ, pos, negsuc, ◌+ℤ◌, ◌*ℤ◌, unsigned_abs, Option, Some, None, if◌then◌else◌, ◌==◌, ◌&&◌, nat_le, option_map, w16, w32, from_le_bytes, le-leb, cond-true, eqb-true, ints, field, signed, replaced, consecutive_bits_sum, riscv_form, riscv_places, funct3_of, sum_64, difference_64, UType, IType, CjType, JType, UiType, place_sum, ui_high, ui_low, IsAddress, wrapped, moved}
+use Rattle.linker_laws.proofs.Imports.{◌≡◌, ◌≢◌, ℕ, ◌+◌, ◌-◌, ◌*◌, ◌/◌, ◌%◌, ◌^◌, ◌<◌, ◌≤◌, false, refl, sym, ◌∙◌, ap, arith, List, length, drop, ℤ, pos, negsuc, ◌+ℤ◌, ◌*ℤ◌, unsigned_abs, Option, Some, if◌then◌else◌, ◌==◌, ◌&&◌, option_map, w16, w32, from_le_bytes, ints, field, signed, replaced, consecutive_bits_sum, riscv_form, riscv_places, funct3_of, sum_64, difference_64, UType, IType, CjType, JType, UiType, place_sum, ui_high, ui_low, IsAddress, wrapped, moved}
 use Rattle.linker_riscv64.specs.RiscVFields.{opcode_of, rd_of}
 use Rattle.linker_laws.specs.RiscVRelocationLaws.{without_bit_0}
 use Rattle.linker_laws.proofs.RiscV.{bit_cleared}
@@ -7,6 +7,7 @@ use Rattle.linker_laws.proofs.Sums.{lift}
 pub use Rattle.linker_laws.proofs.Sums.{wrapped_is}
 use Rattle.linker_laws.specs.RiscVMachine.{Hart, register, with_integer, Instruction, lui, auipc, jal, sums, jumps, rs1_of, rs2_of, action_of, with_action, add, of_word, of_half, executed, sized, fetched, Steps}
 use Rattle.linker_laws.proofs.Words.{same_low_two}
+use Rattle.std.proofs.lemmas.Bool.Decides.{nat_tests}
 
 -- ---- sums of addresses
 
@@ -57,40 +58,16 @@ at_second pc small = omega arith
 
 -- ---- instructions by their bits
 
--- a test that fails
-pub skip : {A : Type 0} (b : Bool) (y z w : A) → (b ≡ true → ⊥) → z ≡ w → (if b then y else z) ≡ w
-skip true y z w fails e = absurd (fails refl)
-skip false y z w fails e = e
-
 pub is_long : (x : ℕ) (opcode : ℕ) → opcode_of x ≡ opcode → opcode % 4 ≡ 3 → field x 0 2 ≡ 3
 is_long x opcode e long = omega arith
 
--- what `fetched` makes of a length and of what bytes begin with
-as_word : List ℕ → Option (ℕ × Instruction)
-as_word bytes =
-    if nat_le 4 (length bytes) then sized 4 (of_word (from_le_bytes w32 bytes)) else None
-
-as_half : List ℕ → Option (ℕ × Instruction)
-as_half bytes =
-    if nat_le 2 (length bytes) then sized 2 (of_half (from_le_bytes w16 bytes)) else None
-
 pub fetched_word : (bytes : List ℕ) (i : Instruction) → field (from_le_bytes w32 bytes) 0 2 ≡ 3
     → 4 ≤ length bytes → of_word (from_le_bytes w32 bytes) ≡ Some i → fetched bytes ≡ Some (4, i)
-unfolding as_word as_half
-fetched_word bytes i low long is =
-    ap (λ n. if n == 3 then as_word bytes else as_half bytes) (same_low_two bytes ∙ low)
-    ∙ ap (λ b. if b then sized 4 (of_word (from_le_bytes w32 bytes)) else None)
-    (le-leb 4 (length bytes) long)
-    ∙ ap (sized 4) is
+fetched_word bytes i low long is = grind (arith, nat_tests, same_low_two bytes, ap (sized 4) is)
 
 pub fetched_half : (bytes : List ℕ) (i : Instruction) → field (from_le_bytes w16 bytes) 0 2 ≡ 1
     → 2 ≤ length bytes → of_half (from_le_bytes w16 bytes) ≡ Some i → fetched bytes ≡ Some (2, i)
-unfolding as_word as_half
-fetched_half bytes i low long is =
-    ap (λ n. if n == 3 then as_word bytes else as_half bytes) low
-    ∙ ap (λ b. if b then sized 2 (of_half (from_le_bytes w16 bytes)) else None)
-    (le-leb 2 (length bytes) long)
-    ∙ ap (sized 2) is
+fetched_half bytes i low long is = grind (arith, nat_tests, ap (sized 2) is)
 
 -- an instruction at the hart's pc is executed
 pub steps : (code : List ℕ) (start k n : ℕ) (i : Instruction) (h : Hart)
@@ -139,10 +116,7 @@ module _ (x : ℕ) where
 
 pub is_cj : (half : ℕ) → field half 0 2 ≡ 1 → field half 13 16 ≡ 5
     → of_half half ≡ Some (jal 0 ((riscv_form CjType).machine half))
-is_cj half quadrant function =
-    let no_nop : half ≢ 1 = λ e. omega (arith, e, function) in
-    skip (half == 1) _ _ _ (λ e. no_nop (eqb-true half 1 e))
-    (cond-true (field half 0 2 == 1 && field half 13 16 == 5) _ _ (grind (arith, quadrant, function)))
+is_cj half quadrant function = grind (arith, nat_tests, quadrant, function)
 
 -- ---- a window of two words
 
@@ -165,20 +139,11 @@ ui_of_words lo hi small =
 
 pub other : (rd n : ℕ) (h : Hart) (q : ℕ) → (q == rd) ≡ false
     → register (with_integer rd n h) q ≡ register h q
-other rd n h q e =
-    ap (λ b. if q == 0 then 0 else (if b then n else h.integers q)) e
+other rd n h q e = grind (arith, nat_tests, e)
 
 pub written : (rd n : ℕ) (h : Hart) → rd ≢ 0 → register (with_integer rd n h) rd ≡ n
-written rd n h some =
-    let zero : (rd == 0) ≡ false = grind arith in
-    let same : (rd == rd) ≡ true = grind arith in
-    ap (λ b. if b then 0 else (if rd == rd then n else h.integers rd)) zero
-    ∙ ap (λ b. if b then n else h.integers rd) same
+written rd n h some = grind (arith, nat_tests)
 
 -- x0 keeps nothing
 pub unwritten : (n : ℕ) (h : Hart) (q : ℕ) → register (with_integer 0 n h) q ≡ register h q
-unwritten n h q = both (q == 0) (h.integers q)
-  where
-    both : (b : Bool) (m : ℕ) → (if b then 0 else (if b then n else m)) ≡ (if b then 0 else m)
-    both true m = refl
-    both false m = refl
+unwritten n h q = grind (arith, nat_tests)

@@ -1,7 +1,8 @@
 -- LoongArch: rewritten instructions are groups of the simulation. Code gets shorter, so what is
 -- old's and what is new's stand at places of their own.
 use Rattle.std.specs.Prelude.{◌≡◌, ℕ, ◌+◌, ◌-◌, ◌/◌, ◌^◌, ◌<◌, ◌==◌, ◌&&◌, nat_lt, if◌then◌else◌}
-use Rattle.std.specs.Prelude.{List, drop, Option, Some, None, IsTrue, ⊤}
+use Rattle.std.specs.Prelude.{List, drop, Option, Some, None, IsTrue, option_map, ⊤}
+use Rattle.std.specs.Option.{unwrap_or}
 use Rattle.linker_base.specs.declared.rewrite.DeletedBytes.{DeletedBytes}
 use Rattle.linker_laws.specs.Imports.{RowIsWithin, loongarch_row, sum_64, Operands}
 use Rattle.linker_laws.specs.Imports.{LoongArch64Relocation, adds_low12, rj_of, RewriteKind}
@@ -115,12 +116,9 @@ pub record AreDeleted (c : Code) (n : ℕ) (s : State) : Type 0 where
   pub moved : c.moved s.pc ≡ c.moved (s.pc + n)
 
 -- how many bytes a rewrite deletes
-abbrev pub count_of : Option DeletedBytes → ℕ
-count_of None = 0
-count_of (Some bytes) = bytes.count
-
 abbrev pub deleted_by : RewriteKind → ℕ
-deleted_by kind = count_of (loongarch_deleted kind)
+deleted_by kind =
+    unwrap_or (option_map (λ (bytes : DeletedBytes). bytes.count) (loongarch_deleted kind)) 0
 
 -- ---- states
 
