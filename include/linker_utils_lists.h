@@ -438,7 +438,11 @@ enum linker_utils_riscv_rewrite {
     /* Turns `auipc` into `lui` of 0, with its destination register. */
     LINKER_UTILS_RISCV_REWRITE_AUIPC_TO_LUI = 18,
     /* Turns `ld` into `addi` of 0 and x0, with its destination register. */
-    LINKER_UTILS_RISCV_REWRITE_LD_TO_ADDI_ZERO = 19
+    LINKER_UTILS_RISCV_REWRITE_LD_TO_ADDI_ZERO = 19,
+    /* Turns the first two bytes of a call whose `jalr` links x1 into a `c.jal` of distance 0.
+     * Requires RV32 and the C extension: code of RV64 has `c.addiw` of these bits. The caller
+     * deletes the six bytes after it. */
+    LINKER_UTILS_RISCV_REWRITE_CALL_TO_C_JAL = 20
 };
 
 enum linker_utils_loongarch64_rewrite {
@@ -647,63 +651,66 @@ enum linker_utils_modifier {
  *
  * RISC-V, with the prefixes R_RISCV_ and LINKER_UTILS_RISCV_REWRITE_:
  *   CALL, CALL_PLT     TAIL_TO_C_J            RVC_JUMP      (1)
- *                      TAIL_TO_JAL            JAL           (2)
- *                      CALL_TO_JAL            JAL           (2)
- *   GOT_HI20           DELETE                 NONE          (3)
- *                      NO_OP                  PCREL_HI20    (4)
- *                      AUIPC_TO_LUI           HI20          (5)
- *   PCREL_LO12_I       LD_TO_ADDI_ZERO        LO12_I        (6)
- *                      LD_TO_ADDI             PCREL_LO12_I  (7)
- *                      LD_TO_ADDI             LO12_I        (8)
- *   HI20               HI20_DELETE            NONE          (9)
- *                      HI20_TO_C_LUI          RVC_LUI       (10)
- *   LO12_I, LO12_S     LO12_RS1_TO_ZERO       the same      (9)
- *   TPREL_HI20         DELETE                 NONE          (11)
- *   TPREL_LO12_I       BASE_TO_TP             TPREL_LO12_I  (11)
- *   TPREL_LO12_S       BASE_TO_TP             TPREL_LO12_S  (11)
- *   TPREL_ADD          DELETE                 NONE          (11)
- *   RVC_LUI            C_LUI_TO_C_LI          NONE          (12)
- *   TLSDESC_HI20       DELETE                 NONE          (13)
- *                      REPLACE_WITH_LONG_NOP  NONE          (14)
- *                      DELETE                 NONE          (15)
- *                      REPLACE_WITH_LONG_NOP  NONE          (16)
- *   TLSDESC_LOAD_LO12  DELETE                 NONE          (13)
- *                      REPLACE_WITH_LONG_NOP  NONE          (14)
- *                      DELETE                 NONE          (15)
- *                      REPLACE_WITH_LONG_NOP  NONE          (16)
- *   TLSDESC_ADD_LO12   DELETE                 NONE          (17)
- *                      REPLACE_WITH_LONG_NOP  NONE          (18)
- *                      ADDI_TO_LUI            TPREL_HI20    (14)
- *                      ADDI_TO_AUIPC          TLS_GOT_HI20  (16)
- *   TLSDESC_CALL       CALL_TO_ADDI_ZERO      TPREL_LO12_I  (18)
- *                      CALL_TO_ADDI           TPREL_LO12_I  (14)
- *                      CALL_TO_LD             PCREL_LO12_I  (16)
+ *                      CALL_TO_C_JAL          RVC_JUMP      (2)
+ *                      TAIL_TO_JAL            JAL           (3)
+ *                      CALL_TO_JAL            JAL           (3)
+ *   GOT_HI20           DELETE                 NONE          (4)
+ *                      NO_OP                  PCREL_HI20    (5)
+ *                      AUIPC_TO_LUI           HI20          (6)
+ *   PCREL_LO12_I       LD_TO_ADDI_ZERO        LO12_I        (7)
+ *                      LD_TO_ADDI             PCREL_LO12_I  (8)
+ *                      LD_TO_ADDI             LO12_I        (9)
+ *   HI20               HI20_DELETE            NONE          (10)
+ *                      HI20_TO_C_LUI          RVC_LUI       (11)
+ *   LO12_I, LO12_S     LO12_RS1_TO_ZERO       the same      (10)
+ *   TPREL_HI20         DELETE                 NONE          (12)
+ *   TPREL_LO12_I       BASE_TO_TP             TPREL_LO12_I  (12)
+ *   TPREL_LO12_S       BASE_TO_TP             TPREL_LO12_S  (12)
+ *   TPREL_ADD          DELETE                 NONE          (12)
+ *   RVC_LUI            C_LUI_TO_C_LI          NONE          (13)
+ *   TLSDESC_HI20       DELETE                 NONE          (14)
+ *                      REPLACE_WITH_LONG_NOP  NONE          (15)
+ *                      DELETE                 NONE          (16)
+ *                      REPLACE_WITH_LONG_NOP  NONE          (17)
+ *   TLSDESC_LOAD_LO12  DELETE                 NONE          (14)
+ *                      REPLACE_WITH_LONG_NOP  NONE          (15)
+ *                      DELETE                 NONE          (16)
+ *                      REPLACE_WITH_LONG_NOP  NONE          (17)
+ *   TLSDESC_ADD_LO12   DELETE                 NONE          (18)
+ *                      REPLACE_WITH_LONG_NOP  NONE          (19)
+ *                      ADDI_TO_LUI            TPREL_HI20    (15)
+ *                      ADDI_TO_AUIPC          TLS_GOT_HI20  (17)
+ *   TLSDESC_CALL       CALL_TO_ADDI_ZERO      TPREL_LO12_I  (19)
+ *                      CALL_TO_ADDI           TPREL_LO12_I  (15)
+ *                      CALL_TO_LD             PCREL_LO12_I  (17)
  *   (1) is_pcrel_link_time_constant, may_compress, is_relaxable, plt_entry is symbol, RVC_JUMP in
  *       reach
- *   (2) is_pcrel_link_time_constant, is_relaxable, plt_entry is symbol, JAL in reach
- *   (3) is_local, not is_ifunc, has_fixed_address, is_relaxable, is_label_relaxable, addend 0, S +
+ *   (2) is_pcrel_link_time_constant, may_compress, is_relaxable, plt_entry is symbol, is_class32,
+ *       RVC_JUMP in reach
+ *   (3) is_pcrel_link_time_constant, is_relaxable, plt_entry is symbol, JAL in reach
+ *   (4) is_local, not is_ifunc, has_fixed_address, is_relaxable, is_label_relaxable, addend 0, S +
  *       A in 12 bits
- *   (4) is_local, not is_ifunc, is_pcrel_link_time_constant, is_label_relaxable, addend 0,
+ *   (5) is_local, not is_ifunc, is_pcrel_link_time_constant, is_label_relaxable, addend 0,
  *       PCREL_HI20 in reach if known
- *   (5) is_local, not is_ifunc, has_fixed_address, is_label_relaxable, addend 0, HI20 in reach
- *   (6) is_local, not is_ifunc, has_fixed_address, is_relaxable, is_label_relaxable,
+ *   (6) is_local, not is_ifunc, has_fixed_address, is_label_relaxable, addend 0, HI20 in reach
+ *   (7) is_local, not is_ifunc, has_fixed_address, is_relaxable, is_label_relaxable,
  *       has_got_high_part, addend 0, S + A in 12 bits
- *   (7) is_local, not is_ifunc, is_pcrel_link_time_constant, is_label_relaxable, has_got_high_part,
+ *   (8) is_local, not is_ifunc, is_pcrel_link_time_constant, is_label_relaxable, has_got_high_part,
  *       addend 0, PCREL_HI20 in reach if known
- *   (8) is_local, not is_ifunc, has_fixed_address, is_label_relaxable, has_got_high_part, addend 0,
+ *   (9) is_local, not is_ifunc, has_fixed_address, is_label_relaxable, has_got_high_part, addend 0,
  *       HI20 in reach
- *   (9) has_fixed_address, is_relaxable, S + A in 12 bits
- *   (10) has_fixed_address, may_compress, is_relaxable, RVC_LUI in reach
- *   (11) is_relaxable, TPREL_LO12_I in -0x800..0x800
- *   (12) has_fixed_address, S + A in 12 bits
- *   (13) is_local, not is_ifunc, is_executable, is_relaxable, addend 0, TPREL_HI20 in reach if
+ *   (10) has_fixed_address, is_relaxable, S + A in 12 bits
+ *   (11) has_fixed_address, may_compress, is_relaxable, RVC_LUI in reach
+ *   (12) is_relaxable, TPREL_LO12_I in -0x800..0x800
+ *   (13) has_fixed_address, S + A in 12 bits
+ *   (14) is_local, not is_ifunc, is_executable, is_relaxable, addend 0, TPREL_HI20 in reach if
  *       known
- *   (14) is_local, not is_ifunc, is_executable, addend 0, TPREL_HI20 in reach if known
- *   (15) is_executable, is_relaxable, TLS_GOT_HI20 in reach if known
- *   (16) is_executable, TLS_GOT_HI20 in reach if known
- *   (17) is_local, not is_ifunc, is_executable, is_relaxable, addend 0, TPREL_HI20 in reach if
+ *   (15) is_local, not is_ifunc, is_executable, addend 0, TPREL_HI20 in reach if known
+ *   (16) is_executable, is_relaxable, TLS_GOT_HI20 in reach if known
+ *   (17) is_executable, TLS_GOT_HI20 in reach if known
+ *   (18) is_local, not is_ifunc, is_executable, is_relaxable, addend 0, TPREL_HI20 in reach if
  *       known, TPREL_LO12_I in -0x800..0x800
- *   (18) is_local, not is_ifunc, is_executable, addend 0, TPREL_HI20 in reach if known,
+ *   (19) is_local, not is_ifunc, is_executable, addend 0, TPREL_HI20 in reach if known,
  *       TPREL_LO12_I in -0x800..0x800
  *
  * LoongArch, with the prefixes R_LARCH_ and LINKER_UTILS_LOONGARCH64_REWRITE_:

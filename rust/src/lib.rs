@@ -124,7 +124,7 @@ pub mod runs {
         Run, pack_run, rewritten_items_into, section_items, section_items_into,
     };
     pub use crate::linker_runs::items::{
-        AsItem, AsRelocation, ItemsError, Relocation, RewrittenItemsError, SectionItems,
+        AsRelocation, ItemNumbers, ItemsError, Relocation, RewrittenItemsError, SectionItems,
         first_malformed,
     };
     pub use crate::linker_runs::packing::{
@@ -177,8 +177,7 @@ pub mod rewriting {
     #[cfg(feature = "riscv64")]
     pub use crate::link::{finish_gp_relaxation, rewrite_global_pointer, survey_global_pointer};
     pub use crate::linker_rewriting::decisions::{
-        AsDecision, AsKeptDecision, Decision, DecisionError, FromDeletion, KeptDecision,
-        RewritingError, Subject,
+        Decision, DecisionError, DecisionNumbers, Deletion, RewritingError, Subject,
     };
     pub use crate::linker_rewriting::facts::SymbolFacts;
     #[cfg(feature = "riscv64")]

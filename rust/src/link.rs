@@ -7,7 +7,7 @@ use crate::elf::{Architecture, RelocateError, WriteError};
 use crate::linker_base::relaxation::{AsDeletion, DeltaSlice, RelaxDelta};
 use crate::linker_output::got::Origins;
 use crate::linker_rewriting::decisions::{
-    AsDecision, AsKeptDecision, DecisionError, FromDeletion, RewritingError,
+    DecisionError, DecisionNumbers, Deletion, RewritingError,
 };
 use crate::linker_rewriting::facts::{OutputFacts, RelaxContext, SymbolFacts};
 use crate::linker_rewriting::groups::UnrelaxableGroups;
@@ -15,7 +15,7 @@ use crate::linker_rewriting::kept::{self, FactsSnapshot};
 use crate::linker_rewriting::phases::Phase;
 use crate::linker_rewriting::{surveys, toc_indirection};
 use crate::linker_runs::items::{
-    self, AsItem, AsRelocation, ItemsError, Relocation, RewrittenItemsError, SectionItems,
+    self, AsRelocation, ItemNumbers, ItemsError, Relocation, RewrittenItemsError, SectionItems,
 };
 use crate::linker_runs::packing::{self, Machine, RejectedItem};
 use crate::linker_runs::relaxation::Alignment;
@@ -260,11 +260,11 @@ pub struct Words<'a> {
 
 /// A run of code that is relaxed, or what lies in one section of it.
 #[derive(Debug, Clone, Copy, PartialEq, Eq, Hash)]
-pub struct Run<'a, I> {
+pub struct Run<'a> {
     /// The run's address.
     pub start: u64,
     /// Its items.
-    pub items: &'a [I],
+    pub items: &'a [ItemNumbers],
     /// What the run loses.
     pub deltas: &'a [RelaxDelta],
 }
@@ -529,13 +529,11 @@ pub fn survey<B: AsRef<[u8]>, R: AsRef<[u8]>>(
 ///
 /// An instruction whose relocation is [`Scope::Independent`](crate::rewriting::Scope::Independent) is rewritten where it can be. Those of a
 /// group are all rewritten, or none is where the group stays by `unrelaxable_groups`, which [`survey`](crate::rewriting::survey()) made of all
-/// sections of code of the object with the same facts. A relocation that a rewrite takes along gets
-/// the type 0, so that indexes stay. A relocation of a symbol that isn't in the table isn't
-/// rewritten.
+/// sections of code of the object with the same facts. One whose relocation's symbol isn't in the
+/// table isn't rewritten. Nothing is deleted.
 ///
-/// What became of each relocation is in `decisions`, which needs room for each of them. Nothing is
-/// deleted. Since no address is known, a value after a rewrite may turn out to be out of reach.
-/// What this call doesn't rewrite, a linker may rewrite by `choose`.
+/// Since no address is known, a value after a rewrite may turn out to be out of reach. What this
+/// call doesn't rewrite, a linker may rewrite by `choose`.
 ///
 /// A value out of reach is an error of [`relocate_section`](crate::section::relocate_section()), with two exceptions, both of LoongArch.
 /// What its load from the GOT becomes takes any distance (`R_LARCH_PCALA_HI20`), and what its
@@ -547,12 +545,12 @@ pub fn survey<B: AsRef<[u8]>, R: AsRef<[u8]>>(
 ///
 /// # Errors
 ///
-/// The section and its relocations are as before. Relocations of instructions that can be rewritten
-/// have to ascend by offset (`Overlaps`). All others may be in any order.
+/// Relocations of instructions that can be rewritten have to ascend by offset (`Overlaps`). All
+/// others may be in any order.
 ///
 /// ```
 /// use linker_utils::elf::Architecture;
-/// use linker_utils::rewriting::{Decision, UnrelaxableGroups, SymbolFacts, rewrite_section};
+/// use linker_utils::rewriting::{DecisionNumbers, UnrelaxableGroups, SymbolFacts, rewrite_section};
 /// use linker_utils::section::{Link, Object, Section};
 ///
 /// // call *f@GOTPCREL(%rip), with R_X86_64_GOTPCRELX of symbol 1 at 2, becomes addr32 call f
@@ -570,17 +568,17 @@ pub fn survey<B: AsRef<[u8]>, R: AsRef<[u8]>>(
 ///     unrelaxable_groups: &[UnrelaxableGroups::default(); 2],
 ///     ..Object::default()
 /// };
-/// rewrite_section(&link, &object, &mut section, &mut [Decision::Kept]).unwrap();
+/// rewrite_section(&link, &object, &mut section, &mut [DecisionNumbers::default()]).unwrap();
 /// assert_eq!(section.bytes, [0x67, 0xe8, 0, 0, 0, 0]);
 /// // R_X86_64_PC32
 /// assert_eq!(section.relocations[8], 2);
 /// ```
 #[inline]
-pub fn rewrite_section<B: AsMut<[u8]>, R: AsMut<[u8]>, D: AsDecision>(
+pub fn rewrite_section<B: AsMut<[u8]>, R: AsMut<[u8]>>(
     link: &Link,
     object: &Object<'_>,
     section: &mut Section<B, R>,
-    decisions: &mut [D],
+    decisions: &mut [DecisionNumbers],
 ) -> Result<(), RewritingError> {
     crate::linker_rewriting::sections::rewrite_section(
         link.architecture,
@@ -602,9 +600,9 @@ pub fn rewrite_section<B: AsMut<[u8]>, R: AsMut<[u8]>, D: AsDecision>(
 /// nothing of one that is [`Decision::Consumed`](crate::rewriting::Decision::Consumed). None is [`Decision::RewrittenWithSymbol`](crate::rewriting::Decision::RewrittenWithSymbol).
 ///
 /// No decision depends on an address. A branch is rewritten by its symbol's facts alone: AArch64's
-/// to an undefined weak symbol becomes a `nop`, whose relocation has the type 0. The `nop` after
-/// PowerPC64's call restores the TOC pointer where its function may change it, by the symbol's
-/// facts. So a linker may still choose a stub as the target of a branch that keeps its relocation.
+/// to an undefined weak symbol becomes a `nop`. The `nop` after PowerPC64's call restores the TOC
+/// pointer where its function may change it. So a linker may still choose a stub as the target of a
+/// branch that keeps its relocation.
 ///
 /// # Errors
 ///
@@ -612,7 +610,7 @@ pub fn rewrite_section<B: AsMut<[u8]>, R: AsMut<[u8]>, D: AsDecision>(
 ///
 /// ```
 /// use linker_utils::elf::Architecture;
-/// use linker_utils::rewriting::{AsDecision, Decision, DecisionError, KeptDecision};
+/// use linker_utils::rewriting::{DecisionError, DecisionNumbers};
 /// use linker_utils::rewriting::{UnrelaxableGroups, SymbolFacts, decide_rewrites, make_rewrites};
 /// use linker_utils::section::{Link, Object, Section};
 ///
@@ -631,7 +629,7 @@ pub fn rewrite_section<B: AsMut<[u8]>, R: AsMut<[u8]>, D: AsDecision>(
 ///     unrelaxable_groups: &[UnrelaxableGroups::default(); 2],
 ///     ..Object::default()
 /// };
-/// let mut decisions = [KeptDecision::from_decision(Decision::Kept)];
+/// let mut decisions = [DecisionNumbers::default()];
 /// decide_rewrites(&link, &object, &input, &mut decisions).unwrap();
 ///
 /// let mut output = Section::new(input.bytes, input.relocations);
@@ -643,11 +641,11 @@ pub fn rewrite_section<B: AsMut<[u8]>, R: AsMut<[u8]>, D: AsDecision>(
 /// assert_eq!(make_rewrites(&mut output, &decisions), Err(DecisionError::Changed(0)));
 /// ```
 #[inline]
-pub fn decide_rewrites<B: AsRef<[u8]>, R: AsRef<[u8]>, D: AsKeptDecision>(
+pub fn decide_rewrites<B: AsRef<[u8]>, R: AsRef<[u8]>>(
     link: &Link,
     object: &Object<'_>,
     section: &Section<B, R>,
-    decisions: &mut [D],
+    decisions: &mut [DecisionNumbers],
 ) -> Result<(), RewritingError> {
     crate::linker_rewriting::sections::decide_rewrites(
         link.architecture,
@@ -677,12 +675,11 @@ pub fn decide_rewrites<B: AsRef<[u8]>, R: AsRef<[u8]>, D: AsKeptDecision>(
 ///
 /// # Errors
 ///
-/// The section and its relocations are as before. `TooShort`, or else the error of the first
-/// relocation that has one.
+/// `TooShort`, or else the error of the first relocation that has one.
 #[inline]
-pub fn make_rewrites<B: AsMut<[u8]>, R: AsMut<[u8]>, D: AsKeptDecision>(
+pub fn make_rewrites<B: AsMut<[u8]>, R: AsMut<[u8]>>(
     section: &mut Section<B, R>,
-    decisions: &[D],
+    decisions: &[DecisionNumbers],
 ) -> Result<(), DecisionError> {
     crate::linker_rewriting::sections::make_rewrites(
         section.relocations.as_mut(),
@@ -745,11 +742,10 @@ pub fn survey_placed_section<B: AsRef<[u8]>, R: AsRef<[u8]>>(
 /// the reach that is left: a linker that deletes bytes afterwards makes distances shorter, never
 /// longer.
 ///
-/// Bytes that are to be deleted are listed in `deleted` by their offset in the section and how many
-/// they are, ascending, as [`SectionRelaxDeltas::new`](crate::relaxation::SectionRelaxDeltas::new) of `relaxation` takes them. They
-/// are in the section, apart from each other and from all that is rewritten, and still there.
-/// [`Phase::TlsLocalExec`](crate::rewriting::Phase::TlsLocalExec) alone has any. Returns how many there are. A relocation that goes, with
-/// its instruction or without, gets the type 0.
+/// Bytes that are to be deleted are listed in `deleted`, ascending, as [`SectionRelaxDeltas::new`](crate::relaxation::SectionRelaxDeltas::new) of
+/// `relaxation` takes their pairs. They are in the section, apart from each other and
+/// from all that is rewritten, and still there. [`Phase::TlsLocalExec`](crate::rewriting::Phase::TlsLocalExec) alone has any. Returns how
+/// many there are.
 ///
 /// - `TlsLocalExec`: where an offset from the thread pointer has 12 bits, RISC-V's and LoongArch's
 ///   `lui` and `add` of it are deleted, and loads and stores are over the thread pointer; where it
@@ -768,14 +764,13 @@ pub fn survey_placed_section<B: AsRef<[u8]>, R: AsRef<[u8]>>(
 ///
 /// # Errors
 ///
-/// The section and its relocations are as before. Those of [`rewrite_section`](crate::rewriting::rewrite_section()), and before them
-/// `Contradiction`, of the first such symbol; an undefined weak symbol that the dynamic linker may
-/// define is none.
+/// Those of [`rewrite_section`](crate::rewriting::rewrite_section()), and before them `Contradiction`, of the first such symbol; an
+/// undefined weak symbol that the dynamic linker may define is none.
 ///
 /// ```
 /// use linker_utils::elf::Architecture;
 /// use linker_utils::rewriting::{
-///     Decision, Phase, SymbolFacts, UnrelaxableGroups, rewrite_placed_section,
+///     DecisionNumbers, Deletion, Phase, SymbolFacts, UnrelaxableGroups, rewrite_placed_section,
 /// };
 /// use linker_utils::section::{Link, Object, Section, Symbol};
 ///
@@ -795,7 +790,7 @@ pub fn survey_placed_section<B: AsRef<[u8]>, R: AsRef<[u8]>>(
 ///     unrelaxable_groups: &[UnrelaxableGroups::default(); 2],
 ///     ..Object::default()
 /// };
-/// let (decisions, deleted) = (&mut [Decision::Kept; 2], &mut [(0, 0); 0]);
+/// let (decisions, deleted) = (&mut [DecisionNumbers::default(); 2], &mut [Deletion::default(); 0]);
 /// let phase = Phase::ShortPcRel;
 /// let count = rewrite_placed_section(&link, &object, &mut section, phase, decisions, deleted);
 /// assert_eq!(count, Ok(0));
@@ -805,13 +800,13 @@ pub fn survey_placed_section<B: AsRef<[u8]>, R: AsRef<[u8]>>(
 /// assert_eq!((section.relocations[32], section.relocations[33]), (0x12, 1));
 /// ```
 #[inline]
-pub fn rewrite_placed_section<B: AsMut<[u8]>, R: AsMut<[u8]>, D: AsDecision, L: FromDeletion>(
+pub fn rewrite_placed_section<B: AsMut<[u8]>, R: AsMut<[u8]>>(
     link: &Link,
     object: &Object<'_>,
     section: &mut Section<B, R>,
     phase: Phase,
-    decisions: &mut [D],
-    deleted: &mut [L],
+    decisions: &mut [DecisionNumbers],
+    deleted: &mut [Deletion],
 ) -> Result<usize, RewritingError> {
     crate::linker_rewriting::sections::rewrite_placed_section(
         context!(link, object, section, phase),
@@ -831,8 +826,7 @@ pub fn rewrite_placed_section<B: AsMut<[u8]>, R: AsMut<[u8]>, D: AsDecision, L: 
 ///
 /// `words.relocations` are the relocations of the section of addresses, as `output`'s description names
 /// it, and have to ascend by offset; `kept` has an element for each. `words.address` is its address.
-/// A relocation is of a word where it refers to its address, whichever its symbol. Only PowerPC64
-/// has such a section: of other architectures nothing is noted.
+/// A relocation is of a word where it refers to its address, whichever its symbol.
 ///
 /// # Errors
 ///
@@ -887,11 +881,8 @@ pub fn survey_toc_loads<B: AsRef<[u8]>, R: AsRef<[u8]>>(
 /// addresses are known. They are then of the symbol and the addend of the word's relocation
 /// ([`Decision::RewrittenWithSymbol`](crate::rewriting::Decision::RewrittenWithSymbol)). All loads of a word are rewritten, or none is where the word
 /// stays by `words.kept`, which [`survey_toc_loads`](crate::rewriting::survey_toc_loads()) made of all sections of code of the object with the
-/// same facts, addresses and `words`. It decides by all of the section's bytes before it rewrites
-/// one.
-///
-/// What became of each relocation is in `decisions`, which needs room for each of them. Nothing is
-/// deleted.
+/// same context and `words`. It decides by all of the section's bytes before it rewrites one.
+/// Nothing is deleted, and `decisions` are as [`rewrite_section`](crate::rewriting::rewrite_section()) has them.
 ///
 /// # Errors
 ///
@@ -899,7 +890,7 @@ pub fn survey_toc_loads<B: AsRef<[u8]>, R: AsRef<[u8]>>(
 ///
 /// ```
 /// use linker_utils::elf::Architecture;
-/// use linker_utils::rewriting::{Decision, SymbolFacts, Words, rewrite_toc_loads};
+/// use linker_utils::rewriting::{DecisionNumbers, SymbolFacts, Words, rewrite_toc_loads};
 /// use linker_utils::section::{Link, Object, Section, Symbol};
 ///
 /// // addis 3,2,.toc@toc@ha and ld 3,.toc@toc@l(3), where the word at the start of `.toc` is that
@@ -919,7 +910,7 @@ pub fn survey_toc_loads<B: AsRef<[u8]>, R: AsRef<[u8]>>(
 ///     ..Object::default()
 /// };
 /// let words = Words { address: 0x1_0000, relocations: &relocation(0, 38, 2), kept: &[false] };
-/// let mut decisions = [Decision::Kept; 2];
+/// let mut decisions = [DecisionNumbers::default(); 2];
 /// rewrite_toc_loads(&link, &object, &mut section, &words, &mut decisions).unwrap();
 /// assert_eq!(section.bytes, [0, 0, 0x62, 0x3c, 0, 0, 0x63, 0x38]);
 /// // R_PPC64_TOC16_HA and R_PPC64_TOC16_LO, both of symbol 2
@@ -927,12 +918,12 @@ pub fn survey_toc_loads<B: AsRef<[u8]>, R: AsRef<[u8]>>(
 /// assert_eq!((section.relocations[32], section.relocations[36]), (48, 2));
 /// ```
 #[inline]
-pub fn rewrite_toc_loads<B: AsMut<[u8]>, R: AsMut<[u8]>, D: AsDecision>(
+pub fn rewrite_toc_loads<B: AsMut<[u8]>, R: AsMut<[u8]>>(
     link: &Link,
     object: &Object<'_>,
     section: &mut Section<B, R>,
     words: &Words<'_>,
-    decisions: &mut [D],
+    decisions: &mut [DecisionNumbers],
 ) -> Result<(), RewritingError> {
     toc_indirection::rewrite_toc_loads(
         context!(link, object, section, Phase::ShortPcRel),
@@ -947,15 +938,12 @@ pub fn rewrite_toc_loads<B: AsMut<[u8]>, R: AsMut<[u8]>, D: AsDecision>(
 
 /// Notes which symbols of an object keep the `lui` and `auipc` of their address, since a relocation
 /// of this section of code is of such an instruction, or of a low part, and can't be rewritten: it
-/// isn't marked by `R_RISCV_RELAX`, its instruction is another one, or S + A is neither within
-/// 2 KiB of the global pointer, from 2,048 below it to 2,047 above it, nor of 0 (RISC-V ELF psABI,
-/// "Global-pointer Relaxation" and "Zero-page Relaxation"). All symbols of a section stay whose
-/// relocations don't ascend, and all where the output isn't an executable that is always loaded at
-/// the address that it is linked for.
+/// isn't marked by `R_RISCV_RELAX`, its instruction is another one, or S + A is near neither the
+/// global pointer nor 0. All symbols of a section stay whose relocations don't ascend, and all
+/// where the output isn't an executable that is always loaded at the address that it is linked for.
 ///
 /// As with [`survey`](crate::rewriting::survey()) there is one table, with an element for each symbol of the object, all of which
-/// are false at first. A symbol without an element stays. `global_pointer` is the address of
-/// `__global_pointer$`. For other architectures than RISC-V nothing is noted.
+/// are false at first. A symbol without an element stays.
 ///
 /// # Errors
 ///
@@ -1007,8 +995,8 @@ pub fn survey_global_pointer<B: AsRef<[u8]>, R: AsRef<[u8]>>(
 /// The relocation of such an instruction gets the type 0. Those of the low parts of these symbols
 /// get the symbol and the addend of the address and the type [`GPREL_I`](crate::rewriting::GPREL_I) or [`GPREL_S`](crate::rewriting::GPREL_S), which no other
 /// call knows: [`finish_gp_relaxation`](crate::rewriting::finish_gp_relaxation()) writes the base of their instruction once all addresses are
-/// final, and gives them the type whose value is then written. What became of each relocation is in
-/// `decisions`, which needs room for each of them.
+/// final, and gives them the type whose value is then written. The `decisions` are as
+/// [`rewrite_section`](crate::rewriting::rewrite_section()) has them.
 ///
 /// The premise is that x3 is the address of `__global_pointer$` wherever the code of the section
 /// runs, and never changes: what sets it isn't marked. An instruction that is deleted leaves its
@@ -1021,7 +1009,8 @@ pub fn survey_global_pointer<B: AsRef<[u8]>, R: AsRef<[u8]>>(
 ///
 /// ```
 /// use linker_utils::elf::Architecture;
-/// use linker_utils::rewriting::{Decision, GPREL_I, SymbolFacts, rewrite_global_pointer};
+/// use linker_utils::rewriting::{DecisionNumbers, Deletion, GPREL_I};
+/// use linker_utils::rewriting::{SymbolFacts, rewrite_global_pointer};
 /// use linker_utils::section::{Link, Object, Section, Symbol};
 ///
 /// // lui a0, %hi(x) and lw a0, %lo(x)(a0), both marked, where x is 2,047 above gp
@@ -1039,21 +1028,21 @@ pub fn survey_global_pointer<B: AsRef<[u8]>, R: AsRef<[u8]>>(
 ///     kept_high_parts: &[false; 2],
 ///     ..Object::default()
 /// };
-/// let (mut decisions, mut deleted) = ([Decision::Kept; 4], [(0, 0)]);
+/// let (mut decisions, mut deleted) = ([DecisionNumbers::default(); 4], [Deletion::default()]);
 /// let count =
 ///     rewrite_global_pointer(&link, &object, &mut section, &mut decisions, &mut deleted);
-/// assert_eq!((count, deleted), (Ok(1), [(0, 4)]));
+/// assert_eq!((count, deleted), (Ok(1), [Deletion { offset: 0, bytes: 4 }]));
 /// let codes = (section.relocations[8], u32::from(section.relocations[56]));
 /// assert_eq!(codes, (0, GPREL_I));
 /// ```
 #[cfg(feature = "riscv64")]
 #[inline]
-pub fn rewrite_global_pointer<B: AsRef<[u8]>, R: AsMut<[u8]>, D: AsDecision, L: FromDeletion>(
+pub fn rewrite_global_pointer<B: AsRef<[u8]>, R: AsMut<[u8]>>(
     link: &Link,
     object: &Object<'_>,
     section: &mut Section<B, R>,
-    decisions: &mut [D],
-    deleted: &mut [L],
+    decisions: &mut [DecisionNumbers],
+    deleted: &mut [Deletion],
 ) -> Result<usize, RewritingError> {
     crate::linker_rewriting::global_pointer::rewrite_global_pointer(
         context!(link, object, section, Phase::ShortPcRel),
@@ -1075,8 +1064,8 @@ pub fn rewrite_global_pointer<B: AsRef<[u8]>, R: AsMut<[u8]>, D: AsDecision, L: 
 /// # Errors
 ///
 /// The section and its relocations are as before. The index of the first relocation whose S + A is
-/// neither within 2 KiB of `global_pointer`, from 2,048 below it to 2,047 above it, nor of 0; whose symbol
-/// isn't in the table; or whose instruction isn't in the section.
+/// near neither `global_pointer` nor 0, whose symbol isn't in the table, or whose instruction isn't in the
+/// section.
 ///
 /// ```
 /// use linker_utils::elf::Architecture;
@@ -1140,10 +1129,11 @@ pub fn first_changed<B: AsRef<[u8]>, R: AsRef<[u8]>>(
 }
 
 /// Writes the values of a section whose instructions were rewritten, as [`relocate_section`](crate::section::relocate_section()) does,
-/// where choices would still read the same facts: `facts` and `link` are those that hold now, and
-/// `facts_snapshot` those of [`snapshot_facts`](crate::rewriting::snapshot_facts()) when rewrites were chosen. So a symbol that was bound then and
-/// isn't any more doesn't get code that bypasses its GOT entry. A relocation that needs an entry
-/// which the linker hasn't made is an error of [`relocate_section`](crate::section::relocate_section()) (`NoEntry`).
+/// where choices would still read the same facts: those of `link` hold now, and `facts_snapshot` are those
+/// of [`snapshot_facts`](crate::rewriting::snapshot_facts()) when rewrites were chosen. So a symbol that was bound then and isn't any
+/// more doesn't get code that bypasses its GOT entry. A relocation that needs an entry which the
+/// linker hasn't made is an error of [`relocate_section`](crate::section::relocate_section()) (`NoEntry`). `memory` is that call's, and
+/// the phase isn't read.
 ///
 /// # Errors
 ///
@@ -1188,17 +1178,11 @@ pub fn relocate_rewritten_section<B: AsMut<[u8]>, R: AsRef<[u8]>>(
     section: &mut Section<B, R>,
     memory: &mut [u64],
 ) -> Result<(), WritingError> {
-    let (architecture, addresses) = (link.architecture, link.addresses(section.address));
     let (relocations, bytes) = (section.relocations.as_ref(), section.bytes.as_mut());
-    let symbols = object.values;
     kept::relocate_rewritten_section(
-        architecture,
-        &link.output(),
-        object.facts,
+        context!(link, object, section, Phase::PreLayout),
         object.facts_snapshot,
-        &addresses,
         relocations,
-        symbols,
         bytes,
         memory,
     )
@@ -1207,10 +1191,10 @@ pub fn relocate_rewritten_section<B: AsMut<[u8]>, R: AsRef<[u8]>>(
         kept::WritingError::Changed(index) => WritingError::Changed(index),
         kept::WritingError::NeedsStub(index) => WritingError::NeedsStub(index),
         kept::WritingError::Section(found) => WritingError::Section(explained(
-            architecture,
-            &addresses,
+            link.architecture,
+            &link.addresses(section.address),
             relocations,
-            ByIndex { symbols },
+            ByIndex { symbols: object.values },
             found,
         )),
     })
@@ -1274,11 +1258,11 @@ pub fn section_items<B: AsRef<[u8]>, S: AsRef<[u8]>, R: AsRelocation>(
 /// - makers: `makers.len() == relocations.len()`
 #[inline]
 #[cfg_attr(debug_assertions, track_caller)]
-pub fn section_items_into<B: AsRef<[u8]>, S: AsRef<[u8]>, R: AsRelocation, I: AsItem>(
+pub fn section_items_into<B: AsRef<[u8]>, S: AsRef<[u8]>, R: AsRelocation>(
     machine: Machine,
     section: &Section<B, S>,
     relocations: &[R],
-    items: &mut [I],
+    items: &mut [ItemNumbers],
     makers: &mut [usize],
 ) -> Result<usize, usize> {
     let (bytes, base) = (section.bytes.as_ref(), section.base);
@@ -1321,18 +1305,12 @@ pub fn section_items_into<B: AsRef<[u8]>, S: AsRef<[u8]>, R: AsRelocation, I: As
 /// - makers: `(makers.len() as u128) == (relocations.len() as u128) + (deleted.len() as u128)`
 #[inline]
 #[cfg_attr(debug_assertions, track_caller)]
-pub fn rewritten_items_into<
-    B: AsRef<[u8]>,
-    S: AsRef<[u8]>,
-    R: AsRelocation,
-    L: AsDeletion,
-    I: AsItem,
->(
+pub fn rewritten_items_into<B: AsRef<[u8]>, S: AsRef<[u8]>, R: AsRelocation, L: AsDeletion>(
     machine: Machine,
     section: &Section<B, S>,
     relocations: &[R],
     deleted: &[L],
-    items: &mut [I],
+    items: &mut [ItemNumbers],
     makers: &mut [usize],
 ) -> Result<usize, RewrittenItemsError> {
     let (bytes, base) = (section.bytes.as_ref(), section.base);
@@ -1348,9 +1326,9 @@ pub fn rewritten_items_into<
 /// Targets may lie anywhere in the run.
 ///
 /// How many bytes of an item stay, which have to be its first ones, says what is written:
-/// - of RISC-V `c.j` of two bytes for a call that links x0, `jal` of four with the link register of
-///   the `jalr`, and of eight the call as it is, with `R_RISCV_CALL_PLT` applied (RISC-V ELF psABI,
-///   "Function Call Relaxation");
+/// - of RISC-V two bytes of `c.j` for a call that links x0, or on RV32 of `c.jal` for one that
+///   links x1, `jal` of four with the link register of the `jalr`, and of eight the call as it is, with
+///   `R_RISCV_CALL_PLT` applied (RISC-V ELF psABI, "Function Call Relaxation");
 /// - of LoongArch four bytes of `b` for a call whose `jirl` links none, of `bl` for one that links
 ///   `ra`, and of `pcaddi`, with the `addi.d`'s register, for an address; of eight the instructions
 ///   as they are, with `R_LARCH_CALL36`, or `R_LARCH_PCALA_HI20` and `R_LARCH_PCALA_LO12`, applied
@@ -1383,10 +1361,10 @@ pub fn rewritten_items_into<
 /// - room: `!DeltaSlice::new(run.deltas).has_valid_deltas() || packed_run_len(section.base, section.bytes.len(), run.deltas) == packed.len()`
 #[inline]
 #[cfg_attr(debug_assertions, track_caller)]
-pub fn pack_run<B: AsRef<[u8]>, R: AsMut<[u8]>, I: AsItem>(
+pub fn pack_run<B: AsRef<[u8]>, R: AsMut<[u8]>>(
     machine: Machine,
     section: &mut Section<B, R>,
-    run: &Run<'_, I>,
+    run: &Run<'_>,
     packed: &mut [u8],
 ) -> Result<(), RejectedItem> {
     packing::pack_run(
@@ -1401,7 +1379,7 @@ pub fn pack_run<B: AsRef<[u8]>, R: AsMut<[u8]>, I: AsItem>(
     )
 }
 
-impl<I: AsItem> Run<'_, I> {
+impl Run<'_> {
     /// [`pack_run`] of a section of the run. Returns the packed section, `packed` and the moved
     /// relocations, at the address that it then has.
     ///
@@ -1410,12 +1388,12 @@ impl<I: AsItem> Run<'_, I> {
     /// - what [`pack_run`] requires
     ///
     /// ```
-    /// use linker_utils::runs::{Item, Machine, Run, Site, relax, shapes};
+    /// use linker_utils::runs::{Item, ItemNumbers, Machine, Run, Site, relax, shapes};
     /// use linker_utils::section::Section;
     ///
     /// // a section with auipc ra, 0 and jalr ra, 0(ra), a call of the ret in the section after it
     /// let call = Site { offset: 0, len: 8, target: 8, shapes: shapes::riscv64::CALL };
-    /// let items = [Item::Site(call)];
+    /// let items = [ItemNumbers::from_item(Item::Site(call))];
     /// let plan = relax(&items, 0x1000).unwrap();
     /// let run = Run { start: 0x1000, items: &items[1..], deltas: plan.deletions.deltas() };
     /// let ret = Section { base: 8, ..Section::new([0x67, 0x80, 0, 0], []) };

@@ -3,10 +3,7 @@
 //! The rewrites of a section in one call, before addresses are known and once they are: which
 //! instructions are rewritten, all of a group or none, and what becomes of their relocations.
 
-mod agreement;
-mod calls;
 pub mod candidates;
-mod checked;
 mod covered;
 pub mod decisions;
 pub mod facts;

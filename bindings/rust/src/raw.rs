@@ -146,6 +146,7 @@ pub struct LinkFacts {
     pub may_change_toc: u8,
     pub has_addresses: u8,
     pub group_fits: u8,
+    pub is_class32: u8,
     pub operands: Operands,
 }
 

@@ -28,6 +28,7 @@ pub struct LinkFactNumbers {
     pub may_change_toc: u8,
     pub has_addresses: u8,
     pub group_fits: u8,
+    pub is_class32: u8,
     pub operands: Operands,
 }
 
@@ -69,6 +70,7 @@ impl LinkFactNumbers {
             is_executable: self.is_executable != 0,
             has_local_exec_base: self.has_local_exec_base != 0,
             may_compress: self.may_compress != 0,
+            is_class32: self.is_class32 != 0,
             is_relaxable: self.is_relaxable != 0,
             has_got_high_part: self.has_got_high_part != 0,
             is_label_relaxable: self.is_label_relaxable != 0,

@@ -7,24 +7,8 @@
 //! The contract of what else it returns requires valid ones.
 
 use crate::status::Status;
-use linker_utils::relaxation::{AsDeletion, DeltaSlice, RelaxDelta, first_invalid};
-
-/// Some bytes of an input section that are deleted.
-#[repr(C)]
-#[derive(Clone, Copy)]
-pub struct Deletion {
-    /// The offset in the input section of the first deleted byte.
-    pub offset: u64,
-    /// How many bytes are deleted.
-    pub bytes: u32,
-}
-
-impl AsDeletion for Deletion {
-    #[inline(always)]
-    fn as_deletion(self) -> (u64, u32) {
-        (self.offset, self.bytes)
-    }
-}
+use linker_utils::source::rewriting::Deletion;
+use linker_utils::relaxation::{DeltaSlice, RelaxDelta, first_invalid};
 
 /// Whether `linker_utils_deltas_create` accepts the deletions. The error is `InvalidDeletions`, and
 /// `faulty` the index of the first that ends above 2^64 - 1 or does not lie past the one before it.

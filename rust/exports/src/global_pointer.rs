@@ -2,9 +2,9 @@
 // Made by tools/generate of crates/linker_utils_c/src/global_pointer.rt.
 //! RISC-V's addresses near the global pointer or 0, without their high part.
 
-use crate::deltas::Deletion;
-use crate::rewriting::{DecisionNumbers, put_error, survey_status};
+use crate::rewriting::{put_error, survey_status};
 use crate::status::Status;
+use linker_utils::source::rewriting::{DecisionNumbers, Deletion};
 use linker_utils::source::rewriting::{OutputFacts, RelaxContext, SymbolFacts};
 use linker_utils::source::rewriting::{
     finish_gp_relaxation, rewrite_global_pointer, survey_global_pointer,

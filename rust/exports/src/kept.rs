@@ -4,10 +4,11 @@
 
 use crate::sections::status_of_error;
 use crate::status::Status;
-use linker_utils::source::rewriting::{OutputFacts, SymbolFacts};
+use linker_utils::source::rewriting::{OutputFacts, RelaxContext, SymbolFacts};
 use linker_utils::source::rewriting::{
     FactsSnapshot, WritingError, relocate_rewritten_section, snapshot_facts,
 };
+use linker_utils::source::rewriting::Phase;
 use linker_utils::source::section::{Addresses, Symbol};
 use linker_utils::source::section::memory_len;
 use linker_utils::elf::Architecture;
@@ -50,17 +51,15 @@ pub fn linker_utils_relocate_rewritten_section_nonnull(
     if memory.len() < memory_len(relocations) {
         return Status::ShortMemory as u32;
     }
-    match relocate_rewritten_section(
+    let context = RelaxContext {
         architecture,
+        phase: Phase::PreLayout,
         output,
-        facts,
-        kept,
+        symbols: facts,
         addresses,
-        relocations,
-        symbols,
-        section,
-        memory,
-    ) {
+        values: symbols,
+    };
+    match relocate_rewritten_section(&context, kept, relocations, section, memory) {
         Ok(()) => Status::Success as u32,
         Err(WritingError::Contradiction(symbol)) => {
             *faulty = symbol;

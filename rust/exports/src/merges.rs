@@ -4,8 +4,8 @@
 
 use alloc::vec::Vec;
 use crate::support::*;
-use crate::deltas::Deletion;
 use crate::status::Status;
+use linker_utils::source::rewriting::Deletion;
 use linker_utils::relaxation::{AsDeletion, DeltaSlice, OutOfMemory, RelaxDelta, first_invalid};
 
 /// Whether `linker_utils_deltas_merge` accepts the additional deletions, in any order. The first

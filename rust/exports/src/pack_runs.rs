@@ -2,9 +2,8 @@
 // Made by tools/generate of crates/linker_utils_c/src/pack_runs.rt.
 //! The sections of a relaxed run, packed.
 
-use crate::relaxing::ItemNumbers;
 use crate::status::Status;
-use linker_utils::source::runs::AsItem;
+use linker_utils::source::runs::ItemNumbers;
 use linker_utils::source::runs::{ItemError, Machine, has_its_instructions, pack_run, packed_run_len};
 use linker_utils::elf::Architecture;
 use linker_utils::relaxation::RelaxDelta;

@@ -2,11 +2,8 @@
 // Made by tools/generate of crates/linker_utils_c/src/rewriting.rt.
 //! The rewrites of a section in one call, before addresses are known and once they are.
 
-use crate::deltas::Deletion;
 use crate::status::Status;
-use linker_utils::source::rewriting::{
-    AsDecision, AsKeptDecision, Decision, DecisionError, FromDeletion, RewritingError, Subject,
-};
+use linker_utils::source::rewriting::{DecisionError, DecisionNumbers, Deletion, RewritingError};
 use linker_utils::source::rewriting::{OutputFacts, RelaxContext, SymbolFacts};
 use linker_utils::source::rewriting::{UnrelaxableGroups, has_rewrites};
 use linker_utils::source::rewriting::Phase;
@@ -16,155 +13,7 @@ use linker_utils::source::rewriting::{
 use linker_utils::source::rewriting::{survey, survey_placed_section};
 use linker_utils::source::rewriting::{rewrite_toc_loads, survey_toc_loads};
 use linker_utils::source::section::{Addresses, Symbol};
-use linker_utils::architecture::Relaxation;
-use linker_utils::elf::{Architecture, Choice};
-
-/// What becomes of a relocation and of its instruction, in numbers.
-#[repr(C)]
-#[derive(Clone, Copy)]
-pub struct DecisionNumbers {
-    /// The addend that the relocation gets before the rewrite, if its fate is 3; else 0.
-    pub addend: i64,
-    /// The index of the symbol that the relocation gets, if its fate is 3. With the fate 1 a number
-    /// of the bytes that the rewrite was decided on, if it is kept; else 0.
-    pub symbol: u32,
-    /// The rewrite's number; 0 of a relocation whose instruction isn't rewritten, as the fields
-    /// below but `fate`.
-    pub rewrite: u32,
-    /// The relocation's `r_type` after it.
-    pub relocation: u32,
-    /// `e_machine` of the rewrite's architecture.
-    pub machine: u16,
-    /// 0 where both stay as they are, 1 where the instruction is rewritten, 2 where the relocation
-    /// goes, since the rewrite at another one takes it along, 3 where the instruction is rewritten
-    /// and the relocation gets another symbol and addend.
-    pub fate: u8,
-    /// The rewrite's count of bytes before the field; 0 if it has none.
-    pub opcode_len: u8,
-}
-
-/// One that rewrites nothing.
-#[inline(always)]
-fn of_fate(fate: u8) -> DecisionNumbers {
-    DecisionNumbers {
-        addend: 0,
-        symbol: 0,
-        rewrite: 0,
-        relocation: 0,
-        machine: 0,
-        fate,
-        opcode_len: 0,
-    }
-}
-
-/// `e_machine` of a rewrite's architecture.
-#[inline(always)]
-fn machine_of(kind: Relaxation) -> u16 {
-    match kind {
-        Relaxation::AArch64(_) => Architecture::AArch64.machine(),
-        Relaxation::RiscV(_) => Architecture::RiscV.machine(),
-        Relaxation::LoongArch64(_) => Architecture::LoongArch64.machine(),
-        Relaxation::Ppc64(_) => Architecture::Ppc64.machine(),
-        Relaxation::X86_64(_) => Architecture::X86_64.machine(),
-    }
-}
-
-impl DecisionNumbers {
-    /// The rewrite and the relocation after it, if its machine has a rewrite of these numbers.
-    #[inline(always)]
-    fn choice(self) -> Option<Choice<Relaxation, u32>> {
-        let architecture = Architecture::from_machine(self.machine)?;
-        let kind = Relaxation::from_number(architecture, self.rewrite, self.opcode_len)?;
-        Some(Choice {
-            kind,
-            relocation: self.relocation,
-        })
-    }
-}
-
-/// One that rewrites an instruction.
-#[inline(always)]
-fn of_choice(fate: u8, choice: Choice<Relaxation, u32>, subject: Subject) -> DecisionNumbers {
-    let (rewrite, opcode_len) = choice.kind.number();
-    DecisionNumbers {
-        addend: subject.addend,
-        symbol: subject.symbol,
-        rewrite,
-        relocation: choice.relocation,
-        machine: machine_of(choice.kind),
-        fate,
-        opcode_len,
-    }
-}
-
-impl AsDecision for DecisionNumbers {
-    #[inline(always)]
-    fn as_decision(self) -> Decision {
-        if self.fate == 0 {
-            return Decision::Kept;
-        }
-        if self.fate == 2 {
-            return Decision::Consumed;
-        }
-        let Some(choice) = self.choice() else {
-            return Decision::Kept;
-        };
-        if self.fate == 1 {
-            Decision::Rewritten(choice)
-        } else {
-            Decision::RewrittenWithSymbol(
-                choice,
-                Subject {
-                    symbol: self.symbol,
-                    addend: self.addend,
-                },
-            )
-        }
-    }
-
-    #[inline(always)]
-    fn from_decision(made: Decision) -> DecisionNumbers {
-        match made {
-            Decision::Kept => of_fate(0),
-            Decision::Consumed => of_fate(2),
-            Decision::Rewritten(choice) => of_choice(
-                1,
-                choice,
-                Subject {
-                    symbol: 0,
-                    addend: 0,
-                },
-            ),
-            Decision::RewrittenWithSymbol(choice, subject) => of_choice(3, choice, subject),
-        }
-    }
-}
-
-impl AsKeptDecision for DecisionNumbers {
-    #[inline(always)]
-    fn bytes(self) -> u32 {
-        self.symbol
-    }
-
-    #[inline(always)]
-    fn from_choice(choice: Choice<Relaxation, u32>, number: u32) -> DecisionNumbers {
-        of_choice(
-            1,
-            choice,
-            Subject {
-                symbol: number,
-                addend: 0,
-            },
-        )
-    }
-}
-
-impl FromDeletion for Deletion {
-    #[inline(always)]
-    fn from_deletion(offset: u64, bytes: u32) -> Deletion {
-        Deletion { offset, bytes }
-    }
-}
+use linker_utils::elf::Architecture;
 
 /// The phase with a number.
 #[inline(always)]

@@ -2,12 +2,12 @@
 // Made by tools/generate of crates/linker_utils_c/src/section_items.rt.
 //! The items that a section's relocations make, in arrays of the caller's.
 
-use crate::deltas::Deletion;
 use crate::pack_runs::packing_machine;
-use crate::relaxing::ItemNumbers;
 use crate::status::Status;
+use linker_utils::source::rewriting::Deletion;
 use linker_utils::source::runs::{
-    AsRelocation, Relocation, RewrittenItemsError, rewritten_items_into, section_items_into,
+    AsRelocation, ItemNumbers, Relocation, RewrittenItemsError, rewritten_items_into,
+    section_items_into,
 };
 
 /// A relocation of a section, and what it refers to in a run.

@@ -12,7 +12,6 @@ use crate::linker_section::relocations::{Rela, relocation_at};
 use crate::architecture::{Relaxation, choose, may_be_skipped};
 use crate::elf::{Architecture, Choice, LinkFacts, Operands};
 
-/// Whether the symbol at an index is `__tls_get_addr`.
 #[inline(always)]
 pub(crate) fn is_tls_get_addr(symbols: &[SymbolFacts], symbol: u32) -> bool {
     match symbols.get(symbol as usize) {
@@ -21,7 +20,7 @@ pub(crate) fn is_tls_get_addr(symbols: &[SymbolFacts], symbol: u32) -> bool {
     }
 }
 
-/// Whether a relocation is that of a call of `__tls_get_addr` n bytes after an offset.
+/// Whether a relocation is that of a call of `__tls_get_addr` `distance` bytes after an offset.
 #[inline(always)]
 fn is_call(context: &RelaxContext<'_>, offset: u64, distance: u64, next: Option<Rela>) -> bool {
     let Some(next) = next else {
@@ -91,7 +90,6 @@ pub(crate) fn candidate_by(
     Some(chosen)
 }
 
-/// What the rewrite of a relocation is chosen by, by its own symbol and mark.
 #[inline(always)]
 fn own_facts(context: &RelaxContext<'_>, site: &Site<'_>) -> Option<LinkFacts> {
     let marked = is_marked_in(context.phase, context.architecture, site);

@@ -2,7 +2,7 @@
 // Made by tools/generate of crates/linker_rewriting/src/covered.rt.
 //! Relocations that no rewrite takes along, in the bytes that one writes or deletes.
 
-use crate::linker_rewriting::decisions::{AsDecision, Decision, decision_in, span_of};
+use crate::linker_rewriting::decisions::{Decision, DecisionNumbers, decision_in, span_of};
 use crate::linker_rewriting::relocations::relocation_in;
 use crate::linker_section::relocations::relocations_len;
 use crate::linker_section::sections::field_len;
@@ -24,21 +24,15 @@ struct Place {
 
 /// Where the bytes begin and end that the decision with an index writes or deletes.
 #[inline(always)]
-fn span_at<D: AsDecision>(relocations: &[u8], decisions: &[D], index: usize) -> (u64, u64) {
+fn span_at(relocations: &[u8], decisions: &[DecisionNumbers], index: usize) -> (u64, u64) {
     let decision = decision_in(decisions, index);
     span_of(&decision, relocation_in(relocations, index).offset)
 }
 
-/// Whether the relocation with an index stays as it is, and so does its instruction.
-#[inline(always)]
-fn is_kept<D: AsDecision>(decisions: &[D], index: usize) -> bool {
-    matches!(decision_in(decisions, index), Decision::Kept)
-}
-
 /// An index that is no more than another, below which all bytes end at or below an offset.
-fn place_before<D: AsDecision>(
+fn place_before(
     relocations: &[u8],
-    decisions: &[D],
+    decisions: &[DecisionNumbers],
     offset: u64,
     from: usize,
 ) -> usize {
@@ -55,9 +49,9 @@ fn place_before<D: AsDecision>(
 
 /// The place, from an index on, before the first bytes that end after an offset, beside those of
 /// the decision with another index. Those before it end at or below that offset, and `below`.
-fn place_from<D: AsDecision>(
+fn place_from(
     relocations: &[u8],
-    decisions: &[D],
+    decisions: &[DecisionNumbers],
     index: usize,
     offset: u64,
     from: usize,
@@ -66,7 +60,7 @@ fn place_from<D: AsDecision>(
     let len = relocations_len(relocations);
     let mut below = below;
     for at in from..len {
-        if is_kept(decisions, at) {
+        if let Decision::Kept = decision_in(decisions, at) {
             continue;
         }
         let (start, end) = span_at(relocations, decisions, at);
@@ -96,9 +90,9 @@ fn place_from<D: AsDecision>(
 /// The same, from any place on. What is before it is passed again only where it ends after the
 /// offset.
 #[inline(always)]
-fn place_beside<D: AsDecision>(
+fn place_beside(
     relocations: &[u8],
-    decisions: &[D],
+    decisions: &[DecisionNumbers],
     index: usize,
     offset: u64,
     place: Place,
@@ -126,21 +120,15 @@ fn reaches(
     distance < field_len(architecture, relocations, section, index) as u64
 }
 
-/// Whether a rewrite takes along the relocation with an index.
-#[inline(always)]
-fn is_taken<D: AsDecision>(decisions: &[D], index: usize) -> bool {
-    matches!(decision_in(decisions, index), Decision::Consumed)
-}
-
 /// The first relocation that no rewrite takes along and whose field has a byte that the decision of
 /// another one writes or deletes. The bytes of decisions ascend, and where relocations do too each
 /// decision is passed once. Else those are passed again that are between the place of a relocation
 /// and the place of the one before it.
-pub(crate) fn first_covered<D: AsDecision>(
+pub(crate) fn first_covered(
     architecture: Architecture,
     relocations: &[u8],
     section: &[u8],
-    decisions: &[D],
+    decisions: &[DecisionNumbers],
 ) -> Option<usize> {
     let count = relocations_len(relocations);
     let first = place_from(relocations, decisions, count, 0, 0, 0);
@@ -156,7 +144,7 @@ pub(crate) fn first_covered<D: AsDecision>(
         {
             continue;
         }
-        if is_taken(decisions, index) {
+        if let Decision::Consumed = decision_in(decisions, index) {
             continue;
         }
         place = place_beside(relocations, decisions, index, offset, place);

@@ -2,12 +2,11 @@
 // Made by tools/generate of crates/linker_rewriting/src/decisions.rt.
 //! What becomes of each relocation of a section and of its instruction.
 
-use crate::linker_rewriting::calls::keeps_call;
 use crate::linker_rewriting::candidates::candidate;
 use crate::linker_rewriting::facts::{OutputFacts, RelaxContext, SymbolFacts};
 use crate::linker_rewriting::groups::{Scope, UnrelaxableGroups, group_stays, scope_in};
 use crate::linker_rewriting::phases::Phase;
-use crate::linker_rewriting::r_types::{is_listed, lists_any, of_each};
+use crate::linker_rewriting::r_types::{is_listed, keeps_call, lists_any, of_each};
 use crate::linker_rewriting::relocations::{Site, relocation_in};
 use crate::linker_rewriting::riscv_pcrel_groups::{high_of, label_candidate, note_labels, set_all};
 use crate::linker_rewriting::rules::{Rule, decide_by};
@@ -19,6 +18,10 @@ use crate::elf::{Architecture, Choice, InstructionRewrite, RewriteWindow};
 use crate::relaxation::AsDeletion;
 #[cfg(feature = "riscv64")]
 use crate::riscv64::RiscVRelocation;
+
+mod numbers;
+
+pub use numbers::DecisionNumbers;
 
 /// What a relocation is of once its instruction is rewritten.
 #[derive(Clone, Copy, Debug, PartialEq, Eq, Hash)]
@@ -44,99 +47,25 @@ pub enum Decision {
     Consumed,
 }
 
-/// What becomes of a relocation: a [`Decision`](crate::rewriting::Decision), or an element of the caller's own array that says as
-/// much.
-pub trait AsDecision: Copy {
-    /// The decision.
-    #[must_use]
-    fn as_decision(self) -> Decision;
-
-    /// The form that a decision is written in.
-    #[must_use]
-    fn from_decision(made: Decision) -> Self;
-}
-
-/// The decision with an index.
 #[inline(always)]
-pub(crate) fn decision_in<D: AsDecision>(decisions: &[D], index: usize) -> Decision {
+pub(crate) fn decision_in(decisions: &[DecisionNumbers], index: usize) -> Decision {
     decisions[index].as_decision()
 }
 
-impl AsDecision for Decision {
-    #[inline(always)]
-    fn as_decision(self) -> Decision {
-        self
-    }
-
-    #[inline(always)]
-    fn from_decision(made: Decision) -> Decision {
-        made
-    }
-}
-
-/// A decision that is made later, and a number of the bytes that it was made on.
-#[derive(Clone, Copy, Debug, PartialEq, Eq, Hash)]
-pub struct KeptDecision {
-    /// The decision.
-    pub decision: Decision,
-    /// What stands for the bytes that it rewrites. 0 of one that rewrites none.
+/// Some bytes of a section that are deleted, as C has them.
+#[repr(C)]
+#[derive(Clone, Copy, Debug, PartialEq, Eq, Default, Hash)]
+pub struct Deletion {
+    /// The offset in the section of the first deleted byte.
+    pub offset: u64,
+    /// How many bytes are deleted.
     pub bytes: u32,
 }
 
-impl AsDecision for KeptDecision {
+impl AsDeletion for Deletion {
     #[inline(always)]
-    fn as_decision(self) -> Decision {
-        self.decision
-    }
-
-    #[inline(always)]
-    fn from_decision(made: Decision) -> KeptDecision {
-        KeptDecision {
-            decision: made,
-            bytes: 0,
-        }
-    }
-}
-
-/// What becomes of a relocation later: a [`KeptDecision`](crate::rewriting::KeptDecision), or an element of the caller's own array
-/// that says as much.
-pub trait AsKeptDecision: AsDecision {
-    /// The number of the bytes that it rewrites.
-    #[must_use]
-    fn bytes(self) -> u32;
-
-    /// The form that a rewrite of bytes with a number is kept in.
-    #[must_use]
-    fn from_choice(choice: Choice<Relaxation, u32>, number: u32) -> Self;
-}
-
-impl AsKeptDecision for KeptDecision {
-    #[inline(always)]
-    fn bytes(self) -> u32 {
-        self.bytes
-    }
-
-    #[inline(always)]
-    fn from_choice(choice: Choice<Relaxation, u32>, bytes: u32) -> KeptDecision {
-        KeptDecision {
-            decision: Decision::Rewritten(choice),
-            bytes,
-        }
-    }
-}
-
-/// What deletions are listed in: pairs of an offset and how many bytes, or the caller's own
-/// structs.
-pub trait FromDeletion: AsDeletion {
-    /// The element that records a deletion by the offset of its first byte and how many it has.
-    #[must_use]
-    fn from_deletion(offset: u64, bytes: u32) -> Self;
-}
-
-impl FromDeletion for (u64, u32) {
-    #[inline(always)]
-    fn from_deletion(offset: u64, bytes: u32) -> (u64, u32) {
-        (offset, bytes)
+    fn as_deletion(self) -> (u64, u32) {
+        (self.offset, self.bytes)
     }
 }
 
@@ -211,7 +140,7 @@ impl Decision {
     }
 }
 
-/// Whether the relocation after one, if there is one, is alone and is rewritten.
+/// Whether the next relocation, if there is one, is alone and is rewritten.
 fn is_next_rewritten(context: &RelaxContext<'_>, site: &Site<'_>) -> bool {
     let index = site.index + 1;
     let Some(relocation) = relocation_at(site.relocations, index) else {
@@ -245,7 +174,6 @@ fn takes_symbol(phase: Phase, r_type: u32) -> bool {
     }
 }
 
-/// What a relocation is of: its symbol and its addend.
 #[inline(always)]
 pub(crate) fn subject_of(relocation: &Rela) -> Subject {
     Subject {
@@ -254,7 +182,6 @@ pub(crate) fn subject_of(relocation: &Rela) -> Subject {
     }
 }
 
-/// What rewrites the instruction of a relocation of a label with a high part.
 #[inline(always)]
 fn label_decision(phase: Phase, chosen: Choice<Relaxation, u32>, high: &Rela) -> Decision {
     if takes_symbol(phase, chosen.relocation) {
@@ -347,16 +274,13 @@ pub(crate) fn end_after(start: u64, own: u64, end: u64) -> Option<u64> {
     Some(own)
 }
 
-/// The rule of groups, for an architecture and a phase: all of a group are rewritten, or none is.
+/// The rule of groups: all of a group are rewritten, or none is. Architecture and phase are those
+/// of the context, known to the compiler.
 #[derive(Clone, Copy)]
 struct Groups<'a> {
-    /// The architecture.
     architecture: Architecture,
-    /// The phase.
     phase: Phase,
-    /// What rewrites are chosen by, in that phase.
     context: &'a RelaxContext<'a>,
-    /// Which groups stay.
     kept: &'a [UnrelaxableGroups],
 }
 
@@ -394,14 +318,14 @@ impl Rule for Groups<'_> {
 
 /// The same as `decide_section`, for an architecture and a phase.
 #[inline(always)]
-fn decide_all<D: AsDecision>(
+fn decide_all(
     architecture: Architecture,
     phase: Phase,
     context: &RelaxContext<'_>,
     kept: &[UnrelaxableGroups],
     relocations: &[u8],
     section: &[u8],
-    decisions: &mut [D],
+    decisions: &mut [DecisionNumbers],
 ) -> Result<bool, RewritingError> {
     if decisions.len() < relocations_len(relocations) {
         return Err(RewritingError::TooShort);
@@ -421,15 +345,15 @@ fn decide_all<D: AsDecision>(
     Ok(true)
 }
 
-/// Decides what becomes of each relocation of a section and of its instruction, in the caller's
-/// memory. Nothing is rewritten. False if all stay as they are by their types. It is compiled for
-/// each architecture and phase.
-pub(crate) fn decide_section<D: AsDecision>(
+/// Decides what becomes of each relocation of a section and of its instruction. Nothing is
+/// rewritten. False if all stay as they are by their types. It is compiled for each architecture
+/// and phase.
+pub(crate) fn decide_section(
     context: &RelaxContext<'_>,
     kept: &[UnrelaxableGroups],
     relocations: &[u8],
     section: &[u8],
-    decisions: &mut [D],
+    decisions: &mut [DecisionNumbers],
 ) -> Result<bool, RewritingError> {
     of_each!(
         context.architecture,

@@ -1,10 +1,12 @@
 // SPDX-License-Identifier: MIT OR Apache-2.0
 // Made by tools/generate of crates/linker_rewriting/src/facts.rt.
-//! What a linker knows of symbols and of the output, and what a rewrite is chosen by.
+//! What a linker knows of symbols and of the output, and what a rewrite is chosen by; whether the
+//! two tables of an object's symbols say the same of a symbol.
 
 use crate::linker_rewriting::phases::Phase;
+use crate::linker_rewriting::relocations::relocation_in;
 use crate::linker_section::facts::{Addresses, Symbol};
-use crate::linker_section::relocations::Rela;
+use crate::linker_section::relocations::{Rela, relocations_len};
 use crate::elf::{Architecture, LinkFacts, Operands};
 
 /// What a linker knows of a symbol of an object once names are resolved. A table of these has those
@@ -51,13 +53,27 @@ pub(crate) const NO_ADDRESSES: Addresses = Addresses {
     has_tls: false,
 };
 
-/// Whether a symbol's address is a number, wherever the output is loaded.
+/// A context before addresses are known.
+macro_rules! pre_layout {
+    ($architecture:expr, $output:expr, $symbols:expr) => {
+        RelaxContext {
+            architecture: $architecture,
+            phase: Phase::PreLayout,
+            output: $output,
+            symbols: $symbols,
+            addresses: &crate::linker_rewriting::facts::NO_ADDRESSES,
+            values: &[],
+        }
+    };
+}
+
+pub(crate) use pre_layout;
+
 #[inline(always)]
 fn has_own_address(symbol: &SymbolFacts) -> bool {
     symbol.is_absolute || symbol.is_undefined_weak
 }
 
-/// Whether a call of a symbol may return with another TOC pointer.
 #[inline(always)]
 pub(crate) fn may_change_toc(symbol: &SymbolFacts) -> bool {
     let is_known = symbol.is_local || symbol.is_undefined_weak;
@@ -82,27 +98,14 @@ pub(crate) fn facts_of(
         is_pcrel_link_time_constant: output.has_near_symbols && !has_own_address,
         is_executable: output.is_executable,
         has_local_exec_base: true,
-        may_compress: false,
         is_relaxable: marked,
-        has_got_high_part: false,
-        is_label_relaxable: false,
-        toc_base_is_exclusive: false,
         may_change_toc: may_change_toc(symbol),
         group_fits: true,
-        has_addresses: false,
         operands: Operands {
             addend,
-            symbol: 0,
-            place: 0,
-            got_entry: 0,
-            got_base: 0,
-            plt_entry: 0,
-            symbol_size: 0,
-            tls_base: 0,
-            has_got_entry: false,
-            has_plt_entry: false,
-            has_tls_base: false,
+            ..Operands::default()
         },
+        ..LinkFacts::default()
     }
 }
 
@@ -112,8 +115,8 @@ pub(crate) fn facts_of(
 pub struct RelaxContext<'a> {
     /// The architecture.
     pub architecture: Architecture,
-    /// The phase. Loads from `.toc` are rewritten in `ShortPcRel`. The rewrites by the global
-    /// pointer don't read it.
+    /// The phase. A rewrite by the global pointer doesn't read it, nor does
+    /// [`relocate_rewritten_section`](crate::rewriting::relocate_rewritten_section()).
     pub phase: Phase,
     /// What is known of the output.
     pub output: &'a OutputFacts,
@@ -137,8 +140,8 @@ pub(crate) fn address_in(addresses: &Addresses, value: &Symbol) -> u64 {
     }
 }
 
-/// Whether the output is an executable, whose definition of the symbol is used in the phase of
-/// offsets from the thread pointer.
+/// Whether the output is an executable, whose definition of the symbol is used where one to
+/// local-exec is rewritten.
 #[inline(always)]
 fn is_executable_in(phase: Phase, output: &OutputFacts, symbol: &SymbolFacts) -> bool {
     match phase {
@@ -147,7 +150,6 @@ fn is_executable_in(phase: Phase, output: &OutputFacts, symbol: &SymbolFacts) ->
     }
 }
 
-/// Whether instructions may be deleted in a phase.
 #[inline(always)]
 fn may_delete(phase: Phase) -> bool {
     matches!(phase, Phase::TlsLocalExec)
@@ -205,4 +207,34 @@ pub(crate) fn link_facts(
             Some(placed_facts(context, symbol, value, offset, addend, marked))
         }
     }
+}
+
+/// Whether a relocation's symbol is defined in the output and nothing defines it, or has two
+/// `st_other`. One that is thread-local is at the thread pointer where nothing defines it.
+#[inline(always)]
+fn contradict_at(facts: &[SymbolFacts], symbols: &[Symbol], relocation: &Rela) -> bool {
+    let index = relocation.symbol as usize;
+    match (facts.get(index), symbols.get(index)) {
+        (Some(facts), Some(symbol)) => {
+            let is_absent = facts.is_undefined_weak
+                || symbol.is_undefined_weak && !symbol.is_thread_local;
+            facts.is_local && is_absent || facts.other != symbol.other
+        }
+        _ => false,
+    }
+}
+
+/// The index of the symbol of the first relocation about which two tables contradict each other.
+pub(crate) fn contradiction(
+    facts: &[SymbolFacts],
+    symbols: &[Symbol],
+    relocations: &[u8],
+) -> Option<usize> {
+    for index in 0..relocations_len(relocations) {
+        let relocation = relocation_in(relocations, index);
+        if contradict_at(facts, symbols, &relocation) {
+            return Some(relocation.symbol as usize);
+        }
+    }
+    None
 }

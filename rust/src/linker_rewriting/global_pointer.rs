@@ -1,14 +1,14 @@
 // SPDX-License-Identifier: MIT OR Apache-2.0
 // Made by tools/generate of crates/linker_rewriting/src/global_pointer.rt.
-//! RISC-V's addresses within 2 KiB of the global pointer or of 0. They need no `lui` and no
-//! `auipc`: each low part takes x3 or x0 as its base, all of a symbol or none.
+//! RISC-V's addresses within 2 KiB of the global pointer, from 2,048 below it to 2,047 above it, or
+//! of 0 (RISC-V ELF psABI, "Global-pointer Relaxation" and "Zero-page Relaxation"). They need no
+//! `lui` and no `auipc`: each low part takes x3 or x0 as its base, all of a symbol or none. `gp` is
+//! the address of `__global_pointer$`. For other architectures nothing is noted or rewritten.
 
-use crate::linker_rewriting::agreement::contradiction;
 use crate::linker_rewriting::decisions::{
-    AsDecision, Decision, FromDeletion, RewritingError, decision_in, subject_of,
+    Decision, DecisionNumbers, Deletion, RewritingError, decision_in, subject_of,
 };
-use crate::linker_rewriting::facts::{OutputFacts, RelaxContext, SymbolFacts, address_in};
-use crate::linker_rewriting::phases::Phase;
+use crate::linker_rewriting::facts::{OutputFacts, RelaxContext, SymbolFacts, address_in, contradiction};
 use crate::linker_rewriting::relocations::{Site, relocation_in};
 use crate::linker_rewriting::riscv_pcrel_groups::{high_at, is_beyond, label_at};
 use crate::linker_rewriting::rules::{Rule, decide_by};
@@ -41,8 +41,6 @@ pub const GPREL_I: u32 = 47;
 /// The same of the S format, `R_RISCV_GPREL_S`.
 pub const GPREL_S: u32 = 48;
 
-/// What the instruction of a relocation is of an address.
-#[inline(always)]
 fn part_of(architecture: Architecture, r_type: u32) -> Option<Part> {
     match architecture {
         Architecture::RiscV => {
@@ -79,7 +77,6 @@ fn labelled(context: &RelaxContext<'_>, relocations: &[u8], relocation: &Rela) -
 }
 
 /// The relocation whose symbol and addend are those of a part.
-#[inline(always)]
 fn part_subject(
     context: &RelaxContext<'_>,
     relocations: &[u8],
@@ -104,87 +101,71 @@ fn member_of(
 }
 
 /// Whether 12 signed bits hold the distance of an address from another one.
-#[inline(always)]
 fn is_near(base: u64, address: u64) -> bool {
     address.wrapping_sub(base).wrapping_add(0x800) < 0x1000
 }
 
-/// Whether nothing replaces a symbol at run time, and its address is that of data or of code.
-#[inline(always)]
-fn is_bound(symbol: &SymbolFacts, value: &Symbol) -> bool {
-    (symbol.is_local || symbol.is_undefined_weak) && !symbol.is_ifunc && !value.is_thread_local
-}
-
 /// S + A.
-#[inline(always)]
 fn address_of(addresses: &Addresses, relocation: &Rela, value: &Symbol) -> u64 {
     let addend = relocation.addend as u64;
     address_in(addresses, value).wrapping_add(addend)
 }
 
-/// Whether x3 or x0 reaches what a relocation refers to.
+/// Whether x3 or x0 reaches what a relocation refers to: data or code, which nothing replaces at
+/// run time.
 fn is_reached(context: &RelaxContext<'_>, gp: u64, relocation: &Rela) -> bool {
     let index = relocation.symbol as usize;
     match (context.symbols.get(index), context.values.get(index)) {
         (Some(symbol), Some(value)) => {
+            let stays_here = symbol.is_local || symbol.is_undefined_weak;
+            let is_bound = stays_here && !symbol.is_ifunc && !value.is_thread_local;
             let address = address_of(context.addresses, relocation, value);
-            is_bound(symbol, value) && (is_near(gp, address) || is_near(0, address))
+            is_bound && (is_near(gp, address) || is_near(0, address))
         }
         _ => false,
     }
 }
 
 /// Whether four bytes from an offset on are in the section.
-#[inline(always)]
 fn has_word(section: &[u8], offset: u64) -> bool {
     let section_len = section.len() as u64;
     4 <= section_len && offset <= section_len - 4
 }
 
 /// The instruction at an offset of the section, by its four bytes alone.
-#[inline(always)]
 fn window_at(section: &[u8], offset: u64) -> u32 {
     u32_from_slice(&section[offset as usize..])
 }
 
-/// Whether an instruction has an opcode, and is of another register than x0 and x3.
-#[inline(always)]
-fn is_high_word(r_type: u32, word: u32) -> bool {
-    opcode(word) == r_type && destination(word) != 0 && destination(word) != 3
-}
-
-/// Whether an instruction writes no integer register: it is a store, or loads a number of floating
-/// point.
-#[inline(always)]
-fn writes_none(word: u32) -> bool {
-    opcode(word) == 0x23 || opcode(word) == 0x27 || opcode(word) == 0x07
-}
-
 /// Whether an instruction adds 12 bits to a register.
-#[inline(always)]
 fn adds_low(section: &[u8], offset: u64) -> bool {
     RewriteKind::Lo12Rs1ToZero.matches(section, offset)
 }
 
 /// Whether an instruction adds 12 bits to another register than x0, doesn't store what that holds,
 /// and doesn't write x3.
-#[inline(always)]
 fn is_low_at(section: &[u8], offset: u64) -> bool {
     let word = word_at(section, offset);
+    // a store, or a load of a number of floating point
+    let writes_none = opcode(word) == 0x23 || opcode(word) == 0x27 || opcode(word) == 0x07;
     adds_low(section, offset)
         && base(word) != 0
         && !stores_base(word)
-        && (writes_none(word) || destination(word) != 3)
+        && (writes_none || destination(word) != 3)
 }
 
-/// Whether the instruction of a relocation is one of such a part.
+/// Whether the instruction of a relocation is one of such a part. A high part writes another
+/// register than x0 and x3.
 fn is_expected(section: &[u8], relocation: &Rela, part: Part, subject: &Rela) -> bool {
     let offset = relocation.offset;
     if !has_word(section, offset) {
         return false;
     }
     match part {
-        Part::High(r_type) => is_high_word(r_type, word_at(section, offset)),
+        Part::High(expected) => {
+            let word = word_at(section, offset);
+            opcode(word) == expected && destination(word) != 0 && destination(word) != 3
+        }
         Part::Low(_) => is_low_at(section, offset),
         Part::Labelled(_) => {
             is_low_at(section, offset)
@@ -194,12 +175,9 @@ fn is_expected(section: &[u8], relocation: &Rela, part: Part, subject: &Rela) ->
     }
 }
 
-/// What parts are chosen by.
 #[derive(Clone, Copy)]
 struct Parts<'a> {
-    /// What is known of symbols and of the output, with addresses.
     context: &'a RelaxContext<'a>,
-    /// The address of the global pointer.
     gp: u64,
     /// Whether the relocations ascend.
     ascends: bool,
@@ -260,8 +238,6 @@ pub fn survey_global_pointer(
     Ok(())
 }
 
-/// What becomes of a part that is rewritten.
-#[inline(always)]
 fn part_decision(part: Part, subject: &Rela) -> Decision {
     match part {
         Part::High(_) => Decision::Rewritten(Choice {
@@ -281,9 +257,7 @@ fn part_decision(part: Part, subject: &Rela) -> Decision {
 /// The rule of parts: all of a symbol are rewritten, or none is.
 #[derive(Clone, Copy)]
 struct Symbols<'a, 'b> {
-    /// What parts are chosen by.
     parts: Parts<'a>,
-    /// Which symbols stay.
     kept: &'b [bool],
 }
 
@@ -305,7 +279,6 @@ fn decide_part(rule: &Symbols<'_, '_>, site: &Site<'_>) -> Option<Decision> {
 
 /// Where the instruction of a part ends, by its offset. That of a part that stays has no bytes
 /// here.
-#[inline(always)]
 fn part_end(decision: &Decision, offset: u64) -> u64 {
     match decision {
         Decision::Rewritten(_) | Decision::RewrittenWithSymbol(_, _) => offset + 4,
@@ -326,7 +299,6 @@ impl Rule for Symbols<'_, '_> {
 }
 
 /// A relocation after what became of it, where no bytes are rewritten.
-#[inline(always)]
 fn relocation_by(decision: &Decision, relocation: &Rela) -> Rela {
     match decision {
         Decision::Kept => *relocation,
@@ -347,9 +319,7 @@ fn relocation_by(decision: &Decision, relocation: &Rela) -> Rela {
     }
 }
 
-/// Turns the relocations of a section into those after what became of them, where no bytes are
-/// rewritten.
-fn turn_all<D: AsDecision>(decisions: &[D], relocations: &mut [u8]) {
+fn turn_all(decisions: &[DecisionNumbers], relocations: &mut [u8]) {
     for index in 0..relocations_len(relocations) {
         let decision = decision_in(decisions, index);
         let relocation = relocation_by(&decision, &relocation_in(relocations, index));
@@ -360,7 +330,7 @@ fn turn_all<D: AsDecision>(decisions: &[D], relocations: &mut [u8]) {
 /// `crate::link::rewrite_global_pointer`, with more parameters.
 ///
 /// ```
-/// use linker_utils::source::rewriting::Decision;
+/// use linker_utils::source::rewriting::{Decision, DecisionNumbers, Deletion};
 /// use linker_utils::source::rewriting::{OutputFacts, RelaxContext, SymbolFacts};
 /// use linker_utils::source::rewriting::{GPREL_I, rewrite_global_pointer};
 /// use linker_utils::source::rewriting::Phase;
@@ -373,7 +343,7 @@ fn turn_all<D: AsDecision>(decisions: &[D], relocations: &mut [u8]) {
 ///     (relocations[at], relocations[at + 8]) = (offset, r_type);
 ///     relocations[at + 12] = u8::from(r_type < 51);
 /// }
-/// let mut deleted = [(0, 0)];
+/// let mut deleted = [Deletion { offset: 0, bytes: 0 }];
 /// let context = RelaxContext {
 ///     architecture: Architecture::RiscV,
 ///     phase: Phase::ShortPcRel,
@@ -388,20 +358,20 @@ fn turn_all<D: AsDecision>(decisions: &[D], relocations: &mut [u8]) {
 ///     &[false; 2],
 ///     &mut relocations,
 ///     &[0x37, 0x05, 0, 0, 0x03, 0x25, 0x05, 0],
-///     &mut [Decision::Kept; 4],
+///     &mut [DecisionNumbers::from_decision(Decision::Kept); 4],
 ///     &mut deleted,
 /// );
-/// assert_eq!((rewritten, deleted), (Ok(1), [(0, 4)]));
+/// assert_eq!((rewritten, deleted[0].bytes), (Ok(1), 4));
 /// assert_eq!((relocations[8], u32::from(relocations[56])), (0, GPREL_I));
 /// ```
-pub fn rewrite_global_pointer<D: AsDecision, L: FromDeletion>(
+pub fn rewrite_global_pointer(
     context: &RelaxContext<'_>,
     gp: u64,
     kept: &[bool],
     relocations: &mut [u8],
     section: &[u8],
-    decisions: &mut [D],
-    deleted: &mut [L],
+    decisions: &mut [DecisionNumbers],
+    deleted: &mut [Deletion],
 ) -> Result<usize, RewritingError> {
     if let Some(symbol) = contradiction(context.symbols, context.values, relocations) {
         return Err(RewritingError::Contradiction(symbol));
@@ -424,7 +394,6 @@ pub fn rewrite_global_pointer<D: AsDecision, L: FromDeletion>(
 }
 
 /// The type that the relocation of a low part without a base gets.
-#[inline(always)]
 fn low_r_type(r_type: u32) -> Option<u32> {
     if r_type == GPREL_I {
         Some(RiscVRelocation::R_RISCV_LO12_I.r_type())
@@ -435,34 +404,25 @@ fn low_r_type(r_type: u32) -> Option<u32> {
     }
 }
 
-/// The base register that reaches an address, x0 or x3, and the address that it has.
-#[inline(always)]
-fn base_for(gp: u64, address: u64) -> Option<(u32, u64)> {
-    if is_near(0, address) {
-        Some((0, 0))
-    } else if is_near(gp, address) {
-        Some((3, gp))
-    } else {
-        None
-    }
-}
-
-/// What bases are chosen by: all addresses.
 #[derive(Clone, Copy)]
 struct Bases<'a> {
-    /// Those that values are counted from.
     addresses: &'a Addresses,
-    /// Those of the object's symbols.
     values: &'a [Symbol],
-    /// That of the global pointer.
     gp: u64,
 }
 
-/// The base of what a relocation refers to.
-#[inline(always)]
+/// The base register that reaches what a relocation refers to, x0 or x3, and the address that it
+/// has.
 fn base_of(bases: &Bases<'_>, relocation: &Rela) -> Option<(u32, u64)> {
     let value = bases.values.get(relocation.symbol as usize)?;
-    base_for(bases.gp, address_of(bases.addresses, relocation, value))
+    let address = address_of(bases.addresses, relocation, value);
+    if is_near(0, address) {
+        Some((0, 0))
+    } else if is_near(bases.gp, address) {
+        Some((3, bases.gp))
+    } else {
+        None
+    }
 }
 
 /// Whether a relocation is of no low part without a base, or its instruction is in the section and
@@ -474,7 +434,6 @@ fn is_placed(bases: &Bases<'_>, section: &[u8], relocation: &Rela) -> bool {
     }
 }
 
-/// The index of the first relocation that isn't placed.
 fn first_unplaced(bases: &Bases<'_>, relocations: &[u8], section: &[u8]) -> Option<usize> {
     for index in 0..relocations_len(relocations) {
         let relocation = relocation_in(relocations, index);
@@ -485,14 +444,11 @@ fn first_unplaced(bases: &Bases<'_>, relocations: &[u8], section: &[u8]) -> Opti
     None
 }
 
-/// An instruction with another base register.
-#[inline(always)]
 fn with_base(register: u32, word: u32) -> u32 {
     word - base(word) * 0x8000 + register * 0x8000
 }
 
 /// Writes the base of a low part. Returns its relocation after it.
-#[inline(always)]
 fn set_base(bases: &Bases<'_>, section: &mut [u8], relocation: &Rela) -> Rela {
     let Some(r_type) = low_r_type(relocation.r_type) else {
         return *relocation;
@@ -510,7 +466,6 @@ fn set_base(bases: &Bases<'_>, section: &mut [u8], relocation: &Rela) -> Rela {
     }
 }
 
-/// Writes the base of each low part of a section.
 fn set_bases(bases: &Bases<'_>, relocations: &mut [u8], section: &mut [u8]) {
     for index in 0..relocations_len(relocations) {
         let relocation = relocation_in(relocations, index);

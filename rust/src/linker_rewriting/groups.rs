@@ -118,7 +118,6 @@ macro_rules! scopes {
     };
 }
 
-/// The scope of a relocation of AArch64 in a phase.
 #[cfg(feature = "aarch64")]
 #[inline(always)]
 fn aarch64_scope_in(phase: Phase, name: AArch64Relocation) -> Scope {
@@ -141,7 +140,7 @@ fn aarch64_scope_in(phase: Phase, name: AArch64Relocation) -> Scope {
     }
 }
 
-/// The scope of a relocation of RISC-V, whose rewrites all wait for addresses.
+/// All of RISC-V's rewrites wait for addresses.
 #[cfg(feature = "riscv64")]
 #[inline(always)]
 fn riscv_scope_in(phase: Phase, name: RiscVRelocation) -> Scope {
@@ -159,7 +158,6 @@ fn riscv_scope_in(phase: Phase, name: RiscVRelocation) -> Scope {
     }
 }
 
-/// The scope of a relocation of LoongArch.
 #[cfg(feature = "loongarch64")]
 #[inline(always)]
 fn loongarch_scope_in(phase: Phase, name: LoongArch64Relocation) -> Scope {
@@ -180,7 +178,6 @@ fn loongarch_scope_in(phase: Phase, name: LoongArch64Relocation) -> Scope {
     }
 }
 
-/// The scope of a relocation of PowerPC64.
 #[cfg(feature = "ppc64")]
 #[inline(always)]
 fn ppc64_scope_in(phase: Phase, name: Ppc64Relocation) -> Scope {
@@ -211,7 +208,7 @@ fn ppc64_scope_in(phase: Phase, name: Ppc64Relocation) -> Scope {
     }
 }
 
-/// The scope of a relocation of x86-64, whose rewrites all are made before addresses are known.
+/// All of x86-64's rewrites are made before addresses are known.
 #[cfg(feature = "x86_64")]
 #[inline(always)]
 fn x86_64_scope_in(phase: Phase, name: X86_64Relocation) -> Scope {
@@ -261,7 +258,6 @@ pub fn scope_in(architecture: Architecture, phase: Phase, r_type: u32) -> Scope 
     }
 }
 
-/// The table of [`has_rewrites`](crate::rewriting::has_rewrites()).
 #[inline(always)]
 fn is_listed(architecture: Architecture, phase: Phase) -> bool {
     match architecture {
@@ -293,26 +289,6 @@ pub fn scope_of(architecture: Architecture, r_type: u32) -> Scope {
     scope_in(architecture, Phase::PreLayout, r_type)
 }
 
-/// Whether a name of PowerPC64 marks a call of `__tls_get_addr`.
-#[cfg(feature = "ppc64")]
-#[inline(always)]
-fn is_mark(name: Ppc64Relocation) -> bool {
-    matches_any!(
-        name,
-        #[cfg(feature = "ppc64")]
-        Ppc64Relocation::R_PPC64_TLSGD
-            | Ppc64Relocation::R_PPC64_TLSLD
-    )
-}
-
-/// Whether a relocation with an `r_type` of PowerPC64 marks a call of `__tls_get_addr`.
-#[cfg(feature = "ppc64")]
-#[inline(always)]
-pub(crate) fn marks_call(r_type: u32) -> bool {
-    is_mark(Ppc64Relocation::from_elf(r_type))
-}
-
-/// The index of the symbol whose groups a group is one of.
 #[inline(always)]
 pub(crate) fn symbol_of_group(group: Group, symbol: u32) -> u32 {
     match group {
@@ -321,7 +297,6 @@ pub(crate) fn symbol_of_group(group: Group, symbol: u32) -> u32 {
     }
 }
 
-/// Whether the group of a kind stays at an index of a table. All do where the table has none.
 #[inline(always)]
 pub(crate) fn stays_at(kept: &[UnrelaxableGroups], group: Group, symbol: u32) -> bool {
     match kept.get(symbol as usize) {
@@ -330,7 +305,6 @@ pub(crate) fn stays_at(kept: &[UnrelaxableGroups], group: Group, symbol: u32) ->
     }
 }
 
-/// Whether the group of a kind and of a symbol stays.
 #[inline(always)]
 pub(crate) fn group_stays(kept: &[UnrelaxableGroups], group: Group, symbol: u32) -> bool {
     stays_at(kept, group, 0) || stays_at(kept, group, symbol_of_group(group, symbol))

@@ -3,8 +3,7 @@
 //! What choices of rewrites read of symbols, kept until values are written: then the same has to
 //! hold.
 
-use crate::linker_rewriting::agreement::contradiction;
-use crate::linker_rewriting::facts::{OutputFacts, SymbolFacts};
+use crate::linker_rewriting::facts::{OutputFacts, RelaxContext, SymbolFacts, contradiction};
 use crate::linker_rewriting::relocations::relocation_in;
 use crate::linker_section::facts::{Addresses, Symbol};
 use crate::linker_section::relocations::{Rela, relocations_len};
@@ -38,7 +37,6 @@ pub enum WritingError {
     Section(SectionError),
 }
 
-/// A bit that is worth so much, or 0.
 #[inline(always)]
 fn bit_if(worth: u16, is_set: bool) -> u16 {
     if is_set { worth } else { 0 }
@@ -50,7 +48,6 @@ fn toc_bits(other: u8) -> u16 {
     u16::from(other / 32) * 32
 }
 
-/// What choices read of a symbol and of the output.
 #[inline(always)]
 fn facts_snapshot(output: &OutputFacts, symbol: &SymbolFacts) -> FactsSnapshot {
     let of_output = bit_if(1 << 10, output.has_near_symbols)
@@ -77,7 +74,6 @@ pub fn snapshot_facts(output: &OutputFacts, symbols: &[SymbolFacts], kept: &mut 
 }
 
 /// Whether what is kept of a relocation's symbol is what holds now.
-#[inline(always)]
 fn is_as_kept(
     output: &OutputFacts,
     symbols: &[SymbolFacts],
@@ -108,22 +104,9 @@ pub fn first_changed(
     None
 }
 
-/// Whether a symbol is a function of another file, and has no stub that keeps its caller's TOC
-/// pointer. A call of what is undefined and weak needs none.
-#[inline(always)]
-fn needs_stub(facts: &SymbolFacts, symbol: &Symbol) -> bool {
-    let is_imported = !(facts.is_local || facts.is_undefined_weak);
-    is_imported && symbol.stub == 0 && !symbol.is_undefined_weak
-}
-
-/// Whether a relocation is a call of PowerPC64 of such a function.
-#[inline(always)]
-fn lacks_stub(
-    architecture: Architecture,
-    facts: &[SymbolFacts],
-    symbols: &[Symbol],
-    relocation: &Rela,
-) -> bool {
+/// Whether a relocation is a call of PowerPC64 of a function of another file, without a stub that
+/// keeps its caller's TOC pointer. A call of what is undefined and weak needs none.
+fn lacks_stub(context: &RelaxContext<'_>, relocation: &Rela) -> bool {
     #[cfg(not(feature = "ppc64"))]
     {
         false
@@ -131,27 +114,24 @@ fn lacks_stub(
     #[cfg(feature = "ppc64")]
     {
     let call = Ppc64Relocation::R_PPC64_REL24.r_type();
-    if !matches_any!(architecture, #[cfg(feature = "ppc64")] Architecture::Ppc64) || relocation.r_type != call {
+    if !matches_any!(context.architecture, #[cfg(feature = "ppc64")] Architecture::Ppc64) || relocation.r_type != call {
         return false;
     }
     let index = relocation.symbol as usize;
-    match (facts.get(index), symbols.get(index)) {
-        (Some(facts), Some(symbol)) => needs_stub(facts, symbol),
+    match (context.symbols.get(index), context.values.get(index)) {
+        (Some(facts), Some(symbol)) => {
+            let is_imported = !(facts.is_local || facts.is_undefined_weak);
+            is_imported && symbol.stub == 0 && !symbol.is_undefined_weak
+        }
         _ => false,
     }
     }
 }
 
 /// The index of the first such relocation.
-fn first_without_stub(
-    architecture: Architecture,
-    facts: &[SymbolFacts],
-    symbols: &[Symbol],
-    relocations: &[u8],
-) -> Option<usize> {
+fn first_without_stub(context: &RelaxContext<'_>, relocations: &[u8]) -> Option<usize> {
     for index in 0..relocations_len(relocations) {
-        let relocation = relocation_in(relocations, index);
-        if lacks_stub(architecture, facts, symbols, &relocation) {
+        if lacks_stub(context, &relocation_in(relocations, index)) {
             return Some(index);
         }
     }
@@ -161,9 +141,10 @@ fn first_without_stub(
 /// `crate::link::relocate_rewritten_section`, with more parameters.
 ///
 /// ```
-/// use linker_utils::source::rewriting::{OutputFacts, SymbolFacts};
+/// use linker_utils::source::rewriting::{OutputFacts, RelaxContext, SymbolFacts};
 /// use linker_utils::source::rewriting::{FactsSnapshot, WritingError};
 /// use linker_utils::source::rewriting::{relocate_rewritten_section, snapshot_facts};
+/// use linker_utils::source::rewriting::Phase;
 /// use linker_utils::source::section::{Addresses, Symbol};
 /// use linker_utils::elf::Architecture;
 ///
@@ -181,42 +162,37 @@ fn first_without_stub(
 /// snapshot_facts(&output, &facts, &mut kept);
 /// // another definition replaces f
 /// facts[1].is_local = false;
-/// let addresses = Addresses { section: 0x1000, ..Addresses::default() };
-/// let symbols = [Symbol::default(), Symbol { address: 0x2000, ..Symbol::default() }];
-/// let written = relocate_rewritten_section(
-///     Architecture::X86_64,
-///     &output,
-///     &facts,
-///     &kept,
-///     &addresses,
-///     &relocations,
-///     &symbols,
-///     &mut section,
-///     &mut [0; 1],
-/// );
+/// let context = RelaxContext {
+///     architecture: Architecture::X86_64,
+///     phase: Phase::PreLayout,
+///     output: &output,
+///     symbols: &facts,
+///     addresses: &Addresses { section: 0x1000, ..Addresses::default() },
+///     values: &[0, 0x2000].map(|address| Symbol { address, ..Symbol::default() }),
+/// };
+/// let written =
+///     relocate_rewritten_section(&context, &kept, &relocations, &mut section, &mut [0; 1]);
 /// assert_eq!(written, Err(WritingError::Changed(0)));
 /// assert_eq!(section, [0x67, 0xe8, 0, 0, 0, 0]);
 /// ```
 pub fn relocate_rewritten_section(
-    architecture: Architecture,
-    output: &OutputFacts,
-    facts: &[SymbolFacts],
+    context: &RelaxContext<'_>,
     kept: &[FactsSnapshot],
-    addresses: &Addresses,
     relocations: &[u8],
-    symbols: &[Symbol],
     section: &mut [u8],
     memory: &mut [u64],
 ) -> Result<(), WritingError> {
+    let (facts, symbols) = (context.symbols, context.values);
     if let Some(symbol) = contradiction(facts, symbols, relocations) {
         return Err(WritingError::Contradiction(symbol));
     }
-    if let Some(index) = first_changed(output, facts, kept, relocations) {
+    if let Some(index) = first_changed(context.output, facts, kept, relocations) {
         return Err(WritingError::Changed(index));
     }
-    if let Some(index) = first_without_stub(architecture, facts, symbols, relocations) {
+    if let Some(index) = first_without_stub(context, relocations) {
         return Err(WritingError::NeedsStub(index));
     }
+    let (architecture, addresses) = (context.architecture, context.addresses);
     relocate_section(
         architecture,
         addresses,

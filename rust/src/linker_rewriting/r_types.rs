@@ -2,13 +2,19 @@
 // Made by tools/generate of crates/linker_rewriting/src/r_types.rt.
 //! Whether a relocation may be rewritten in a phase, by its `r_type`, and whether a survey looks
 //! for its rewrite. Loops that ask this are compiled for each architecture and phase by itself:
-//! LLVM makes a few comparisons of it then.
+//! LLVM makes a few comparisons of it then. Most calls stay as they are before addresses are known,
+//! so that is tested before what else a rewrite is chosen by.
 
+use crate::linker_rewriting::facts::{SymbolFacts, may_change_toc};
 use crate::linker_rewriting::groups::{Scope, scope_in};
 use crate::linker_rewriting::phases::Phase;
 use crate::linker_rewriting::relocations::relocation_in;
-use crate::linker_section::relocations::relocations_len;
+use crate::linker_section::relocations::{Rela, relocations_len};
+#[cfg(feature = "aarch64")]
+use crate::aarch64::AArch64Relocation;
 use crate::elf::Architecture;
+#[cfg(feature = "ppc64")]
+use crate::ppc64::Ppc64Relocation;
 
 /// A call for an architecture and a phase, which is compiled for each pair by itself.
 macro_rules! of_each {
@@ -56,4 +62,47 @@ pub(crate) fn lists_any(architecture: Architecture, phase: Phase, relocations: &
         }
     }
     false
+}
+
+#[inline(always)]
+fn is_weak_zero(symbols: &[SymbolFacts], symbol: u32) -> bool {
+    match symbols.get(symbol as usize) {
+        Some(symbol) => symbol.is_undefined_weak,
+        None => false,
+    }
+}
+
+#[inline(always)]
+fn changes_toc(symbols: &[SymbolFacts], symbol: u32) -> bool {
+    match symbols.get(symbol as usize) {
+        Some(symbol) => may_change_toc(symbol),
+        None => false,
+    }
+}
+
+/// Whether a relocation is of a call that stays as it is, by its symbol: of AArch64 a branch, but
+/// for those to what is undefined and weak, which become a `nop`; of PowerPC64 a call that returns
+/// with the same TOC pointer.
+#[inline(always)]
+pub(crate) fn keeps_call(
+    architecture: Architecture,
+    phase: Phase,
+    symbols: &[SymbolFacts],
+    relocation: &Rela,
+) -> bool {
+    let r_type = relocation.r_type;
+    match (phase, architecture) {
+        #[cfg(feature = "aarch64")]
+        (Phase::PreLayout, Architecture::AArch64) => {
+            let is_call = r_type == AArch64Relocation::R_AARCH64_CALL26.r_type();
+            let is_branch = is_call || r_type == AArch64Relocation::R_AARCH64_JUMP26.r_type();
+            is_branch && !is_weak_zero(symbols, relocation.symbol)
+        }
+        #[cfg(feature = "ppc64")]
+        (Phase::PreLayout, Architecture::Ppc64) => {
+            let is_call = r_type == Ppc64Relocation::R_PPC64_REL24.r_type();
+            is_call && !changes_toc(symbols, relocation.symbol)
+        }
+        _ => false,
+    }
 }

@@ -11,9 +11,7 @@ pub(crate) struct Site<'a> {
     pub relocations: &'a [u8],
     /// The section's bytes.
     pub section: &'a [u8],
-    /// Its index.
     pub index: usize,
-    /// The relocation.
     pub relocation: Rela,
 }
 

@@ -3,7 +3,7 @@
 //! Groups of one label of RISC-V: a high part, and the low parts whose symbol is the label at it.
 
 use crate::linker_rewriting::candidates::candidate_by;
-use crate::linker_rewriting::decisions::{AsDecision, Decision, decision_in};
+use crate::linker_rewriting::decisions::{Decision, DecisionNumbers, decision_in};
 use crate::linker_rewriting::facts::{OutputFacts, RelaxContext, SymbolFacts, link_facts};
 use crate::linker_rewriting::groups::{Scope, scope_in};
 use crate::linker_rewriting::phases::Phase;
@@ -17,7 +17,6 @@ use crate::elf::{Architecture, Choice, LinkFacts, Operands};
 use crate::riscv64::RiscVRelocation;
 
 /// The `r_type` of the high parts whose groups a phase rewrites.
-#[inline(always)]
 fn high_r_type(phase: Phase) -> u32 {
     #[cfg(not(feature = "riscv64"))]
     {
@@ -37,13 +36,11 @@ const SEARCHED: usize = 16;
 
 /// Whether as many others at an offset are before the relocation with an index, among relocations
 /// that ascend.
-#[inline(always)]
 pub(crate) fn is_beyond(relocations: &[u8], at: u64, index: usize) -> bool {
     SEARCHED <= index && relocation_in(relocations, index - SEARCHED).offset == at
 }
 
 /// Where a search ends that begins at an index, of n relocations.
-#[inline(always)]
 fn search_end(first: usize, len: usize) -> usize {
     if len - first < SEARCHED {
         len
@@ -69,14 +66,11 @@ pub(crate) fn high_at(relocations: &[u8], r_type: u32, at: u64) -> Option<usize>
 }
 
 /// Where the label is in the section that is a relocation's symbol.
-#[inline(always)]
 pub(crate) fn label_at(context: &RelaxContext<'_>, relocation: &Rela) -> Option<u64> {
     let label = context.values.get(relocation.symbol as usize)?;
     Some(label.address.wrapping_sub(context.addresses.section))
 }
 
-/// Where the label of a relocation is in the section.
-#[inline(always)]
 fn label_offset(context: &RelaxContext<'_>, relocation: &Rela) -> Option<u64> {
     if relocation.r_type == high_r_type(context.phase) {
         Some(relocation.offset)
@@ -102,7 +96,6 @@ pub(crate) fn is_in_label(architecture: Architecture, phase: Phase, r_type: u32)
 }
 
 /// Whether the mark is there that counts for a relocation with a high part.
-#[inline(always)]
 fn is_label_marked(context: &RelaxContext<'_>, site: &Site<'_>, high: usize) -> bool {
     let (architecture, relocations) = (context.architecture, site.relocations);
     match context.phase {
@@ -115,7 +108,6 @@ fn is_label_marked(context: &RelaxContext<'_>, site: &Site<'_>, high: usize) -> 
 }
 
 /// The same facts, where no entry of the GOT is in reach: G + A is 2^63 bytes from the place.
-#[inline(always)]
 fn without_entry(facts: Option<LinkFacts>) -> Option<LinkFacts> {
     let facts = facts?;
     let addend = facts.operands.addend as u64;
@@ -162,19 +154,19 @@ pub(crate) fn is_note(decision: &Decision) -> bool {
     matches!(decision, Decision::Consumed)
 }
 
-/// Sets all decisions of a section to one.
-pub(crate) fn set_all<D: AsDecision>(relocations: &[u8], decision: Decision, decisions: &mut [D]) {
+pub(crate) fn set_all(relocations: &[u8], decision: Decision, decisions: &mut [DecisionNumbers]) {
+    let made = DecisionNumbers::from_decision(decision);
     for index in 0..relocations_len(relocations) {
-        decisions[index] = D::from_decision(decision);
+        decisions[index] = made;
     }
 }
 
 /// Notes at each high part of a section whether its group stays.
-fn note_highs<D: AsDecision>(
+fn note_highs(
     context: &RelaxContext<'_>,
     relocations: &[u8],
     section: &[u8],
-    decisions: &mut [D],
+    decisions: &mut [DecisionNumbers],
 ) {
     for index in 0..relocations_len(relocations) {
         let site = Site {
@@ -186,16 +178,15 @@ fn note_highs<D: AsDecision>(
         let Some(high) = lacking(context, &site) else {
             continue;
         };
-        decisions[high] = D::from_decision(Decision::Consumed);
+        decisions[high] = DecisionNumbers::from_decision(Decision::Consumed);
     }
 }
 
 /// What is noted of the group of a relocation: at its high part; it stays where there is none.
-#[inline(always)]
-fn note_of<D: AsDecision>(
+fn note_of(
     context: &RelaxContext<'_>,
     relocations: &[u8],
-    decisions: &[D],
+    decisions: &[DecisionNumbers],
     relocation: &Rela,
 ) -> Decision {
     match high_of(context, relocations, relocation) {
@@ -205,11 +196,11 @@ fn note_of<D: AsDecision>(
 }
 
 /// Notes at each relocation of a label what is noted at its high part.
-fn copy_notes<D: AsDecision>(
+fn copy_notes(
     context: &RelaxContext<'_>,
     relocations: &[u8],
     section: &[u8],
-    decisions: &mut [D],
+    decisions: &mut [DecisionNumbers],
 ) {
     for index in 0..relocations_len(relocations) {
         let relocation = relocation_in(relocations, index);
@@ -217,12 +208,10 @@ fn copy_notes<D: AsDecision>(
             continue;
         }
         let note = note_of(context, relocations, decisions, &relocation);
-        decisions[index] = D::from_decision(note);
+        decisions[index] = DecisionNumbers::from_decision(note);
     }
 }
 
-/// Whether an architecture has groups of labels in a phase.
-#[inline(always)]
 fn has_labels(architecture: Architecture, phase: Phase) -> bool {
     match architecture {
         #[cfg(feature = "riscv64")]
@@ -232,11 +221,11 @@ fn has_labels(architecture: Architecture, phase: Phase) -> bool {
 }
 
 /// Notes at each relocation of a label of RISC-V whether its group stays, in place of its decision.
-pub(crate) fn note_labels<D: AsDecision>(
+pub(crate) fn note_labels(
     context: &RelaxContext<'_>,
     relocations: &[u8],
     section: &[u8],
-    decisions: &mut [D],
+    decisions: &mut [DecisionNumbers],
 ) {
     if !has_labels(context.architecture, context.phase) {
         return;

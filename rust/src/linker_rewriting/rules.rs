@@ -4,7 +4,7 @@
 //! rule.
 
 use crate::linker_rewriting::covered::first_covered;
-use crate::linker_rewriting::decisions::{AsDecision, Decision, RewritingError, decision_in, end_after};
+use crate::linker_rewriting::decisions::{Decision, DecisionNumbers, RewritingError, decision_in, end_after};
 use crate::linker_rewriting::relocations::{Site, relocation_in};
 use crate::linker_rewriting::riscv_pcrel_groups::is_note;
 use crate::linker_section::relocations::relocations_len;
@@ -30,18 +30,18 @@ pub(crate) trait Rule {
 /// Decides what becomes of each relocation of a section and of its instruction by a rule, in the
 /// caller's memory. Nothing is rewritten.
 #[inline(always)]
-pub(crate) fn decide_by<R: Rule, D: AsDecision>(
+pub(crate) fn decide_by<R: Rule>(
     rule: &R,
     architecture: Architecture,
     relocations: &[u8],
     section: &[u8],
-    decisions: &mut [D],
+    decisions: &mut [DecisionNumbers],
 ) -> Result<(), RewritingError> {
     let mut end = 0;
     let mut is_taken = false;
     for index in 0..relocations_len(relocations) {
         if rule.leaves(is_taken, relocations, index) {
-            decisions[index] = D::from_decision(Decision::Kept);
+            decisions[index] = DecisionNumbers::from_decision(Decision::Kept);
             continue;
         }
         let relocation = relocation_in(relocations, index);
@@ -61,7 +61,7 @@ pub(crate) fn decide_by<R: Rule, D: AsDecision>(
         };
         end = new_end;
         is_taken = decision.takes_next();
-        decisions[index] = D::from_decision(decision);
+        decisions[index] = DecisionNumbers::from_decision(decision);
     }
     match first_covered(architecture, relocations, section, decisions) {
         Some(index) => Err(RewritingError::Overlaps(index)),

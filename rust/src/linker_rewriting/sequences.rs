@@ -27,16 +27,12 @@ fn mark_r_type(architecture: Architecture) -> Option<u32> {
     }
 }
 
-/// Whether a relocation is a mark with an `r_type` at an offset.
 #[inline(always)]
 fn is_mark_of(r_type: Option<u32>, offset: u64, relocation: Option<Rela>) -> bool {
-    let Some(r_type) = r_type else {
-        return false;
-    };
-    let Some(relocation) = relocation else {
-        return false;
-    };
-    relocation.offset == offset && relocation.r_type == r_type
+    match (r_type, relocation) {
+        (Some(r_type), Some(mark)) => mark.offset == offset && mark.r_type == r_type,
+        _ => false,
+    }
 }
 
 /// Whether a mark stands after a relocation with an index.
@@ -76,11 +72,8 @@ fn mark_r_type_in(phase: Phase, architecture: Architecture) -> Option<u32> {
 #[inline(always)]
 pub(crate) fn is_marked_in(phase: Phase, architecture: Architecture, site: &Site<'_>) -> bool {
     let next = relocation_at(site.relocations, site.index + 1);
-    is_mark_of(
-        mark_r_type_in(phase, architecture),
-        site.relocation.offset,
-        next,
-    )
+    let r_type = mark_r_type_in(phase, architecture);
+    is_mark_of(r_type, site.relocation.offset, next)
 }
 
 /// What ties a relocation to the others of its sequence.
@@ -97,15 +90,12 @@ pub(crate) enum Tie {
 /// A relocation of a sequence.
 #[derive(Clone, Copy)]
 pub(crate) struct Member {
-    /// Its type.
     pub r_type: u32,
     /// How many bytes it is after the first one.
     pub distance: u64,
-    /// What ties it to the others.
     pub tie: Tie,
 }
 
-/// Whether a relocation is tied to another one of its sequence.
 #[inline(always)]
 fn is_tied(tie: Tie, relocation: &Rela, found: &Rela) -> bool {
     let is_same = found.symbol == relocation.symbol && found.addend == relocation.addend;
@@ -145,8 +135,8 @@ fn are_members(
     true
 }
 
-/// Whether all of a sequence are there, of which the relocation with an index is at a place, n
-/// bytes after the first one.
+/// Whether all of a sequence are there, of which the relocation is at a place, `distance` bytes
+/// after the first one.
 #[inline(always)]
 fn is_among(members: &[Member], place: usize, distance: u64, site: &Site<'_>) -> bool {
     let relocation = &site.relocation;

@@ -2,19 +2,17 @@
 // Made by tools/generate of crates/linker_rewriting/src/surveys.rt.
 //! Which groups of an object stay as they are, since one of their instructions can't be rewritten.
 
-use crate::linker_rewriting::agreement::contradiction;
 use crate::linker_rewriting::candidates::{candidate, is_matched, is_tls_get_addr};
-use crate::linker_rewriting::facts::{NO_ADDRESSES, OutputFacts, RelaxContext, SymbolFacts};
+use crate::linker_rewriting::facts::{OutputFacts, RelaxContext, SymbolFacts, contradiction, pre_layout};
 use crate::linker_rewriting::groups::{Group, Scope, UnrelaxableGroups, scope_in, symbol_of_group};
-#[cfg(feature = "ppc64")]
-use crate::linker_rewriting::groups::marks_call;
 use crate::linker_rewriting::phases::Phase;
 use crate::linker_rewriting::r_types::{is_surveyed, of_each};
 use crate::linker_rewriting::relocations::{Site, relocation_in};
 use crate::linker_section::relocations::{Rela, relocations_len};
 use crate::elf::Architecture;
+#[cfg(feature = "ppc64")]
+use crate::ppc64::Ppc64Relocation;
 
-/// Notes that the group of a kind and of a symbol stays.
 #[inline(always)]
 fn keep(kept: &mut [UnrelaxableGroups], group: Group, symbol: u32) {
     let index = symbol as usize;
@@ -23,7 +21,6 @@ fn keep(kept: &mut [UnrelaxableGroups], group: Group, symbol: u32) {
     }
 }
 
-/// Notes that the group of a kind, if any, among a symbol's stays.
 #[inline(always)]
 fn keep_group(kept: &mut [UnrelaxableGroups], group: Option<Group>, symbol: u32) {
     if let Some(group) = group {
@@ -31,7 +28,7 @@ fn keep_group(kept: &mut [UnrelaxableGroups], group: Option<Group>, symbol: u32)
     }
 }
 
-/// Notes that all groups of thread-local storage in the object stay, if they do.
+/// Notes that all groups of thread-local storage in the object stay, if `stay`.
 #[inline(always)]
 fn keep_threads(kept: &mut [UnrelaxableGroups], stay: bool) {
     if stay {
@@ -60,16 +57,25 @@ fn keeping(context: &RelaxContext<'_>, site: &Site<'_>) -> Option<Group> {
     }
 }
 
-/// PowerPC64: whether the relocation before is a mark of a call at the same place.
+/// Whether a relocation of PowerPC64 marks the call of `__tls_get_addr` at an offset.
+#[cfg(feature = "ppc64")]
+#[inline(always)]
+fn marks_call(offset: u64, mark: &Rela) -> bool {
+    let is_mark = mark.r_type == Ppc64Relocation::R_PPC64_TLSGD.r_type()
+        || mark.r_type == Ppc64Relocation::R_PPC64_TLSLD.r_type();
+    is_mark && mark.offset == offset
+}
+
+/// Whether the relocation before is the mark at the same place.
 #[cfg(feature = "ppc64")]
 #[inline(always)]
 fn is_marked(site: &Site<'_>) -> bool {
-    if site.index == 0 {
-        return false;
-    }
-    let before = relocation_in(site.relocations, site.index - 1);
-    let is_mark = marks_call(before.r_type);
-    is_mark && before.offset == site.relocation.offset
+    let (relocations, index) = (site.relocations, site.index);
+    1 <= index
+        && marks_call(
+            site.relocation.offset,
+            &relocation_in(relocations, index - 1),
+        )
 }
 
 /// Whether a relocation is one whose mark a survey looks for: a use of `__tls_get_addr` on
@@ -88,8 +94,8 @@ fn needs_mark(
     }
 }
 
-/// Whether a relocation is one that keeps all thread-local storage of its object: it needs a mark,
-/// and has none.
+/// Whether a relocation keeps all thread-local storage of its object: it needs a mark, and has
+/// none.
 #[inline(always)]
 fn is_unmarked(context: &RelaxContext<'_>, site: &Site<'_>) -> bool {
     #[cfg(not(feature = "ppc64"))]
@@ -99,10 +105,7 @@ fn is_unmarked(context: &RelaxContext<'_>, site: &Site<'_>) -> bool {
     #[cfg(feature = "ppc64")]
     {
     let (architecture, phase) = (context.architecture, context.phase);
-    if !needs_mark(architecture, phase, context.symbols, &site.relocation) {
-        return false;
-    }
-    !is_marked(site)
+    needs_mark(architecture, phase, context.symbols, &site.relocation) && !is_marked(site)
     }
 }
 
@@ -190,14 +193,7 @@ pub fn survey(
     section: &[u8],
     kept: &mut [UnrelaxableGroups],
 ) {
-    let context = RelaxContext {
-        architecture,
-        phase: Phase::PreLayout,
-        output,
-        symbols,
-        addresses: &NO_ADDRESSES,
-        values: &[],
-    };
+    let context = pre_layout!(architecture, output, symbols);
     survey_in(&context, relocations, section, kept);
 }
 

@@ -2,12 +2,16 @@
 // Made by tools/generate of crates/linker_rewriting/src/toc_indirection.rt.
 //! Instructions that load addresses from the words of a section, as from those of PowerPC64's
 //! `.toc`. Nothing changes such a word, so that once addresses are known the instructions may
-//! compute its address: all that load it, or none.
+//! compute its address: all that load it, or none. Only PowerPC64 has such words: of other
+//! architectures nothing is noted or rewritten.
+//!
+//! A context's phase is `ShortPcRel`, as in the calls from C. `TlsLocalExec` and `GotToPcRel` do
+//! the same. In `PreLayout` no load is tested to be in reach, and `has_near_symbols` of the output
+//! decides in its place.
 
-use crate::linker_rewriting::agreement::contradiction;
 use crate::linker_rewriting::candidates::candidate_by;
-use crate::linker_rewriting::decisions::{AsDecision, Decision, RewritingError, span_of, subject_of};
-use crate::linker_rewriting::facts::{OutputFacts, RelaxContext, SymbolFacts, address_in, link_facts};
+use crate::linker_rewriting::decisions::{Decision, DecisionNumbers, RewritingError, span_of, subject_of};
+use crate::linker_rewriting::facts::{OutputFacts, RelaxContext, SymbolFacts, address_in, contradiction, link_facts};
 use crate::linker_rewriting::phases::Phase;
 use crate::linker_rewriting::relocations::{Site, relocation_in};
 use crate::linker_rewriting::riscv_pcrel_groups::high_at;
@@ -73,11 +77,9 @@ fn word_offset(context: &RelaxContext<'_>, start: u64, relocation: &Rela) -> Opt
 /// The words of an object's section of addresses, and what loads of them are chosen by.
 #[derive(Clone, Copy)]
 struct Words<'a> {
-    /// What rewrites are chosen by.
     context: &'a RelaxContext<'a>,
-    /// The address of the section of words.
+    /// The address of their section.
     start: u64,
-    /// The relocations of the words.
     relocations: &'a [u8],
 }
 
@@ -105,7 +107,6 @@ fn load_of(words: &Words<'_>, relocation: &Rela) -> Option<(u32, usize)> {
     }
 }
 
-/// A relocation with another `r_type`.
 #[inline(always)]
 fn with_r_type(r_type: u32, relocation: &Rela) -> Rela {
     Rela {
@@ -131,7 +132,6 @@ fn load_candidate(
     candidate_by(words.context, &site, &facts)
 }
 
-/// Whether a word stays, by the index of its relocation.
 #[inline(always)]
 pub(crate) fn word_stays(kept: &[bool], word: usize) -> bool {
     match kept.get(word) {
@@ -140,7 +140,6 @@ pub(crate) fn word_stays(kept: &[bool], word: usize) -> bool {
     }
 }
 
-/// Notes that a word, if any, stays.
 #[inline(always)]
 pub(crate) fn keep_word(kept: &mut [bool], word: Option<usize>) {
     if let Some(word) = word {
@@ -193,9 +192,7 @@ pub fn survey_toc_loads(
 /// The rule of loads: all of a word are rewritten, or none is.
 #[derive(Clone, Copy)]
 struct Loads<'a, 'b> {
-    /// The words.
     words: Words<'a>,
-    /// Which words stay.
     kept: &'b [bool],
 }
 
@@ -232,7 +229,7 @@ impl Rule for Loads<'_, '_> {
 /// `crate::link::rewrite_toc_loads`, with more parameters.
 ///
 /// ```
-/// use linker_utils::source::rewriting::Decision;
+/// use linker_utils::source::rewriting::{Decision, DecisionNumbers};
 /// use linker_utils::source::rewriting::{OutputFacts, RelaxContext, SymbolFacts};
 /// use linker_utils::source::rewriting::Phase;
 /// use linker_utils::source::rewriting::rewrite_toc_loads;
@@ -263,7 +260,7 @@ impl Rule for Loads<'_, '_> {
 ///     &[false],
 ///     &mut relocations,
 ///     &mut section,
-///     &mut [Decision::Kept; 2],
+///     &mut [DecisionNumbers::from_decision(Decision::Kept); 2],
 /// )
 /// .unwrap();
 /// assert_eq!(section, [0, 0, 0x62, 0x3c, 0, 0, 0x63, 0x38]);
@@ -271,14 +268,14 @@ impl Rule for Loads<'_, '_> {
 /// assert_eq!((relocations[8], relocations[12]), (50, 2));
 /// assert_eq!((relocations[32], relocations[36]), (48, 2));
 /// ```
-pub fn rewrite_toc_loads<D: AsDecision>(
+pub fn rewrite_toc_loads(
     context: &RelaxContext<'_>,
     words_start: u64,
     words: &[u8],
     kept: &[bool],
     relocations: &mut [u8],
     section: &mut [u8],
-    decisions: &mut [D],
+    decisions: &mut [DecisionNumbers],
 ) -> Result<(), RewritingError> {
     if let Some(symbol) = contradiction(context.symbols, context.values, relocations) {
         return Err(RewritingError::Contradiction(symbol));

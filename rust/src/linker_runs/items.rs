@@ -3,6 +3,7 @@
 //! The items of a run that the relocations of a section make, and why none can be made.
 
 mod list;
+mod numbers;
 mod rewritten;
 
 use alloc::vec::Vec;
@@ -14,6 +15,7 @@ use crate::linker_runs::loongarch64;
 #[cfg(feature = "riscv64")]
 use crate::linker_runs::riscv64;
 pub(crate) use list::ItemList;
+pub use numbers::ItemNumbers;
 pub use rewritten::{RewrittenItemsError, rewritten_items_into};
 
 /// A relocation of a section.
@@ -48,29 +50,6 @@ impl AsRelocation for Relocation {
     #[inline(always)]
     fn as_relocation(self) -> Relocation {
         self
-    }
-}
-
-/// An item of a run: an [`Item`](crate::runs::Item), or an element of the caller's own array that says as much.
-pub trait AsItem: Copy {
-    /// The item.
-    #[must_use]
-    fn as_item(self) -> Item;
-
-    /// The form that an item is written in.
-    #[must_use]
-    fn from_item(written: Item) -> Self;
-}
-
-impl AsItem for Item {
-    #[inline(always)]
-    fn as_item(self) -> Item {
-        self
-    }
-
-    #[inline(always)]
-    fn from_item(written: Item) -> Item {
-        written
     }
 }
 
@@ -204,7 +183,7 @@ fn item_at<R: AsRelocation>(
 #[derive(Debug, Clone, PartialEq, Eq)]
 pub struct SectionItems {
     /// The items, in the order of the relocations.
-    pub items: Vec<Item>,
+    pub items: Vec<ItemNumbers>,
     /// The index of the relocation that makes each.
     pub makers: Vec<usize>,
 }
@@ -227,7 +206,7 @@ pub fn section_items<R: AsRelocation>(
     for index in 0..relocations.len() {
         next = ahead(machine, relocations, index, next);
         if let Some(item) = item_at(machine, section, base, relocations, index, next) {
-            items.fallible_push(item)?;
+            items.fallible_push(ItemNumbers::from_item(item))?;
             makers.fallible_push(index)?;
         }
     }
@@ -236,12 +215,12 @@ pub fn section_items<R: AsRelocation>(
 
 /// `crate::link::section_items_into`, with more parameters.
 #[cfg_attr(debug_assertions, track_caller)]
-pub fn section_items_into<R: AsRelocation, I: AsItem>(
+pub fn section_items_into<R: AsRelocation>(
     machine: Machine,
     section: &[u8],
     base: u64,
     relocations: &[R],
-    out: &mut [I],
+    out: &mut [ItemNumbers],
     makers: &mut [usize],
 ) -> Result<usize, usize> {
     debug_assert!((base as u128) + (section.len() as u128) < 1 << 64);
@@ -255,7 +234,7 @@ pub fn section_items_into<R: AsRelocation, I: AsItem>(
     for index in 0..relocations.len() {
         next = ahead(machine, relocations, index, next);
         if let Some(item) = item_at(machine, section, base, relocations, index, next) {
-            out[count] = I::from_item(item);
+            out[count] = ItemNumbers::from_item(item);
             makers[count] = index;
             count += 1;
         }

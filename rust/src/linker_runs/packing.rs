@@ -9,7 +9,7 @@ mod moved;
 #[cfg(feature = "riscv64")]
 mod riscv64;
 
-use crate::linker_runs::items::{AsItem, ItemList, has_bytes};
+use crate::linker_runs::items::{ItemList, ItemNumbers, has_bytes};
 use crate::linker_runs::packing::code::Code;
 use crate::linker_runs::packing::moved::move_relocations;
 use crate::linker_runs::relaxation::{Item, Site};
@@ -223,11 +223,11 @@ fn piece_of(
 }
 
 /// Whether each item can be written; the error is that of the first that can't.
-fn test_items<I: AsItem>(
+fn test_items(
     machine: Machine,
     section: &[u8],
     base: u64,
-    items: &ItemList<'_, I>,
+    items: &ItemList<'_>,
     deltas: &[RelaxDelta],
     start: u64,
     begin: &Position,
@@ -322,11 +322,11 @@ fn put_piece(machine: Machine, packed: &mut [u8], at: u64, piece: Piece) {
 }
 
 /// Puts what is written of each item, where it can be written.
-fn put_items<I: AsItem>(
+fn put_items(
     machine: Machine,
     section: &[u8],
     base: u64,
-    items: &ItemList<'_, I>,
+    items: &ItemList<'_>,
     deltas: &[RelaxDelta],
     start: u64,
     begin: &Position,
@@ -367,10 +367,10 @@ pub fn packed_run_len(base: u64, len: usize, deltas: &[RelaxDelta]) -> usize {
 }
 
 /// Whether a site is eight bytes of a section, of instructions that can have its shapes: of RISC-V
-/// `auipc` and `jalr` with `CALL`, or with `TAIL_C` where they link x0; of LoongArch `pcaddu18i`
-/// and `jirl` with `CALL36`, or `pcalau12i` and `addi.d` of one register with `PCALA`. The section
-/// begins at the input offset `base` of the run. A site of which the linker has decided has none of
-/// these shapes; an alignment has no instructions to be tested.
+/// `auipc` and `jalr` with `CALL`, or with `TAIL_C` where they link x0, or x1 on RV32; of LoongArch
+/// `pcaddu18i` and `jirl` with `CALL36`, or `pcalau12i` and `addi.d` of one register with `PCALA`.
+/// The section begins at the input offset `base` of the run. A site of which the linker has decided
+/// has none of these shapes; an alignment has no instructions to be tested.
 ///
 /// Where this is so of a site that [`relax`](crate::runs::relax()) made shorter, [`pack_run`](crate::runs::pack_run()) can write it: the instruction
 /// reaches its target.
@@ -393,11 +393,11 @@ pub fn has_its_instructions(machine: Machine, section: &[u8], base: u64, item: &
 
 /// `crate::link::pack_run`, with more parameters.
 #[cfg_attr(debug_assertions, track_caller)]
-pub fn pack_run<I: AsItem>(
+pub fn pack_run(
     machine: Machine,
     section: &[u8],
     base: u64,
-    items: &[I],
+    items: &[ItemNumbers],
     deltas: &[RelaxDelta],
     start: u64,
     relocations: &mut [u8],

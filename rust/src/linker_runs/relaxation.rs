@@ -5,7 +5,7 @@
 
 use alloc::vec::Vec;
 use crate::support::*;
-use crate::linker_runs::items::{AsItem, ItemList};
+use crate::linker_runs::items::{ItemList, ItemNumbers};
 use crate::linker_base::relaxation::{OutOfMemory, SectionRelaxDeltas};
 
 mod cautious;
@@ -204,10 +204,12 @@ impl Shapes {
     /// How many bytes stay with the shape at an index.
     #[inline(always)]
     fn kept_by(&self, shape: u8) -> u64 {
-        if shape < self.count {
-            u64::from(self.short[usize::from(shape)].kept)
-        } else {
+        if shape >= self.count {
             u64::from(self.longest)
+        } else if shape == 0 {
+            u64::from(self.short[0].kept)
+        } else {
+            u64::from(self.short[1].kept)
         }
     }
 
@@ -247,8 +249,8 @@ impl Shapes {
 /// - places: `places.len() == items.len()`
 /// - freed: `(freed.len() as u128) == (items.len() as u128) + 1`
 #[cfg_attr(debug_assertions, track_caller)]
-pub fn relax_into<I: AsItem>(
-    items: &[I],
+pub fn relax_into(
+    items: &[ItemNumbers],
     start: u64,
     shapes: &mut [u8],
     kept: &mut [u64],
@@ -290,8 +292,8 @@ pub struct Plan {
 /// - items: the items are in order, as [`are_items`](crate::runs::are_items()) accepts them
 /// - one_each: `kept.len() == items.len()`
 #[cfg_attr(debug_assertions, track_caller)]
-pub fn deletions<I: AsItem>(
-    items: &[I],
+pub fn deletions(
+    items: &[ItemNumbers],
     start: u64,
     kept: &[u64],
 ) -> Result<SectionRelaxDeltas, OutOfMemory> {
@@ -314,7 +316,7 @@ pub fn deletions<I: AsItem>(
 ///
 /// - `are_items(items, start)`
 #[cfg_attr(debug_assertions, track_caller)]
-pub fn relax<I: AsItem>(items: &[I], start: u64) -> Result<Plan, OutOfMemory> {
+pub fn relax(items: &[ItemNumbers], start: u64) -> Result<Plan, OutOfMemory> {
     debug_assert!(are_items(items, start));
     let mut shapes = try_vec![0; items.len()]?;
     let mut kept = try_vec![0; items.len()]?;

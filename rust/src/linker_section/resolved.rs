@@ -26,18 +26,21 @@ pub struct Resolved {
     /// image. Of `R_X86_64_SIZE32` and `R_X86_64_SIZE64` Z, the symbol's size. Of a merged string
     /// the string's address less the relocation's addend.
     pub address: u64,
-    /// The address of the entry of the GOT that the relocation requires, as [`needs`](crate::section::needs()) says: of S, or
-    /// of S + A. 0 if there is none. Not read where it requires none.
+    /// The address of the entry of the GOT that the relocation requires, as [`needs`](crate::section::needs()) says: of S, of
+    /// S + A, or of the module (local-dynamic). 0 if there is none. Not read where it requires
+    /// none.
     pub entry: u64,
     /// The address of the entry of the PLT, or of another stub, by which the relocation's branch
     /// goes; 0 if it goes to `address`.
     pub stub: u64,
     /// `st_other`, of which PowerPC64's branches take the local entry point.
     pub other: u8,
-    /// Whether the symbol is weak and nothing defines it. Then `address` isn't read.
+    /// Whether the symbol is weak and nothing defines it. Then `address` is read of a symbol's size
+    /// and of a label alone.
     pub is_undefined_weak: bool,
-    /// Whether the value isn't written, since a dynamic relocation took its place. The bytes stay.
-    /// Not read of a relocation of a pair at a ULEB128 number.
+    /// Whether the value isn't written, as where a dynamic relocation takes its place. The bytes
+    /// stay. Of a high part of RISC-V the rest is still read for its low parts. Not read of a
+    /// relocation of a pair at a ULEB128 number.
     pub is_left_out: bool,
 }
 

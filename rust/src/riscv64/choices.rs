@@ -59,6 +59,13 @@ macro_rules! when {
             InReach(R_RISCV_RVC_JUMP)
         )
     };
+    // a `c.jal` does, which RV32 has
+    (by_short_call) => {
+        conditions!(
+            CLASS32 + FIXED_DISTANCE + COMPRESSIBLE + RELAXABLE + WITHOUT_PLT,
+            InReach(R_RISCV_RVC_JUMP)
+        )
+    };
     // 12 signed bits hold the address
     (with_low_part $($fact:ident)?) => { conditions!(FIXED_ADDRESS $(+ $fact)?, Low12) };
     // a `c.lui` holds the high part
@@ -117,6 +124,7 @@ macro_rules! choices {
             $arguments
             R_RISCV_CALL | R_RISCV_CALL_PLT: [
                 TailToCJ => R_RISCV_RVC_JUMP, by_short_jump;
+                CallToCJal => R_RISCV_RVC_JUMP, by_short_call;
                 TailToJal => R_RISCV_JAL, by_jump;
                 CallToJal => R_RISCV_JAL, by_jump;
             ]

@@ -65,6 +65,10 @@ pub enum RewriteKind {
     AuipcToLui,
     /// Turns `ld` into `addi` of 0 and x0, with its destination register.
     LdToAddiZero,
+    /// Turns the first two bytes of a call whose `jalr` links x1 into a `c.jal` of distance 0.
+    /// Requires RV32 and the C extension: code of RV64 has `c.addiw` of these bits. The caller
+    /// deletes the six bytes after it.
+    CallToCJal,
 }
 
 /// A test of the instruction at a place: its opcode and function, and its registers (RISC-V
@@ -137,6 +141,7 @@ macro_rules! rewrites {
             CLuiToCLi { 2 [c_lui] keep 0xf80 set 0x4001 half true }
             AuipcToLui { 4 [auipc] keep 0xf80 set 0x37 }
             LdToAddiZero { 4 [ld] keep 0xf80 set 0x13 }
+            CallToCJal { 8 [call into 1] keep 0 set 0x2001 half true delete 2 count 6 skip 0 }
         }
     };
 }
@@ -180,8 +185,8 @@ impl RewriteKind {
     }
 
     /// The bytes that `apply` writes, which begin at the offset: none for `NoOp`, `Hi20Delete` and
-    /// `Delete`, 2 for `Hi20ToCLui`, `TailToCJ` and `CLuiToCLi`, and 4 for the others. Those that
-    /// are then deleted (`deleted`) may lie after them.
+    /// `Delete`, 2 for `Hi20ToCLui`, `TailToCJ`, `CallToCJal` and `CLuiToCLi`, and 4 for the rest.
+    /// Those that are then deleted (`deleted`) may lie after them.
     #[inline(always)]
     #[must_use]
     pub fn window(self) -> RewriteWindow {
@@ -201,8 +206,8 @@ impl RewriteKind {
         rewrites!(self, original row => row.is_for(section, offset))
     }
 
-    /// What happens to the next relocation: `CallToJal`, `TailToJal`, `TailToCJ` and `Hi20Delete`
-    /// skip it.
+    /// What happens to the next relocation: `CallToJal`, `CallToCJal`, `TailToJal`, `TailToCJ` and
+    /// `Hi20Delete` skip it.
     #[must_use]
     #[inline]
     pub fn next_modifier(&self) -> RelocationModifier {
@@ -222,7 +227,7 @@ impl RewriteKind {
     }
 
     /// The bytes to be deleted after the rewrite. `None` where there are none: only `CallToJal`,
-    /// `TailToJal`, `TailToCJ`, `Hi20ToCLui`, `Hi20Delete` and `Delete` have some.
+    /// `CallToCJal`, `TailToJal`, `TailToCJ`, `Hi20ToCLui`, `Hi20Delete` and `Delete` have some.
     ///
     /// ```
     /// use linker_utils::riscv64::RewriteKind;

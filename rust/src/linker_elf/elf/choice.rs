@@ -28,6 +28,9 @@ pub struct LinkFacts {
     pub has_local_exec_base: bool,
     /// The code may use instructions of the C extension (`EF_RISCV_RVC`).
     pub may_compress: bool,
+    /// The code is that of a file of ELFCLASS32. RISC-V's then has `c.jal`, whose bits are those of
+    /// `c.addiw` in code of 64 bits.
+    pub is_class32: bool,
     /// The relocation may be relaxed: `R_RISCV_RELAX` or `R_LARCH_RELAX` is at the same offset. Of
     /// PowerPC64's `R_PPC64_TLSGD` and `R_PPC64_TLSLD` it says that `R_PPC64_REL24_NOTOC` is there:
     /// the call that they mark is one of prefixed code.

@@ -48,6 +48,9 @@ pub const WITHOUT_PLT: u32 = 1 << 12;
 /// `group_fits`.
 pub const GROUP_FITS: u32 = 1 << 13;
 
+/// `is_class32`.
+pub const CLASS32: u32 = 1 << 14;
+
 /// The numbers of 12 bits in two's complement, for `ValueCondition::Within`.
 pub const SIGNED_12: (i64, i64) = (-0x800, 0x800);
 
@@ -211,6 +214,7 @@ impl LinkFacts {
     fn seldom_hold(&self, conditions: u32) -> bool {
         is_held(conditions, WEAK_ZERO, self.is_undefined_weak)
             && is_held(conditions, FIXED_ADDRESS, self.has_fixed_address)
+            && is_held(conditions, CLASS32, self.is_class32)
     }
 
     /// Whether the facts of a mask hold.
@@ -220,6 +224,7 @@ impl LinkFacts {
         is_held(conditions, BOUND, self.is_local && !self.is_ifunc)
             & is_held(conditions, WEAK_ZERO, self.is_undefined_weak)
             & is_held(conditions, FIXED_ADDRESS, self.has_fixed_address)
+            & is_held(conditions, CLASS32, self.is_class32)
             & is_held(conditions, FIXED_DISTANCE, self.is_pcrel_link_time_constant)
             & is_held(conditions, EXECUTABLE, self.is_executable)
             & is_held(conditions, LOCAL_EXEC_BASE, self.has_local_exec_base)

@@ -2,18 +2,18 @@
 // Made by tools/generate of crates/linker_runs/src/items/list.rt.
 //! The items of a run, in an array of the caller's.
 
-use crate::linker_runs::items::AsItem;
+use crate::linker_runs::items::ItemNumbers;
 use crate::linker_runs::relaxation::Item;
 
 /// The items of a run.
-pub(crate) struct ItemList<'a, I: AsItem> {
-    elements: &'a [I],
+pub(crate) struct ItemList<'a> {
+    elements: &'a [ItemNumbers],
 }
 
-impl<'a, I: AsItem> ItemList<'a, I> {
+impl<'a> ItemList<'a> {
     /// The items of an array.
     #[inline(always)]
-    pub(crate) fn new(elements: &'a [I]) -> ItemList<'a, I> {
+    pub(crate) fn new(elements: &'a [ItemNumbers]) -> ItemList<'a> {
         ItemList { elements }
     }
 

@@ -2,7 +2,7 @@
 // Made by tools/generate of crates/linker_runs/src/items/rewritten.rt.
 //! The items of a section that was rewritten.
 
-use super::{AsItem, AsRelocation, ahead, first_malformed, has_bytes, item_at};
+use super::{AsRelocation, ItemNumbers, ahead, first_malformed, has_bytes, item_at};
 use crate::linker_runs::packing::Machine;
 use crate::linker_runs::relaxation::{Item, Site};
 use crate::linker_runs::shapes::fixed;
@@ -63,13 +63,13 @@ fn deletion(base: u64, offset: u64, bytes: u32) -> Item {
 
 /// Lists the deletions that begin at or below an offset of the run, of those
 /// that aren't listed yet.
-fn list_deletions<L: AsDeletion, I: AsItem>(
+fn list_deletions<L: AsDeletion>(
     base: u64,
     relocations_len: usize,
     deleted: &[L],
     offset: u64,
     listed: Listed,
-    out: &mut [I],
+    out: &mut [ItemNumbers],
     makers: &mut [usize],
 ) -> Listed {
     let mut count = listed.count;
@@ -79,7 +79,7 @@ fn list_deletions<L: AsDeletion, I: AsItem>(
         if base + start > offset {
             return Listed { count, gone, end };
         }
-        out[count] = I::from_item(deletion(base, start, bytes));
+        out[count] = ItemNumbers::from_item(deletion(base, start, bytes));
         makers[count] = relocations_len + gone;
         count += 1;
         end = base + (start + u64::from(bytes));
@@ -104,14 +104,14 @@ fn is_cut<L: AsDeletion>(base: u64, deleted: &[L], index: usize, item: &Item) ->
 /// Lists the item of the relocation at an index after the deletions that begin at or below it.
 /// None where it overlaps one of them or of the items before it.
 #[inline]
-fn list_item<L: AsDeletion, I: AsItem>(
+fn list_item<L: AsDeletion>(
     base: u64,
     relocations_len: usize,
     deleted: &[L],
     index: usize,
     item: &Item,
     listed: Listed,
-    out: &mut [I],
+    out: &mut [ItemNumbers],
     makers: &mut [usize],
 ) -> Option<Listed> {
     if item.offset() < listed.end {
@@ -129,7 +129,7 @@ fn list_item<L: AsDeletion, I: AsItem>(
     if item.offset() < all.end || is_cut(base, deleted, all.gone, item) {
         return None;
     }
-    out[all.count] = I::from_item(*item);
+    out[all.count] = ItemNumbers::from_item(*item);
     makers[all.count] = index;
     Some(Listed {
         count: all.count + 1,
@@ -141,13 +141,13 @@ fn list_item<L: AsDeletion, I: AsItem>(
 /// Lists the items of a section whose relocations and deletions are tested, and returns how many
 /// they are. The error is the index of a relocation that overlaps.
 #[inline]
-fn list_items<R: AsRelocation, L: AsDeletion, I: AsItem>(
+fn list_items<R: AsRelocation, L: AsDeletion>(
     machine: Machine,
     section: &[u8],
     base: u64,
     relocations: &[R],
     deleted: &[L],
-    out: &mut [I],
+    out: &mut [ItemNumbers],
     makers: &mut [usize],
 ) -> Result<usize, usize> {
     let len = relocations.len();
@@ -171,13 +171,13 @@ fn list_items<R: AsRelocation, L: AsDeletion, I: AsItem>(
 
 /// `crate::link::rewritten_items_into`, with more parameters.
 #[cfg_attr(debug_assertions, track_caller)]
-pub fn rewritten_items_into<R: AsRelocation, L: AsDeletion, I: AsItem>(
+pub fn rewritten_items_into<R: AsRelocation, L: AsDeletion>(
     machine: Machine,
     section: &[u8],
     base: u64,
     relocations: &[R],
     deleted: &[L],
-    out: &mut [I],
+    out: &mut [ItemNumbers],
     makers: &mut [usize],
 ) -> Result<usize, RewrittenItemsError> {
     debug_assert!((base as u128) + (section.len() as u128) < 1 << 64);

@@ -2,7 +2,7 @@
 // Made by tools/generate of crates/linker_runs/src/packing/moved.rt.
 //! The relocations of a packed section.
 
-use crate::linker_runs::items::{AsItem, ItemList};
+use crate::linker_runs::items::ItemList;
 use crate::linker_runs::packing::Machine;
 use crate::linker_runs::relaxation::Item;
 use crate::linker_base::packing::{Position, position_from, position_of};
@@ -77,7 +77,7 @@ fn r_type_at_item(machine: Machine, item: &Item, kept: u64, r_type: u32) -> u32 
 
 /// The item that begins at an offset.
 #[inline]
-fn item_from<I: AsItem>(items: &ItemList<'_, I>, offset: u64) -> Option<Item> {
+fn item_from(items: &ItemList<'_>, offset: u64) -> Option<Item> {
     let index = items.place_of(offset);
     if index >= items.len() {
         return None;
@@ -92,9 +92,9 @@ fn item_from<I: AsItem>(items: &ItemList<'_, I>, offset: u64) -> Option<Item> {
 
 /// The type of a relocation at a position.
 #[inline]
-fn r_type_of<I: AsItem>(
+fn r_type_of(
     machine: Machine,
-    items: &ItemList<'_, I>,
+    items: &ItemList<'_>,
     deltas: &[RelaxDelta],
     here: &Position,
     r_type: u32,
@@ -115,11 +115,11 @@ fn r_type_of<I: AsItem>(
 
 /// What a relocation of a section becomes once that is packed.
 #[inline]
-fn moved<I: AsItem>(
+fn moved(
     machine: Machine,
     section: &[u8],
     base: u64,
-    items: &ItemList<'_, I>,
+    items: &ItemList<'_>,
     deltas: &[RelaxDelta],
     begin: &Position,
     relocation: &Rela,
@@ -141,11 +141,11 @@ fn moved<I: AsItem>(
 }
 
 /// Moves the relocations of a section to where they are once that is packed.
-pub(crate) fn move_relocations<I: AsItem>(
+pub(crate) fn move_relocations(
     machine: Machine,
     section: &[u8],
     base: u64,
-    items: &ItemList<'_, I>,
+    items: &ItemList<'_>,
     deltas: &[RelaxDelta],
     begin: &Position,
     relocations: &mut [u8],

@@ -7,7 +7,7 @@
 //! found in a sweep that goes to meet them.
 
 use super::Item;
-use crate::linker_runs::items::{AsItem, ItemList};
+use crate::linker_runs::items::ItemList;
 
 impl Item {
     /// How many bytes it frees with the shape at an index, where alignments keep all.
@@ -22,12 +22,7 @@ impl Item {
 
 /// For each item how many bytes those before it free where alignments keep all, and at the end how
 /// many all do.
-fn lay_out_cautiously<I: AsItem>(
-    items: &ItemList<'_, I>,
-    start: u64,
-    shapes: &[u8],
-    freed: &mut [u64],
-) {
+fn lay_out_cautiously(items: &ItemList<'_>, start: u64, shapes: &[u8], freed: &mut [u64]) {
     let mut before = 0;
     for index in 0..items.len() {
         freed[index] = before;
@@ -39,8 +34,8 @@ fn lay_out_cautiously<I: AsItem>(
 
 /// Gives the site at an index its next shape if it is out of reach, and returns how many bytes
 /// fewer it then frees. What `freed` has after the index is `more` above what the choice frees.
-fn lengthen_at<I: AsItem>(
-    items: &ItemList<'_, I>,
+fn lengthen_at(
+    items: &ItemList<'_>,
     start: u64,
     places: &[usize],
     freed: &[u64],
@@ -67,8 +62,8 @@ fn lengthen_at<I: AsItem>(
 }
 
 /// A sweep from the last site to the first. Whether a shape is longer after it. `freed` is used up.
-fn sweep_back<I: AsItem>(
-    items: &ItemList<'_, I>,
+fn sweep_back(
+    items: &ItemList<'_>,
     start: u64,
     places: &[usize],
     freed: &mut [u64],
@@ -85,8 +80,8 @@ fn sweep_back<I: AsItem>(
 
 /// A sweep from the first site to the last. Each site that was out of reach before it has a longer
 /// shape after it. `freed` is used up.
-fn sweep_ahead<I: AsItem>(
-    items: &ItemList<'_, I>,
+fn sweep_ahead(
+    items: &ItemList<'_>,
     start: u64,
     places: &[usize],
     freed: &mut [u64],
@@ -100,8 +95,8 @@ fn sweep_ahead<I: AsItem>(
 }
 
 /// Sweeps until no site is out of reach where alignments keep all.
-pub(super) fn choose_cautiously<I: AsItem>(
-    items: &ItemList<'_, I>,
+pub(super) fn choose_cautiously(
+    items: &ItemList<'_>,
     start: u64,
     places: &[usize],
     freed: &mut [u64],

@@ -4,7 +4,7 @@
 
 use super::validity::{has_its_nops, is_clear, run_granularity};
 use super::{Alignment, Item, Shapes, Site};
-use crate::linker_runs::items::{AsItem, ItemList};
+use crate::linker_runs::items::{ItemList, ItemNumbers};
 #[cfg(feature = "loongarch64")]
 use crate::linker_runs::shapes::loongarch64::CALL36;
 
@@ -157,7 +157,7 @@ impl Item {
 }
 
 /// What is wrong with the item at an index by itself or by its place.
-fn own_fault<I: AsItem>(items: &ItemList<'_, I>, start: u64, index: usize) -> Option<Fault> {
+fn own_fault(items: &ItemList<'_>, start: u64, index: usize) -> Option<Fault> {
     let item = items.at(index);
     if index > 0 && !items.at(index - 1).ends_by(item.offset()) {
         Some(Fault::Overlaps)
@@ -169,12 +169,7 @@ fn own_fault<I: AsItem>(items: &ItemList<'_, I>, start: u64, index: usize) -> Op
 }
 
 /// What is wrong with the item at an index among the others, in a run of a granularity.
-fn run_fault<I: AsItem>(
-    items: &ItemList<'_, I>,
-    start: u64,
-    granularity: u64,
-    index: usize,
-) -> Option<Fault> {
+fn run_fault(items: &ItemList<'_>, start: u64, granularity: u64, index: usize) -> Option<Fault> {
     let item = items.at(index);
     if let Some(fault) = item.granularity_fault(granularity, start) {
         return Some(fault);
@@ -189,7 +184,7 @@ fn run_fault<I: AsItem>(
 }
 
 /// The first item with a fault by itself or by its place.
-fn first_own_fault<I: AsItem>(items: &ItemList<'_, I>, start: u64) -> Option<ItemFault> {
+fn first_own_fault(items: &ItemList<'_>, start: u64) -> Option<ItemFault> {
     for index in 0..items.len() {
         if let Some(fault) = own_fault(items, start, index) {
             return Some(ItemFault { index, fault });
@@ -199,7 +194,7 @@ fn first_own_fault<I: AsItem>(items: &ItemList<'_, I>, start: u64) -> Option<Ite
 }
 
 /// The first item with a fault among the others.
-fn first_run_fault<I: AsItem>(items: &ItemList<'_, I>, start: u64) -> Option<ItemFault> {
+fn first_run_fault(items: &ItemList<'_>, start: u64) -> Option<ItemFault> {
     let granularity = run_granularity(items, start);
     for index in 0..items.len() {
         if let Some(fault) = run_fault(items, start, granularity, index) {
@@ -217,11 +212,11 @@ fn first_run_fault<I: AsItem>(items: &ItemList<'_, I>, start: u64) -> Option<Ite
 ///
 /// It doesn't allocate, and takes O(n log n) for n items.
 #[must_use]
-pub fn first_faulty<I: AsItem>(items: &[I], start: u64) -> Option<ItemFault> {
+pub fn first_faulty(items: &[ItemNumbers], start: u64) -> Option<ItemFault> {
     first_fault(&ItemList::new(items), start)
 }
 
-fn first_fault<I: AsItem>(items: &ItemList<'_, I>, start: u64) -> Option<ItemFault> {
+fn first_fault(items: &ItemList<'_>, start: u64) -> Option<ItemFault> {
     if let Some(found) = first_own_fault(items, start) {
         return Some(found);
     }
@@ -250,6 +245,6 @@ fn first_fault<I: AsItem>(items: &ItemList<'_, I>, start: u64) -> Option<ItemFau
 ///
 /// It doesn't allocate, and takes O(n log n) for n items. [`first_faulty`](crate::runs::first_faulty()) says what is wrong.
 #[must_use]
-pub fn are_items<I: AsItem>(items: &[I], start: u64) -> bool {
+pub fn are_items(items: &[ItemNumbers], start: u64) -> bool {
     first_faulty(items, start).is_none()
 }

@@ -2,11 +2,11 @@
 // Made by tools/generate of crates/linker_runs/src/relaxation/passes.rt.
 //! Passes over a run: the places of targets, a layout, and one round.
 
-use crate::linker_runs::items::{AsItem, ItemList};
+use crate::linker_runs::items::ItemList;
 
 /// For each item the place of its target, or `usize::MAX` where its shortest shape reaches that
 /// while nothing is freed: then it is always in reach.
-pub(super) fn find_places<I: AsItem>(items: &ItemList<'_, I>, start: u64, places: &mut [usize]) {
+pub(super) fn find_places(items: &ItemList<'_>, start: u64, places: &mut [usize]) {
     for index in 0..items.len() {
         let item = items.at(index);
         places[index] = if item.reaches(0, 0, 0) {
@@ -25,12 +25,7 @@ pub(super) fn shorten(shapes: &mut [u8]) {
 }
 
 /// For each item how many bytes those before it free, and at the end how many all do.
-pub(super) fn lay_out<I: AsItem>(
-    items: &ItemList<'_, I>,
-    start: u64,
-    shapes: &[u8],
-    freed: &mut [u64],
-) {
+pub(super) fn lay_out(items: &ItemList<'_>, start: u64, shapes: &[u8], freed: &mut [u64]) {
     let mut before = 0;
     for index in 0..items.len() {
         let item = items.at(index);
@@ -41,13 +36,7 @@ pub(super) fn lay_out<I: AsItem>(
 }
 
 /// For each item how many of its bytes stay.
-pub(super) fn keep<I: AsItem>(
-    items: &ItemList<'_, I>,
-    start: u64,
-    shapes: &[u8],
-    freed: &[u64],
-    kept: &mut [u64],
-) {
+pub(super) fn keep(items: &ItemList<'_>, start: u64, shapes: &[u8], freed: &[u64], kept: &mut [u64]) {
     for index in 0..items.len() {
         let item = items.at(index);
         kept[index] = item.kept_by(start, shapes[index], freed[index]);
@@ -56,8 +45,8 @@ pub(super) fn keep<I: AsItem>(
 
 /// Whether the item at an index, which has a shape, is in reach of its target by a layout.
 #[inline(always)]
-fn is_in_reach<I: AsItem>(
-    items: &ItemList<'_, I>,
+fn is_in_reach(
+    items: &ItemList<'_>,
     start: u64,
     places: &[usize],
     freed: &[u64],
@@ -70,8 +59,8 @@ fn is_in_reach<I: AsItem>(
 }
 
 /// Gives each site that is out of reach its next shape. Whether there is one.
-pub(super) fn lengthen<I: AsItem>(
-    items: &ItemList<'_, I>,
+pub(super) fn lengthen(
+    items: &ItemList<'_>,
     start: u64,
     places: &[usize],
     freed: &[u64],
@@ -93,8 +82,8 @@ pub(super) fn lengthen<I: AsItem>(
 const MOST_ROUNDS: u32 = 64;
 
 /// Rounds until no site is out of reach. Whether there are few enough.
-pub(super) fn settle<I: AsItem>(
-    items: &ItemList<'_, I>,
+pub(super) fn settle(
+    items: &ItemList<'_>,
     start: u64,
     places: &[usize],
     freed: &mut [u64],

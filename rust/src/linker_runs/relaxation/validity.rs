@@ -3,7 +3,7 @@
 //! What is tested of the items of a run.
 
 use super::{Alignment, Item, Shapes, remainder};
-use crate::linker_runs::items::{AsItem, ItemList};
+use crate::linker_runs::items::ItemList;
 
 /// Whether a number is a power of two.
 #[inline]
@@ -178,7 +178,7 @@ impl Item {
 }
 
 /// The greatest granularity of a run.
-pub(super) fn run_granularity<I: AsItem>(items: &ItemList<'_, I>, start: u64) -> u64 {
+pub(super) fn run_granularity(items: &ItemList<'_>, start: u64) -> u64 {
     let mut granularity = 1;
     for index in 0..items.len() {
         let item = items.at(index);
@@ -188,7 +188,7 @@ pub(super) fn run_granularity<I: AsItem>(items: &ItemList<'_, I>, start: u64) ->
 }
 
 /// Whether an offset is not inside what an item may lose.
-pub(super) fn is_clear<I: AsItem>(items: &ItemList<'_, I>, start: u64, offset: u64) -> bool {
+pub(super) fn is_clear(items: &ItemList<'_>, start: u64, offset: u64) -> bool {
     let place = items.place_of(offset);
     if place == items.len() {
         return true;
@@ -198,12 +198,7 @@ pub(super) fn is_clear<I: AsItem>(items: &ItemList<'_, I>, start: u64, offset: u
 }
 
 /// Whether a number divides the output address of the item at an index in every layout.
-fn is_always_multiple<I: AsItem>(
-    items: &ItemList<'_, I>,
-    start: u64,
-    number: u64,
-    index: usize,
-) -> bool {
+fn is_always_multiple(items: &ItemList<'_>, start: u64, number: u64, index: usize) -> bool {
     let here = items.at(index);
     let offset = here.offset();
     for following in 0..index {
@@ -220,8 +215,8 @@ fn is_always_multiple<I: AsItem>(
 
 /// Whether an alignment, the item at an index, has as many nops as it needs in every layout of a
 /// run of a granularity.
-fn are_always_enough<I: AsItem>(
-    items: &ItemList<'_, I>,
+fn are_always_enough(
+    items: &ItemList<'_>,
     start: u64,
     granularity: u64,
     index: usize,
@@ -235,12 +230,7 @@ fn are_always_enough<I: AsItem>(
 
 /// Whether the item at an index has as many nops as it needs in every layout of a run of a
 /// granularity, if it is an alignment without a limit.
-pub(super) fn has_its_nops<I: AsItem>(
-    items: &ItemList<'_, I>,
-    start: u64,
-    granularity: u64,
-    index: usize,
-) -> bool {
+pub(super) fn has_its_nops(items: &ItemList<'_>, start: u64, granularity: u64, index: usize) -> bool {
     match items.at(index) {
         Item::Site(_) => true,
         Item::Aligned(alignment) => {

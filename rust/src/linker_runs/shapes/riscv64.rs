@@ -29,8 +29,8 @@ pub const CALL: Shapes = Shapes {
     longest: 8,
 };
 
-/// A tail call, whose `jalr` links x0, where the C extension may be used: a `c.j` or a `jal` where
-/// they reach.
+/// A call whose `jalr` links x0, or x1 on RV32, where the C extension may be used: a `c.j`, or
+/// RV32's `c.jal`, or a `jal` where they reach.
 pub const TAIL_C: Shapes = Shapes {
     short: [C_J, JAL],
     count: 2,
