@@ -300,10 +300,8 @@ void make_dynamic(void) {
     for (size_t i = 0; i < rows_len; i++) rela_len += !is_packed(&rows[i]);
     if (rela_len) make_room(rela, 8, rela_len * sizeof(Elf64_Rela));
     /* sections so far apart that no word has rows of two: sections that meet need no more */
-    if (relr) {
-        EACH_OUTPUT(o) o->address = apart += 2 * MOST_BYTES;
-        make_room(relr, 8, 8 * pack_rows(NULL, 0));
-    }
+    if (relr) EACH_OUTPUT(o) o->address = apart += 2 * MOST_BYTES;
+    if (relr) make_room(relr, 8, 8 * pack_rows(NULL, 0));
     if (!is_dynamic) return;
     if (interpreter && linker_utils_interpreter(machine, machine_flags, path, most, &used))
         fail("no dynamic linker is known for such objects");
