@@ -153,8 +153,7 @@ module _ {l : Linked} {c : Code} (new : IsNew l c) where
           → slice_get l.symbols (relocation_in l.relocations i).symbol ≡ Some symbol → (got : ℕ)
           → operands_by AArch64 l.addresses a.row (after l i e.relocation) symbol
           (entry_address l.addresses symbol (entry_of a.row (relocation_in l.relocations i).addend symbol.is_thread_local))
-          ≡ Ok (operands_with AArch64 l.addresses a.row symbol (after l i e.relocation) got)
-          → (o : Operands)
+          ≡ Ok (operands_with AArch64 l.addresses a.row symbol (after l i e.relocation) got) → (o : Operands)
           → value_of a.row o ≡ value_of a.row (operands_with AArch64 l.addresses a.row symbol (after l i e.relocation) got)
           → o.place ≡ sum_64 l.addresses.section (offset_of l i) → offset_of l i + 4 ≤ length l.section
           → Has c.new e.relocation o (instruction_at l.rewritten (offset_of l i))

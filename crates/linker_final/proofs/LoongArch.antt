@@ -112,8 +112,7 @@ thread_plain : (name : LoongArch64Relocation) → is_plain (loongarch_scope_in p
 thread_plain names.R_LARCH_TLS_LE_HI20_R = refl
 thread_plain name = refl
 
-plain_in : (phase : Phase) (name : LoongArch64Relocation)
-    → is_plain (loongarch_scope_in phase name) ≡ true
+plain_in : (phase : Phase) (name : LoongArch64Relocation) → is_plain (loongarch_scope_in phase name) ≡ true
 plain_in phases.PreLayout name = early_plain name
 plain_in phases.TlsLocalExec name = thread_plain name
 plain_in phases.GotToPcRel name = refl
@@ -253,8 +252,7 @@ module _ (l : Linked) (all : AreDecidedIn l.context l.kept l.relocations l.secti
   -- one of a name that nothing takes along is decided by its scope
   by_scope : (name : LoongArch64Relocation) → IsNamed (loongarch_name name)
       → (relocation_in l.relocations n).r_type ≡ r_type_of (loongarch_name name)
-      → is_taken l.decisions n ≡ false
-      → IsNameOf loongarch_name (relocation_in l.relocations n).r_type name
+      → is_taken l.decisions n ≡ false → IsNameOf loongarch_name (relocation_in l.relocations n).r_type name
       × IsScopeDecision l.context l.kept l.relocations l.section n (relocation_in l.relocations n)
       (loongarch_scope_in PreLayout name) decision
   by_scope name named r_type_is taken =
@@ -302,8 +300,7 @@ whole_with s bytes section n r chosen (Some facts) is = is.3
 whole_of : (s : RelaxContext) (bytes section : List ℕ) (n : ℕ) (r : Rela) (chosen : Choice Relaxation ℕ)
     → IsCandidate s bytes section n r (Some chosen) → IsWhole s.architecture bytes n r true
 whole_of s bytes section n r chosen =
-    whole_with s bytes section n r chosen
-    (link_facts s r r (is_marked_in s.phase s.architecture bytes n r))
+    whole_with s bytes section n r chosen (link_facts s r r (is_marked_in s.phase s.architecture bytes n r))
 
 -- a decision of one candidate
 record PairIsMade (d : Decision) (candidate : Option (Choice Relaxation ℕ)) : Type 0 where
@@ -561,8 +558,7 @@ module _ (groups : Groups) (l : Linked) (made : AreRewritten l) (loongarch : l.c
       record {
         writable = tt;
         left = left_by l made i chosen below decided kinds.Delete names.R_LARCH_NONE name by;
-        group = λ alone u y after made_so c k s gone is_zero wide stands.
-            groups.sums c k s (before l i) gone
+        group = λ alone u y after made_so c k s gone is_zero wide stands. groups.sums c k s (before l i) gone
             (subst IsAddTp (word_same l.section (offset_of l i)) (by.pattern.1)) is_zero wide stands;
       }
 
@@ -739,8 +735,7 @@ module _ (l : Linked) (p : Packed) (joined : IsRewrittenAndPacked l p) (loongarc
       (written.can.found i) (written.can.are_found i (within l p joined i below code (rela_at l i).symbol (rela_at l i).addend after_is kept left))
 
   -- the relocation of its name is applied to it, by operands with the same value
-  relocated_kept : (symbol : Symbol) (got : ℕ)
-      → operands_in LoongArch64 p.addresses a.row after (Some symbol)
+  relocated_kept : (symbol : Symbol) (got : ℕ) → operands_in LoongArch64 p.addresses a.row after (Some symbol)
       ≡ Ok (operands_with LoongArch64 p.addresses a.row symbol after got)
       → slice_get p.symbols after.symbol ≡ Some symbol → (y : Operands)
       → value_of a.row y ≡ value_of a.row (operands_with LoongArch64 p.addresses a.row symbol after got)
@@ -791,7 +786,7 @@ module _ (l : Linked) (loongarch : l.context.architecture ≡ LoongArch64) (i : 
 module _ (l : Linked) (made : AreRewritten l) (loongarch : l.context.architecture ≡ LoongArch64) where
   -- no rewrite has the next relocation go
   takes_none : (i : ℕ) → i < count l → (d : Decision) → decision_at l.decisions i ≡ d → takes_next d ≡ false
-  takes_none i below Kept is = refl
+  takes_none i below Kept _ = refl
   takes_none i below Consumed is = refl
   takes_none i below (Rewritten chosen) is =
       ap (λ k. is_some (relaxation_skipped k)) (choice_there l made.decided loongarch i chosen below is).kind_is
@@ -830,7 +825,7 @@ module _ (l : Linked) (made : AreRewritten l) (loongarch : l.context.architectur
 
   is_in : (b i : ℕ) (below : i < count l) → offset_of l i ≤ b → b < offset_of l i + 4 → (d : Decision)
       → decision_at l.decisions i ≡ d → d ≢ Kept → IsIn rewriting l b
-  is_in b i below from less Kept is changed = absurd (changed refl)
+  is_in b i below from less Kept _ changed = absurd (changed refl)
   is_in b i below from less Consumed is changed = absurd (unconsumed i below is)
   is_in b i below from less (RewrittenWithSymbol chosen subject) is changed =
       absurd (without_label l made.decided loongarch unlabelled i chosen subject below is)
@@ -883,5 +878,5 @@ rewrites_are_groups groups x c called l is k s g n k' s' (by_itself is_alone u y
     let loongarch = called.architecture l is in
     let law = of_the_name groups l (is_linked rewriting x called l is) loongarch g.i g.chosen g.below g.decided g.name g.is_name in
     by_law (law.group is_alone u y after (is_made l loongarch g.i g.below (law_of g.name g.chosen.kind).left law.writable law.left y after new))
-rewrites_are_groups groups x c called l is k s g n k' s' (load of by_law) =
+rewrites_are_groups groups x c called l _ k s g n k' s' (load of by_law) =
     by_law (load_is groups l g.i g.chosen g.name g.below g.is_name g.decided of)

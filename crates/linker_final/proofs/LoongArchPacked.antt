@@ -104,8 +104,7 @@ pub both_make : (old new : List ℕ) (n value new_value following new_after : �
     → AreAlikeBut no_register s t → Made old n value following s → Made new n new_value new_after t
     → EndSo old s new t (HaveMade n value new_value following new_after)
 both_make old new n value new_value following new_after s t alike one other =
-    ends_so old new s t one.end other.end (HaveMade n value new_value following new_after)
-    one.runs other.runs
+    ends_so old new s t one.end other.end (HaveMade n value new_value following new_after) one.runs other.runs
     (record {
       alike = record {
         registers = λ m e. one.keeps m e ∙ alike.registers m refl ∙ sym (other.keeps m e);
@@ -228,8 +227,7 @@ two_set x n v w value high low s some at first second value_is =
 
 pub load_run : (x : Operands) (n value : ℕ) (high low : List ℕ) (s : Processor) → n ≢ 0 → s.pc ≡ x.place
     → Loads n (word_of high) (word_of low) (loaded 8 s.memory (entry_and_addend x)) s
-    → loaded 8 s.memory (entry_and_addend x) ≡ value
-    → Made (pair high low) n value (sum_64 x.place 8) s
+    → loaded 8 s.memory (entry_and_addend x) ≡ value → Made (pair high low) n value (sum_64 x.place 8) s
 load_run x n value high low s some at is holds =
     two_set x n (page_address (word_of high) s) (loaded_of (word_of low) (set n (page_address (word_of high) s) s)) value
     high low s some at is.first is.second (is.value_is ∙ holds)
@@ -378,8 +376,7 @@ module _ (relative : relocation_laws.RelativeAddresses) (section : List ℕ) (o 
 
   pub by_addi : (pcala addi : List ℕ) → Fits32 names.R_LARCH_PCALA_HI20 x
       → IsRelocated names.R_LARCH_PCALA_HI20 x high_there pcala
-      → IsRelocated names.R_LARCH_PCALA_LO12 (following 4 x) low_there addi
-      → (s : Processor) → s.pc ≡ x.place
+      → IsRelocated names.R_LARCH_PCALA_LO12 (following 4 x) low_there addi → (s : Processor) → s.pc ≡ x.place
       → Made (pair pcala addi) (destination section o) (symbol_address x) (sum_64 x.place 8) s
   by_addi pcala addi fits high low s hs =
       let second = word_of_front (drop (o + 4) section) in
@@ -390,8 +387,7 @@ module _ (relative : relocation_laws.RelativeAddresses) (section : List ℕ) (o 
       s hs
 
   -- an `ld.d` of which `LdToAddi` made the `addi.d`
-  pub by_ld : (ld pcala_of ld_of : List ℕ) → IsLd (word_of ld)
-      → IsRewritten kinds.LdToAddi ld low_there
+  pub by_ld : (ld pcala_of ld_of : List ℕ) → IsLd (word_of ld) → IsRewritten kinds.LdToAddi ld low_there
       → LoadsEntry names.R_LARCH_GOT_PC_HI20 names.R_LARCH_GOT_PC_LO12 x high_there ld pcala_of ld_of
       → (s : Processor) → loaded 8 s.memory (entry_and_addend x) ≡ symbol_address x → s.pc ≡ x.place
       → Made (pair pcala_of ld_of) (destination section o) (symbol_address x) (sum_64 x.place 8) s
@@ -484,8 +480,7 @@ module _ (p : Packed) (is : IsPacked p) (machine : p.machine ≡ LoongArch64) (i
     (name : LoongArch64Relocation) (n : ℕ) (stays : StaysAs p i name n) (row : RowInfo)
     (bits : BitRange) (insn : AnyForm) (row_is : loongarch_row name ≡ Some row)
     (size : row.size ≡ BitMasking bits insn) (wide : window_len row ≡ n)
-    (has : has_value row.kind ≡ true) (unlabelled : names_label row.size row.kind ≡ false)
-    (symbol : Symbol)
+    (has : has_value row.kind ≡ true) (unlabelled : names_label row.size row.kind ≡ false) (symbol : Symbol)
     (symbol_is : slice_get p.symbols (relocation_in p.relocations_after i).symbol ≡ Some symbol)
     (y : Operands)
     (taken : operands_in architectures.LoongArch64 p.addresses row (relocation_in p.relocations_after i) (Some symbol) ≡ Ok y)

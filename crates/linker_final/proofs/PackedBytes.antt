@@ -322,8 +322,7 @@ module _ (l : Linked) (p : Packed) (joined : IsRewrittenAndPacked l p) (i : ℕ)
 -- ---- what an alignment needs
 
 -- is needed, and fewer bytes don't do
-needed_least : (power address n : ℕ) → 0 < power → n < needed power address
-    → (address + n) % power ≢ 0
+needed_least : (power address n : ℕ) → 0 < power → n < needed power address → (address + n) % power ≢ 0
 needed_least power address n some fewer none =
     let r = address % power in
     let below = mod-lt address some in

@@ -444,8 +444,7 @@ module _ (l : Linked) (linked : IsLinked l) (ppc64 : l.context.architecture ≡ 
   named name writes =
       record {
         left = applied name;
-        final = λ at offset code alone c pc stands.
-            applied_left 1 4 name writes at offset code alone c pc
+        final = λ at offset code alone c pc stands. applied_left 1 4 name writes at offset code alone c pc
             (one_stands c.new pc (drop at l.final) (instruction_at l.final at) (sym (take-take 4 4 (drop at l.final) (omega arith))) stands);
       }
 
@@ -453,8 +452,7 @@ module _ (l : Linked) (linked : IsLinked l) (ppc64 : l.context.architecture ≡ 
   both_named name writes =
       record {
         left = applied name;
-        final = λ at offset code alone c pc stands.
-            applied_left 2 8 name writes at offset code alone c pc
+        final = λ at offset code alone c pc stands. applied_left 2 8 name writes at offset code alone c pc
             (two_stand c.new pc (drop at l.final) (two_at l.final at) (sym (take-take 4 8 (drop at l.final) (omega arith)))
             (ap (take 4) (drop-drop 4 at l.final) ∙ sym (second_in l.final at)) stands);
       }
@@ -517,8 +515,7 @@ module _ (l : Linked) (linked : IsLinked l) (ppc64 : l.context.architecture ≡ 
       record {
         kind_is = by.kind_is;
         r_type_is = by.r_type_is;
-        group = λ alone.
-            subst (AreSo before) (sym (stays l linked.made i chosen below decided none_is alone))
+        group = λ alone. subst (AreSo before) (sym (stays l linked.made i chosen below decided none_is alone))
             (so before (test_at l (offset_of l i) is_addis_of_toc by.meant) refl);
         final = a.final (offset_of l i) (ap (λ (r : Rela). r.offset) left) (ap (λ (r : Rela). r.r_type) left);
         others = λ b apart. inl (spared l i (Rewritten chosen) decided (ap window_of_rewrite none_is) b);
@@ -571,8 +568,7 @@ module _ (l : Linked) (linked : IsLinked l) (ppc64 : l.context.architecture ≡ 
       record {
         kind_is = by.kind_is;
         r_type_is = by.r_type_is;
-        group = λ alone.
-            so (two_at l.section (offset_of l i)) (two_at l.rewritten (offset_of l i)) refl
+        group = λ alone. so (two_at l.section (offset_of l i)) (two_at l.rewritten (offset_of l i)) refl
             (becomes l linked.made i chosen below decided kind by.kind_is (rewrites_call new) is refl);
         final = final (ap (λ (r : Rela). r.offset) made) (ap (λ (r : Rela). r.r_type) made);
         others = λ b apart. inl (others_at kind by.kind_is (rewrites_call new) is refl b apart);

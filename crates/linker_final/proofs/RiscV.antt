@@ -908,8 +908,7 @@ module _ (groups : Groups) (l : Linked) (rewritten : AreRewritten l) (riscv : l.
         let pattern = by.meant in
         let there : HasWord lui 0 IsLui = (omega (arith, long_there l.section at pattern.0), subst IsLui (word_same l.section at) (pattern.1)) in (
           ap deleted_of of.decided ∙ ap relaxation_deleted by.kind_is,
-          λ x c k s gone low has.
-              groups.high_offsets c x k s lui gone (there.0, tt) there.1 low has,
+          λ x c k s gone low has. groups.high_offsets c x k s lui gone (there.0, tt) there.1 low has,
         )
 
     pub sum_goes : IsRewrittenOf l names.R_RISCV_TPREL_ADD i → IsDeleted l i × SumGoes l i
@@ -1039,7 +1038,7 @@ in_new : (l : Linked) → AreRewritten l → l.context.architecture ≡ RiscV �
     → (relocation_in l.relocations_after i).r_type ≡ 0
     → ((bytes : List ℕ) → bytes ≡ instruction_at l.rewritten (offset_of l i) → IsNop (instruction_at l.section (offset_of l i)) bytes)
     → (new : New l) → BecomesNop l new i
-in_new l rewriting riscv i below gone nop anywhere = nop (instruction_at l.rewritten (offset_of l i)) refl
+in_new l _ riscv i below gone nop anywhere = nop (instruction_at l.rewritten (offset_of l i)) refl
 in_new l rewriting riscv i below gone nop (final linked) =
     λ left alone. nop (instruction_at l.final (offset_of l i))
     (unwritten_without l linked i below (offset_of l i) left
@@ -1177,7 +1176,7 @@ module _ (groups : Groups) (l : Linked) (made : AreRewritten l) (riscv : l.conte
       ((high groups l made riscv i j of alone).left, (low_load groups l made riscv i j of alone).part.left)
   leaves i (fixed j high low) =
       ((lui_address groups l made riscv i j high).part.left, (addi_address groups l made riscv i j low).part.left)
-  leaves i (low_address j high low) = (addi_alone_address groups l made riscv i j low).part.left
+  leaves i (low_address j _ low) = (addi_alone_address groups l made riscv i j low).part.left
   leaves i (descriptor add call of_add of_call) =
       ((lui groups l made riscv i add of_add).part.left, (addi groups l made riscv i call of_call).part.left)
   leaves i (short_descriptor call of) = (addi_alone groups l made riscv i call of).part.left

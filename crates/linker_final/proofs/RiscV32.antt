@@ -218,8 +218,7 @@ module _ (row : RowInfo) (sum : IsSum row) (addresses : Addresses) (r : Rela) (v
   abbrev HasMovedTo : Value → Type 0
   HasMovedTo result = HasMoved r (with_value r value wanted) value wanted result
 
-  with_addend : has_value row.kind ≡ true → (o : Operands) (a : ℤ)
-      → value_of row (record o { addend = a })
+  with_addend : has_value row.kind ≡ true → (o : Operands) (a : ℤ) → value_of row (record o { addend = a })
       ≡ Some (cast_signed w64 (made (base_of row.kind o) (less_of row.kind row.size o) (cast_unsigned w64 a)))
   with_addend valued o a = cc (sum.formula_is o a)
 

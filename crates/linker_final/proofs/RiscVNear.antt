@@ -123,8 +123,7 @@ values_are_distances addresses values gp r value code base small symbol is_low b
 -- ---- high parts
 
 -- from what begins with a number, what an upper immediate adds, and the low part
-with_low : (b s : ℕ) (upper low : ℤ) → IsAddress (pos b +ℤ (upper +ℤ low)) s
-    → moved (moved b upper) low ≡ s
+with_low : (b s : ℕ) (upper low : ℤ) → IsAddress (pos b +ℤ (upper +ℤ low)) s → moved (moved b upper) low ≡ s
 with_low b s upper low is = moved_twice b upper low ∙ ap unsigned_abs is
 
 from_zero : (z : ℤ) → wrapped z ≡ moved 0 z

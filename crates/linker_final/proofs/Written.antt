@@ -29,8 +29,7 @@ window_length start len bytes inside =
     length-take-le len (drop start bytes) (let d = length-drop start bytes in omega (arith, d, inside))
 
 -- n other bytes in a window
-pub replaced : (start len : ℕ) (bytes before : List ℕ) → start + len ≤ length before
-    → length bytes ≡ len
+pub replaced : (start len : ℕ) (bytes before : List ℕ) → start + len ≤ length before → length bytes ≡ len
     → IsReplaced start len bytes before (take start before ++ bytes ++ drop (start + len) before)
 replaced start len bytes before inside long =
     let a = length-append (take start before ++ bytes) (drop (start + len) before) in
@@ -377,8 +376,7 @@ some_is_not None nothing is = nothing
 some_is_not (Some v) there is = absurd (let e : None ≡ Some v = is in cc)
 
 module _ (architecture : Architecture) (addresses : Addresses) (bytes : List ℕ)
-    (symbols : List Symbol) (r : Rela) (row : RowInfo)
-    (is_row : IsRow architecture r.r_type (Some row)) where
+    (symbols : List Symbol) (r : Rela) (row : RowInfo) (is_row : IsRow architecture r.r_type (Some row)) where
   -- it is found by the row
   of_row : (found : Option (RowInfo × ℤ)) → IsRowValue architecture addresses bytes symbols r (Ok found)
       → (value : Option ℤ) × (found ≡ with_row row value)
@@ -581,7 +579,7 @@ pub record IsOfInstruction (n : ℕ) (row : RowInfo) : Type 0 where
 
 pub some_value : (v : Option ℤ) → IsSomeAnd v (λ _. ⊤) → (z : ℤ) × (v ≡ Some z)
 some_value None nothing = absurd nothing
-some_value (Some z) there = (z, refl)
+some_value (Some z) _ = (z, refl)
 
 -- whichever bits it has
 pub of_bits : {n : ℕ} {row : RowInfo} {bits : BitRange} {insn : AnyForm}
@@ -948,8 +946,7 @@ high_len row there is =
     cc ((high_kind row is).valued, or_from (begins_pair row.size row.kind) (ends_pair row.size row.kind) (size.begins_none row.kind) (size.ends_none row.kind), size.len)
 
 -- nothing composes with one
-alone : (bytes : List ℕ) (i j : ℕ) (row other : RowInfo) → IsHigh row
-    → Composes bytes i row j other → ⊥
+alone : (bytes : List ℕ) (i j : ℕ) (row other : RowInfo) → IsHigh row → Composes bytes i row j other → ⊥
 alone bytes i j row other is (of_number same wide continuing) =
     let e : true ≡ false = sym continuing ∙ (high_kind row is).alone other.kind in cc
 alone bytes i j row other is (of_pair same next begins ends) =

@@ -41,8 +41,7 @@ pub record HasWindow (n end : ℕ) (rewrite : Option Rewrite) : Type 0 where
       → (at < o - made.back) ⊎ (o - made.back + made.len ≤ at)
   -- bytes before the instruction stay
   pub low : (before after : List ℕ) (o at : ℕ) → made.back ≤ o → o - made.back + made.len ≤ length before
-      → length after ≡ length before
-      → rewrite_window made after o ≡ made.bytes (rewrite_window made before o)
+      → length after ≡ length before → rewrite_window made after o ≡ made.bytes (rewrite_window made before o)
       → o - made.back ≤ at → at < o - n → get_or after at 0 ≡ get_or before at 0
   pub back : inner.back ≤ n
   pub ends : inner.len ≤ inner.back + end
@@ -329,8 +328,7 @@ has_table l linked x86 i chosen below decided =
 
 pub of_table : (l : Linked) → IsLinked l → l.context.architecture ≡ X86_64 → (i : ℕ)
     → (chosen : Choice Relaxation ℕ) → i < count l
-    → decision_at l.decisions i ≡ Rewritten chosen
-    → (name : X86_64Relocation) → IsNamed (x86_64_name name)
+    → decision_at l.decisions i ≡ Rewritten chosen → (name : X86_64Relocation) → IsNamed (x86_64_name name)
     → IsNameOf x86_64_name (relocation_in l.relocations i).r_type name
     → IsOfTable (x86_64_table name (opcode_at name l.section (relocation_in l.relocations i).offset))
     l.section (relocation_in l.relocations i).offset (relocation_in l.relocations i).addend chosen
@@ -497,8 +495,7 @@ either : (n : ℕ) (name : X86_64Relocation) (held : Operands → ℕ) (b : Bool
 either n name held true t u x y = x
 either n name held false t u x y = y
 
-nothing : (n : ℕ) (name : X86_64Relocation) (held : Operands → ℕ)
-    → TableServes n name held (x86.any_entry [])
+nothing : (n : ℕ) (name : X86_64Relocation) (held : Operands → ℕ) → TableServes n name held (x86.any_entry [])
 nothing n name held = record { serves = tt }
 
 -- ---- tables of one name
@@ -1127,8 +1124,7 @@ module _ (l : Linked) (linked : IsLinked l) (i : ℕ) (chosen : Choice Relaxatio
 pub some_and : {A : Type 0} (P : A → Type 0) (q : Option A) (x : A) → q ≡ Some x → IsSomeAnd q P → P x
 some_and {A} P q x is h = subst (λ z. IsSomeAnd z P) is h
 
-pub moved : (base o o' : ℕ) → o < 2 ^ 64
-    → difference_64 (sum_64 (sum_64 base o) o') o ≡ sum_64 base o'
+pub moved : (base o o' : ℕ) → o < 2 ^ 64 → difference_64 (sum_64 (sum_64 base o) o') o ≡ sum_64 base o'
 moved base o o' small = omega (arith, small)
 
 -- ---- the operands after a rewrite
@@ -1245,8 +1241,7 @@ module _ (name : X86_64Relocation) (back : ℕ) (held : Operands → ℕ)
       does_the_same a symbol is_symbol entry c s there =
           let operands = operands_of_object a symbol is_symbol entry in
           let addend = addend_was l.addresses after a symbol (rela_at l i) law.within.window.made chosen.relocation entry small
-          before_is (ap (is_of_got X86_64) served.r_type_is ∙ a.is_not_of_got)
-          ∙ served.is_from_end in
+          before_is (ap (is_of_got X86_64) served.r_type_is ∙ a.is_not_of_got) ∙ served.is_from_end in
           rw served.kind_is (some_and _ (x86_64_relocation_after kind name) after law.after law.law
           c s object_got there.original l.final (offset_of l i) operands (before l i back 4 kind has name operands c s there addend)
           (object_has l i back 4 kind has law.instructions (shaped_of back 4 law.instructions law.are_of) law.there)
@@ -1255,8 +1250,7 @@ module _ (name : X86_64Relocation) (back : ℕ) (held : Operands → ℕ)
           there.applied (relocated_got a symbol is_symbol entry) there.old there.new)
 
     -- the row of the relocation after
-    row_same : (row : RowInfo) (is_row : IsRow X86_64 chosen.relocation (Some row))
-        → law.row.row ≡ row
+    row_same : (row : RowInfo) (is_row : IsRow X86_64 chosen.relocation (Some row)) → law.row.row ≡ row
     row_same row is_row =
         let same = is_row.is_name.named after law.row.named (sym served.r_type_is) in
         ap (λ q. unwrap_or q row) (sym (is_row.value_is ∙ (ap x86_64_row same ∙ law.row.is)))
@@ -1307,8 +1301,7 @@ module _ (l : Linked) (i back end : ℕ) (kind : RewriteKind) (is : HasRewrite l
         (entry_is_there l is.linked i is.below tls_got_row refl refl relocation (r_after l i back end kind is)
         (subst (λ code. IsRowOf l.context.architecture code tls_got_row) (sym r_type_is) (row_of l is.x86 names.R_X86_64_GOTTPOFF tt tls_got_row refl))
         symbol is_symbol (record { class = ThreadOffset; addend = pos 0 }) refl))
-        low high
-        (record (operands_after (x86_64_rewrite kind) (rela_at l i).offset was) { got_entry = e })
+        low high (record (operands_after (x86_64_rewrite kind) (rela_at l i).offset was) { got_entry = e })
         (rw (is.window.is, moved l.addresses.section (rela_at l i).offset (made.offset (rela_at l i).offset) (offset_small l i back end kind is)))
 
 -- ---- fields that overlap none
@@ -1316,7 +1309,7 @@ module _ (l : Linked) (i back end : ℕ) (kind : RewriteKind) (is : HasRewrite l
 -- an offset from the thread pointer composes with nothing
 continues_none : (kind : RelocationKind) → continues kind values.TpOff ≡ false
 continues_none values.AbsoluteSet = refl
-continues_none kind = refl
+continues_none _ = refl
 
 -- a row of n bytes
 abbrev IsOffsetOf : RowInfo → Type 0
@@ -1325,11 +1318,11 @@ IsOffsetOf row =
 
 module _ (bytes : List ℕ) (row : RowInfo) (of : IsOffsetOf row) (other : RowInfo) where
   not_first : (i j : ℕ) → Composes bytes i row j other → ⊥
-  not_first i j (of_number same wide on) = never (sym (ap (λ kind. continues kind other.kind) (of.0)) ∙ on)
+  not_first i j (of_number same _ on) = never (sym (ap (λ kind. continues kind other.kind) (of.0)) ∙ on)
   not_first i j (of_pair same next begins ends) = never (sym (of.1) ∙ begins)
 
   not_second : (i j : ℕ) → Composes bytes j other i row → ⊥
-  not_second i j (of_number same wide on) =
+  not_second i j (of_number same _ on) =
       never (sym (ap (continues other.kind) (of.0) ∙ continues_none other.kind) ∙ on)
   not_second i j (of_pair same next begins ends) = never (sym (of.2) ∙ ends)
 
@@ -1399,7 +1392,7 @@ long_rows =
 
 rest_is : (row : RowInfo) (o : Operands) (p : ℕ) (before after : List ℕ)
     (is : IsRelocatedBy row o p before after) → p ≤ length before → drop p after ≡ is.rest
-rest_is row o p before after is inside =
+rest_is row o p before _ is inside =
     ap (drop p) is.whole ∙ drop_at (take p before) is.rest p (length-take-le p before inside)
 
 module _ (n : ℕ) (read : ℕ → ℕ) (block_row thread_row : RowInfo)
@@ -1602,8 +1595,7 @@ module _ (l : Linked) (linked : IsLinked l) (x86 : l.context.architecture ≡ X8
         (high : has_window.made.offset (offset_of l i) + 4 ≤ (offset_of l i) + (4 + its_call)) where
       to_local : x86_64_relocation_after kind names.R_X86_64_TLSGD ≡ Some names.R_X86_64_TPOFF32
           → groups.Rewritten back (back + (4 + its_call)) (x86_64_originals kind) names.R_X86_64_TLSGD kind
-          (λ operands. operands)
-          (IsThreadCall (back + 4) (back + (4 + its_call)) count (λ c k s k' o. ⊤))
+          (λ operands. operands) (IsThreadCall (back + 4) (back + (4 + its_call)) count (λ c k s k' o. ⊤))
           → chosen.relocation ≡ r_type_of (x86_64_name names.R_X86_64_TPOFF32)
           → (symbol : Symbol) → slice_get l.symbols (rela_at l i).symbol ≡ Some symbol
           → LawAt l i names.R_X86_64_TLSGD thread_row (around_call (variable count)) chosen.kind symbol

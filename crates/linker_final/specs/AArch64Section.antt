@@ -130,8 +130,7 @@ pub data Begins (x : Section) (l : Linked) (c : Code) (k : Kinds) (s : State)
         (o : Operands) (k' : Kinds) (s' : State)
         → ComesTo l s names.R_AARCH64_TLSLE_MOVW_TPREL_G1 i o → IsDescriptorLeft l i
         → Descriptor c o (thread_offset o) k s k' s' (object l i) (object l (i + 1))
-        (object l (i + 2)) (object l (i + 3))
-        → Begins x l c k s (to_local i of) k' s'
+        (object l (i + 2)) (object l (i + 3)) → Begins x l c k s (to_local i of) k' s'
     at_initial : (i : ℕ)
         (of : IsDescriptorRewritten kinds.AdrpX0 kinds.LdrX0 l.relocations l.decisions i)
         (o : Operands) (k' : Kinds) (s' : State) (offset : ℕ)
@@ -139,8 +138,7 @@ pub data Begins (x : Section) (l : Linked) (c : Code) (k : Kinds) (s : State)
         → at.symbol.thread_entry < 2 ^ 64
         → ((t : State) → Agree (link c) k s t → load_64 t.memory at.symbol.thread_entry ≡ offset)
         → Descriptor c o offset k s k' s' (object l i) (object l (i + 1)) (object l (i + 2))
-        (object l (i + 3))
-        → Begins x l c k s (to_initial i of) k' s'
+        (object l (i + 3)) → Begins x l c k s (to_initial i of) k' s'
     at_high : (i h : ℕ) (of : IsRewrittenOf l names.R_AARCH64_TLSIE_ADR_GOTTPREL_PAGE21 i)
         (o : Operands) → ComesTo l s names.R_AARCH64_TLSLE_MOVW_TPREL_G1 i o
         → UntouchedInstruction l i → c.entry h ≡ o.got_entry → c.offset h ≡ thread_offset o

@@ -159,8 +159,7 @@ abbrev pub IsKept : Left → Linked → Packed → ℕ → Operands → Type 0
 IsKept none l p i y =
     StayTogether p (offset_of l i) 4 × IsUnwritten p (place_of p (offset_of l i)) 4
 IsKept (applied name) l p i y =
-    IsKeptInstruction p i
-    × AreOf name p.addresses p.symbols (relocation_in p.relocations_after i) y
+    IsKeptInstruction p i × AreOf name p.addresses p.symbols (relocation_in p.relocations_after i) y
 IsKept without_law l p i y = ⊥
 
 -- New has what a rewrite left of the instruction of the relocation at an index, wherever that goes.
@@ -273,8 +272,7 @@ abbrev pub CallsTheSame : Type 0
 CallsTheSame =
     (p : Packed) → IsPacked p → p.machine ≡ loongarch64 → (i : ℕ) (here : site) → IsSiteOf p i here
     → let o = site_offset p here in
-    IsCall36At p.section.bytes o
-    → (x : Operands) → AreAddresses x → (original : List ℕ)
+    IsCall36At p.section.bytes o → (x : Operands) → AreAddresses x → (original : List ℕ)
     → Relocated (loongarch_row names.R_LARCH_CALL36) x (drop o p.section.bytes) original
     → (s t : machine.State) → s.pc ≡ x.place → t.pc ≡ site_place p here → AreAlikeBut no_register s t
     → EndSo (pair original (drop 4 original)) s (site_words p here) t
@@ -305,8 +303,7 @@ SumsEnd p o at words P =
 abbrev pub LoadsEnd : Packed → ℕ → ℕ → List ℕ → (Operands → machine.State → machine.State → Type 0) → Type 0
 LoadsEnd p o at words P =
     (x : Operands) → AreAddresses x → (ld pcala_of_entry ld_of_entry : List ℕ)
-    → IsLd (word_of ld)
-    → IsRewritten kinds.LdToAddi ld (take 4 (drop (o + 4) p.section.bytes))
+    → IsLd (word_of ld) → IsRewritten kinds.LdToAddi ld (take 4 (drop (o + 4) p.section.bytes))
     → LoadsEntry names.R_LARCH_GOT_PC_HI20 names.R_LARCH_GOT_PC_LO12 x
     (take 4 (drop o p.section.bytes)) ld pcala_of_entry ld_of_entry
     → (s t : machine.State) → loaded 8 s.memory (entry_and_addend x) ≡ symbol_address x
@@ -340,8 +337,7 @@ pub record StaysAs (p : Packed) (i : ℕ) (name : LoongArch64Relocation) (len : 
 -- what its formula takes
 abbrev pub operands_at : Packed → ℕ → RowInfo → Symbol → Operands
 operands_at p i row symbol =
-    operands_with LoongArch64 p.addresses row symbol
-    (relocation_in p.relocations_after i) 0
+    operands_with LoongArch64 p.addresses row symbol (relocation_in p.relocations_after i) 0
 
 -- A call at which nothing changes goes in the final section where the formula of its relocation
 -- says.
@@ -350,8 +346,7 @@ LongCallsStay =
     IsSomeAnd (loongarch_row names.R_LARCH_CALL36) (λ row.
     (p : Packed) → IsPacked p → p.machine ≡ loongarch64 → (i : ℕ)
     → StaysAs p i names.R_LARCH_CALL36 8 → let o = offset_at p.relocations i in
-    IsCall36At p.section.bytes o
-    → (symbol : Symbol)
+    IsCall36At p.section.bytes o → (symbol : Symbol)
     → slice_get p.symbols (relocation_in p.relocations_after i).symbol ≡ Some symbol
     → let y = operands_at p i row symbol in AreAddresses y
     → (x : Operands) → AreAddresses x → (original : List ℕ)
@@ -420,5 +415,4 @@ SumIsLeftOut =
     → let add = word_at p.section.bytes o in
     IsAddTp add → (c : Code) (k : Kinds) (s : State) → IsBefore p o c.moved s.pc
     → register s (rj_of add) ≡ 0 → s.registers tp < 2 ^ 64
-    → Stands c.old s.pc (drop o p.section.bytes)
-    → IsLeftOut c k s (rd_of add) (s.registers tp)
+    → Stands c.old s.pc (drop o p.section.bytes) → IsLeftOut c k s (rd_of add) (s.registers tp)

@@ -146,8 +146,7 @@ PaddingIsNops =
     → item_at p.items i ≡ Aligned alignment → IsInside p.section (Aligned alignment)
     → let kept = kept_len p.section.deletions (Aligned alignment) in
     let place = packed_offset p.section (offset_of (Aligned alignment)) in
-    IsUnwritten p place kept
-    → take kept (drop place p.final) ≡ nops p.machine kept
+    IsUnwritten p place kept → take kept (drop place p.final) ≡ nops p.machine kept
 
 -- The byte at an offset of the section before goes to a final place. No other does.
 pub record GoesAlone (p : Packed) (place o : ℕ) : Type 0 where
@@ -357,8 +356,7 @@ pub record HoldsIn (p : Packed) (alignment : Alignment) : Type 0 where
   pub inside : LeadsInto p alignment → code_index p alignment ≤ length p.final
   pub there : LeadsInto p alignment
       → sum_64 p.addresses.section (code_index p alignment) ≡ code_at p alignment
-  pub next_there : p.section.base ≤ alignment.offset
-      → code_index p alignment
+  pub next_there : p.section.base ≤ alignment.offset → code_index p alignment
       ≡ packed_offset p.section alignment.offset + padding_len p alignment
 
 -- Each alignment of the run holds in the final section: the code after it is at a multiple of the
@@ -375,8 +373,7 @@ abbrev pub SectionsAreAligned : Type 0
 SectionsAreAligned =
     (p : Packed) → IsPacked p → (run : Run) → IsOfRun p run → (i : ℕ) (alignment : Alignment)
     → i < length run.items → item_at run.items i ≡ Aligned alignment → alignment.max_skip ≡ None
-    → end_of (Aligned alignment) ≡ p.section.base
-    → p.addresses.section % alignment.alignment ≡ 0
+    → end_of (Aligned alignment) ≡ p.section.base → p.addresses.section % alignment.alignment ≡ 0
 
 -- ---- both calls
 
@@ -423,8 +420,7 @@ Goes machine row reads unit target =
     → slice_get p.symbols (relocation_in p.relocations_after i).symbol ≡ Some symbol
     → let y = operands_with (architecture_of machine) p.addresses row symbol
     (relocation_in p.relocations_after i) 0 in
-    AreAddresses y
-    → IsAddress
+    AreAddresses y → IsAddress
     (pos (address_at p (offset_at p.relocations i))
     +ℤ (reads (final_number p i row) *ℤ pos unit)) (target y))
 

@@ -91,8 +91,7 @@ length_of code = if nat_lt code (2 ^ 32) then 4 else 8
 
 abbrev pub ends_so : Numbers → Executed → Option Counted → Bool
 ends_so n e None = false
-ends_so n e (Some c) =
-    is_left 66 (length_of e.code) 0 e n (register c) c.state.pc c.state.memory 0
+ends_so n e (Some c) = is_left 66 (length_of e.code) 0 e n (register c) c.state.pc c.state.memory 0
 
 abbrev pub executed : Numbers → Executed → Option Counted
 executed n e =
@@ -127,8 +126,7 @@ with_vectors c e = record { counted = c; vectors = vectors_before e }
 
 abbrev pub leaves_vectors : Executed → Option Vectored → Bool
 leaves_vectors e None = false
-leaves_vectors e (Some v) =
-    ends_so (numbers e) e (Some v.counted) && are_vectors_left e v.vectors
+leaves_vectors e (Some v) = ends_so (numbers e) e (Some v.counted) && are_vectors_left e v.vectors
 
 -- Each of their instructions leaves what the emulator did.
 abbrev pub VectorsAgree : Type 0
@@ -158,8 +156,7 @@ returns_so code e (Some v) =
     let c = v.counted in
     let start = numbers e at in
     let memory_after = wide_memory (after (numbers e) e) in
-    all_below 66 (λ r. register c r == after (numbers e) e r)
-    && are_vectors_left e v.vectors
+    all_below 66 (λ r. register c r == after (numbers e) e r) && are_vectors_left e v.vectors
     && are_bytes 208 start memory_after c.state.memory
     && c.state.pc == listed_or (sum_64 (numbers e pc) (4 * length code)) e.left pc
 
@@ -179,10 +176,8 @@ DoAgree index code_of f =
 abbrev pub FunctionsAgree : Type 0
 FunctionsAgree =
     (DoAgree 0 code_for ppc64_savegpr0
-    × DoAgree 1 code_for ppc64_restgpr0
-    × DoAgree 2 code_for ppc64_savegpr1
+    × DoAgree 1 code_for ppc64_restgpr0 × DoAgree 2 code_for ppc64_savegpr1
     × DoAgree 3 code_for ppc64_restgpr1)
     × (DoAgree 4 code_for ppc64_savefpr
-    × DoAgree 5 code_for ppc64_restfpr
-    × DoAgree 6 vector_code ppc64_savevr
+    × DoAgree 5 code_for ppc64_restfpr × DoAgree 6 vector_code ppc64_savevr
     × DoAgree 7 vector_code ppc64_restvr)

@@ -131,8 +131,7 @@ law_of names.R_PPC64_GOT16_LO_DS kinds.LdToAddi =
 -- initial-exec
 law_of names.R_PPC64_GOT_TPREL16_HA kinds.AddisToNop = law none groups.OffsetHigh
 law_of names.R_PPC64_GOT_TPREL16_LO_DS kinds.LdToAddisThread =
-    law (applied names.R_PPC64_TPREL16_HA)
-    (groups.OffsetToHighHalf names.R_PPC64_GOT_TPREL16_LO_DS)
+    law (applied names.R_PPC64_TPREL16_HA) (groups.OffsetToHighHalf names.R_PPC64_GOT_TPREL16_LO_DS)
 law_of names.R_PPC64_GOT_TPREL16_DS kinds.LdToAddisThread =
     law (applied names.R_PPC64_TPREL16_HA) (groups.OffsetToHighHalf names.R_PPC64_GOT_TPREL16_DS)
 law_of names.R_PPC64_GOT_TPREL_PCREL34 kinds.PldToPaddiThread =
@@ -150,8 +149,7 @@ law_of names.R_PPC64_GOT_TLSGD16_HA kinds.AddisToNop = law none groups.GeneralHi
 law_of names.R_PPC64_GOT_TLSGD16_HA kinds.KeepAddis =
     law (applied names.R_PPC64_GOT_TPREL16_HA) groups.EntryHigh
 law_of names.R_PPC64_GOT_TLSGD16_LO kinds.AddiToAddisThread =
-    law (applied names.R_PPC64_TPREL16_HA)
-    (groups.ArgumentToHighHalf names.R_PPC64_GOT_TLSGD16_LO)
+    law (applied names.R_PPC64_TPREL16_HA) (groups.ArgumentToHighHalf names.R_PPC64_GOT_TLSGD16_LO)
 law_of names.R_PPC64_GOT_TLSGD16_LO kinds.AddiToLd =
     law (applied names.R_PPC64_GOT_TPREL16_LO_DS)
     (groups.ArgumentToOffset names.R_PPC64_GOT_TLSGD16_LO names.R_PPC64_GOT_TPREL16_LO_DS)
@@ -240,8 +238,7 @@ pub record Begins (x : Section) (l : Linked) (c : Code) (k : Kinds) (s : State) 
   pub new : IsNew l c s g symbol entry
   pub by_law : (law_at l g).IsGroup (words_at l g.i l.section) (words_at l g.i l.rewritten)
       → IsMade (law_at l g).left l g.i symbol entry c (shape_at l g.i).1 s.pc
-      (words_at l g.i l.rewritten)
-      → Group (of_link (link c)) n k s k' s'
+      (words_at l g.i l.rewritten) → Group (of_link (link c)) n k s k' s'
 
 abbrev pub rewriting : Rewriting
 rewriting =

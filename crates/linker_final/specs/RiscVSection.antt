@@ -563,8 +563,7 @@ LongCallsStay =
     → StaysCall p i name → let r = relocation_in p.relocations_after i in
     (symbol : Symbol) → slice_get p.symbols r.symbol ≡ Some symbol
     → let y = operands_with RiscV p.addresses call_row symbol r 0 in
-    AreAddresses y
-    → let o = offset_at p.relocations i in
+    AreAddresses y → let o = offset_at p.relocations i in
     (name : RiscVRelocation) → IsOfCall name
     → CallIsAlike (call_at p o) y 8 2 (even plt_address y) (take 8 (drop (place_of p o) p.final))
     name
