@@ -787,7 +787,7 @@ module _ (l : Linked) (made : AreRewritten l) (loongarch : l.context.architectur
   -- no rewrite has the next relocation go
   takes_none : (i : ℕ) → i < count l → (d : Decision) → decision_at l.decisions i ≡ d → takes_next d ≡ false
   takes_none i below Kept _ = refl
-  takes_none i below Consumed is = refl
+  takes_none i below Consumed _ = refl
   takes_none i below (Rewritten chosen) is =
       ap (λ k. is_some (relaxation_skipped k)) (choice_there l made.decided loongarch i chosen below is).kind_is
   takes_none i below (RewrittenWithSymbol chosen subject) is =

@@ -1039,12 +1039,12 @@ in_new : (l : Linked) → AreRewritten l → l.context.architecture ≡ RiscV �
     → ((bytes : List ℕ) → bytes ≡ instruction_at l.rewritten (offset_of l i) → IsNop (instruction_at l.section (offset_of l i)) bytes)
     → (new : New l) → BecomesNop l new i
 in_new l _ riscv i below gone nop anywhere = nop (instruction_at l.rewritten (offset_of l i)) refl
-in_new l rewriting riscv i below gone nop (final linked) =
+in_new l _ riscv i below gone nop (final linked) =
     λ left alone. nop (instruction_at l.final (offset_of l i))
     (unwritten_without l linked i below (offset_of l i) left
     (λ found there. by_name riscv_name (λ (n : RiscVRelocation). (riscv_relocation n).row) names.R_RISCV_NONE tt found (subst (λ x. IsRow x 0 found) riscv there))
     gone alone)
-in_new l rewriting riscv i below gone nop (packed p joined machine) =
+in_new l _ riscv i below gone nop (packed p joined machine) =
     λ left stay free. nop (final_instruction p (offset_of l i)) (unwritten_there l p joined i (offset_of l i) left stay free)
 
 nops_of : (name : RiscVRelocation) → IsNamed (riscv_name name)

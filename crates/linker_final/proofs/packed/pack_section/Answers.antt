@@ -1,4 +1,4 @@
-use Rattle.linker_final.proofs.Imports.{AreWritten, architecture_of, rules, subst, ◌/◌, ◌<◌}
+use Rattle.linker_final.proofs.Imports.{AreWritten, rules, subst, ◌/◌, ◌<◌}
 use Rattle.linker_final.proofs.PackedBytes.{are_bytes}
 use Rattle.linker_final.proofs.packed.pack_section.Goals as goal
 
