@@ -16,7 +16,7 @@ abbrev pub words : ℕ → ℕ → List (ℕ × ℕ) → List (ℕ × ℕ) → W
 words unit bits rows below =
     record { unit = unit; bits = bits; rows = rows ++ map (λ row. (row.0, 2 ^ 64 - row.1)) below }
 
--- What is read of each word is what came of it.
+-- What the definitions read of each word is what the emulator made of it.
 abbrev pub IsComputed : (ℕ → ℤ) → List Words → Type 0
 IsComputed reads tables =
     list_all (λ (words : Words). list_all (λ row.

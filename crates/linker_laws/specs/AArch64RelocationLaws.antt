@@ -163,7 +163,7 @@ after_moves begin v [] = pos begin +ℤ v
 after_moves begin v (step ∷ steps) =
     λ word. after_moves begin (movk (16 * length steps) v word) steps
 
--- A first move, by its shift, and those of the 16 bits below are of the same value.
+-- The first move, by its shift, and the `movk` of each 16 bits below compute the target.
 abbrev pub Moves : (begin target : Operands → ℕ) → (ℕ → ℕ → ℤ) → (ℕ → AArch64Relocation → Step)
     → (List AArch64Relocation → List Step) → AArch64Relocation → List AArch64Relocation → Type 0
 Moves begin target move first rest name below =

@@ -1,6 +1,6 @@
--- x86-64: rows that the definitions of instructions are compared with, of what no emulator has.
--- GNU as makes these bytes of these instructions, LLVM 22 those with REX2 and with EVEX, and GNU
--- objdump reads those with `data16 data16` so.
+-- x86-64: rows that the definitions of instructions are compared with, of what
+-- `linker_final::emulated` doesn't compare. GNU as makes these bytes of these instructions, LLVM 22
+-- those with REX2 and with EVEX, and GNU objdump reads those with `data16 data16` so.
 use Rattle.std.specs.Prelude.{◌≡◌, ℕ, zero, suc, ◌+◌, ◌*◌, ◌/◌, ◌%◌, ◌==◌, true, false, List, []}
 use Rattle.std.specs.Prelude.{◌∷◌, if◌then◌else◌, map, length, IsSomeAnd, Some, None}
 use Rattle.linker_laws.specs.X86Machine.{MOV, ADD, OR, ADC, SBB, AND, SUB, XOR, TEST, Instruction}
@@ -42,23 +42,37 @@ decoded =
     ∷ (0x66488d3d10000000, lea 64 7 0x10)  -- data16 lea 0x10(%rip), %rdi
     ∷ (0x6690, nop)  -- data16 nop
     ∷ (0x62f4ec10030d10000000, into 18 false ADD 64 (reg 1) near)  -- add 0x10(%rip), %rcx, %r18
+    ∷ (0x62e4ec10030d10000000, into 18 false ADD 64 (reg 17) near)  -- add 0x10(%rip), %r17, %r18
     -- {nf} add 0x10(%rip), %r28, %r18
     ∷ (0x6264ec14032510000000, into 18 true ADD 64 (reg 28) near)
     ∷ (0x62e4fc0c030d10000000, into 17 true ADD 64 (reg 17) near)  -- {nf} add 0x10(%rip), %r17
     ∷ (0x6274fc08030d10000000, into 9 false ADD 64 (reg 9) near)  -- {evex} add 0x10(%rip), %r9
     ∷ (0x6264fc08133d10000000, into 31 false ADC 64 (reg 31) near)  -- {evex} adc 0x10(%rip), %r31
+    ∷ (0x62f46c10130d10000000, into 18 false ADC 32 (reg 1) near)  -- adc 0x10(%rip), %ecx, %r18d
     ∷ (0x6264e4181b3d10000000, into 3 false SBB 64 (reg 31) near)  -- sbb 0x10(%rip), %r31, %rbx
     ∷ (0x62743418230510000000, into 9 false AND 32 (reg 8) near)  -- and 0x10(%rip), %r8d, %r9d
     ∷ (0x62e484140b0510000000, into 31 true OR 64 (reg 16) near)  -- {nf} or 0x10(%rip), %r16, %r31
     ∷ (0x62f4ec18330510000000, into 2 false XOR 64 (reg 0) near)  -- xor 0x10(%rip), %rax, %rdx
+    ∷ (0x62f4ec1081c178563412, into 18 false ADD 64 (reg 1) number)  -- add $0x12345678, %rcx, %r18
     -- {nf} add $0x12345678, %r28, %r18
     ∷ (0x62dcec1481c478563412, into 18 true ADD 64 (reg 28) number)
+    ∷ (0x62fcfc0c81c178563412, into 17 true ADD 64 (reg 17) number)  -- {nf} add $0x12345678, %r17
     ∷ (0x62d4fc0881c178563412, into 9 false ADD 64 (reg 9) number)  -- {evex} add $0x12345678, %r9
+    -- {evex} adc $0x12345678, %r31
+    ∷ (0x62dcfc0881d778563412, into 31 false ADC 64 (reg 31) number)
     ∷ (0x62f46c1081d178563412, into 18 false ADC 32 (reg 1) number)  -- adc $0x12345678, %ecx, %r18d
+    ∷ (0x62dce41881df78563412, into 3 false SBB 64 (reg 31) number)  -- sbb $0x12345678, %r31, %rbx
+    ∷ (0x62d4341881e078563412, into 9 false AND 32 (reg 8) number)  -- and $0x12345678, %r8d, %r9d
+    -- {nf} or $0x12345678, %r16, %r31
+    ∷ (0x62fc841481c878563412, into 31 true OR 64 (reg 16) number)
+    ∷ (0x62fcec1881f178563412, into 2 false XOR 64 (reg 17) number)  -- xor $0x12345678, %r17, %rdx
     ∷ (0x6264e4182b3d10000000, into 3 false SUB 64 (reg 31) near)  -- sub 0x10(%rip), %r31, %rbx
     ∷ (0x62e4fc0c2b0d10000000, into 17 true SUB 64 (reg 17) near)  -- {nf} sub 0x10(%rip), %r17
     ∷ (0x6274341c230510000000, into 9 true AND 32 (reg 8) near)  -- {nf} and 0x10(%rip), %r8d, %r9d
     ∷ (0x62f4ec1c330510000000, into 2 true XOR 64 (reg 0) near)  -- {nf} xor 0x10(%rip), %rax, %rdx
+    ∷ (0x62dce41881ef78563412, into 3 false SUB 64 (reg 31) number)  -- sub $0x12345678, %r31, %rbx
+    -- {nf} and $0x12345678, %r8d, %r9d
+    ∷ (0x62d4341c81e078563412, into 9 true AND 32 (reg 8) number)
     -- {nf} xor $0x12345678, %r16, %rdx
     ∷ (0x62fcec1c81f078563412, into 2 true XOR 64 (reg 16) number)
     ∷ (0x66666664488b042500000000, load_thread 0 0)  -- data16 data16 data16 mov %fs:0, %rax

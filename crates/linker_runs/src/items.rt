@@ -271,6 +271,7 @@ pub fn section_items<R: AsRelocation>(
     ensures made { IfOk result (λ made.
         AreMade (Makes machine section.now base (map R.relocation relocations.now))
         (length relocations.now) (items_in made.items.items) made.makers.items) }
+    ensures form { IfOk result (λ made. All HasKind made.items.items) }
     ensures formed { OnOk result (AreWellFormed (IsFormed machine section.now)
         (map R.relocation relocations.now) (length relocations.now)) }
     ensures cause { IfErr result

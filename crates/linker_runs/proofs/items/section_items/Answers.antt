@@ -1,12 +1,15 @@
 use Rattle.linker_runs.proofs.Imports.{ℕ, List, ◌∙◌, ◌++◌, ◌∷◌, [], map_push, ap, map, arith, subst, inl, MatchOption, Item, Relocation, Makes}
-use Rattle.linker_runs.specs.Relaxing.{item_of, items_in}
+use Rattle.std.specs.Prelude.{All}
+use Rattle.std.proofs.Common.{sym}
+use Rattle.std.proofs.lemmas.List.Elements.{All-append, All-cons, All-nil}
+use Rattle.linker_runs.specs.Relaxing.{item_of, items_in, HasKind}
 use Rattle.linker_runs.proofs.Alignments.{ahead_on}
 use Rattle.linker_runs.proofs.Made.{made_none, made_less, made_more}
 use Rattle.linker_runs.proofs.items.section_items.Goals as goal
 use Rattle.linker_runs.proofs.items.section_items.Goals.{in-Some-item_at+in_ok-push+in_ok-push-2, in_default-item_at}
 
 pub loop-index-init : goal.loop-index-init
-loop-index-init g c = record { made = made_none _ _ _ (ap items_in c.new-items.ensures.items) c.new-makers.ensures.items; next = inl (omega arith) }
+loop-index-init g c = record { made = made_none _ _ _ (ap items_in c.new-items.ensures.items) c.new-makers.ensures.items; form = subst (All HasKind) (sym c.new-items.ensures.items) (All-nil HasKind); next = inl (omega arith) }
 
 pub loop-index-preserved : goal.loop-index-preserved
 loop-index-preserved g c =
@@ -25,6 +28,12 @@ loop-index-preserved g c =
         | in_default-item_at w ↦
             let less = made_less makes i _ _ before (subst (λ made. MatchOption made ((item : Item) → ¬ makes i item) (makes i)) w.in_default-item_at.is c.item_at.ensures) in
             rw (w.items-is, w.makers-is) less
+      ];
+      form = elim c.match-item_at.branch [
+        | in-Some-item_at+in_ok-push+in_ok-push-2 w ↦
+            subst (All HasKind) (sym (ap (λ v. v.items) w.items-is ∙ w.in_ok-push.ensures.items))
+            (All-append HasKind _ _ c.loop-index.invariant.form (All-cons HasKind _ _ w.from_item.ensures.form (All-nil HasKind)))
+        | in_default-item_at w ↦ rw (w.items-is) c.loop-index.invariant.form
       ];
       next = ahead_on c.args.machine rs i c.ahead-next.result c.ahead-next.ensures;
     }

@@ -1,5 +1,6 @@
 use Rattle.linker_runs.proofs.Imports.{map, MayBeAhead, AreMade, Makes}
-use Rattle.linker_runs.specs.Relaxing.{items_in}
+use Rattle.std.specs.Prelude.{All}
+use Rattle.linker_runs.specs.Relaxing.{items_in, HasKind}
 use Rattle.linker_runs.proofs.items.section_items.Given as goal
 
 -- the items so far are those of the relocations so far
@@ -8,5 +9,6 @@ invariant-loop-index g l =
     let rs = map g.R.AsRelocation.relocation l.relocations in
     record {
       made : AreMade (Makes l.machine l.section l.base rs) l.index (items_in l.items.items) l.makers.items;
+      form : All HasKind l.items.items;
       next : MayBeAhead l.machine rs l.index l.next;
     }
