@@ -20,7 +20,9 @@ use linker_utils::rewriting::{
     rewrite_placed_section, rewrite_section, survey, survey_global_pointer,
 };
 use linker_utils::runs::shapes::riscv64::CALL;
-use linker_utils::runs::{ItemNumbers, Machine, Relocation, Run, are_items, deletions, first_faulty};
+use linker_utils::runs::{
+    ItemNumbers, Machine, Relocation, Run, are_items, deletions, first_faulty,
+};
 use linker_utils::runs::{first_malformed, pack_run, packed_run_len, relax, section_items};
 use linker_utils::section::{
     Link, Object, Rela, RelocationError, Section, SectionError, Symbol, memory_len,

@@ -16,11 +16,6 @@ pub fn site(offset: u64, target: u64, shapes: Shapes) -> ItemNumbers {
     ItemNumbers::from_item(Item::Site(Site { offset, len: 8, target, shapes }))
 }
 
-pub fn aligned(
-    offset: u64,
-    nops: u32,
-    alignment: u64,
-    max_skip: Option<u64>,
-) -> ItemNumbers {
+pub fn aligned(offset: u64, nops: u32, alignment: u64, max_skip: Option<u64>) -> ItemNumbers {
     ItemNumbers::from_item(Item::Aligned(Alignment { offset, nops, alignment, max_skip }))
 }

@@ -3,7 +3,9 @@
 
 use super::{aligned, site};
 use linker_utils::runs::Machine::{self, LoongArch64};
-use linker_utils::runs::{self, ItemNumbers, ItemsError, Relocation, SectionItems, are_items, shapes};
+use linker_utils::runs::{
+    self, ItemNumbers, ItemsError, Relocation, SectionItems, are_items, shapes,
+};
 use linker_utils::section::Section;
 
 /// RV64.

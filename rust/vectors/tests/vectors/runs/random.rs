@@ -2,8 +2,8 @@
 //! Random runs compared with a model, which lays a run out byte for byte and tries every choice.
 
 use super::aligned;
-use linker_utils::runs::{are_items, relax};
 use linker_utils::runs::{Alignment, Item, ItemNumbers, Plan, Shape, Shapes, Site};
+use linker_utils::runs::{are_items, relax};
 
 /// Numbers that only look random (Knuth's linear congruential generator MMIX).
 struct Random {

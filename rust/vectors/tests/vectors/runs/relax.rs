@@ -2,9 +2,9 @@
 //! Runs worked by hand.
 
 use super::{aligned, site};
-use linker_utils::runs::{are_items, first_faulty, relax};
 use linker_utils::runs::shapes::{fixed, loongarch64, riscv64};
 use linker_utils::runs::{Fault, Item, ItemFault, ItemNumbers, Shape, Shapes};
+use linker_utils::runs::{are_items, first_faulty, relax};
 
 /// Requires these shapes and kept bytes of a run.
 fn expect_plan(items: &[ItemNumbers], shapes: &[u8], kept: &[u64]) {
@@ -230,8 +230,9 @@ fn cautious(items: &[ItemNumbers]) -> Vec<u8> {
             };
             freed.push(freed[freed.len() - 1] + gone);
         }
-        let output =
-            |offset| offset - freed[items.partition_point(|it| it.offset + u64::from(it.len) <= offset)];
+        let output = |offset| {
+            offset - freed[items.partition_point(|it| it.offset + u64::from(it.len) <= offset)]
+        };
         let out_of_reach = |index: &usize| match items[*index].as_item() {
             Item::Site(site) => {
                 let (from, to) = (site.offset - freed[*index], output(site.target));
@@ -270,7 +271,8 @@ fn long_cascades_between_alignments_are_cautious() {
             match item.as_item() {
                 Item::Aligned(_) => assert_eq!((at + plan.kept[index]) % 4, 0, "{index}"),
                 Item::Site(site) if plan.shapes[index] == 0 => {
-                    let place = items.partition_point(|it| it.offset + u64::from(it.len) <= site.target);
+                    let place =
+                        items.partition_point(|it| it.offset + u64::from(it.len) <= site.target);
                     let to = site.target - plan.freed[place];
                     assert!(to <= at + 101 && at <= to + 102, "{index}");
                 }

@@ -11,7 +11,9 @@ use linker_utils::rewriting::{
 };
 use linker_utils::runs::Machine::{self, LoongArch64};
 use linker_utils::runs::shapes::fixed;
-use linker_utils::runs::{Fault, Item, ItemFault, ItemNumbers, Relocation, RewrittenItemsError, Run, Site};
+use linker_utils::runs::{
+    Fault, Item, ItemFault, ItemNumbers, Relocation, RewrittenItemsError, Run, Site,
+};
 use linker_utils::runs::{first_faulty, pack_run, packed_run_len, relax, rewritten_items_into};
 use linker_utils::section::{Link, Object, Section, Symbol};
 use linker_utils::section::{memory_len, relocate_section, relocations};
