@@ -32,7 +32,7 @@ loop-index-preserved g c =
       form = elim c.match-item_at.branch [
         | in-Some-item_at+in_ok-push+in_ok-push-2 w ↦
             subst (All HasKind) (sym (ap (λ v. v.items) w.items-is ∙ w.in_ok-push.ensures.items))
-            (All-append HasKind _ _ c.loop-index.invariant.form (All-cons HasKind _ _ w.from_item.ensures.form (All-nil HasKind)))
+            (All-append HasKind _ (w.from_item.result ∷ []) c.loop-index.invariant.form (All-cons HasKind w.from_item.result [] w.from_item.ensures.form (All-nil HasKind)))
         | in_default-item_at w ↦ rw (w.items-is) c.loop-index.invariant.form
       ];
       next = ahead_on c.args.machine rs i c.ahead-next.result c.ahead-next.ensures;
