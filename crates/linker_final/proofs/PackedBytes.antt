@@ -5,7 +5,7 @@ use Rattle.linker_base.specs.Deletions.{IsValid, is_kept, rank}
 use Rattle.linker_base.specs.Listed.{AreValidDeltas}
 use Rattle.linker_base.specs.declared.relaxation.RelaxDelta.{RelaxDelta}
 use Rattle.linker_elf.specs.declared.elf.RelocationKind.TheVariants.{None as NoValue}
-use Rattle.linker_final.proofs.Written.{IsOfInstruction, applied as applied_there, applied_to_window as applied, later_as_many, later_bytes, later_keep, later_length, rela, rela_at, same_windows, some_value, window_length, windows, with_operands}
+use Rattle.linker_final.proofs.Written.{none_written, IsOfInstruction, applied as applied_there, applied_to_window as applied, later_as_many, later_bytes, later_keep, later_length, rela, rela_at, same_windows, some_value, window_length, windows, with_operands}
 use Rattle.linker_final.specs.declared.packed.RunSection.{RunSection}
 use Rattle.linker_runs.proofs.First.{first_bytes}
 use Rattle.linker_runs.proofs.Layouts.{freed_fits}
@@ -39,7 +39,7 @@ packed_byte p is o stays = is.run.kept o stays.inside stays.kept stays.own
 
 pub kept_bytes : KeptBytesStay
 kept_bytes p is o stays free =
-    is.written.others (place_of p o) (free (place_of p o) (omega arith) (omega arith))
+    none_written is.written (place_of p o) (free (place_of p o) (omega arith) (omega arith))
     ∙ packed_byte p is o stays
 
 -- ---- parts of the section
@@ -49,7 +49,7 @@ pub packed_there : (p : Packed) → IsPacked p → (start len : ℕ)
     → IsUnwritten p start len → take len (drop start p.final) ≡ take len (drop start p.packed)
 packed_there p is start len free =
     same_windows start len p.final p.packed (sym is.written.same_length)
-    (λ at from less. is.written.others at (free at from less))
+    (λ at from less. none_written is.written at (free at from less))
 
 -- an item's bytes that stay lie in the packed section
 pub item_inside : (p : Packed) → IsPacked p → (item : Item) → IsInside p.section item

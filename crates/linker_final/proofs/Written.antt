@@ -4,7 +4,8 @@ use Rattle.linker_base.specs.Rewrite.{rewritten}
 use Rattle.linker_elf.specs.declared.elf.AnyForm.TheVariants.{RiscV}
 use Rattle.linker_elf.specs.declared.elf.RelocationKind.TheVariants.{None as NoValue}
 use Rattle.linker_section.proofs.Windows.{IsReplaced, in_window, outside_window}
-use Rattle.linker_section.specs.Sections.{HasValue}
+use Rattle.linker_section.specs.Sections.{HasValue, IsInNoField}
+use Rattle.std.specs.Prelude.{slice_index}
 use Rattle.linker_section.specs.declared.needed.Entry.{Entry}
 use Rattle.linker_elf.specs.declared.elf.RelocationKind.TheVariants as kinds
 
@@ -852,6 +853,19 @@ module _ (l : Linked) (rewriting : AreRewritten l) (i : ℕ) (chosen : Choice Re
 
 -- ---- bytes that no relocation writes
 
+-- a byte that no field has stays, since no value is written to it
+pub none_written : {architecture : Architecture} {addresses : Addresses} {bytes : List ℕ} {symbols : List Symbol} {before after : List ℕ}
+    → AreWritten architecture addresses bytes symbols before after
+    → (p : ℕ) → IsInNoField architecture bytes before (length bytes / 24) p → slice_index after p ≡ slice_index before p
+none_written {architecture} {addresses} {bytes} {symbols} {before} {after} written p free =
+    written.left p (λ i row v below is.
+      let has : HasValue architecture addresses bytes symbols (relocation_in bytes i) row v =
+          subst (λ f. IsRowValue architecture addresses bytes symbols (relocation_in bytes i) (Ok f)) is (written.can.are_found i below) in
+      elim (cases_lt 0 (field_len row (drop (offset_at bytes i) before))) [
+        | inl some ↦ free i row below (record { is_row = has.is_row; some = some })
+        | inr none ↦ elim (cases_lt p (offset_at bytes i)) [ inl ahead ↦ inl ahead | inr following ↦ inr (omega (arith, none, following)) ]
+      ])
+
 -- The field of a relocation is apart from an instruction.
 abbrev pub IsApart : Linked → ℕ → ℕ → Type 0
 IsApart l i p =
@@ -863,7 +877,7 @@ pub unwritten_but : (l : Linked) → IsLinked l → (i p : ℕ) → UntouchedByt
     → IsWrittenByNoOther l i p → instruction_at l.final p ≡ instruction_at l.rewritten p
 unwritten_but l linked i p left apart alone =
     cc (
-      same_windows p 4 l.final l.last (sym linked.written.same_length) (λ at from less. linked.written.others at (λ j row lj field. elim (cases_eq j i) [ inl same ↦ rw same (elim (apart row (rw (← same) field)) [ inl ahead ↦ inl (omega (arith, ahead, less)) | inr following ↦ inr (omega (arith, following, from)) ]) | inr isnt ↦ alone j at (rw (← (last_as_many l linked)) lj) isnt from less row field ])),
+      same_windows p 4 l.final l.last (sym linked.written.same_length) (λ at from less. none_written linked.written at (λ j row lj field. elim (cases_eq j i) [ inl same ↦ rw same (elim (apart row (rw (← same) field)) [ inl ahead ↦ inl (omega (arith, ahead, less)) | inr following ↦ inr (omega (arith, following, from)) ]) | inr isnt ↦ alone j at (rw (← (last_as_many l linked)) lj) isnt from less row field ])),
       bytes_left l linked i p 4 left,
     )
 
@@ -1053,7 +1067,7 @@ module _ (architecture : Architecture) (addresses : Addresses) (bytes : List ℕ
 
 pub bytes : OtherBytes
 bytes l linked at free none =
-    linked.written.others at
+    none_written linked.written at
     (λ i row below is_field. (free i (subst (λ n. i < n / 24) (last_as_many l linked) below)).1 row is_field)
     ∙ (phases_spare l.later l.relocations_after l.rewritten l.relocations_last l.last linked.later at none
     ∙ linked.others at (λ i below. (free i below).0))

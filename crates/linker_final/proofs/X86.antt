@@ -7,7 +7,7 @@ use Rattle.linker_elf.specs.declared.elf.RelocationKind.TheVariants.{None as NoV
 use Rattle.linker_elf.specs.declared.elf.Sign.TheVariants.{Signed, Unsigned}
 use Rattle.linker_elf.specs.declared.x86_64.relocations.X86_64Relocation.{X86_64Relocation}
 use Rattle.linker_final.proofs.SectionRuns.{AreIn, IsIn, each_or, final_in, is_linked, without_label}
-use Rattle.linker_final.proofs.Written.{AreLowest, IsPlain, IsRowOf, UntouchedField, back_inside, back_outside, back_rewritten, by_name, byte_left, eight_bytes, entry_is_there, four_bytes, last_as_many, last_length, last_within, left, len_is, no_field, outside_of, plain, put_back_is, rela, rela_at, relocation_is, relocation_left, row_in, same_windows, small_byte, spared}
+use Rattle.linker_final.proofs.Written.{none_written, AreLowest, IsPlain, IsRowOf, UntouchedField, back_inside, back_outside, back_rewritten, by_name, byte_left, eight_bytes, entry_is_there, four_bytes, last_as_many, last_length, last_within, left, len_is, no_field, outside_of, plain, put_back_is, rela, rela_at, relocation_is, relocation_left, row_in, same_windows, small_byte, spared}
 use Rattle.linker_final.specs.X86Section.{window_of}
 use Rattle.linker_laws.proofs.X86Fields.{block_row, long_block_row, long_thread_row, thread_row, tls_got_row, tls_module_row}
 use Rattle.linker_laws.specs.X86Groups.{Code, Groups, Rewritten as IsRewrittenGroup, Stands, seen}
@@ -978,7 +978,7 @@ module _ (l : Linked) (i back end : ℕ) (kind : RewriteKind) (is : HasRewrite l
                 let below : at < (offset_of l i) + end = omega (arith, less, is.room.0) in
                 back_inside start len l.rewritten l.final inside_final mid at from less
                 ∙ (sym (byte_left l linked i start len is.alone.left at from less)
-                ∙ sym (linked.written.others at (in_no_field at from below (own from below))))
+                ∙ sym (none_written linked.written at (in_no_field at from below (own from below))))
             | inr following ↦ back_outside start len l.rewritten l.final inside_final mid at (inr following)
           ]
         ]

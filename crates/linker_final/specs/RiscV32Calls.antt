@@ -8,7 +8,7 @@ use Rattle.linker_base.specs.Bits.{field}
 use Rattle.linker_elf.specs.declared.riscv64.relocations.RiscVRelocation.TheVariants as names
 use Rattle.linker_final.specs.Imports.{riscv_row, riscv_form, Operands, CjType, RiscVRelocation}
 use Rattle.linker_final.specs.Imports.{AreAddresses, even, plt_address, symbol_address, register}
-use Rattle.linker_final.specs.Imports.{rd_of}
+use Rattle.linker_riscv64.specs.RiscVFields.{rd_of}
 use Rattle.linker_final.specs.RiscV32.{IsSame32}
 use Rattle.linker_laws.specs.Machine.{Relocated}
 use Rattle.linker_laws.specs.RiscVMachine.{Hart, Instruction, adds, executed, fetched, jal}
