@@ -11,6 +11,7 @@
 #![allow(non_camel_case_types, reason = "a relocation has the name that its psABI gives it")]
 #![allow(unused_imports, unused_variables, reason = "some are there for contracts alone")]
 #![allow(clippy::complexity, clippy::style, reason = "the text is that of the proved source")]
+#![allow(clippy::suspicious, reason = "the text is that of the proved source")]
 #![allow(rustdoc::redundant_explicit_links, reason = "tools/generate links by whole paths")]
 #![cfg_attr(
     not(all(
