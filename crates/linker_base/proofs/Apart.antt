@@ -1,19 +1,7 @@
 -- Deletions in any order, tested part by part: each part against all that comes after it.
-use Rattle.std.proofs.Common.{◌≡◌, ℕ, zero, suc, ◌+◌, ◌-◌, ◌<◌, ◌≤◌, List, [], ◌∷◌, ◌++◌, length, map, get_or, take, drop, true, false, Bool, refl, sym, ap, ◌∙◌, inl, inr, arith}
-use Rattle.std.specs.Bool.{MatchBool, then_some}
-use Rattle.std.specs.Prelude.{◌↔◌, IsTrue, MatchOption, All, IsPermutation}
-use Rattle.std.specs.List.{AllWithin, HoldsAt}
-use Rattle.std.specs.List.Sorted.{IsPartitionPoint, IsPartitionedBy}
-use Rattle.std.specs.Global.{Vec}
-use Rattle.std.proofs.lemmas.Bool.{cases_eq, cases_order, false≢true, false_from_ne_true}
-use Rattle.std.proofs.lemmas.Bool.Decides.{nat_tests}
-use Rattle.std.proofs.lemmas.List.{take-append-drop, get_or_default, get_or-map, length-map, drop_more, take_more, append-nil}
+use Rattle.linker_base.proofs.Imports.{All, All-append, All-cons, All-from_all_within, All-head, All-map, All-permutation, All-tail, AllWithin, AreApart, AreDisjoint, AreDisjointBeside, AreFirstDisjoint, Bool, DoNotOverlap, EndFits, HoldsAt, IsBefore, IsPartitionPoint, IsPartitionedBy, IsPermutation, IsTrue, IsValid, List, MatchBool, MatchOption, Vec, [], ap, append-nil, arith, cases_eq, cases_order, drop, drop_more, false, false_from_ne_true, false≢true, get_or, get_or-map, get_or_default, inl, inr, length, length-map, map, nat_tests, pairs_of, refl, suc, sym, take, take-append-drop, take_more, true, zero, ℕ, ◌++◌, ◌+◌, ◌-◌, ◌<◌, ◌↔◌, ◌∙◌, ◌∷◌, ◌≡◌, ◌≤◌}
+use Rattle.std.specs.Bool.{then_some}
 use Rattle.std.proofs.lemmas.List.Concat.{flat_map-append}
-use Rattle.std.proofs.lemmas.List.Elements.{All-append, All-head, All-tail, All-cons, All-map, All-from_all_within}
-use Rattle.std.proofs.lemmas.List.Sorted.{All-permutation}
-use Rattle.linker_base.specs.Deletions.{IsBefore, DoNotOverlap, EndFits, AreDisjoint, IsValid}
-use Rattle.linker_base.specs.Deltas.{pairs_of}
-use Rattle.linker_base.specs.Inner.Listed.{AreApart, AreDisjointBeside, AreFirstDisjoint}
 use Rattle.linker_base.proofs.Listed.{All-front, All-back}
 use Rattle.linker_base.proofs.Merging.{disjoint_joined, disjoint_back, disjoint_across}
 use Rattle.linker_base.proofs.Unions.{is_before, disjoint_left, disjoint_from_valid}

@@ -1,9 +1,5 @@
 -- One more deletion of a run.
-use Rattle.std.proofs.Common.{ℕ, ◌+◌, ◌≤◌, List, [], ◌∷◌, ◌++◌, length, refl, arith, max}
-use Rattle.std.proofs.lemmas.List.{length_push, get_or_push}
-use Rattle.std.proofs.lemmas.List.Elements.{All-push}
-use Rattle.linker_base.specs.Deletions.{EndFits}
-use Rattle.linker_base.specs.Inner.Listed.{IsRun}
+use Rattle.linker_base.proofs.Imports.{All-push, EndFits, IsRun, List, [], arith, get_or_push, length, length_push, max, refl, ℕ, ◌++◌, ◌+◌, ◌∷◌, ◌≤◌}
 use Rattle.linker_base.proofs.Together.{below_push}
 
 pub IsRun-push : (from next : ℕ) (ds : List (ℕ × ℕ)) (d : ℕ × ℕ) → IsRun from next ds → next ≤ d.0 → EndFits d → IsRun from (d.0 + max d.1 1) (ds ++ d ∷ [])

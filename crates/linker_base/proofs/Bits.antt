@@ -1,14 +1,6 @@
 -- Masks, fields and two's complement in 64 bits.
-use Rattle.std.proofs.Common.{◌≡◌, ℕ, ◌+◌, ◌-◌, ◌*◌, ◌/◌, ◌%◌, ◌^◌, ◌<◌, ◌≤◌, ◌⊎◌, inl, inr, max, suc, pos, negsuc, ◌-ℤ◌, refl, sym, ◌∙◌, ap, arith, bit_and, bit_or}
+use Rattle.linker_base.proofs.Imports.{and_mask, and_pow, ap, arith, bit_and, bit_at, bit_at-lt, bit_at_above, bit_at_cat_high, bit_at_cat_low, bit_at_mask_below, bit_at_mask_inside, bit_at_ones, bit_at_or, bit_or, cases_order, cast_signed, cast_unsigned, high_ones, inl, inr, ints, max, mod-eq_of_lt, mod_below, mul-le, negsuc, one_shl, ones_shl, ones_shr, or_lt, pos, pow-add, pow_below, pow_pos, refl, same_from_bits_below, shr_high, shr_split, signed, suc, sym, w64, ℕ, ◌%◌, ◌*◌, ◌+◌, ◌-ℤ◌, ◌-◌, ◌/◌, ◌<◌, ◌^◌, ◌∙◌, ◌≡◌, ◌≤◌, ◌⊎◌}
 use Rattle.std.proofs.Math.Facts.{to_z-neg}
-use Rattle.std.proofs.Math.Nat.{mod-eq_of_lt}
-use Rattle.std.proofs.Math.Pow.{high_ones}
-use Rattle.std.proofs.lemmas.Int.{ints}
-use Rattle.std.proofs.lemmas.Bool.{cases_order}
-use Rattle.std.proofs.lemmas.Nat.{and_mask, one_shl, or_lt, pow_pos, pow-add, shr_split, mod_below, mul-le, pow_below, shr_high}
-use Rattle.std.proofs.lemmas.Nat.Bits.{ones_shl, ones_shr, bit_at_or, bit_at_ones, bit_at_mask_below, bit_at_mask_inside, bit_at_cat_low, bit_at_cat_high, bit_at-lt, bit_at_above, same_from_bits_below, and_pow}
-use Rattle.std.specs.Int.{bit_at, cast_signed, cast_unsigned, w64}
-use Rattle.linker_base.specs.Bits.{signed}
 use Rattle.linker_base.proofs.Fields.{signed_cases}
 
 -- the code's mask of the lowest n bits, made from the top

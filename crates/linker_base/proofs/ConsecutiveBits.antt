@@ -1,11 +1,5 @@
 -- Consecutive places.
-use Rattle.std.proofs.Common.{◌≡◌, ℕ, zero, suc, ◌+◌, ◌*◌, ◌/◌, ◌%◌, ◌^◌, ◌<◌, true, refl, sym, ◌∙◌, ap, subst, arith}
-use Rattle.std.specs.Int.{bit_at}
-use Rattle.std.specs.List.{All}
-use Rattle.std.proofs.lemmas.List.Elements.{All-nil, All-cons}
-use Rattle.std.proofs.lemmas.List.Sums.{sum_by-cons}
-use Rattle.std.proofs.lemmas.Nat.{pow-add, mod-pow-add, shr-shr}
-use Rattle.linker_base.specs.Form.{holds_value_bit, Mark, replaced, ored, cleared, ImmediateBit, consecutive_bits, place_sum, worth}
+use Rattle.linker_base.proofs.Imports.{All, All-cons, All-nil, ImmediateBit, Mark, ap, arith, bit_at, cleared, consecutive_bits, holds_value_bit, mod-pow-add, ored, place_sum, pow-add, refl, replaced, shr-shr, subst, suc, sum_by-cons, sym, true, worth, zero, ℕ, ◌%◌, ◌*◌, ◌+◌, ◌/◌, ◌<◌, ◌^◌, ◌∙◌, ◌≡◌}
 
 moved : (P : ImmediateBit → Type 0) (k j w i r : ℕ) (m : Mark) → k ≡ j → w ≡ i → P (record { value = k; insn_bit = w; added = r; mark = m }) → P (record { value = j; insn_bit = i; added = r; mark = m })
 moved P k j w i r m e f h =

@@ -1,14 +1,5 @@
 -- The bytes of a section that stay are copied run by run. The section begins at a base.
-use Rattle.std.proofs.Common.{◌≡◌, ℕ, zero, suc, ◌+◌, ◌-◌, ◌<◌, ◌≤◌, ◌^◌, true, false, not, ltb, leb, List, ◌++◌, length, get_or, take, drop, min, max, map, refl, sym, subst, ◌∙◌, ap, arith, inl, inr, add-zero, add-suc}
-use Rattle.std.specs.List.{list_any}
-use Rattle.std.proofs.lemmas.Bool.{false_from_ne_true, cases_lt, both_ways, and_from, le-leb, lt-ltb}
-use Rattle.std.proofs.lemmas.List.Folds.{list_any_at}
-use Rattle.std.proofs.lemmas.List.{length-take, length-append, length-drop, get_or-take, get_or-drop, get_or_append_left, get_or-append_right, get_or_default, get_or-map, length-map, take_all}
-use Rattle.linker_base.specs.Deletions.{IsValid, covers, is_kept, rank}
-use Rattle.linker_base.specs.Deltas.{deletion_of}
-use Rattle.linker_base.specs.Listed.{AreValidDeltas}
-use Rattle.linker_base.specs.declared.relaxation.RelaxDelta.{RelaxDelta}
-use Rattle.linker_base.specs.Inner.Packing.{AreBegun, no_delta, IsRunStart, IsFirstRun, IsFilledTo, IsFilled, IsCopied}
+use Rattle.linker_base.proofs.Imports.{AreBegun, AreValidDeltas, IsCopied, IsFilled, IsFilledTo, IsFirstRun, IsRunStart, IsValid, List, RelaxDelta, add-suc, add-zero, and_from, ap, arith, both_ways, cases_lt, covers, deletion_of, drop, false, false_from_ne_true, get_or, get_or-append_right, get_or-drop, get_or-map, get_or-take, get_or_append_left, get_or_default, inl, inr, is_kept, le-leb, leb, length, length-append, length-drop, length-map, length-take, list_any, list_any_at, lt-ltb, ltb, map, max, min, no_delta, not, rank, refl, subst, suc, sym, take, take_all, true, zero, ℕ, ◌++◌, ◌+◌, ◌-◌, ◌<◌, ◌^◌, ◌∙◌, ◌≡◌, ◌≤◌}
 use Rattle.linker_base.proofs.OutputOffsets.{none_covers}
 use Rattle.linker_base.proofs.Rank.{rank_kept, rank_gone, rank-mono, rank_all_kept}
 

@@ -1,12 +1,5 @@
 -- The bits of remainders, quotients and fields, and numbers read in two's complement.
-use Rattle.std.proofs.Common.{◌≡◌, ℕ, suc, ◌+◌, ◌-◌, ◌*◌, ◌/◌, ◌%◌, ◌^◌, ◌<◌, ◌≤◌, ◌&&◌, ltb, leb, refl, sym, ◌∙◌, ap, arith, inl, inr, cond, pos, negsuc, ◌-ℤ◌, ℤ, ◌+ℤ◌, ◌⊎◌}
-use Rattle.std.specs.Int.{bit_at, int_rem_euclid, w64, cast_unsigned}
-use Rattle.std.proofs.Math.Pow.{mod-mod-pow}
-use Rattle.std.proofs.lemmas.Bool.{cond-true, cond-false, cond_both, cases_lt, lt-ltb, le-ltb, le-leb, lt-leb}
-use Rattle.std.proofs.lemmas.Int.{ints, int_rem_euclid_is}
-use Rattle.std.proofs.lemmas.Nat.{pow_pos, pow-add, mod_low, shr-shr, shr_split, div-add-mod', mod_below, mod-pow-add, shl-shr}
-use Rattle.std.proofs.lemmas.Nat.Bits.{same_from_bits, bit_at-zero, bit_at_cat_low, bit_at_cat_high, bit_at_above}
-use Rattle.linker_base.specs.Bits.{field, signed}
+use Rattle.linker_base.proofs.Imports.{ap, arith, bit_at, bit_at-zero, bit_at_above, bit_at_cat_high, bit_at_cat_low, cases_lt, cast_unsigned, cond, cond-false, cond-true, cond_both, div-add-mod', field, inl, inr, int_rem_euclid, int_rem_euclid_is, ints, le-leb, le-ltb, leb, lt-leb, lt-ltb, ltb, mod-mod-pow, mod-pow-add, mod_below, mod_low, negsuc, pos, pow-add, pow_pos, refl, same_from_bits, shl-shr, shr-shr, shr_split, signed, suc, sym, w64, ℕ, ℤ, ◌%◌, ◌&&◌, ◌*◌, ◌+ℤ◌, ◌+◌, ◌-ℤ◌, ◌-◌, ◌/◌, ◌<◌, ◌^◌, ◌∙◌, ◌≡◌, ◌≤◌, ◌⊎◌}
 
 pub bit_at_mod : (x n j : ℕ) → j < n → bit_at (x % 2 ^ n) j ≡ bit_at x j
 bit_at_mod x n j h = sym (bit_at_cat_low (x / 2 ^ n) n (x % 2 ^ n) j h) ∙ ap (λ y. bit_at y j) (div-add-mod' x (2 ^ n))

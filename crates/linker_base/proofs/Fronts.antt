@@ -1,17 +1,5 @@
 -- A merge of two ascending lists, from the front.
-use Rattle.std.proofs.Common.{◌≡◌, ℕ, ◌+◌, ◌-◌, ◌<◌, ◌≤◌, ◌∙◌, List, [], ◌∷◌, ◌++◌, length, map, get_or, set, take, drop, true, false, Bool, refl, ap, arith}
-use Rattle.std.specs.Prelude.{◌^◌, not, All, IsPermutation}
-use Rattle.std.specs.List.Sorted.{IsNonDecreasingBy}
-use Rattle.std.proofs.lemmas.List.{append_assoc, take-append-drop, take-set-le, take_all, take_more, get_or-set_same, map-append, length-set}
-use Rattle.std.proofs.lemmas.List.Elements.{All-push}
-use Rattle.std.proofs.lemmas.List.Sorted.{IsNonDecreasingBy-push, sum_by-IsPermutation, IsPermutation-trans, IsPermutation-append_left, IsPermutation-append_right, IsPermutation-append_comm}
-use Rattle.std.proofs.lemmas.List.Sums.{sum_by_more, sum_by-append}
-use mir.Val.{bool_byte}
-use Rattle.linker_base.specs.declared.relaxation.RelaxDelta.{RelaxDelta}
-use Rattle.linker_base.specs.Deletions.{AreDisjoint, IsValid, IsSortedUnion, bytes_of}
-use Rattle.linker_base.specs.Deltas.{deletion_of, RecordsDeletions}
-use Rattle.linker_base.specs.Listed.{AreValidDeltas, AreValidTogether}
-use Rattle.linker_base.specs.Inner.Listed.{IsLower}
+use Rattle.linker_base.proofs.Imports.{All, All-push, AreDisjoint, AreValidDeltas, AreValidTogether, Bool, IsLower, IsNonDecreasingBy, IsNonDecreasingBy-push, IsPermutation, IsPermutation-append_comm, IsPermutation-append_left, IsPermutation-append_right, IsPermutation-trans, IsSortedUnion, IsValid, List, RecordsDeletions, RelaxDelta, [], ap, append_assoc, arith, bool_byte, bytes_of, deletion_of, drop, false, get_or, get_or-set_same, length, length-set, map, map-append, not, refl, set, sum_by-IsPermutation, sum_by-append, sum_by_more, take, take-append-drop, take-set-le, take_all, take_more, true, ℕ, ◌++◌, ◌+◌, ◌-◌, ◌<◌, ◌^◌, ◌∙◌, ◌∷◌, ◌≡◌, ◌≤◌}
 use Rattle.linker_base.proofs.Listed.{RecordsDeletions-push}
 use Rattle.linker_base.proofs.OutputOffsets.{disjoint_fit}
 use Rattle.linker_base.proofs.Unions.{disjoint_permutation, union_from_sort}

@@ -1,10 +1,6 @@
 -- Steps of a search: what one test says of all other elements, and how many probes they take.
-use Rattle.std.proofs.Common.{pow_mono, pow-add, ◌≡◌, ℕ, ◌+◌, ◌-◌, ◌*◌, ◌<◌, ◌≤◌, true, sym, ◌∙◌, arith, ◌^◌}
-use Rattle.std.proofs.lemmas.Bool.{false_from_ne_true, false≢true}
+use Rattle.linker_base.proofs.Imports.{Deltas, Heads, HeadsAgree, IsNarrowed, IsPartitioned, Subject, Test, arith, false_from_ne_true, false≢true, passing, pow-add, pow_mono, size_of, sym, true, ℕ, ◌*◌, ◌+◌, ◌-◌, ◌<◌, ◌^◌, ◌∙◌, ◌≡◌, ◌≤◌}
 use Rattle.linker_base.specs.declared.relaxation.search.Level.{Level}
-use Rattle.linker_base.specs.declared.relaxation.search.Level.TheVariants.{Heads, Deltas}
-use Rattle.linker_base.specs.declared.relaxation.search.Test.{Test}
-use Rattle.linker_base.specs.Inner.Search.{Subject, size_of, passing, IsPartitioned, IsNarrowed, HeadsAgree}
 
 -- what is more than a power has more digits, and some are left without the power
 pub digits_left : (few digits n : ℕ) → 2 ^ few < n → n ≤ 2 ^ digits

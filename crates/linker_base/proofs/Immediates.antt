@@ -1,15 +1,6 @@
 -- The laws of forms: what the machine reads after a write, and that writing back what was read
 -- changes nothing.
-use Rattle.std.proofs.Common.{pow_mono, ◌≡◌, ℕ, ◌+◌, ◌-◌, ◌*◌, ◌/◌, ◌%◌, ◌^◌, ◌<◌, ◌≤◌, Bool, true, false, not, ◌&&◌, ltb, leb, eqb, List, [], ◌∷◌, refl, sym, ◌∙◌, ap, subst, arith, get_or, inl, inr, cond, pos}
-use Rattle.std.specs.Int.{bit_at, int_rem_euclid, w64, cast_unsigned}
-use Rattle.std.specs.List.{All, list_all}
-use Rattle.std.proofs.lemmas.Bool.{le-leb, agree_below, agree_below_at, and_parts, or_parts, or_cases, eqb-true, ltb-true, leb-true, cases_lt, cases_Bool, le-ltb, or_from, and_right, and_from, ne_eqb, eqb-false, eq-eqb, cond-true, cond-false, not-true}
-use Rattle.std.proofs.lemmas.List.Elements.{All-nil, All-cons, All-head, All-tail}
-use Rattle.std.proofs.lemmas.List.Sums.{AllPass-from_list_all}
-use Rattle.std.proofs.lemmas.Nat.{pow_pos, mod_below}
-use Rattle.std.proofs.lemmas.Nat.Bits.{same_from_bits}
-use Rattle.std.proofs.Math.Nat.{mod-eq_of_lt}
-use Rattle.linker_base.specs.Form.{values_below, is_clear_at, holds_value_bit, is_of, has_value, values_apart, Mark, replaced, ored, cleared, ImmediateBit, BitsWritten, is_placed, placed_bit, bit_for, place_sum, IsClear, Fits, Written, MachineReads, WriteBackChangesNothing, field_form, number_of, Sign, unsigned, twos_complement, Claim, exactly, modulo, unclaimed, IsSameBy, IsSameModulo, Field, Layout, one_field, own_form, form_of}
+use Rattle.linker_base.proofs.Imports.{All, All-cons, All-head, All-nil, All-tail, AllPass-from_list_all, BitsWritten, Bool, Claim, Field, Fits, ImmediateBit, IsClear, IsSameBy, IsSameModulo, Layout, List, MachineReads, Mark, Sign, WriteBackChangesNothing, Written, [], agree_below, agree_below_at, and_from, and_parts, and_right, ap, arith, bit_at, bit_for, cases_Bool, cases_lt, cast_unsigned, cleared, cond, cond-false, cond-true, eq-eqb, eqb, eqb-false, eqb-true, exactly, false, field_form, form_of, get_or, has_value, holds_value_bit, inl, inr, int_rem_euclid, is_clear_at, is_of, is_placed, le-leb, le-ltb, leb, leb-true, list_all, ltb, ltb-true, mod-eq_of_lt, mod_below, modulo, ne_eqb, not, not-true, number_of, one_field, or_cases, or_from, or_parts, ored, own_form, place_sum, placed_bit, pos, pow_mono, pow_pos, refl, replaced, same_from_bits, subst, sym, true, twos_complement, unclaimed, unsigned, values_apart, values_below, w64, ℕ, ◌%◌, ◌&&◌, ◌*◌, ◌+◌, ◌-◌, ◌/◌, ◌<◌, ◌^◌, ◌∙◌, ◌∷◌, ◌≡◌, ◌≤◌}
 use Rattle.linker_base.proofs.Places.{value_bit, adds, value_bit_none, bit_at-place_sum, value_bit_laid}
 use Rattle.linker_base.proofs.Fields.{mod_mod, bit_at_window, bit_at_mod, bit_at_mod_above, signed_rem, signed_bits, aligned_rem}
 

@@ -1,17 +1,5 @@
 -- The laws of deletions, proved.
-use Rattle.std.proofs.Common.{add-zero, add-suc, ◌≡◌, ℕ, zero, suc, ◌+◌, ◌-◌, ◌<◌, ◌≤◌, true, false, cond, List, [], ◌∷◌, ◌++◌, length, map, get_or, take, refl, ap, inl, inr, arith}
-use Rattle.std.specs.Prelude.{max, not, nat_lt, All, AllPairs, Contains, IsPermutation}
-use Rattle.std.specs.List.{list_any, AllWithin}
-use Rattle.std.proofs.lemmas.Bool.{cases_lt, cases_Bool, not-true, false_from_ne_true, both_ways}
-use Rattle.std.proofs.lemmas.Bool.Decides.{nat_tests}
-use Rattle.std.proofs.lemmas.List.Elements.{All-head, All-tail}
-use Rattle.std.proofs.lemmas.List.Folds.{list_any_at}
-use Rattle.std.proofs.lemmas.List.Sums.{sum_by-cons}
-use Rattle.std.proofs.lemmas.List.Sorted.{IsPermutation-append_left, IsPermutation-append_right, IsPermutation-append_comm}
-use Rattle.std.proofs.lemmas.List.{append_assoc, take_all, get_or-take, length-take}
-use Rattle.linker_base.specs.Walk.{walk_to, IsAhead}
-use Rattle.linker_base.specs.Deletions.{begun_below, IsBefore, covers, is_kept, IsInsideDeletion, rank, IsSelected}
-use Rattle.linker_base.specs.Laws.{InAfterOutReturns, OutAfterInIsFirstKept, OutAfterInReturnsKept, MergeOrderIsFree, AreTranslations, CursorGivesRanks, MergesShortenDistances}
+use Rattle.linker_base.proofs.Imports.{All, All-head, All-tail, AllPairs, AllWithin, AreTranslations, Contains, CursorGivesRanks, InAfterOutReturns, IsAhead, IsBefore, IsInsideDeletion, IsPermutation, IsPermutation-append_comm, IsPermutation-append_left, IsPermutation-append_right, IsSelected, List, MergeOrderIsFree, MergesShortenDistances, OutAfterInIsFirstKept, OutAfterInReturnsKept, [], add-suc, add-zero, ap, append_assoc, arith, begun_below, both_ways, cases_Bool, cases_lt, cond, covers, false, false_from_ne_true, get_or, get_or-take, inl, inr, is_kept, length, length-take, list_any, list_any_at, map, max, nat_lt, nat_tests, not, not-true, rank, refl, suc, sum_by-cons, take, take_all, true, walk_to, zero, ℕ, ◌++◌, ◌+◌, ◌-◌, ◌<◌, ◌∷◌, ◌≡◌, ◌≤◌}
 use Rattle.linker_base.proofs.Copied.{gone_at}
 use Rattle.linker_base.proofs.Rank.{all_pairs_tail, rank_kept, rank_gone, rank-mono, selected_once}
 use Rattle.linker_base.proofs.Unions.{disjoint_permutation, disjoint_from_union, disjoint_left, union_once, union_of_merges, union_swapped}

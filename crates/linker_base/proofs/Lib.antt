@@ -7,6 +7,7 @@ pub mod Fields
 pub mod Fronts
 pub mod Halving
 pub mod Immediates
+pub mod Imports
 pub mod Laws
 pub mod Listed
 pub mod Merges

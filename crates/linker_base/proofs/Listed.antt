@@ -1,15 +1,5 @@
 -- Lists of deltas: how one grows, what its sums are, and how a valid list is tested.
-use Rattle.std.proofs.Common.{◌≡◌, ℕ, zero, suc, ◌+◌, ◌-◌, ◌<◌, ◌≤◌, List, [], ◌∷◌, ◌++◌, length, get_or, set, take, sym, ap, ◌∙◌, inl, inr, arith, drop, refl}
-use Rattle.std.specs.Prelude.{◌^◌, All, AllPairs}
-use Rattle.std.proofs.lemmas.Bool.{cases_lt}
-use Rattle.std.proofs.lemmas.List.{length_push, get_or_push, get_or_append_left, get_or-take, length-take, take_more, map_push, length-map, take-append-le, take_all, get_or_default, take_more_set, get_or-append_right, get_or-append-add, length-append, take-append-drop}
-use Rattle.std.proofs.lemmas.List.Elements.{All-push}
-use Rattle.std.proofs.lemmas.List.Quantifiers.{all_pairs_push}
-use Rattle.std.proofs.lemmas.List.Sums.{sum_by_more, sum_by_push}
-use Rattle.linker_base.specs.declared.relaxation.RelaxDelta.{RelaxDelta}
-use Rattle.linker_base.specs.Deletions.{IsBefore, EndFits, IsValid, bytes_of}
-use Rattle.linker_base.specs.Deltas.{deletion_of, RecordsDeletions}
-use Rattle.linker_base.specs.Listed.{IsFirstInvalid}
+use Rattle.linker_base.proofs.Imports.{All, All-push, AllPairs, EndFits, IsBefore, IsFirstInvalid, IsValid, List, RecordsDeletions, RelaxDelta, [], all_pairs_push, ap, arith, bytes_of, cases_lt, deletion_of, drop, get_or, get_or-append-add, get_or-append_right, get_or-take, get_or_append_left, get_or_default, get_or_push, inl, inr, length, length-append, length-map, length-take, length_push, map_push, refl, set, suc, sum_by_more, sum_by_push, sym, take, take-append-drop, take-append-le, take_all, take_more, take_more_set, zero, ℕ, ◌++◌, ◌+◌, ◌-◌, ◌<◌, ◌^◌, ◌∙◌, ◌∷◌, ◌≡◌, ◌≤◌}
 use Rattle.linker_base.proofs.OutputOffsets.{bytes_of-take_fit}
 
 -- what holds of all of a list holds of each of its two parts

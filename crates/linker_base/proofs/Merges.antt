@@ -1,17 +1,6 @@
 -- A merge of two ascending lists, from the back.
-use Rattle.std.proofs.Common.{◌≡◌, ℕ, zero, suc, ◌+◌, ◌-◌, ◌<◌, ◌≤◌, List, ◌∷◌, ◌++◌, length, map, get_or, set, take, drop, refl, sym, ap, ◌∙◌, inl, inr, arith}
-use Rattle.std.specs.Prelude.{All, IsPermutation}
-use Rattle.std.specs.List.Sorted.{IsNonDecreasingBy}
-use Rattle.std.proofs.lemmas.Bool.{cases_lt}
-use Rattle.std.proofs.lemmas.List.{append_assoc, take-append-drop, take-append-le, take-take, take-map, take-set-le, drop_more, drop-set, get_or-take, get_or_default, get_or_append_left, get_or-append_right, map-append, length-append, length-map, length-set, length-take}
+use Rattle.linker_base.proofs.Imports.{All, All-cons, AreDisjoint, AreValidDeltas, IsNonDecreasingBy, IsNonDecreasingBy-insert, IsNonDecreasingBy-take, IsPermutation, IsPermutation-append_comm, IsPermutation-append_right, IsPermutation-cons, IsPermutation-trans, IsSortedUnion, IsValid, List, RelaxDelta, ap, append_assoc, arith, bytes_of, cases_lt, deletion_of, drop, drop-set, drop_more, get_or, get_or-append_right, get_or-take, get_or_append_left, get_or_default, inl, inr, length, length-append, length-map, length-set, length-take, map, map-append, refl, set, suc, sum_by-append, sum_by-cons, sum_by_more, sym, take, take-append-drop, take-append-le, take-map, take-set-le, take-take, zero, ℕ, ◌++◌, ◌+◌, ◌-◌, ◌<◌, ◌∙◌, ◌∷◌, ◌≡◌, ◌≤◌}
 use Rattle.std.proofs.Math.Seq.{take-append-add}
-use Rattle.std.proofs.lemmas.List.Elements.{All-cons}
-use Rattle.std.proofs.lemmas.List.Sorted.{IsNonDecreasingBy-insert, IsNonDecreasingBy-take, IsPermutation-cons, IsPermutation-append_right, IsPermutation-append_comm, IsPermutation-trans}
-use Rattle.std.proofs.lemmas.List.Sums.{sum_by-cons, sum_by_more, sum_by-append}
-use Rattle.linker_base.specs.declared.relaxation.RelaxDelta.{RelaxDelta}
-use Rattle.linker_base.specs.Deletions.{AreDisjoint, IsValid, IsSortedUnion, bytes_of}
-use Rattle.linker_base.specs.Deltas.{deletion_of}
-use Rattle.linker_base.specs.Listed.{AreValidDeltas}
 use Rattle.linker_base.proofs.Listed.{all_pairs_append}
 use Rattle.linker_base.proofs.Search.{deletion_at, valid_rises}
 use Rattle.linker_base.proofs.Unions.{union_from_sort}

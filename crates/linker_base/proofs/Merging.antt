@@ -1,11 +1,5 @@
 -- Deletions beside those of a section: whether they may be merged, and what a merge leaves.
-use Rattle.std.proofs.Common.{◌≡◌, ℕ, ◌+◌, List, ◌++◌, length, get_or, take, drop, true, false, not, refl, sym, ◌∙◌, arith}
-use Rattle.std.specs.Prelude.{◌↔◌, Bool, IsTrue, All, is_some, Option, Some, None, MatchOption}
-use Rattle.std.proofs.lemmas.Bool.{false≢true}
-use Rattle.std.proofs.lemmas.List.{append_assoc, take-append-drop, get_or_append_left, get_or-append-add, get_or_default, length-append}
-use Rattle.std.proofs.lemmas.List.Elements.{All-append}
-use Rattle.linker_base.specs.Deletions.{DoNotOverlap, EndFits, AreDisjoint, IsValid}
-use Rattle.linker_base.specs.Listed.{IsFirstOverlapping}
+use Rattle.linker_base.proofs.Imports.{All, All-append, AreDisjoint, Bool, DoNotOverlap, EndFits, IsFirstOverlapping, IsTrue, IsValid, List, MatchOption, None, Option, Some, append_assoc, arith, drop, false, false≢true, get_or, get_or-append-add, get_or_append_left, get_or_default, is_some, length, length-append, not, refl, sym, take, take-append-drop, true, ℕ, ◌++◌, ◌+◌, ◌↔◌, ◌∙◌, ◌≡◌}
 use Rattle.linker_base.proofs.Listed.{all_pairs_append}
 use Rattle.linker_base.proofs.Unions.{disjoint_left, disjoint_from_valid}
 

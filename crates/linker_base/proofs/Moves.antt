@@ -1,10 +1,6 @@
 -- Forms that keep the bits outside their places, and forms of AArch64: 16 bits under an opcode that
 -- goes by the sign, and an offset of 12 bits from the scale up.
-use Rattle.std.proofs.Common.{◌≡◌, ℕ, ◌+◌, ◌-◌, ◌*◌, ◌/◌, ◌%◌, ◌^◌, ◌<◌, Bool, true, false, not, ◌||◌, eqb, ltb, ap, ◌∙◌, subst, arith, List, inl, inr, cond, pos, negsuc}
-use Rattle.std.specs.Int.{w64, cast_unsigned, bit_at}
-use Rattle.std.proofs.lemmas.Bool.{or_cases, eqb-true, ltb-true, not-false}
-use Rattle.std.proofs.lemmas.Nat.Bits.{bit_at_cat_low}
-use Rattle.linker_base.specs.Form.{ImmediateBit, Form, BitsWritten, place_sum, WriteKeepsOtherBits}
+use Rattle.linker_base.proofs.Imports.{BitsWritten, Bool, Form, ImmediateBit, List, WriteKeepsOtherBits, ap, arith, bit_at, bit_at_cat_low, cast_unsigned, cond, eqb, eqb-true, false, inl, inr, ltb, ltb-true, negsuc, not, not-false, or_cases, place_sum, pos, subst, true, w64, ℕ, ◌%◌, ◌*◌, ◌+◌, ◌-◌, ◌/◌, ◌<◌, ◌^◌, ◌||◌, ◌∙◌, ◌≡◌}
 use Rattle.linker_base.proofs.Fields.{bit_at_mod}
 use Rattle.linker_base.proofs.Immediates.{place_sum_below, restored, values_apart_fills}
 use Rattle.linker_base.proofs.Rounded.{IsSoundPart}

@@ -1,12 +1,5 @@
 -- Where a list of deletions parts at an offset or at an output offset, and what is gone before it.
-use Rattle.std.proofs.Common.{add-zero, add-suc, ◌≡◌, ℕ, zero, suc, ◌+◌, ◌-◌, ◌<◌, ◌≤◌, true, false, List, [], ◌∷◌, length, get_or, take, refl, ap, inl, inr, add-one, arith}
-use Rattle.std.specs.Prelude.{◌^◌, not, AllPairs}
-use Rattle.std.specs.List.{list_any, AllWithin}
-use Rattle.std.proofs.lemmas.Bool.{cases_lt}
-use Rattle.std.proofs.lemmas.Bool.Decides.{nat_tests}
-use Rattle.std.proofs.lemmas.List.{take_all, take-take}
-use Rattle.std.proofs.lemmas.List.Sums.{sum_by-cons, sum_by_more, sum_by-take-le}
-use Rattle.linker_base.specs.Deletions.{IsBefore, DoNotOverlap, AreDisjoint, IsValid, bytes_of, covers, is_kept, rank, IsSelected}
+use Rattle.linker_base.proofs.Imports.{AllPairs, AllWithin, AreDisjoint, DoNotOverlap, IsBefore, IsSelected, IsValid, List, [], add-one, add-suc, add-zero, ap, arith, bytes_of, cases_lt, covers, false, get_or, inl, inr, is_kept, length, list_any, nat_tests, not, rank, refl, suc, sum_by-cons, sum_by-take-le, sum_by_more, take, take-take, take_all, true, zero, ℕ, ◌+◌, ◌-◌, ◌<◌, ◌^◌, ◌∷◌, ◌≡◌, ◌≤◌}
 use Rattle.linker_base.proofs.Rank.{removed_by, removed, rank-removed}
 use Rattle.linker_base.proofs.Unions.{disjoint_from_valid}
 

@@ -1,14 +1,5 @@
 -- Values in two parts: a rounded high one and a signed low one, or bits that are held and others.
-use Rattle.std.proofs.Common.{◌≡◌, ℕ, ◌+◌, ◌-◌, ◌*◌, ◌/◌, ◌%◌, ◌^◌, ◌<◌, ◌≤◌, true, ◌&&◌, refl, ap, sym, ◌∙◌, arith, List, [], ◌∷◌, ◌++◌, inl, inr, ltb, ℤ, pos, ◌+ℤ◌, ◌-ℤ◌}
-use Rattle.std.specs.Int.{w64, cast_unsigned, bit_at, int_rem_euclid}
-use Rattle.std.specs.List.{All}
-use Rattle.std.proofs.lemmas.Bool.{cases_lt, cond_both, lt-leb, ltb-true, ltb-false, and_parts}
-use Rattle.std.proofs.lemmas.Int.{ints, int_rem_euclid_is}
-use Rattle.std.proofs.lemmas.List.Elements.{All-append}
-use Rattle.std.proofs.lemmas.List.Sums.{sum_by-cons}
-use Rattle.std.proofs.lemmas.Nat.Bits.{same_from_bits, bit_at-zero}
-use Rattle.linker_base.specs.Bits.{signed}
-use Rattle.linker_base.specs.Form.{Mark, replaced, ored, cleared, ImmediateBit, BitsWritten, placed_bit, bit_for, place_sum, worth}
+use Rattle.linker_base.proofs.Imports.{All, All-append, BitsWritten, ImmediateBit, List, Mark, [], and_parts, ap, arith, bit_at, bit_at-zero, bit_for, cases_lt, cast_unsigned, cleared, cond_both, inl, inr, int_rem_euclid, int_rem_euclid_is, ints, lt-leb, ltb, ltb-false, ltb-true, ored, place_sum, placed_bit, pos, refl, replaced, same_from_bits, signed, sum_by-cons, sym, true, w64, worth, ℕ, ℤ, ◌%◌, ◌&&◌, ◌*◌, ◌++◌, ◌+ℤ◌, ◌+◌, ◌-ℤ◌, ◌-◌, ◌/◌, ◌<◌, ◌^◌, ◌∙◌, ◌∷◌, ◌≡◌, ◌≤◌}
 pub use Rattle.linker_base.proofs.Fields.{signed_cases}
 use Rattle.linker_base.proofs.Fields.{bit_at_mod, bit_at_mod_above, cast_rem}
 use Rattle.linker_base.proofs.Immediates.{has_value_fills, values_apart_fills, place_sum_below}

@@ -1,11 +1,5 @@
 -- Forms of several parts, each with an added number, a mark or a sign of its own.
-use Rattle.std.proofs.Common.{◌≡◌, ℕ, ◌+◌, ◌%◌, ◌^◌, ◌<◌, ◌≤◌, Bool, true, false, ◌&&◌, eqb, leb, List, refl, sym, ◌∙◌, ap, arith, get_or}
-use Rattle.std.specs.Int.{bit_at}
-use Rattle.std.specs.List.{All, list_all}
-use Rattle.std.proofs.lemmas.Bool.{and_parts, eqb-true, leb-true}
-use Rattle.std.proofs.lemmas.List.Sums.{AllPass-from_list_all}
-use Rattle.std.proofs.lemmas.Nat.Bits.{bit_at_above}
-use Rattle.linker_base.specs.Form.{Mark, replaced, ored, cleared, ImmediateBit, BitsWritten, placed_bit, bit_for}
+use Rattle.linker_base.proofs.Imports.{All, AllPass-from_list_all, BitsWritten, Bool, ImmediateBit, List, Mark, and_parts, ap, arith, bit_at, bit_at_above, bit_for, cleared, eqb, eqb-true, false, get_or, leb, leb-true, list_all, ored, placed_bit, refl, replaced, sym, true, ℕ, ◌%◌, ◌&&◌, ◌+◌, ◌<◌, ◌^◌, ◌∙◌, ◌≡◌, ◌≤◌}
 use Rattle.linker_base.proofs.Immediates.{same_window}
 
 -- what a write leaves at a part of its places

@@ -1,14 +1,7 @@
 -- The bits of the number that stands at places, what a write leaves at each, and when places stand
 -- apart.
-use Rattle.std.proofs.Common.{◌≡◌, ℕ, zero, suc, ◌+◌, ◌*◌, ◌%◌, ◌^◌, ◌<◌, max, Bool, true, false, not, ◌&&◌, eqb, List, [], ◌∷◌, ◌++◌, refl, sym, ◌∙◌, ap, subst, arith, inl, inr, cond}
-use Rattle.std.specs.Int.{bit_at}
-use Rattle.std.specs.List.{All}
-use Rattle.std.proofs.lemmas.Bool.{or_parts, and_parts, cases_Bool, eqb-true, cond-false, not-true, cases_eq, eq-eqb, ne_eqb}
-use Rattle.std.proofs.lemmas.List.Elements.{All-head, All-tail}
-use Rattle.std.proofs.lemmas.List.Sums.{sum_by-cons, sum_by-append}
-use Rattle.std.proofs.lemmas.Nat.Bits.{bit_at-lt, bit_at_or, bit_at-pow_same, bit_at-pow_other, bit_at-zero, and_pow}
-use lib.Bits.{bit_and, or_disjoint}
-use Rattle.linker_base.specs.Form.{holds_value_bit, is_of, has_value, values_apart, Mark, replaced, ored, cleared, ImmediateBit, placed_bit, bit_for, worth, place_sum, IsClear, is_clear_at}
+use Rattle.linker_base.proofs.Imports.{All, All-head, All-tail, Bool, ImmediateBit, IsClear, List, Mark, [], and_parts, and_pow, ap, arith, bit_and, bit_at, bit_at-lt, bit_at-pow_other, bit_at-pow_same, bit_at-zero, bit_at_or, bit_for, cases_Bool, cases_eq, cleared, cond, cond-false, eq-eqb, eqb, eqb-true, false, has_value, holds_value_bit, inl, inr, is_clear_at, is_of, max, ne_eqb, not, not-true, or_parts, ored, place_sum, placed_bit, refl, replaced, subst, suc, sum_by-append, sum_by-cons, sym, true, values_apart, worth, zero, ℕ, ◌%◌, ◌&&◌, ◌*◌, ◌++◌, ◌+◌, ◌<◌, ◌^◌, ◌∙◌, ◌∷◌, ◌≡◌}
+use lib.Bits.{or_disjoint}
 
 -- the window's bit at the place of value bit k, and 0 where it has none
 abbrev pub value_bit : List ImmediateBit → ℕ → ℕ → ℕ

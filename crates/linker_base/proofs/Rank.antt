@@ -1,12 +1,5 @@
 -- How many positions are kept, and how many bytes are gone, below an offset.
-use Rattle.std.proofs.Common.{◌≡◌, ℕ, zero, suc, ◌+◌, ◌-◌, ◌<◌, ◌≤◌, true, false, cond, List, [], ◌∷◌, refl, ap, inl, inr, ⊎_elim, add-zero, add-suc, zero-add, arith}
-use Rattle.std.specs.Prelude.{◌^◌, ◌↔◌, min, ◌||◌, All, AllPairs, sum_by, count_by}
-use Rattle.std.specs.List.{list_any}
-use Rattle.std.proofs.lemmas.Bool.{true_from_ne_false, cases_Bool}
-use Rattle.std.proofs.lemmas.Bool.Decides.{nat_tests}
-use Rattle.std.proofs.lemmas.List.Elements.{All-head, All-tail}
-use Rattle.std.proofs.lemmas.List.Sums.{sum_by-cons}
-use Rattle.linker_base.specs.Deletions.{DoNotOverlap, covers, is_kept, rank, IsSelected, HasInput, AreKept}
+use Rattle.linker_base.proofs.Imports.{All, All-head, All-tail, AllPairs, AreKept, DoNotOverlap, HasInput, IsSelected, List, [], add-suc, add-zero, ap, arith, cases_Bool, cond, count_by, covers, false, inl, inr, is_kept, list_any, min, nat_tests, rank, refl, suc, sum_by, sum_by-cons, true, true_from_ne_false, zero, zero-add, ℕ, ⊎_elim, ◌+◌, ◌-◌, ◌<◌, ◌^◌, ◌||◌, ◌↔◌, ◌∷◌, ◌≡◌, ◌≤◌}
 
 -- the bytes of the deletion below i
 abbrev pub removed_by : ℕ → ℕ × ℕ → ℕ

@@ -1,13 +1,5 @@
 -- The laws of forms whose places hold bits of the value plus a constant.
-use Rattle.std.proofs.Common.{◌≡◌, ℕ, suc, ◌+◌, ◌-◌, ◌*◌, ◌/◌, ◌%◌, ◌^◌, ◌<◌, ◌≤◌, Bool, true, ◌&&◌, ltb, leb, List, sym, ◌∙◌, ap, arith, pos, ◌-ℤ◌}
-use Rattle.std.specs.Int.{bit_at, int_rem_euclid, w64, cast_unsigned, Width}
-use Rattle.std.specs.List.{All}
-use Rattle.std.proofs.lemmas.Bool.{and_parts, and_from, leb-true, cond_both, cond-true, le-leb, lt-ltb}
-use Rattle.std.proofs.lemmas.Int.{ints}
-use Rattle.std.proofs.lemmas.Nat.{field_of, pow_pos, mod_low, mod_below}
-use Rattle.std.proofs.Math.Nat.{mod-eq_of_lt}
-use Rattle.linker_base.specs.Bits.{signed}
-use Rattle.linker_base.specs.Form.{values_below, ImmediateBit, BitsWritten, placed_bit, bit_for, place_sum, IsClear, Written, MachineReads, IsReadBack, WriteBackChangesNothing}
+use Rattle.linker_base.proofs.Imports.{All, BitsWritten, Bool, ImmediateBit, IsClear, IsReadBack, List, MachineReads, Width, WriteBackChangesNothing, Written, and_from, and_parts, ap, arith, bit_at, bit_for, cast_unsigned, cond-true, cond_both, field_of, int_rem_euclid, ints, le-leb, leb, leb-true, lt-ltb, ltb, mod-eq_of_lt, mod_below, mod_low, place_sum, placed_bit, pos, pow_pos, signed, suc, sym, true, values_below, w64, ℕ, ◌%◌, ◌&&◌, ◌*◌, ◌+◌, ◌-ℤ◌, ◌-◌, ◌/◌, ◌<◌, ◌^◌, ◌∙◌, ◌≡◌, ◌≤◌}
 use Rattle.linker_base.specs.Rounded.{rounded_immediate}
 use Rattle.linker_base.proofs.Places.{value_bit, adds, bit_at-place_sum}
 use Rattle.linker_base.proofs.Fields.{mod_mod, bit_at_window, signed_rem, aligned_rem, cast_rem, whole_parts}

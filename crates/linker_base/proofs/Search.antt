@@ -1,21 +1,5 @@
 -- What a search in the deltas of a section finds.
-use Rattle.std.proofs.Common.{◌≡◌, ℕ, ◌+◌, ◌-◌, ◌*◌, ◌<◌, ◌≤◌, Bool, true, false, List, length, map, get_or, take, leb, refl, sym, ap, ◌∙◌, inl, inr, arith}
-use Rattle.std.specs.Prelude.{◌%◌, ◌^◌, ◌↔◌, max, Any, nat_eq}
-use Rattle.std.specs.List.Sorted.{IsNonDecreasingBy, IsPartitionedBy, IsPartitionPoint}
-use Rattle.std.proofs.lemmas.Bool.{cases_eq, cases_lt, cases_order}
-use Rattle.std.proofs.lemmas.Bool.Decides.{nat_tests}
-use Rattle.std.proofs.lemmas.List.{get_or-map, get_or_default, length-map}
-use Rattle.std.proofs.lemmas.List.Sums.{sum_by_more}
-use Rattle.linker_base.specs.declared.relaxation.RelaxDelta.{RelaxDelta}
-use Rattle.linker_base.specs.Deletions.{IsValid, IsInsideDeletion, IsSelected, HasInput, bytes_of, rank}
-use Rattle.linker_base.specs.Deltas.{deletion_of}
-use Rattle.linker_base.specs.declared.relaxation.search.Level.TheVariants.{Deltas}
-use Rattle.linker_base.specs.declared.relaxation.search.Test.{Test}
-use Rattle.linker_base.specs.declared.relaxation.search.Test.TheVariants.{BeginsBelow, IsPlacedUpTo}
-use Rattle.linker_base.specs.Blocks.{View, output_offset_of, AreHeads}
-use Rattle.linker_base.specs.Inner.Search.{Subject, Probed, OnlyProbes, view_subject, list_subject, no_head, passes_test, IsPartitioned, IsPointOf, HeadsAgree}
-use Rattle.linker_base.specs.Listed.{AreValidDeltas}
-use Rattle.linker_base.specs.Inner.Listed.{ArePlaced, IsOnlyAt, IsEndOf}
+use Rattle.linker_base.proofs.Imports.{Any, AreHeads, ArePlaced, AreValidDeltas, BeginsBelow, Bool, Deltas, HasInput, HeadsAgree, IsEndOf, IsInsideDeletion, IsNonDecreasingBy, IsOnlyAt, IsPartitionPoint, IsPartitioned, IsPartitionedBy, IsPlacedUpTo, IsPointOf, IsSelected, IsValid, List, OnlyProbes, Probed, RelaxDelta, Subject, Test, View, ap, arith, bytes_of, cases_eq, cases_lt, cases_order, deletion_of, false, get_or, get_or-map, get_or_default, inl, inr, leb, length, length-map, list_subject, map, max, nat_eq, nat_tests, no_head, output_offset_of, passes_test, rank, refl, sum_by_more, sym, take, true, view_subject, ℕ, ◌%◌, ◌*◌, ◌+◌, ◌-◌, ◌<◌, ◌^◌, ◌↔◌, ◌∙◌, ◌≡◌, ◌≤◌}
 use Rattle.linker_base.proofs.OutputOffsets.{AreParted, rank-parted, selected-output, bytes_between, bytes-le-offset}
 use Rattle.linker_base.proofs.Rank.{rank-mono, input_fits}
 use Rattle.linker_base.proofs.Unions.{apart_from_ascending}

@@ -1,20 +1,11 @@
 -- What sorted entries say of the finite map that they hold, and what an edit of them does to it.
-use Rattle.std.proofs.Common.{◌≡◌, ℕ, zero, suc, ◌+◌, ◌-◌, ◌<◌, ◌≤◌, ◌≢◌, Bool, true, cond, eqb, List, [], ◌∷◌, ◌++◌, length, get_or, set, Option, Some, None, Result, Ok, Err, IfOk, IfErr, is_some, refl, sym, ap, subst, ◌∙◌, inl, inr, arith}
-use Rattle.std.specs.Prelude.{◌↔◌, IfSome, MatchOption, OnOk, is_ok, option_map, slice_get, ◌⊎◌, All, IsTrue, HoldsAt, insert as insert_at}
-use Rattle.std.specs.List.{AllWithin}
-use Rattle.std.specs.List.Sorted.{IsSearchInRange, IsBinarySearchResult, IsNonDecreasingBy}
+use Rattle.linker_base.proofs.Imports.{All, All-head, All-tail, AllWithin, Bool, Entries, Err, HoldsAt, IfErr, IfOk, IfSome, IndicesRise, IsAboveAll, IsAt, IsBinarySearchResult, IsGap, IsLast, IsNonDecreasingBy, IsSearchInRange, IsTrue, List, MatchOption, None, Ok, OnOk, Option, OtherSectionsStay, Result, Sections, Some, [], all_pairs_push, ap, arith, cases_eq, common_steps, cond, cond-true, cond_both, eqb, false≢true, get_or, inl, inr, is_ok, is_some, length, nat_tests, option_map, refl, set, slice_get, subst, suc, sym, true, zero, ℕ, ◌++◌, ◌+◌, ◌-◌, ◌<◌, ◌↔◌, ◌∙◌, ◌∷◌, ◌≡◌, ◌≢◌, ◌≤◌, ◌⊎◌}
+use Rattle.std.specs.Prelude.{insert as insert_at}
 use Rattle.std.specs.Ordering.{nat_cmp, eq_by_cmp, ordering_index}
 use Rattle.std.specs.FinMap.{find, get, contains_key, empty, insert, from_entries, nat_cmp-IsAntisymmetric, same_map, get-from_entries, get-insert, get-empty, from_entries_push}
-use Rattle.std.proofs.lemmas.Bool.{cases_eq, cond_both, cond-true, false≢true}
-use Rattle.std.proofs.lemmas.Bool.Decides.{nat_tests}
 use Rattle.std.proofs.lemmas.Cmp.{ranked, nat_cmp_total}
 use Rattle.std.proofs.lemmas.Option.{slice_get-get_or}
-use Rattle.std.proofs.lemmas.List.Elements.{All-head, All-tail}
 use Rattle.std.proofs.lemmas.List.Edits.{length-insert, get_or-insert_below, get_or-insert_at, get_or-insert_above}
-use Rattle.std.proofs.lemmas.List.Quantifiers.{all_pairs_push}
-use Rattle.std.proofs.lemmas.Grind.{common_steps}
-use Rattle.linker_base.specs.Sections.{Sections, IsAboveAll, IsLast, Entries, IndicesRise, IsAt, IsGap}
-use Rattle.linker_base.specs.Laws.{OtherSectionsStay}
 use Rattle.linker_base.proofs.Rank.{all_pairs_tail, all_pairs_head}
 
 -- the map that the entries hold

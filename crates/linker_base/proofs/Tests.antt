@@ -1,7 +1,5 @@
 -- Lemmas on tests.
-use Rattle.std.proofs.Common.{◌≡◌, Bool, true, false, sym, true≢false}
-use Rattle.std.specs.Prelude.{◌&&◌, ◌||◌}
-use Rattle.std.proofs.lemmas.Bool.{and_parts, or_parts}
+use Rattle.linker_base.proofs.Imports.{Bool, and_parts, false, or_parts, sym, true, true≢false, ◌&&◌, ◌||◌, ◌≡◌}
 
 pub never : {A : Type 0} → false ≡ true → A
 never e = absurd (true≢false (sym e))

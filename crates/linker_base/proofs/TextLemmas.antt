@@ -1,8 +1,5 @@
 -- The place of the first NUL, as a search finds it and as a list's word has it.
-use Rattle.std.proofs.Common.{◌≡◌, ℕ, ◌+◌, ◌-◌, ◌==◌, List, length, take, drop, Some, arith, take_all, length-drop}
-use Rattle.std.proofs.lemmas.Bool.{false_from_ne_true}
-use Rattle.std.proofs.lemmas.List.Sums.{position_or_len_is}
-use Rattle.std.specs.List.{position_or_len, after_first}
+use Rattle.linker_base.proofs.Imports.{List, Some, after_first, arith, drop, false_from_ne_true, length, length-drop, position_or_len, position_or_len_is, take, take_all, ℕ, ◌+◌, ◌-◌, ◌==◌, ◌≡◌}
 use Rattle.bstr.specs.Find.{IsFirstByte, is_byte}
 
 pub first_nul : (bytes : List ℕ) (end : ℕ) → IsFirstByte (is_byte 0) bytes (Some end) → position_or_len (λ b. b == 0) bytes ≡ end

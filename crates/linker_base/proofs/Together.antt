@@ -1,13 +1,5 @@
 -- A walk through two lists of deletions, the lower of both first.
-use Rattle.std.proofs.Common.{◌≡◌, ℕ, ◌+◌, ◌-◌, ◌<◌, ◌≤◌, List, [], ◌∷◌, ◌++◌, length, get_or, take, true, false, Bool, inl, inr, arith}
-use Rattle.std.specs.Prelude.{max, not, All}
-use Rattle.std.proofs.lemmas.List.{take_more}
-use Rattle.std.proofs.lemmas.List.Elements.{All-push}
-use Rattle.std.proofs.lemmas.List.Sorted.{IsPermutation-append_comm}
-use mir.Val.{bool_byte}
-use Rattle.linker_base.specs.Deletions.{DoNotOverlap, EndFits, IsValid}
-use Rattle.linker_base.specs.Listed.{AreValidTogether}
-use Rattle.linker_base.specs.Inner.Listed.{IsLower}
+use Rattle.linker_base.proofs.Imports.{All, All-push, AreValidTogether, Bool, DoNotOverlap, EndFits, IsLower, IsPermutation-append_comm, IsValid, List, [], arith, bool_byte, false, get_or, inl, inr, length, max, not, take, take_more, true, ℕ, ◌++◌, ◌+◌, ◌-◌, ◌<◌, ◌∷◌, ◌≡◌, ◌≤◌}
 use Rattle.linker_base.proofs.Listed.{IsValid-push}
 use Rattle.linker_base.proofs.Merging.{disjoint_joined, disjoint_across}
 use Rattle.linker_base.proofs.Unions.{disjoint_permutation, disjoint_from_valid}

@@ -1,10 +1,5 @@
 -- The bits of a number's two's complement are those of the number.
-use Rattle.std.proofs.Common.{add-mul, suc-mul, ◌≡◌, ℕ, suc, ◌+◌, ◌-◌, ◌*◌, ◌/◌, ◌%◌, ◌^◌, ◌<◌, ◌+ℤ◌, refl, sym, ◌∙◌, ap, subst, arith, pos, negsuc}
-use Rattle.std.specs.Int.{int_rem_euclid}
-use Rattle.std.proofs.lemmas.Int.{ints, int_rem_euclid_is}
-use Rattle.std.proofs.lemmas.Nat.{pow_pos, pow-add, mod_below, div-add-mod', div-mul-add}
-use Rattle.std.proofs.Math.Nat.{div-lt_iff_lt-mul}
-use Rattle.linker_base.specs.Bits.{TwosComplementKeepsFields}
+use Rattle.linker_base.proofs.Imports.{TwosComplementKeepsFields, add-mul, ap, arith, div-add-mod', div-lt_iff_lt-mul, div-mul-add, int_rem_euclid, int_rem_euclid_is, ints, mod_below, negsuc, pos, pow-add, pow_pos, refl, subst, suc, suc-mul, sym, ℕ, ◌%◌, ◌*◌, ◌+ℤ◌, ◌+◌, ◌-◌, ◌/◌, ◌<◌, ◌^◌, ◌∙◌, ◌≡◌}
 
 -- the quotient of a complement is the complement of the quotient
 pub complement : (n m d q r : ℕ) → n ≡ q * d + r → r < d → q < m → m * d - suc n ≡ (m - suc q) * d + (d - suc r)

@@ -1,8 +1,5 @@
 -- The groups of seven bits of a ULEB128 number.
-use Rattle.std.proofs.Common.{◌≡◌, ℕ, zero, suc, ◌+◌, ◌-◌, ◌*◌, ◌/◌, ◌%◌, ◌^◌, ◌<◌, ◌≤◌, ◌⊎◌, inl, inr, List, length, take, drop, slice_index, take_all, length-drop, refl, sym, ◌∙◌, ap, arith, bit_and, bit_or, div-lt_iff_lt-mul, pow-suc, mod-eq_of_lt}
-use Rattle.std.proofs.lemmas.Bool.{cases_lt}
-use Rattle.std.proofs.lemmas.Nat.{and_mask, div_below, mod_below, mod-pow-add, mul-le, or_comm, or_shifted, pow_pos, pow-add, shl_whole, shr_below}
-use Rattle.linker_base.specs.Uleb.{AllContinue, uleb_number, Uleb, HasOneReading, IsUlebWritten}
+use Rattle.linker_base.proofs.Imports.{AllContinue, HasOneReading, IsUlebWritten, List, Uleb, and_mask, ap, arith, bit_and, bit_or, cases_lt, div-lt_iff_lt-mul, div_below, drop, inl, inr, length, length-drop, mod-eq_of_lt, mod-pow-add, mod_below, mul-le, or_comm, or_shifted, pow-add, pow-suc, pow_pos, refl, shl_whole, shr_below, slice_index, suc, sym, take, take_all, uleb_number, zero, ℕ, ◌%◌, ◌*◌, ◌+◌, ◌-◌, ◌/◌, ◌<◌, ◌^◌, ◌∙◌, ◌≡◌, ◌≤◌, ◌⊎◌}
 
 -- the number that the first i bytes give
 abbrev pub low_groups : List ℕ → ℕ → ℕ

@@ -1,15 +1,7 @@
 -- Deletions in any order, and the one valid list that they sort into.
-use Rattle.std.proofs.Common.{◌≡◌, ℕ, zero, suc, ◌+◌, ◌<◌, ◌≤◌, Bool, false, List, [], ◌∷◌, ◌++◌, refl, sym, ap, ◌∙◌, inl, inr, ⊎_elim, arith}
-use Rattle.std.specs.Prelude.{◌⊎◌, ◌↔◌, not, ◌&&◌, nat_le, nat_lt, AllPairs, Contains, IsPermutation, Result, Ok, Err, OnOk}
-use Rattle.std.specs.List.Sorted.{IsNonDecreasingBy}
+use Rattle.linker_base.proofs.Imports.{All-contains, All-permutation, AllPairs, AreDisjoint, Bool, Contains, Contains-permutation, DoNotOverlap, EndFits, Err, IsBefore, IsNonDecreasingBy, IsPermutation, IsPermutation-append_comm, IsPermutation-append_left, IsPermutation-append_right, IsPermutation-sym, IsPermutation-trans, IsSortedUnion, IsValid, List, Ok, OnOk, Result, [], ap, append_assoc, arith, cases_lt, covers, false, get_or_append_left, inl, inr, is_kept, length-append, list_any-IsPermutation, nat_le, nat_lt, nat_tests, not, rank, refl, suc, sym, zero, ℕ, ⊎_elim, ◌&&◌, ◌++◌, ◌+◌, ◌<◌, ◌↔◌, ◌∙◌, ◌∷◌, ◌≡◌, ◌≤◌, ◌⊎◌}
 use Rattle.std.proofs.Math.Bool.{and_comm}
-use Rattle.std.proofs.lemmas.Bool.{cases_lt}
-use Rattle.std.proofs.lemmas.Bool.Decides.{nat_tests}
-use Rattle.std.proofs.lemmas.List.{append_assoc, get_or_append_left, length-append}
-use Rattle.std.proofs.lemmas.List.Elements.{All-contains}
-use Rattle.std.proofs.lemmas.List.Sorted.{All-permutation, Contains-permutation, IsPermutation-sym, IsPermutation-trans, IsPermutation-append_left, IsPermutation-append_right, IsPermutation-append_comm, list_any-IsPermutation}
 use Rattle.std.proofs.lemmas.Map.Keys.{IsDistinct-IsPermutation, IsDistinct-from_apart, apart_from_distinct}
-use Rattle.linker_base.specs.Deletions.{IsBefore, DoNotOverlap, EndFits, AreDisjoint, IsValid, IsSortedUnion, covers, is_kept, rank}
 use Rattle.linker_base.proofs.Rank.{all_pairs_tail, all_pairs_head}
 
 -- the test of IsBefore, and of two deletions of which none is before the other

@@ -1,17 +1,5 @@
 -- How far a cursor's walk goes at a query.
-use Rattle.std.proofs.Common.{◌≡◌, ℕ, ◌+◌, ◌-◌, ◌<◌, ◌≤◌, List, length, map, get_or, take, drop, sym, subst, ap, ◌∙◌, ◌∷◌, inl, inr, arith}
-use Rattle.std.specs.Prelude.{◌↔◌, ◌%◌, ◌^◌, max, nat_lt, All, AllPairs}
-use Rattle.std.proofs.lemmas.Bool.{cases_eq, cases_lt}
-use Rattle.std.proofs.lemmas.List.{length-map, length-take, length-drop, get_or-take, get_or-drop, get_or_default, at_drop_more}
-use Rattle.std.proofs.lemmas.List.Sums.{count_by-le-length}
-use Rattle.std.specs.Slice.Iter.{iter_rest}
-use Rattle.linker_base.specs.declared.relaxation.RelaxDelta.{RelaxDelta}
-use Rattle.linker_base.specs.Deletions.{IsBefore, IsValid, rank, begun_below}
-use Rattle.linker_base.specs.Deltas.{deletion_of}
-use Rattle.linker_base.specs.Listed.{AreValidDeltas}
-use Rattle.linker_base.specs.Inner.Listed.{IsWalked, passed_in}
-use Rattle.linker_base.specs.Walk.{walk_at, walk_through, IsAhead, AreAhead}
-use Rattle.linker_base.specs.declared.relaxation.walk.Reached.{Reached}
+use Rattle.linker_base.proofs.Imports.{All, AllPairs, AreAhead, AreValidDeltas, IsAhead, IsBefore, IsValid, IsWalked, List, Reached, RelaxDelta, ap, arith, at_drop_more, begun_below, cases_eq, cases_lt, count_by-le-length, deletion_of, drop, get_or, get_or-drop, get_or-take, get_or_default, inl, inr, iter_rest, length, length-drop, length-map, length-take, map, max, nat_lt, passed_in, rank, subst, sym, take, walk_at, walk_through, ℕ, ◌%◌, ◌+◌, ◌-◌, ◌<◌, ◌^◌, ◌↔◌, ◌∙◌, ◌∷◌, ◌≡◌, ◌≤◌}
 use Rattle.linker_base.proofs.Laws.{begun_parted, begun_later}
 use Rattle.linker_base.proofs.Listed.{taken_up_to}
 use Rattle.linker_base.proofs.OutputOffsets.{bytes-le-offset}

@@ -1,6 +1,5 @@
 -- Lemmas on words of bytes.
-use Rattle.std.proofs.Common.{◌≡◌, ℕ, List, [], ◌∷◌, refl, take}
-use Rattle.std.specs.Int.{from_le_bytes, w32}
+use Rattle.linker_base.proofs.Imports.{List, [], from_le_bytes, refl, take, w32, ℕ, ◌∷◌, ◌≡◌}
 
 pub word_of_front : (xs : List ℕ) → from_le_bytes w32 (take 4 xs) ≡ from_le_bytes w32 xs
 word_of_front [] = refl

@@ -1,13 +1,5 @@
 -- What the machine reads of the AArch64 forms.
-use Rattle.std.proofs.Common.{◌≡◌, ℕ, ◌+◌, ◌*◌, ◌/◌, ◌%◌, ◌^◌, ◌<◌, Bool, true, false, eqb, refl, ap, sym, ◌∙◌, subst, arith, List, pos}
-use Rattle.linker_elf.proofs.Imports.{w32, bit_at, bit_or, bit_and, agree_below_at, and_mask, or_shifted, same_from_bits, field, ImmediateBit, BitsWritten, Written, MachineReads, Fits, place_sum, bit_at_shr, layout_machine, place_sum_laid, always_clear}
-use Rattle.std.proofs.lemmas.Nat.{or_comm}
-use Rattle.linker_base.proofs.Immediates.{field_machine}
-use Rattle.linker_elf.specs.Inner.FormLaws.{scale_small, low12_field, low12_sound}
-use Rattle.linker_elf.specs.Inner.Runs.{words_below}
-use Rattle.linker_elf.specs.AArch64.{aarch64_form, aarch64_layout, movnz, macho_low12, imm16_places, moved_bits, moved_value, opcode_of, shift_of, movn_opcode, movz_opcode, move_opcode, access_scale, low12_places}
-use Rattle.linker_elf.specs.declared.aarch64.forms.AArch64Instruction.{AArch64Instruction}
-use Rattle.linker_elf.specs.declared.aarch64.forms.AArch64Instruction.TheVariants.{Movnz, MachOLow12}
+use Rattle.linker_elf.proofs.Imports.{AArch64Instruction, BitsWritten, Bool, Fits, ImmediateBit, List, MachOLow12, MachineReads, Movnz, Written, aarch64_form, aarch64_layout, access_scale, agree_below_at, always_clear, and_mask, ap, arith, bit_and, bit_at, bit_at_shr, bit_or, eqb, false, field, field_machine, imm16_places, layout_machine, low12_field, low12_places, low12_sound, macho_low12, move_opcode, moved_bits, moved_value, movn_opcode, movnz, movz_opcode, opcode_of, or_comm, or_shifted, place_sum, place_sum_laid, pos, refl, same_from_bits, scale_small, shift_of, subst, sym, true, w32, words_below, ℕ, ◌%◌, ◌*◌, ◌+◌, ◌/◌, ◌<◌, ◌^◌, ◌∙◌, ◌≡◌}
 use Rattle.linker_elf.proofs.Steps.{not_placed_above, laid_below}
 
 -- ---- Movnz

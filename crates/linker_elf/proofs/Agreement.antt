@@ -1,14 +1,7 @@
 -- A field within its range is read as the value: from comparisons of a row's bits, range and
 -- alignment.
-use Rattle.std.proofs.Common.{◌≡◌, ℕ, ◌+◌, ◌-◌, ◌*◌, ◌/◌, ◌%◌, ◌^◌, ◌<◌, ◌≤◌, Bool, true, ◌&&◌, ◌||◌, ltb, leb, eqb, refl, sym, ◌∙◌, ap, subst, arith, inl, inr, cond, ℤ, pos, negsuc, ◌-ℤ◌, neg_ℤ, ◌≤ℤ◌, ◌<ℤ◌, Option, Some, None, unsigned_abs, int_lt, false}
-use Rattle.linker_elf.proofs.Imports.{int_rem_euclid, and_parts, or_cases, leb-true, eqb-true, lt-ltb, le-ltb, ints, int_rem_euclid_is, pow_pos, pow-add, mod_below, mod-eq_of_lt, le_z, signed, Sign, unsigned, twos_complement, number_of, IsClear, Written, place_sum, Layout, one_field, own_form, form_of, mod_mod, signed_cases, subst_below, sound_field, is_sound_layout}
-use Rattle.std.proofs.lemmas.Nat.{div-add-mod', shr_below}
+use Rattle.linker_elf.proofs.Imports.{Bool, IsClear, IsFieldOf, IsSameIn, IsSameModulo, IsWithin, Layout, None, Option, Sign, Some, Written, and_parts, ap, arith, bits_from, cond, div-add-mod', eqb, eqb-true, false, form_of, inl, inr, int_lt, int_rem_euclid, int_rem_euclid_is, ints, is_sound_layout, laid_field, le-ltb, le_z, le_z_yes, leb, leb-true, lt-ltb, ltb, mod-eq_of_lt, mod_below, mod_mod, neg_ℤ, negsuc, number_of, number_rem, one_field, or_cases, own_form, place_sum, pos, pow-add, pow_pos, refl, shr_below, signed, signed_cases, sound_field, subst, subst_below, sym, true, twos_complement, unsigned, unsigned_abs, ℕ, ℤ, ◌%◌, ◌&&◌, ◌*◌, ◌+◌, ◌-ℤ◌, ◌-◌, ◌/◌, ◌<ℤ◌, ◌<◌, ◌^◌, ◌||◌, ◌∙◌, ◌≡◌, ◌≤ℤ◌, ◌≤◌}
 use Rattle.std.proofs.lemmas.Float.{T_from_true}
-use Rattle.std.specs.Int.Signed.{le_z_yes}
-use Rattle.linker_base.specs.Form.{IsSameModulo}
-use Rattle.linker_base.proofs.Immediates.{number_rem, laid_field}
-use Rattle.linker_elf.specs.Agrees.{bits_from, IsFieldOf, IsSameIn}
-use Rattle.linker_elf.specs.Elf.{IsWithin}
 
 turns : (x c d p : ℕ) → p ≡ c * d → (x + 1) * c * d ≡ x * p + p
 turns x c d p e = subst (λ q. (x + 1) * c * d ≡ x * q + q) (sym e) (omega arith)

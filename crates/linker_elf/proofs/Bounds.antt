@@ -1,10 +1,6 @@
 -- The bounds of ranges.
-use Rattle.std.proofs.Common.{◌≡◌, ℕ, ◌-◌, ◌*◌, ◌%◌, ◌^◌, ◌<◌, ◌≤◌, ap, sym, ◌∙◌, arith, pos, ◌-ℤ◌, to_z, of_z, FitsSigned, w64, Some}
-use Rattle.linker_elf.specs.Elf.{bit_bounds}
+use Rattle.linker_elf.proofs.Imports.{FitsSigned, Signed, Some, Unsigned, ap, arith, bit_bounds, ints, of_z, one_shl, pos, pow_below, sym, to_z, to_z-of_z, to_z_pos, w64, ℕ, ◌%◌, ◌*◌, ◌-ℤ◌, ◌-◌, ◌<◌, ◌^◌, ◌∙◌, ◌≡◌, ◌≤◌}
 use Rattle.linker_elf.specs.declared.elf.Sign.{Sign}
-use Rattle.linker_elf.specs.declared.elf.Sign.TheVariants.{Signed, Unsigned}
-use Rattle.std.proofs.lemmas.Int.{ints, to_z_pos, to_z-of_z}
-use Rattle.std.proofs.lemmas.Nat.{one_shl, pow_below}
 
 -- `1 << k` at 64 signed bits
 pub one_shl_signed : (k : ℕ) → k < 63 → to_z w64 (1 * 2 ^ k % 18446744073709551616) ≡ pos (2 ^ k)

@@ -1,16 +1,7 @@
 -- Masks of facts, and the first entry of a table.
-use Rattle.std.proofs.lemmas.List.{drop_all}
-use Rattle.std.proofs.lemmas.Option.{none-some}
-use Rattle.std.proofs.lemmas.Bool.{eqb-true, eq-eqb, and_left}
-use Rattle.std.proofs.Common.{◌≡◌, ◌↔◌, ◌<◌, ◌≤◌, ◌++◌, ℕ, ℤ, List, [], ◌∷◌, Option, Some, None, Bool, true, false, if◌then◌else◌, not, ◌&&◌, ◌||◌, ◌==◌, zero, suc, IsTrue, refl, sym, ap, ◌∙◌, subst, arith, inl, inr, bit_and, length, drop, get_or, IfSome, true≢false}
-use Rattle.std.specs.Bool.{⊤}
-use Rattle.linker_elf.specs.Choices.{Condition, Entry, ConditionHolds, AllHold, choice, Applies, IsFirst, bound, weak_zero, fixed_address, class32, fixed_distance, executable, local_exec_base, compressible, marked, label_marked, got_high_part, private_base, changed_toc, without_plt, group_fits}
-use Rattle.linker_elf.specs.Inner.ChoiceTables.{with_fact, fact_conditions, is_held, facts_hold, value_conditions, ValuesHold, addend_condition, conditions_of, EntryApplies, IsFirstOf, IsChoiceAt, IsTableOf, AreEqualities, AreSampled, seldom_facts_hold}
-use Rattle.linker_elf.specs.declared.elf.RowInfo.{RowInfo}
+use Rattle.linker_elf.proofs.Imports.{AllHold, Applies, AreEqualities, AreSampled, Bool, Condition, ConditionHolds, Entry, EntryApplies, IfSome, IsChoiceAt, IsFirst, IsFirstOf, IsTableOf, IsTrue, LinkFacts, List, None, Operands, Option, RowInfo, Some, ValuesHold, [], addend_condition, and_left, ap, arith, bit_and, bound, changed_toc, choice, class32, compressible, conditions_of, drop, drop_all, eq-eqb, eqb-true, executable, fact_conditions, facts_hold, false, fixed_address, fixed_distance, get_or, got_high_part, group_fits, if◌then◌else◌, inl, inr, is_held, label_marked, length, local_exec_base, marked, none-some, not, private_base, refl, seldom_facts_hold, subst, suc, sym, true, true≢false, value_conditions, weak_zero, with_fact, without_plt, zero, ℕ, ℤ, ⊤, ◌&&◌, ◌++◌, ◌<◌, ◌==◌, ◌||◌, ◌↔◌, ◌∙◌, ◌∷◌, ◌≡◌, ◌≤◌}
 use Rattle.linker_elf.specs.declared.elf.choice.Choice.{Choice}
-use Rattle.linker_elf.specs.declared.elf.choice.LinkFacts.{LinkFacts}
 use Rattle.linker_elf.specs.declared.elf.choice_table.ChoiceEntry.{ChoiceEntry}
-use Rattle.linker_elf.specs.declared.elf.value.Operands.{Operands}
 
 -- ---- lists of conditions
 

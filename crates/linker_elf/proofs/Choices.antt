@@ -1,7 +1,5 @@
 -- The reach of a relocation of a sequence, from the place of the sequence's first instruction.
-use Rattle.std.proofs.Common.{◌≡◌, ◌≤◌, ℕ, ◌+◌, ◌-◌, ◌%◌, ◌^◌, ap, arith}
-use Rattle.linker_elf.specs.Choices.{operands_before, facts_on}
-use Rattle.linker_elf.specs.declared.elf.choice.LinkFacts.{LinkFacts}
+use Rattle.linker_elf.proofs.Imports.{LinkFacts, ap, arith, facts_on, operands_before, ℕ, ◌%◌, ◌+◌, ◌-◌, ◌^◌, ◌≡◌, ◌≤◌}
 
 pub same_reach : (n : ℕ) (facts : LinkFacts) → n ≤ 12
     → operands_before n (facts_on n facts).operands ≡ operands_before 0 facts.operands

@@ -1,8 +1,5 @@
 -- The places that a form only ORs, once they are cleared.
-use Rattle.std.proofs.Common.{◌≡◌, ℕ, zero, suc, ◌+◌, List, [], ◌∷◌, refl, IsTrue}
-use Rattle.linker_elf.proofs.Imports.{bit_at, All, eq-eqb, All-nil, All-cons, same_from_bits, ImmediateBit, consecutive_bits, Mark, replaced, ored, cleared, BitsWritten, placed_bit, bit_for, IsClear, is_clear_at}
-use Rattle.std.proofs.lemmas.List.Elements.{All-head, All-tail}
-use Rattle.linker_elf.specs.Relocate.{clearing, ored_cleared}
+use Rattle.linker_elf.proofs.Imports.{All, All-cons, All-head, All-nil, All-tail, BitsWritten, ImmediateBit, IsClear, IsTrue, List, Mark, [], bit_at, bit_for, cleared, clearing, consecutive_bits, eq-eqb, is_clear_at, ored, ored_cleared, placed_bit, refl, replaced, same_from_bits, suc, zero, ℕ, ◌+◌, ◌∷◌, ◌≡◌}
 
 -- writing at no place changes nothing
 pub nothing_written : (v x : ℕ) → BitsWritten [] v x x

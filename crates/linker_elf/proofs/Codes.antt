@@ -1,26 +1,7 @@
 -- The tables of the engine are the forms: the steps write and read the places, and a read returns
 -- what the form says.
-use Rattle.std.proofs.Common.{◌≡◌, ◌≢◌, ℕ, ◌+◌, ◌-◌, ◌*◌, ◌%◌, ◌^◌, ◌<◌, ◌≤◌, Bool, true, false, leb, List, [], ◌∷◌, get_or, refl, sym, ◌∙◌, ap, subst, arith, pow_mono}
-use Rattle.linker_elf.proofs.Imports.{w32, w64, cast_unsigned, from_le_bytes, bit_or, bit_and, and_parts, lt-leb, agree_below_at, ImmediateBit, BitsWritten, Written, place_sum, twos_complement, cleared, consecutive_bits, window_of, Layout, one_field, own_form, form_of, place_sum_below}
-use Rattle.linker_elf.specs.AArch64.{aarch64_form, aarch64_layout, imm16_places, low12_places, access_scale, moved_bits, move_opcode}
-use Rattle.linker_elf.specs.Elf.{relocation_form}
-use Rattle.linker_elf.specs.Inner.Runs.{width_of, bits_of, words_below, code_of, is_plain, writes, reads, moves_places}
-use Rattle.linker_elf.specs.LoongArch.{loongarch_layout, call30_field}
-use Rattle.linker_elf.specs.Ppc64.{ppc64_layout}
-use Rattle.linker_elf.specs.Relocate.{ored_cleared}
-use Rattle.linker_elf.specs.RiscV.{riscv_layout, riscv_places}
-use Rattle.linker_elf.specs.declared.aarch64.forms.AArch64Instruction.{AArch64Instruction}
-use Rattle.linker_elf.specs.declared.aarch64.forms.AArch64Instruction.TheVariants.{Adr, Movnz, MachOLow12}
-use Rattle.linker_elf.specs.declared.elf.AnyForm.{AnyForm}
-use Rattle.linker_elf.specs.declared.elf.AnyForm.TheVariants.{AArch64, LoongArch64, Ppc64, RiscV}
-use Rattle.linker_elf.specs.declared.elf.engine.Encoding.{Encoding}
-use Rattle.linker_elf.specs.declared.elf.engine.Step.{Step}
-use Rattle.linker_elf.specs.declared.loongarch64.forms.LoongArch64Instruction.{LoongArch64Instruction}
-use Rattle.linker_elf.specs.declared.loongarch64.forms.LoongArch64Instruction.TheVariants.{Shift10, Call30, Call36}
-use Rattle.linker_elf.specs.declared.ppc64.forms.Ppc64Form.{Ppc64Form}
-use Rattle.linker_elf.specs.declared.ppc64.forms.Ppc64Form.TheVariants.{D}
-use Rattle.linker_elf.specs.declared.riscv64.forms.RiscVInstruction.{RiscVInstruction}
-use Rattle.linker_elf.specs.declared.riscv64.forms.RiscVInstruction.TheVariants.{UType, CluiType, UiType}
+use Rattle.linker_elf.proofs.Imports.{AArch64, AArch64Instruction, Adr, AnyForm, BitsWritten, Bool, Call30, Call36, CluiType, D, Encoding, ImmediateBit, Layout, List, LoongArch64, LoongArch64Instruction, MachOLow12, Movnz, Ppc64, Ppc64Form, RiscV, RiscVInstruction, Shift10, Step, UType, UiType, Written, [], aarch64_form, aarch64_layout, access_scale, agree_below_at, and_parts, ap, arith, bit_and, bit_or, call30_field, cast_unsigned, cleared, code_of, consecutive_bits, false, form_of, from_le_bytes, get_or, imm16_places, leb, loongarch_layout, low12_places, lt-leb, move_opcode, moved_bits, moves_places, one_field, ored_cleared, own_form, place_sum, place_sum_below, pow_mono, ppc64_layout, reads, refl, relocation_form, riscv_layout, riscv_places, subst, sym, true, twos_complement, w32, w64, width_of, window_of, words_below, writes, ℕ, ◌%◌, ◌*◌, ◌+◌, ◌-◌, ◌<◌, ◌^◌, ◌∙◌, ◌∷◌, ◌≡◌, ◌≢◌, ◌≤◌}
+use Rattle.linker_elf.specs.Inner.Runs.{bits_of, is_plain}
 use Rattle.linker_elf.proofs.LoongArch.{shift10_places, call36_places, shift10_value, call36_value}
 use Rattle.linker_elf.proofs.ReadNumbers.{value_of, is_read_by, field_value, field_flag, flag_is}
 use Rattle.linker_elf.proofs.AArch64Forms.{opcode_set, movnz_written, movnz_below, macho_below}

@@ -1,17 +1,7 @@
 -- Which values depend on the address of an entry: an entry 2 ^ 40 further on moves the value by as
 -- much, modulo 2 ^ 64.
-use Rattle.std.proofs.Common.{◌≡◌, ℕ, ◌+◌, ◌-◌, ◌%◌, ◌^◌, ◌<◌, Bool, true, false, refl, sym, ◌∙◌, ap, arith, Some, ◌≢◌, ◌==◌, if◌then◌else◌, inr}
-use Rattle.std.specs.Int.{w64, cast_unsigned, cast_signed, bit_at}
-use Rattle.std.proofs.lemmas.Int.{of_z-to_z}
-use Rattle.linker_elf.specs.Entries.{with_got_entry, with_plt_entry, Ignores, DependsOn, is_of_high_part, is_branch, IsGotAnswer, IsPltAnswer}
-use Rattle.linker_elf.specs.Value.{names_got_entry, names_plt_entry, sum_64, difference_64, page_if, entry_addend, bias_number, masks_entry, entry_term, plt_term, relative_term, formula, read_signed}
-use Rattle.linker_elf.specs.LoongArch.{page, high_distance, high_correction}
-use Rattle.linker_elf.specs.declared.elf.RelocationKind.{RelocationKind}
+use Rattle.linker_elf.proofs.Imports.{BitMasking, Bool, ByteSize, DependsOn, Ignores, IsGotAnswer, IsPltAnswer, Operands, RelocationKind, RowInfo, RowSize, Some, ap, arith, bias_number, bit_at, cast_signed, cast_unsigned, difference_64, entry_addend, entry_term, false, formula, high_correction, high_distance, if◌then◌else◌, inr, is_branch, is_of_high_part, masks_entry, names_got_entry, names_plt_entry, of_z-to_z, page, page_if, plt_term, read_signed, refl, relative_term, sum_64, sym, true, w64, with_got_entry, with_plt_entry, ℕ, ◌%◌, ◌+◌, ◌-◌, ◌<◌, ◌==◌, ◌^◌, ◌∙◌, ◌≡◌, ◌≢◌}
 use Rattle.linker_elf.specs.declared.elf.RelocationKind.TheVariants as kinds
-use Rattle.linker_elf.specs.declared.elf.RowInfo.{RowInfo}
-use Rattle.linker_elf.specs.declared.elf.RowSize.{RowSize}
-use Rattle.linker_elf.specs.declared.elf.RowSize.TheVariants.{ByteSize, BitMasking}
-use Rattle.linker_elf.specs.declared.elf.value.Operands.{Operands}
 
 -- ---- moved numbers
 

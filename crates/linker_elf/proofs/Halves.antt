@@ -1,27 +1,5 @@
 -- Pairs of instructions hold each value within their reach.
-use Rattle.std.proofs.Common.{FitsSigned, ◌≡◌, ℕ, suc, ◌+◌, ◌-◌, ◌*◌, ◌/◌, ◌%◌, ◌^◌, ◌<◌, ◌≤◌, Bool, true, refl, ◌∙◌, ap, arith, List, inl, inr, ℤ, pos, negsuc, ◌+ℤ◌, ◌-ℤ◌, ◌*ℤ◌, unsigned_abs, int_lt, sym, Some}
-use Rattle.linker_elf.proofs.Imports.{w64, cast_unsigned, int_rem_euclid, cases_lt, ints, int_rem_euclid_is, field, signed, Written, place_sum, window_of, twos_complement, BitRange, layout_laid, always_clear, signed_cases, added}
-use Rattle.linker_elf.specs.Agrees.{bits_from}
-use Rattle.linker_elf.specs.Elf.{IsWithin, bit_bounds, relocation_form}
-use Rattle.linker_elf.specs.LoongArch.{loongarch_form, reach, IsDistanceModulo}
-use Rattle.linker_elf.specs.Ppc64.{ppc64_form, ppc64_layout}
-use Rattle.linker_elf.specs.Reach.{riscv_pair_bounds, clui_bounds, call36_bounds, riscv_reach, loongarch_reach, reach_of_size}
-use Rattle.linker_elf.specs.Relocate.{bits_taken, takes_size, InstructionWritten, IsWritten, IsInUnits, IsAligned, IsAccepted, CompletesHigh, RiscVHolds, LoongArchHolds, Ppc64Holds, InstructionHolds, SizeHolds}
-use Rattle.linker_elf.specs.RiscV.{riscv_form, riscv_layout, riscv_places, ui_high, ui_low}
-use Rattle.linker_elf.specs.Rows.{Bounds}
-use Rattle.linker_elf.specs.declared.loongarch64.forms.LoongArch64Instruction.{LoongArch64Instruction}
-use Rattle.linker_elf.specs.declared.loongarch64.forms.LoongArch64Instruction.TheVariants.{Call36}
-use Rattle.linker_elf.specs.declared.ppc64.forms.Ppc64Form.{Ppc64Form}
-use Rattle.linker_elf.specs.declared.ppc64.forms.Ppc64Form.TheVariants.{D, Ds}
-use Rattle.linker_elf.specs.declared.elf.Sign.TheVariants.{Signed}
-use Rattle.linker_elf.specs.declared.elf.AnyForm.{AnyForm}
-use Rattle.linker_elf.specs.declared.elf.AnyForm.TheVariants.{AArch64, RiscV, Ppc64, LoongArch64}
-use Rattle.linker_elf.specs.declared.elf.RelocationKind.{RelocationKind}
-use Rattle.linker_elf.specs.declared.elf.RowInfo.{RowInfo}
-use Rattle.linker_elf.specs.declared.elf.RowSize.{RowSize}
-use Rattle.linker_elf.specs.declared.elf.RowSize.TheVariants.{ByteSize, BitMasking}
-use Rattle.linker_elf.specs.declared.riscv64.forms.RiscVInstruction.{RiscVInstruction}
-use Rattle.linker_elf.specs.declared.riscv64.forms.RiscVInstruction.TheVariants.{UType, IType, SType, CluiType, UiType}
+use Rattle.linker_elf.proofs.Imports.{AArch64, AnyForm, BitMasking, BitRange, Bool, Bounds, ByteSize, Call36, CluiType, CompletesHigh, D, Ds, FitsSigned, IType, InstructionHolds, InstructionWritten, IsAccepted, IsAligned, IsDistanceModulo, IsInUnits, IsWithin, IsWritten, List, LoongArch64, LoongArch64Instruction, LoongArchHolds, Ppc64, Ppc64Form, Ppc64Holds, RelocationKind, RiscV, RiscVHolds, RiscVInstruction, RowInfo, RowSize, SType, Signed, SizeHolds, Some, UType, UiType, Written, added, always_clear, ap, arith, bit_bounds, bits_from, bits_taken, call36_bounds, cases_lt, cast_unsigned, clui_bounds, field, inl, inr, int_lt, int_rem_euclid, int_rem_euclid_is, ints, layout_laid, loongarch_form, loongarch_reach, negsuc, place_sum, pos, ppc64_form, ppc64_layout, reach, reach_of_size, refl, relocation_form, riscv_form, riscv_layout, riscv_pair_bounds, riscv_places, riscv_reach, signed, signed_cases, suc, sym, takes_size, true, twos_complement, ui_high, ui_low, unsigned_abs, w64, window_of, ℕ, ℤ, ◌%◌, ◌*ℤ◌, ◌*◌, ◌+ℤ◌, ◌+◌, ◌-ℤ◌, ◌-◌, ◌/◌, ◌<◌, ◌^◌, ◌∙◌, ◌≡◌, ◌≤◌}
 use Rattle.linker_elf.proofs.Agreement.{number_agrees}
 use Rattle.linker_elf.proofs.LoongArch.{loongarch_reaches}
 use Rattle.linker_elf.proofs.Placed.{reads_as}

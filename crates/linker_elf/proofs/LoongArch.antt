@@ -1,16 +1,6 @@
 -- The LoongArch forms keep the laws of forms.
-use Rattle.std.proofs.Common.{◌≡◌, ℕ, ◌+◌, ◌-◌, ◌*◌, ◌/◌, ◌%◌, ◌^◌, ◌<◌, ◌≤◌, Bool, true, refl, sym, ap, ◌∙◌, arith, List, ◌++◌, pos, ◌+ℤ◌, ◌*ℤ◌, inl, inr, ◌-ℤ◌}
-use Rattle.linker_elf.proofs.Imports.{w64, bit_at, cast_unsigned, int_rem_euclid, All-drop, field, signed, ImmediateBit, BitsWritten, bit_for, placed_bit, Fits, Written, MachineReads, place_sum, replaced, one_field, layout_machine, place_sum_below, place_sum_laid, always_clear, consecutive_bits_sum, ints, int_rem_euclid_is, and_mask, mod_below, pow_pos, and_pow, and_zero_r, bit_and, or_bits_to, ored, signed_cases, sums}
-use Rattle.std.proofs.lemmas.List.Elements.{All-take}
-use Rattle.linker_base.proofs.Immediates.{fills, none_ored}
-use Rattle.linker_base.proofs.Places.{adds}
-use Rattle.linker_base.proofs.Parts.{ArePlaced, all_replaced, part_laid}
+use Rattle.linker_elf.proofs.Imports.{All-drop, All-take, ArePlaced, BitsWritten, Bool, Call30, Call36, Fits, ImmediateBit, IsDistanceModulo, List, LoongArch64, LoongArch64Instruction, MachineReads, Reaches, ReadsLow, Shift10, Shift5, Written, adds, all_replaced, always_clear, and_mask, and_pow, and_zero_r, ap, arith, bit_and, bit_at, bit_for, call36_high, call36_low, cast_unsigned, code_of, consecutive_bits_sum, field, fills, inl, inr, int_rem_euclid, int_rem_euclid_is, ints, jirl_imm, layout_machine, loongarch_form, loongarch_layout, mod_below, none_ored, one_field, or_bits_to, ored, part_laid, pcaddu18i_imm, place_sum, place_sum_below, place_sum_laid, placed_bit, pos, pow_pos, refl, replaced, shift10_imm16, shift10_low, signed, signed_cases, sums, sym, true, w64, ℕ, ◌%◌, ◌*ℤ◌, ◌*◌, ◌++◌, ◌+ℤ◌, ◌+◌, ◌-ℤ◌, ◌-◌, ◌/◌, ◌<◌, ◌^◌, ◌∙◌, ◌≡◌, ◌≤◌}
 use Rattle.linker_elf.proofs.LoongArchNumbers.{pair_number, near_pair, far_pair}
-use Rattle.linker_elf.specs.LoongArch.{loongarch_form, loongarch_layout, shift10_low, shift10_imm16, call36_high, call36_low, pcaddu18i_imm, jirl_imm, ReadsLow, Reaches, IsDistanceModulo}
-use Rattle.linker_elf.specs.declared.loongarch64.forms.LoongArch64Instruction.{LoongArch64Instruction}
-use Rattle.linker_elf.specs.declared.loongarch64.forms.LoongArch64Instruction.TheVariants.{Shift5, Shift10, Call30, Call36}
-use Rattle.linker_elf.specs.Inner.Runs.{code_of}
-use Rattle.linker_elf.specs.declared.elf.AnyForm.TheVariants.{LoongArch64}
 use Rattle.linker_elf.proofs.ReadNumbers.{value_of}
 
 abbrev pub shift5_places : List ImmediateBit

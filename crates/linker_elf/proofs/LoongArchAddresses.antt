@@ -1,7 +1,5 @@
 -- The address that the five instructions make.
-use Rattle.std.proofs.Common.{◌≡◌, ℕ, ◌+◌, ◌-◌, ◌*◌, ◌/◌, ◌%◌, ◌^◌, ◌<◌, ◌≤◌, refl, ap, sym, ◌∙◌, arith, ℤ, pos, ◌+ℤ◌, ◌-ℤ◌, ◌*ℤ◌, ltb, inl, inr}
-use Rattle.linker_elf.proofs.Imports.{bit_at, int_rem_euclid, cond_both, ltb-true, ltb-false, cases_lt, eq-eqb, ne_eqb, ints, int_rem_euclid_is, field, signed}
-use Rattle.linker_elf.specs.LoongArch.{page, high_correction, high_distance}
+use Rattle.linker_elf.proofs.Imports.{ap, arith, bit_at, cases_lt, cond_both, eq-eqb, field, high_correction, high_distance, inl, inr, int_rem_euclid, int_rem_euclid_is, ints, ltb, ltb-false, ltb-true, ne_eqb, page, pos, refl, signed, sym, ℕ, ℤ, ◌%◌, ◌*ℤ◌, ◌*◌, ◌+ℤ◌, ◌+◌, ◌-ℤ◌, ◌-◌, ◌/◌, ◌<◌, ◌^◌, ◌∙◌, ◌≡◌, ◌≤◌}
 
 -- ---- in pages
 

@@ -1,7 +1,5 @@
 -- The arithmetic of LoongArch calls and addresses of several instructions.
-use Rattle.std.proofs.Common.{◌≡◌, ℕ, suc, ◌+◌, ◌-◌, ◌*◌, ◌/◌, ◌%◌, ◌^◌, ◌<◌, ◌≤◌, refl, ap, ◌∙◌, arith, ℤ, pos, negsuc, neg_ℤ, ◌+ℤ◌, ◌-ℤ◌, ◌*ℤ◌, ◌≤ℤ◌, ◌<ℤ◌, ltb}
-use Rattle.linker_elf.proofs.Imports.{int_rem_euclid, cond_both, ltb-true, ltb-false, ints, int_rem_euclid_is, signed}
-use Rattle.linker_elf.specs.LoongArch.{IsCallBy}
+use Rattle.linker_elf.proofs.Imports.{IsCallBy, ap, arith, cond_both, int_rem_euclid, int_rem_euclid_is, ints, ltb, ltb-false, ltb-true, neg_ℤ, negsuc, pos, refl, signed, suc, ℕ, ℤ, ◌%◌, ◌*ℤ◌, ◌*◌, ◌+ℤ◌, ◌+◌, ◌-ℤ◌, ◌-◌, ◌/◌, ◌<ℤ◌, ◌<◌, ◌^◌, ◌∙◌, ◌≡◌, ◌≤ℤ◌, ◌≤◌}
 
 -- the numbers of 20 and of 16 bits that h and l are in two's complement, by cases
 by_signs : (h l : ℕ) (P : ℤ → ℤ → Type 0)

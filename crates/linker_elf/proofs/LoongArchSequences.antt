@@ -1,15 +1,9 @@
 -- What the writes of a sequence leave, instruction by instruction.
-use Rattle.std.proofs.Common.{◌≡◌, ℕ, ◌+◌, ◌-◌, ◌^◌, ◌<◌, ◌≤◌, true, false, ◌&&◌, ltb, leb, List, length, take, drop, refl, ap, sym, ◌∙◌, subst, arith, inl, inr}
-use Rattle.linker_elf.proofs.Imports.{w32, bit_at, from_le_bytes, agree_below_at, lt-leb, le-ltb, le-leb, lt-ltb, cases_lt, All-drop, field, ImmediateBit, BitsWritten, is_placed, or_bits_to, bit_for, placed_bit, same_fields}
-use Rattle.std.proofs.lemmas.Bool.{and_right}
-use Rattle.std.proofs.lemmas.List.{drop-take}
+use Rattle.linker_elf.proofs.Imports.{All-drop, BitsWritten, ImmediateBit, IsKeptOutside, IsSetAt, List, MakesAddress, agree_below_at, and_right, ap, arith, bit_at, bit_for, bit_looked_up, cases_lt, drop, drop-take, false, field, from_le_bytes, inl, inr, instruction, is_placed, le-leb, le-ltb, leb, length, lt-leb, lt-ltb, ltb, or_bits_to, ored_kept, placed_bit, refl, same_fields, subst, sym, take, true, w32, ℕ, ◌&&◌, ◌+◌, ◌-◌, ◌<◌, ◌^◌, ◌∙◌, ◌≡◌, ◌≤◌}
 use Rattle.std.proofs.lemmas.Slice.{between-put_mid, take-put_mid_below, drop-put_mid}
 use borrow.Rule.Slice.PartMut.{put_mid}
-use Rattle.linker_base.proofs.Immediates.{bit_looked_up}
-use Rattle.linker_base.proofs.Parts.{ored_kept}
 use Rattle.linker_elf.proofs.LoongArch.{shift5_places, shift10_places}
 use Rattle.linker_elf.proofs.LoongArchAddresses.{first_of_five, high_of_five, five_from, made}
-use Rattle.linker_elf.specs.LoongArch.{instruction, IsKeptOutside, IsSetAt, MakesAddress}
 use Rattle.linker_base.proofs.Words.{word_of_front}
 
 -- ---- the instruction in a list of bytes

@@ -1,37 +1,22 @@
 -- Each name but `Other` has the `r_type` and the text that stand at its index, and stands at its
 -- `r_type`: by computation, name by name.
-use Rattle.std.proofs.Common.{◌≡◌, ◌∙◌, ◌+◌, ◌-◌, ◌%◌, ◌^◌, ◌<◌, ◌≤◌, ℕ, List, [], ◌∷◌, length, map, get_or, slice_get, slice_index_or, inl, inr, refl, sym, ap, subst, lit≤, arith}
-use denote.Enum.Declared.{tag_of}
-use Rattle.std.specs.List.{range_with_len}
+use Rattle.linker_elf.proofs.Imports.{AArch64Relocation, ElfName, IsNameOf, IsNamed, List, LoongArch64Relocation, Ppc64Relocation, RiscVRelocation, X86_64Relocation, [], aarch64_name, ap, arith, get_or, get_or-map, inl, inr, length, lit≤, loongarch_name, map, ppc64_name, r_type_of, range_with_len, refl, riscv_name, slice_get, slice_get_cases, slice_index_or, subst, sym, tag_of, text_of, x86_64_name, ℕ, ◌%◌, ◌+◌, ◌-◌, ◌<◌, ◌^◌, ◌∙◌, ◌∷◌, ◌≡◌, ◌≤◌}
 use Rattle.std.specs.Option.{unwrap_or}
-use Rattle.std.proofs.lemmas.List.{get_or-map}
 use Rattle.std.proofs.lemmas.List.FromFn.{get_or-range_with_len}
-use Rattle.std.proofs.lemmas.Option.{slice_get_cases}
-use Rattle.linker_elf.specs.ElfNames.{ElfName, r_type_of, text_of, IsNamed, IsNameOf}
-use Rattle.linker_elf.specs.AArch64Relocations.{aarch64_name}
 use Rattle.linker_elf.specs.contracts.aarch64.relocations.AArch64Relocation as aarch64
 use Rattle.linker_elf.specs.declared.aarch64.relocations.TheConstants as aarch64_table
-use Rattle.linker_elf.specs.declared.aarch64.relocations.AArch64Relocation.{AArch64Relocation}
 use Rattle.linker_elf.specs.declared.aarch64.relocations.AArch64Relocation.TheVariants as aarch64_names
-use Rattle.linker_elf.specs.RiscVRelocations.{riscv_name}
 use Rattle.linker_elf.specs.contracts.riscv64.relocations.RiscVRelocation as riscv64
 use Rattle.linker_elf.specs.declared.riscv64.relocations.TheConstants as riscv64_table
-use Rattle.linker_elf.specs.declared.riscv64.relocations.RiscVRelocation.{RiscVRelocation}
 use Rattle.linker_elf.specs.declared.riscv64.relocations.RiscVRelocation.TheVariants as riscv64_names
-use Rattle.linker_elf.specs.LoongArchRelocations.{loongarch_name}
 use Rattle.linker_elf.specs.contracts.loongarch64.relocations.LoongArch64Relocation as loongarch64
 use Rattle.linker_elf.specs.declared.loongarch64.relocations.TheConstants as loongarch64_table
-use Rattle.linker_elf.specs.declared.loongarch64.relocations.LoongArch64Relocation.{LoongArch64Relocation}
 use Rattle.linker_elf.specs.declared.loongarch64.relocations.LoongArch64Relocation.TheVariants as loongarch64_names
-use Rattle.linker_elf.specs.Ppc64Relocations.{ppc64_name}
 use Rattle.linker_elf.specs.contracts.ppc64.relocations.Ppc64Relocation as ppc64
 use Rattle.linker_elf.specs.declared.ppc64.relocations.TheConstants as ppc64_table
-use Rattle.linker_elf.specs.declared.ppc64.relocations.Ppc64Relocation.{Ppc64Relocation}
 use Rattle.linker_elf.specs.declared.ppc64.relocations.Ppc64Relocation.TheVariants as ppc64_names
-use Rattle.linker_elf.specs.X86Relocations.{x86_64_name}
 use Rattle.linker_elf.specs.contracts.x86_64.relocations.X86_64Relocation as x86_64
 use Rattle.linker_elf.specs.declared.x86_64.relocations.TheConstants as x86_64_table
-use Rattle.linker_elf.specs.declared.x86_64.relocations.X86_64Relocation.{X86_64Relocation}
 use Rattle.linker_elf.specs.declared.x86_64.relocations.X86_64Relocation.TheVariants as x86_64_names
 
 pub aarch64_r_types : (name : AArch64Relocation) → ((r_type : ℕ) → name ≡ aarch64_names.Other r_type → ⊥)

@@ -1,15 +1,5 @@
 -- The numbers placed in instructions of DQ-form, and moves of 32 bits.
-use Rattle.std.proofs.Common.{◌≡◌, ℕ, ◌+◌, ◌-◌, ◌*◌, ◌/◌, ◌%◌, ◌^◌, ◌<◌, ◌≤◌, Bool, true, false, List, ◌==◌, ◌&&◌, ◌||◌, [], inl, inr, if◌then◌else◌, refl, sym, ◌∙◌, ap, subst, arith, ℤ, pos, int_lt}
-use Rattle.linker_elf.proofs.Imports.{bit_at, field, BitsWritten, Written, ImmediateBit, bits_to, replaced, placed_bit, bit_for, place_sum, BitRange, consecutive_bits_all, consecutive_bits_sum, bit_at_mod, same_fields, layout_laid, always_clear}
-use Rattle.linker_elf.specs.AArch64.{movnz, move_opcode, aarch64_form}
-use Rattle.linker_elf.specs.Elf.{relocation_form}
-use Rattle.linker_elf.specs.Ppc64.{ppc64_form, ppc64_layout}
-use Rattle.linker_elf.specs.Relocate.{number_placed, with_low_4, is_dq_form, is_32_bit_move, bits_taken, ppc64_reads}
-use Rattle.linker_elf.specs.declared.aarch64.forms.AArch64Instruction.{AArch64Instruction}
-use Rattle.linker_elf.specs.declared.aarch64.forms.AArch64Instruction.TheVariants.{Movnz}
-use Rattle.linker_elf.specs.declared.ppc64.forms.Ppc64Form.TheVariants.{Ds}
-use Rattle.linker_elf.specs.declared.elf.AnyForm.{AnyForm}
-use Rattle.linker_elf.specs.declared.elf.AnyForm.TheVariants.{Ppc64, AArch64}
+use Rattle.linker_elf.proofs.Imports.{AArch64, AArch64Instruction, AnyForm, BitRange, BitsWritten, Bool, Ds, ImmediateBit, List, Movnz, Ppc64, Written, [], aarch64_form, always_clear, ap, arith, bit_at, bit_at_mod, bit_for, bits_taken, bits_to, consecutive_bits_all, consecutive_bits_sum, false, field, if◌then◌else◌, inl, inr, int_lt, is_32_bit_move, is_dq_form, layout_laid, move_opcode, movnz, number_placed, place_sum, placed_bit, pos, ppc64_form, ppc64_layout, ppc64_reads, refl, relocation_form, replaced, same_fields, subst, sym, true, with_low_4, ℕ, ℤ, ◌%◌, ◌&&◌, ◌*◌, ◌+◌, ◌-◌, ◌/◌, ◌<◌, ◌==◌, ◌^◌, ◌||◌, ◌∙◌, ◌≡◌, ◌≤◌}
 use Rattle.linker_elf.proofs.Clearing.{same_window}
 use Rattle.linker_elf.proofs.Steps.{consecutive_bits_outside}
 

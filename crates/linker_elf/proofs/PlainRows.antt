@@ -1,24 +1,6 @@
 -- Rows that take each multiple of their alignment within reach, whatever instruction there is.
-use Rattle.std.proofs.Common.{◌≡◌, ℕ, ◌-◌, ◌*◌, ◌%◌, ◌^◌, ◌<◌, ◌≤◌, arith, true, List, ℤ, ◌≤ℤ◌, FitsSigned, length, nat_eq, bit_and, IsTrue, ◌&&◌, ◌||◌, subst, sym, ap, ◌∙◌, inl, inr, refl, false, drop, ◌++◌}
-use Rattle.linker_elf.proofs.Imports.{w64, cast_unsigned, and_parts, cases_Bool, cond-false, cond-true, eqb-true, or_cases, BitRange}
-use Rattle.linker_elf.specs.Agrees.{RowFits}
-use Rattle.linker_elf.specs.Bounds.{least_within, last_within}
-use Rattle.linker_elf.specs.Reach.{reach_of}
-use Rattle.linker_elf.specs.Relocate.{InstructionWritten, IsWritten, IsAccepted, IsAligned, IsInUnits, IsInWords, IsMultiple, IsEncoded, is_supported, low_bytes, number_of_bytes, number_written, window_len}
-use Rattle.linker_elf.specs.Inner.RowTables.{bytes_of, info_of, is_over, is_plain, is_unit, takes_all, tests_of, IsSound}
-use Rattle.linker_elf.specs.declared.aarch64.forms.AArch64Instruction.TheVariants.{Movnz}
-use Rattle.linker_elf.specs.declared.loongarch64.forms.LoongArch64Instruction.TheVariants.{Shift10}
-use Rattle.linker_elf.specs.declared.ppc64.forms.Ppc64Form.TheVariants.{Ds}
-use Rattle.linker_elf.specs.declared.riscv64.forms.RiscVInstruction.TheVariants.{CluiType}
-use Rattle.linker_elf.specs.declared.elf.AnyForm.{AnyForm}
-use Rattle.linker_elf.specs.declared.elf.AnyForm.TheVariants.{RiscV, Ppc64, LoongArch64, AArch64}
-use Rattle.linker_elf.specs.declared.elf.RelocationKind.{RelocationKind}
-use Rattle.linker_elf.specs.declared.elf.RelocationKind.TheVariants.{AbsoluteLowPart}
+use Rattle.linker_elf.proofs.Imports.{AArch64, AbsoluteLowPart, AnyForm, BitMasking, BitRange, ByteSize, CluiType, Ds, FitsSigned, InstructionWritten, IsAccepted, IsAligned, IsEncoded, IsInUnits, IsInWords, IsMultiple, IsSound, IsTrue, IsWritten, List, LoongArch64, Movnz, Ppc64, RelocationKind, RiscV, RowFits, RowInfo, RowSize, Shift10, TableRow, and_parts, ap, arith, bit_and, bytes_of, cases_Bool, cast_unsigned, cond-false, cond-true, drop, eqb-true, false, info_of, inl, inr, is_over, is_plain, is_supported, is_unit, last_within, least_within, length, low_bytes, nat_eq, number_of_bytes, number_written, or_cases, reach_of, refl, subst, sym, takes_all, tests_of, true, w64, window_len, ℕ, ℤ, ◌%◌, ◌&&◌, ◌*◌, ◌++◌, ◌-◌, ◌<◌, ◌^◌, ◌||◌, ◌∙◌, ◌≡◌, ◌≤ℤ◌, ◌≤◌}
 use Rattle.linker_elf.specs.declared.elf.RelocationKind.TheVariants as kinds
-use Rattle.linker_elf.specs.declared.elf.RowInfo.{RowInfo}
-use Rattle.linker_elf.specs.declared.elf.RowSize.{RowSize}
-use Rattle.linker_elf.specs.declared.elf.RowSize.TheVariants.{ByteSize, BitMasking}
-use Rattle.linker_elf.specs.declared.elf.rows.TableRow.{TableRow}
 use Rattle.linker_elf.proofs.Reached.{accepts, within_from}
 use Rattle.linker_elf.proofs.Taken.{is_multiple}
 

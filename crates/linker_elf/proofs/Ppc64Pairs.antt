@@ -1,10 +1,5 @@
 -- What a pair of halves adds up to.
-use Rattle.std.proofs.Common.{◌≡◌, ℕ, ◌+◌, ◌-◌, ◌*◌, ◌/◌, ◌%◌, ◌^◌, ◌<◌, ◌≤◌, List, drop, refl, sym, ◌∙◌, ap, arith, inl, inr, ℤ, pos, negsuc, ◌+ℤ◌, ◌-ℤ◌, ◌≤ℤ◌, ◌<ℤ◌, false}
-use Rattle.std.specs.Prelude.{◌*ℤ◌}
-use Rattle.linker_elf.proofs.Imports.{w32, from_le_bytes, int_rem_euclid, ints, int_rem_euclid_is, cases_lt, lt-ltb, le-ltb, agree_below_at, pow_pos, field, signed, ImmediateBit, bits_to, is_placed, place_sum, Written, MachineReads, same_fields, always_clear, place_sum_below}
-use Rattle.linker_base.proofs.Fields.{signed_rem}
-use Rattle.linker_elf.specs.Ppc64.{ppc64_form, pair, IsPairDistance, PairHolds, KeepsHigh}
-use Rattle.linker_elf.specs.declared.ppc64.forms.Ppc64Form.TheVariants.{D}
+use Rattle.linker_elf.proofs.Imports.{D, ImmediateBit, IsPairDistance, KeepsHigh, List, MachineReads, PairHolds, Written, agree_below_at, always_clear, ap, arith, bits_to, cases_lt, drop, false, field, from_le_bytes, inl, inr, int_rem_euclid, int_rem_euclid_is, ints, is_placed, le-ltb, lt-ltb, negsuc, pair, place_sum, place_sum_below, pos, pow_pos, ppc64_form, refl, same_fields, signed, signed_rem, sym, w32, ℕ, ℤ, ◌%◌, ◌*ℤ◌, ◌*◌, ◌+ℤ◌, ◌+◌, ◌-ℤ◌, ◌-◌, ◌/◌, ◌<ℤ◌, ◌<◌, ◌^◌, ◌∙◌, ◌≡◌, ◌≤ℤ◌, ◌≤◌}
 
 abbrev d_places : List ImmediateBit
 d_places = bits_to 0 15 0

@@ -1,15 +1,5 @@
 -- The least and the last value within reach bound the values within reach.
-use Rattle.std.proofs.Common.{◌≡◌, ◌≤◌, true, length, ℕ, List, ℤ, ◌≤ℤ◌, FitsSigned, Some, None, arith, inl, inr, int_lt}
-use Rattle.linker_elf.proofs.Imports.{w64, cases_Bool, ints}
-use Rattle.linker_elf.specs.Agrees.{RowFits, SizeFits}
-use Rattle.linker_elf.specs.Elf.{IsWithin}
-use Rattle.linker_elf.specs.Bounds.{least_within, last_within}
-use Rattle.linker_elf.specs.Reach.{reach_of}
-use Rattle.linker_elf.specs.Relocate.{HoldsBits, IsAccepted, IsEncoded, IsMultiple, is_supported, window_len}
-use Rattle.linker_elf.specs.Rows.{Bounds}
-use Rattle.linker_elf.specs.declared.elf.RowSize.{RowSize}
-use Rattle.linker_elf.specs.declared.elf.RowSize.TheVariants.{ByteSize, BitMasking}
-use Rattle.linker_elf.specs.declared.elf.RowInfo.{RowInfo}
+use Rattle.linker_elf.proofs.Imports.{BitMasking, Bounds, ByteSize, FitsSigned, HoldsBits, IsAccepted, IsEncoded, IsMultiple, IsWithin, List, None, RowFits, RowInfo, RowSize, SizeFits, Some, arith, cases_Bool, inl, inr, int_lt, ints, is_supported, last_within, least_within, length, reach_of, true, w64, window_len, ℕ, ℤ, ◌≡◌, ◌≤ℤ◌, ◌≤◌}
 
 pub within_from : (b : Bounds) (v : ℤ) → least_within b ≤ℤ v → v ≤ℤ last_within b → FitsSigned w64 v → IsWithin b v
 within_from None v low high small = tt

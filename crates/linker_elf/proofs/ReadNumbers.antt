@@ -1,9 +1,5 @@
 -- Numbers as a read returns them.
-use Rattle.std.proofs.Common.{◌≡◌, ℕ, ◌+◌, ◌-◌, ◌*◌, ◌%◌, ◌^◌, ◌<◌, ◌≤◌, Bool, true, false, ◌&&◌, ltb, leb, eqb, refl, sym, ◌∙◌, ap, arith, inl, inr, pos, negsuc, ◌-ℤ◌, if◌then◌else◌, int_lt, FitsSigned, pow_mono}
-use Rattle.linker_elf.proofs.Imports.{bit_at, w64, cast_unsigned, ints, bit_and, and_zero_r, and_parts, cases_lt, lt-ltb, le-ltb, lt-leb, le-leb, eqb-true, ltb-true, and_mask, pow_below, pow-add, mod-eq_of_lt, and_pow, signed, values_apart, values_below, place_sum, Sign, unsigned, twos_complement, number_of, place_sum_below}
-use Rattle.linker_base.specs.Form.{Field}
-use Rattle.linker_base.proofs.Bits.{signed_bits}
-use Rattle.linker_elf.specs.declared.elf.engine.Encoding.{Encoding}
+use Rattle.linker_elf.proofs.Imports.{Bool, Encoding, Field, FitsSigned, Sign, and_mask, and_parts, and_pow, and_zero_r, ap, arith, bit_and, bit_at, cases_lt, cast_unsigned, eqb, eqb-true, false, if◌then◌else◌, inl, inr, int_lt, ints, le-leb, le-ltb, leb, lt-leb, lt-ltb, ltb, ltb-true, mod-eq_of_lt, negsuc, number_of, place_sum, place_sum_below, pos, pow-add, pow_below, pow_mono, refl, signed, signed_bits, sym, true, twos_complement, unsigned, values_apart, values_below, w64, ℕ, ◌%◌, ◌&&◌, ◌*◌, ◌+◌, ◌-ℤ◌, ◌-◌, ◌<◌, ◌^◌, ◌∙◌, ◌≡◌, ◌≤◌}
 
 -- ---- a number in two's complement, as the code takes twice its sign bit off
 

@@ -1,45 +1,6 @@
 -- The machine reads no value out of reach: from comparisons of each row's bounds with what its form
 -- can hold.
-use Rattle.std.proofs.Common.{◌≡◌, ℕ, ◌+◌, ◌-◌, ◌*◌, ◌/◌, ◌%◌, ◌^◌, ◌<◌, ◌≤◌, Bool, true, false, ◌&&◌, ◌||◌, leb, eqb, refl, sym, ◌∙◌, ap, subst, arith, inl, inr, ℤ, pos, negsuc, neg_ℤ, ◌+ℤ◌, ◌-ℤ◌, ◌*ℤ◌, ◌≤ℤ◌, ◌<ℤ◌, Option, Some, None, unsigned_abs, IfSome}
-use Rattle.linker_elf.proofs.Imports.{int_rem_euclid, le_z, and_parts, or_cases, leb-true, eqb-true, ints, pow_pos, pow-add, mod_below, field, signed, Sign, unsigned, twos_complement, number_of, place_sum, Layout, one_field, own_form, form_of, BitRange, is_sound_layout, sound_field, place_sum_below, signed_cases, added}
-use Rattle.std.proofs.Math.Nat.{div-lt_iff_lt-mul}
-use Rattle.linker_base.proofs.Immediates.{values_apart_fills}
-use Rattle.linker_base.proofs.Pairs.{part_aligned}
-use Rattle.linker_elf.specs.AArch64.{aarch64_layout, imm16_places, moved_value, shift_of, opcode_of, movn_opcode}
-use Rattle.linker_elf.specs.AArch64Relocations.{aarch64_row}
-use Rattle.linker_elf.specs.Agrees.{bits_from, reads_signed, aarch64_reads}
-use Rattle.linker_elf.specs.Elf.{IsWithin}
-use Rattle.linker_elf.specs.LoongArch.{loongarch_layout, shift10_imm16}
-use Rattle.linker_elf.specs.LoongArchRelocations.{loongarch_row}
-use Rattle.linker_elf.specs.Ppc64.{ppc64_form, ppc64_layout}
-use Rattle.linker_elf.specs.Ppc64Relocations.{ppc64_row}
-use Rattle.linker_elf.specs.Reach.{reach_of, riscv_pair_bounds, clui_bounds, call36_bounds}
-use Rattle.linker_elf.specs.Readings.{RiscVReads, LoongArchReads, reads_more, InstructionReadsAs, SizeReadsNoOther, ReadsNoOther, RowReadsNoOther, LoongArchRowReadsNoOther}
-use Rattle.linker_elf.specs.Relocate.{IsAligned}
-use Rattle.linker_elf.specs.RiscV.{riscv_layout, riscv_places, ui_high, ui_low}
-use Rattle.linker_elf.specs.RiscVRelocations.{riscv_relocation, clui_row}
-use Rattle.linker_elf.specs.Rows.{Bounds}
-use Rattle.linker_elf.specs.declared.aarch64.forms.AArch64Instruction.{AArch64Instruction}
-use Rattle.linker_elf.specs.declared.aarch64.forms.AArch64Instruction.TheVariants.{Movnz, MachOLow12}
-use Rattle.linker_elf.specs.declared.loongarch64.forms.LoongArch64Instruction.{LoongArch64Instruction}
-use Rattle.linker_elf.specs.declared.loongarch64.forms.LoongArch64Instruction.TheVariants.{Shift5, Shift10, Call30, Call36}
-use Rattle.linker_elf.specs.declared.ppc64.forms.Ppc64Form.{Ppc64Form}
-use Rattle.linker_elf.specs.declared.ppc64.forms.Ppc64Form.TheVariants.{D}
-use Rattle.linker_elf.specs.declared.elf.AnyForm.{AnyForm}
-use Rattle.linker_elf.specs.declared.elf.AnyForm.TheVariants.{RiscV, Ppc64, LoongArch64, AArch64}
-use Rattle.linker_elf.specs.declared.elf.RowInfo.{RowInfo}
-use Rattle.linker_elf.specs.declared.elf.RowSize.{RowSize}
-use Rattle.linker_elf.specs.declared.elf.RowSize.TheVariants.{ByteSize, BitMasking}
-use Rattle.linker_elf.specs.declared.riscv64.forms.RiscVInstruction.{RiscVInstruction}
-use Rattle.linker_elf.specs.declared.riscv64.forms.RiscVInstruction.TheVariants.{UType, IType, SType, CluiType, UiType}
-use Rattle.linker_elf.specs.declared.aarch64.relocations.AArch64Relocation.{AArch64Relocation}
-use Rattle.linker_elf.specs.declared.aarch64.relocations.AArch64Relocation.TheVariants.{R_AARCH64_NONE}
-use Rattle.linker_elf.specs.declared.loongarch64.relocations.LoongArch64Relocation.{LoongArch64Relocation}
-use Rattle.linker_elf.specs.declared.loongarch64.relocations.LoongArch64Relocation.TheVariants.{R_LARCH_NONE}
-use Rattle.linker_elf.specs.declared.ppc64.relocations.Ppc64Relocation.{Ppc64Relocation}
-use Rattle.linker_elf.specs.declared.ppc64.relocations.Ppc64Relocation.TheVariants.{R_PPC64_TLS}
-use Rattle.linker_elf.specs.declared.riscv64.relocations.RiscVRelocation.{RiscVRelocation}
-use Rattle.linker_elf.specs.declared.riscv64.relocations.RiscVRelocation.TheVariants.{R_RISCV_NONE}
+use Rattle.linker_elf.proofs.Imports.{AArch64, AArch64Instruction, AArch64Relocation, AnyForm, BitMasking, BitRange, Bool, Bounds, ByteSize, Call30, Call36, CluiType, D, IType, IfSome, InstructionReadsAs, IsAligned, IsWithin, Layout, LoongArch64, LoongArch64Instruction, LoongArch64Relocation, LoongArchReads, LoongArchRowReadsNoOther, MachOLow12, Movnz, None, Option, Ppc64, Ppc64Form, Ppc64Relocation, R_AARCH64_NONE, R_LARCH_NONE, R_PPC64_TLS, R_RISCV_NONE, ReadsNoOther, RiscV, RiscVInstruction, RiscVReads, RiscVRelocation, RowInfo, RowReadsNoOther, RowSize, SType, Shift10, Shift5, Sign, SizeReadsNoOther, Some, UType, UiType, aarch64_layout, aarch64_reads, aarch64_row, added, and_parts, ap, arith, bits_from, call36_bounds, clui_bounds, clui_row, div-lt_iff_lt-mul, eqb, eqb-true, false, field, form_of, imm16_places, inl, inr, int_rem_euclid, ints, is_sound_layout, le_z, leb, leb-true, loongarch_layout, loongarch_row, mod_below, moved_value, movn_opcode, neg_ℤ, negsuc, number_of, one_field, opcode_of, or_cases, own_form, part_aligned, place_sum, place_sum_below, pos, pow-add, pow_pos, ppc64_form, ppc64_layout, ppc64_row, reach_of, reads_more, reads_signed, refl, riscv_layout, riscv_pair_bounds, riscv_places, riscv_relocation, shift10_imm16, shift_of, signed, signed_cases, sound_field, subst, sym, true, twos_complement, ui_high, ui_low, unsigned, unsigned_abs, values_apart_fills, ℕ, ℤ, ◌%◌, ◌&&◌, ◌*ℤ◌, ◌*◌, ◌+ℤ◌, ◌+◌, ◌-ℤ◌, ◌-◌, ◌/◌, ◌<ℤ◌, ◌<◌, ◌^◌, ◌||◌, ◌∙◌, ◌≡◌, ◌≤ℤ◌, ◌≤◌}
 use Rattle.linker_elf.proofs.Agreement.{le_yes}
 use Rattle.linker_elf.proofs.RiscV.{u_sound, clui_sound}
 use Rattle.linker_elf.proofs.RowsAgree.{moved_from}

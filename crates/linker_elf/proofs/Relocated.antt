@@ -1,30 +1,5 @@
 -- What the machine reads of an instruction into which a relocation's value was written.
-use Rattle.std.proofs.Common.{FitsSigned, ◌≡◌, ℕ, ◌+◌, ◌-◌, ◌<◌, ◌≤◌, ◌^◌, ◌&&◌, Bool, ltb, arith, IsTrue, true, false, not, refl, sym, ◌∙◌, ap, subst, List, ℤ, pos, negsuc, int_lt, Some, None, inl, inr, ◌==◌, ◌%◌, ◌/◌, ◌*ℤ◌, ◌-ℤ◌, unsigned_abs, if◌then◌else◌}
-use Rattle.std.specs.Prelude.{⊤, ◌⊎◌}
-use Rattle.linker_elf.proofs.Imports.{w64, bit_at, cast_unsigned, int_rem_euclid, lt-ltb, ltb-true, eqb-true, and_parts, cases_lt, ints, int_rem_euclid_is, signed_cases, mod_below, pow_pos, field, ImmediateBit, BitsWritten, IsClear, is_clear_at, window_of, replaced, one_field, Fits, BitRange, consecutive_bits_all, always_clear, layout_laid, subst_below}
-use Rattle.linker_elf.specs.AArch64.{aarch64_form, shift_of, access_scale}
-use Rattle.linker_elf.specs.Agrees.{InstructionAgrees, SizeAgrees, AgreesBy, AgreesInReach, is_of_halves, is_of_words, bits_from, IsSameIn, aarch64_reads}
-use Rattle.linker_elf.specs.Elf.{IsWithin, bit_bounds, relocation_form, relocation_layout}
-use Rattle.linker_elf.specs.LoongArch.{loongarch_form, shift10_imm16}
-use Rattle.linker_elf.specs.Ppc64.{ppc64_form}
-use Rattle.linker_elf.specs.Reach.{aarch64_reach, riscv_reach, loongarch_reach, ppc64_reach, reach_of_size, reach_of}
-use Rattle.linker_elf.specs.Relocate.{places_cleared, ored_cleared, bits_taken, InstructionWritten, IsWritten, InstructionReads, SizeReads, takes_size, is_supported, is_call30, IsAligned, IsAccepted, IsInUnits, IsInWords, MoveReads, with_bit_31_if, stays_movk, is_movk, is_low_jump, low_part, insn_at, bits_at, value_at}
-use Rattle.linker_elf.specs.Rows.{Bounds}
-use Rattle.linker_elf.specs.declared.aarch64.forms.AArch64Instruction.{AArch64Instruction}
-use Rattle.linker_elf.specs.declared.aarch64.forms.AArch64Instruction.TheVariants.{Movkz, Movnz, MachOLow12}
-use Rattle.linker_elf.specs.declared.loongarch64.forms.LoongArch64Instruction.{LoongArch64Instruction}
-use Rattle.linker_elf.specs.declared.loongarch64.forms.LoongArch64Instruction.TheVariants.{Shift10, Call36}
-use Rattle.linker_elf.specs.declared.ppc64.forms.Ppc64Form.{Ppc64Form}
-use Rattle.linker_elf.specs.declared.ppc64.forms.Ppc64Form.TheVariants.{D, Ds}
-use Rattle.linker_elf.specs.declared.elf.AnyForm.{AnyForm}
-use Rattle.linker_elf.specs.declared.elf.AnyForm.TheVariants.{AArch64, RiscV, Ppc64, LoongArch64}
-use Rattle.linker_elf.specs.declared.elf.RelocationKind.{RelocationKind}
-use Rattle.linker_elf.specs.declared.elf.Sign.TheVariants.{Signed}
-use Rattle.linker_elf.specs.declared.elf.RowInfo.{RowInfo}
-use Rattle.linker_elf.specs.declared.elf.RowSize.{RowSize}
-use Rattle.linker_elf.specs.declared.elf.RowSize.TheVariants.{ByteSize, BitMasking}
-use Rattle.linker_elf.specs.declared.riscv64.forms.RiscVInstruction.{RiscVInstruction}
-use Rattle.linker_elf.specs.declared.riscv64.forms.RiscVInstruction.TheVariants.{UType, IType, SType, CluiType, UiType}
+use Rattle.linker_elf.proofs.Imports.{AArch64, AArch64Instruction, AgreesBy, AgreesInReach, AnyForm, BitMasking, BitRange, BitsWritten, Bool, Bounds, ByteSize, Call36, CluiType, D, Ds, Fits, FitsSigned, IType, ImmediateBit, InstructionAgrees, InstructionReads, InstructionWritten, IsAccepted, IsAligned, IsClear, IsInUnits, IsInWords, IsSameIn, IsTrue, IsWithin, IsWritten, List, LoongArch64, LoongArch64Instruction, MachOLow12, MoveReads, Movkz, Movnz, None, Ppc64, Ppc64Form, RelocationKind, RiscV, RiscVInstruction, RowInfo, RowSize, SType, Shift10, Signed, SizeAgrees, SizeReads, Some, UType, UiType, aarch64_form, aarch64_reach, aarch64_reads, access_scale, always_clear, and_parts, ap, arith, bit_at, bit_bounds, bits_at, bits_from, bits_taken, cases_lt, cast_unsigned, consecutive_bits_all, eqb-true, false, field, if◌then◌else◌, inl, inr, insn_at, int_lt, int_rem_euclid, int_rem_euclid_is, ints, is_call30, is_clear_at, is_low_jump, is_movk, is_of_halves, is_of_words, is_supported, layout_laid, loongarch_form, loongarch_reach, low_part, lt-ltb, ltb, ltb-true, mod_below, negsuc, not, one_field, ored_cleared, places_cleared, pos, pow_pos, ppc64_form, ppc64_reach, reach_of, reach_of_size, refl, relocation_form, relocation_layout, replaced, riscv_reach, shift10_imm16, shift_of, signed_cases, stays_movk, subst, subst_below, sym, takes_size, true, unsigned_abs, value_at, w64, window_of, with_bit_31_if, ℕ, ℤ, ⊤, ◌%◌, ◌&&◌, ◌*ℤ◌, ◌+◌, ◌-ℤ◌, ◌-◌, ◌/◌, ◌<◌, ◌==◌, ◌^◌, ◌∙◌, ◌≡◌, ◌≤◌, ◌⊎◌}
 use Rattle.linker_elf.proofs.Clearing.{same_window, clear_after}
 use Rattle.linker_elf.proofs.Agreement.{rem_rem, from_zero, layout_agrees}
 use Rattle.linker_elf.proofs.ReadNumbers.{signed_fits}

@@ -1,22 +1,10 @@
 -- How ELF names the relocation with an `r_type`: with a text, or as one of those without.
-use Rattle.std.proofs.Common.{◌≡◌, ◌≤◌, ℕ, List, length, lit≤, ap, refl, sym, ◌∙◌}
-use Rattle.linker_elf.specs.ElfNames.{ElfName, named, unnamed, r_type_of, text_of, IsNamed, IsNameOf}
-use Rattle.linker_elf.specs.AArch64Relocations.{aarch64_name}
-use Rattle.linker_elf.specs.declared.aarch64.relocations.AArch64Relocation.{AArch64Relocation}
+use Rattle.linker_elf.proofs.Imports.{AArch64Relocation, ElfName, IsNameOf, IsNamed, IsNamedValue, List, LoongArch64Relocation, Ppc64Relocation, RiscVRelocation, X86_64Relocation, aarch64_name, ap, length, lit≤, loongarch_name, named, ppc64_name, r_type_of, refl, riscv_name, sym, text_of, unnamed, x86_64_name, ℕ, ◌∙◌, ◌≡◌, ◌≤◌}
 use Rattle.linker_elf.specs.declared.aarch64.relocations.AArch64Relocation.TheVariants as aarch64_names
-use Rattle.linker_elf.specs.RiscVRelocations.{riscv_name}
-use Rattle.linker_elf.specs.declared.riscv64.relocations.RiscVRelocation.{RiscVRelocation}
 use Rattle.linker_elf.specs.declared.riscv64.relocations.RiscVRelocation.TheVariants as riscv64_names
-use Rattle.linker_elf.specs.LoongArchRelocations.{loongarch_name}
-use Rattle.linker_elf.specs.declared.loongarch64.relocations.LoongArch64Relocation.{LoongArch64Relocation}
 use Rattle.linker_elf.specs.declared.loongarch64.relocations.LoongArch64Relocation.TheVariants as loongarch64_names
-use Rattle.linker_elf.specs.Ppc64Relocations.{ppc64_name}
-use Rattle.linker_elf.specs.declared.ppc64.relocations.Ppc64Relocation.{Ppc64Relocation}
 use Rattle.linker_elf.specs.declared.ppc64.relocations.Ppc64Relocation.TheVariants as ppc64_names
-use Rattle.linker_elf.specs.X86Relocations.{x86_64_name}
-use Rattle.linker_elf.specs.declared.x86_64.relocations.X86_64Relocation.{X86_64Relocation}
 use Rattle.linker_elf.specs.declared.x86_64.relocations.X86_64Relocation.TheVariants as x86_64_names
-use Rattle.linker_elf.specs.Architectures.{IsNamedValue}
 
 named_is : (elf : ElfName) (r_type : ℕ) (text : List ℕ) → IsNamed elf → r_type_of elf ≡ r_type → text ≡ text_of elf → named r_type text ≡ elf
 named_is (named r t) r_type text is r_type_is text_is = ap (λ k. named k text) (sym r_type_is) ∙ ap (λ k. named r k) text_is

@@ -1,15 +1,7 @@
 -- What the machine reads of the RISC-V forms, and pairs make their value.
-use Rattle.std.proofs.Common.{◌≡◌, ℕ, suc, ◌+◌, ◌-◌, ◌*◌, ◌/◌, ◌%◌, ◌^◌, ◌<◌, ◌≤◌, Bool, true, false, refl, ap, sym, subst, ◌∙◌, arith, List, ◌⊎◌, inl, inr, ℤ, pos, negsuc, ◌+ℤ◌, ◌-ℤ◌, ◌≤ℤ◌, ◌<ℤ◌, pow_mono}
-use Rattle.linker_elf.proofs.Imports.{w32, w64, cast_unsigned, bit_at, int_rem_euclid, All, cases_lt, ints, int_rem_euclid_is, signed, ImmediateBit, BitsWritten, placed_bit, bit_for, Written, MachineReads, place_sum, layout_laid, layout_machine, place_sum_below, always_clear, signed_cases, added, bit_or, bit_and, mod_below, pow_pos, or_shifted, bit_at-lt, bit_at_and, bit_at_or, and_pow, same_from_bits, replaced, consecutive_bits_sum, sums}
-use Rattle.std.specs.Int.{w16}
-use Rattle.linker_base.proofs.Immediates.{place_sum_placed}
+use Rattle.linker_elf.proofs.Imports.{All, BitsWritten, Bool, CluiType, IType, ImmediateBit, IsPairOf, IsPairRange, JType, List, MachineReads, PairReads, RiscV, RiscVInstruction, SType, UType, UiType, Written, added, always_clear, and_pow, ap, arith, bit_and, bit_at, bit_at-lt, bit_at_and, bit_at_or, bit_for, bit_or, cases_lt, cast_unsigned, code_of, consecutive_bits_sum, false, inl, inr, int_rem_euclid, int_rem_euclid_is, ints, layout_laid, layout_machine, mod_below, negsuc, or_shifted, place_sum, place_sum_below, place_sum_placed, placed_bit, pos, pow_mono, pow_pos, refl, replaced, riscv_form, riscv_layout, riscv_places, same_from_bits, signed, signed_cases, subst, suc, sums, sym, true, ui_high, ui_low, ui_sum, w16, w32, w64, ℕ, ℤ, ◌%◌, ◌*◌, ◌+ℤ◌, ◌+◌, ◌-ℤ◌, ◌-◌, ◌/◌, ◌<ℤ◌, ◌<◌, ◌^◌, ◌∙◌, ◌≡◌, ◌≤ℤ◌, ◌≤◌, ◌⊎◌}
 use Rattle.linker_base.proofs.Rounded.{IsSoundPart, sound_part, rounded_machine}
-use Rattle.linker_elf.specs.RiscV.{riscv_form, riscv_layout, riscv_places, ui_high, ui_low, ui_sum, IsPairRange, IsPairOf, PairReads}
-use Rattle.linker_elf.specs.declared.riscv64.forms.RiscVInstruction.{RiscVInstruction}
-use Rattle.linker_elf.specs.Inner.Runs.{code_of}
-use Rattle.linker_elf.specs.declared.elf.AnyForm.TheVariants.{RiscV}
 use Rattle.linker_elf.proofs.ReadNumbers.{value_of, whole, sign_taken_off}
-use Rattle.linker_elf.specs.declared.riscv64.forms.RiscVInstruction.TheVariants.{UType, IType, SType, JType, CluiType, UiType}
 use Rattle.linker_base.proofs.Listed.{All-front, All-back}
 
 abbrev pub jtype_places : List ImmediateBit

@@ -1,37 +1,16 @@
 -- Each entry of a table of rows is the row of its name, with what a write of it tests and with its
 -- numbers: by computation, name by name.
-use Rattle.std.proofs.Common.{◌≡◌, ℕ, List, refl, subst, sym, slice_index_or, ap, Option, Some, None, IfSome, Bool, true, false, if◌then◌else◌}
-use denote.Enum.Declared.{tag_of}
-use Rattle.linker_elf.specs.Agrees.{RowFits}
-use Rattle.linker_elf.specs.Rows.{raw_row}
-use Rattle.linker_elf.specs.Inner.RowTables.{raw_info_in, with_raw_kind, IsEntryOf, IsSound}
-use Rattle.linker_elf.specs.declared.elf.RowInfo.{RowInfo}
-use Rattle.linker_elf.specs.declared.elf.rows.TableRow.{TableRow}
-use Rattle.linker_elf.specs.AArch64Relocations.{aarch64_row}
+use Rattle.linker_elf.proofs.Imports.{AArch64Relocation, Bool, IfSome, IsEntryOf, IsSound, List, LoongArch64Relocation, None, Option, Ppc64Relocation, R_AARCH64_NONE, R_LARCH_NONE, R_PPC64_NONE, R_RISCV_NONE, R_X86_64_NONE, RiscVRelocation, RowFits, RowInfo, Some, TableRow, X86_64Relocation, aarch64_row, ap, false, if◌then◌else◌, loongarch_raw_row, loongarch_row, ppc64_relocation, ppc64_row, raw_info_in, raw_row, refl, riscv_relocation, riscv_row, slice_index_or, subst, sym, tag_of, true, with_raw_kind, x86_64_relocation, x86_64_row, ℕ, ◌≡◌}
 use Rattle.linker_elf.specs.contracts.aarch64.relocations.AArch64Relocation as aarch64
 use Rattle.linker_elf.specs.declared.aarch64.relocations.TheConstants as aarch64_table
-use Rattle.linker_elf.specs.declared.aarch64.relocations.AArch64Relocation.{AArch64Relocation}
-use Rattle.linker_elf.specs.declared.aarch64.relocations.AArch64Relocation.TheVariants.{R_AARCH64_NONE}
-use Rattle.linker_elf.specs.RiscVRelocations.{riscv_relocation, riscv_row}
 use Rattle.linker_elf.specs.contracts.riscv64.relocations.RiscVRelocation as riscv64
 use Rattle.linker_elf.specs.declared.riscv64.relocations.TheConstants as riscv64_table
-use Rattle.linker_elf.specs.declared.riscv64.relocations.RiscVRelocation.{RiscVRelocation}
-use Rattle.linker_elf.specs.declared.riscv64.relocations.RiscVRelocation.TheVariants.{R_RISCV_NONE}
-use Rattle.linker_elf.specs.LoongArchRelocations.{loongarch_row, loongarch_raw_row}
 use Rattle.linker_elf.specs.contracts.loongarch64.relocations.LoongArch64Relocation as loongarch64
 use Rattle.linker_elf.specs.declared.loongarch64.relocations.TheConstants as loongarch64_table
-use Rattle.linker_elf.specs.declared.loongarch64.relocations.LoongArch64Relocation.{LoongArch64Relocation}
-use Rattle.linker_elf.specs.declared.loongarch64.relocations.LoongArch64Relocation.TheVariants.{R_LARCH_NONE}
-use Rattle.linker_elf.specs.Ppc64Relocations.{ppc64_relocation, ppc64_row}
 use Rattle.linker_elf.specs.contracts.ppc64.relocations.Ppc64Relocation as ppc64
 use Rattle.linker_elf.specs.declared.ppc64.relocations.TheConstants as ppc64_table
-use Rattle.linker_elf.specs.declared.ppc64.relocations.Ppc64Relocation.{Ppc64Relocation}
-use Rattle.linker_elf.specs.declared.ppc64.relocations.Ppc64Relocation.TheVariants.{R_PPC64_NONE}
-use Rattle.linker_elf.specs.X86Relocations.{x86_64_relocation, x86_64_row}
 use Rattle.linker_elf.specs.contracts.x86_64.relocations.X86_64Relocation as x86_64
 use Rattle.linker_elf.specs.declared.x86_64.relocations.TheConstants as x86_64_table
-use Rattle.linker_elf.specs.declared.x86_64.relocations.X86_64Relocation.{X86_64Relocation}
-use Rattle.linker_elf.specs.declared.x86_64.relocations.X86_64Relocation.TheVariants.{R_X86_64_NONE}
 
 entry_at : {row : Option RowInfo} (table : List (Option TableRow)) (i t : ℕ) → i ≡ t
     → IsEntryOf row (slice_index_or table t None) → IsEntryOf row (slice_index_or table i None)

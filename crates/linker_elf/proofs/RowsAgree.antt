@@ -1,41 +1,6 @@
 -- The rows of the relocation tables agree with the machines: one law a form, and comparisons of
 -- each row's numbers.
-use Rattle.std.proofs.Common.{◌≡◌, ℕ, ◌+◌, ◌-◌, ◌/◌, ◌%◌, ◌^◌, ◌<◌, Bool, true, false, ◌&&◌, ◌||◌, eqb, refl, sym, ◌∙◌, ap, subst, arith, ℤ, pos, negsuc, neg_ℤ, ◌≤ℤ◌, ◌<ℤ◌, Option, Some, None, unsigned_abs, int_lt, IfSome}
-use Rattle.linker_elf.proofs.Imports.{int_rem_euclid, le_z, and_parts, eqb-true, le-ltb, ints, field, Written, place_sum, unsigned, replaced, one_field, BitRange, layout_laid, always_clear, consecutive_bits_sum}
-use Rattle.std.proofs.lemmas.Nat.{shl-shr}
-use Rattle.linker_base.proofs.Immediates.{high_of}
-use Rattle.linker_elf.specs.Elf.{IsWithin}
-use Rattle.linker_elf.specs.Agrees.{bits_from, IsFieldOf, IsSameIn, InstructionAgrees, SizeAgrees, AgreesBy, AgreesInReach, RowAgrees, LoongArchRowAgrees, reads_signed, is_of_halves, is_of_words}
-use Rattle.linker_elf.specs.AArch64.{aarch64_layout, movnz, imm16_places, moved_bits, moved_value, shift_of}
-use Rattle.linker_elf.specs.AArch64Relocations.{aarch64_row}
-use Rattle.linker_elf.specs.LoongArchRelocations.{loongarch_row}
-use Rattle.linker_elf.specs.Ppc64Relocations.{ppc64_row}
-use Rattle.linker_elf.specs.RiscV.{riscv_form, riscv_layout}
-use Rattle.linker_elf.specs.LoongArch.{loongarch_form, loongarch_layout, shift10_imm16}
-use Rattle.linker_elf.specs.Ppc64.{ppc64_form, ppc64_layout}
-use Rattle.linker_elf.specs.Reach.{reach_of}
-use Rattle.linker_elf.specs.RiscVRelocations.{riscv_relocation}
-use Rattle.linker_elf.specs.declared.aarch64.forms.AArch64Instruction.{AArch64Instruction}
-use Rattle.linker_elf.specs.declared.aarch64.forms.AArch64Instruction.TheVariants.{Movnz, MachOLow12}
-use Rattle.linker_elf.specs.declared.loongarch64.forms.LoongArch64Instruction.{LoongArch64Instruction}
-use Rattle.linker_elf.specs.declared.loongarch64.forms.LoongArch64Instruction.TheVariants.{Shift5, Shift10, Call30, Call36}
-use Rattle.linker_elf.specs.declared.ppc64.forms.Ppc64Form.{Ppc64Form}
-use Rattle.linker_elf.specs.declared.ppc64.forms.Ppc64Form.TheVariants.{D}
-use Rattle.linker_elf.specs.declared.elf.AnyForm.{AnyForm}
-use Rattle.linker_elf.specs.declared.elf.AnyForm.TheVariants.{RiscV, Ppc64, LoongArch64, AArch64}
-use Rattle.linker_elf.specs.declared.elf.RowInfo.{RowInfo}
-use Rattle.linker_elf.specs.declared.elf.RowSize.{RowSize}
-use Rattle.linker_elf.specs.declared.elf.RowSize.TheVariants.{ByteSize, BitMasking}
-use Rattle.linker_elf.specs.declared.riscv64.forms.RiscVInstruction.{RiscVInstruction}
-use Rattle.linker_elf.specs.declared.riscv64.forms.RiscVInstruction.TheVariants.{UType, IType, SType, CluiType, UiType}
-use Rattle.linker_elf.specs.declared.aarch64.relocations.AArch64Relocation.{AArch64Relocation}
-use Rattle.linker_elf.specs.declared.aarch64.relocations.AArch64Relocation.TheVariants.{R_AARCH64_NONE}
-use Rattle.linker_elf.specs.declared.loongarch64.relocations.LoongArch64Relocation.{LoongArch64Relocation}
-use Rattle.linker_elf.specs.declared.loongarch64.relocations.LoongArch64Relocation.TheVariants.{R_LARCH_NONE}
-use Rattle.linker_elf.specs.declared.ppc64.relocations.Ppc64Relocation.{Ppc64Relocation}
-use Rattle.linker_elf.specs.declared.ppc64.relocations.Ppc64Relocation.TheVariants.{R_PPC64_TLS}
-use Rattle.linker_elf.specs.declared.riscv64.relocations.RiscVRelocation.{RiscVRelocation}
-use Rattle.linker_elf.specs.declared.riscv64.relocations.RiscVRelocation.TheVariants.{R_RISCV_NONE}
+use Rattle.linker_elf.proofs.Imports.{AArch64, AArch64Instruction, AArch64Relocation, AgreesBy, AgreesInReach, AnyForm, BitMasking, BitRange, Bool, ByteSize, Call30, Call36, CluiType, D, IType, IfSome, InstructionAgrees, IsFieldOf, IsSameIn, IsWithin, LoongArch64, LoongArch64Instruction, LoongArch64Relocation, LoongArchRowAgrees, MachOLow12, Movnz, None, Option, Ppc64, Ppc64Form, Ppc64Relocation, R_AARCH64_NONE, R_LARCH_NONE, R_PPC64_TLS, R_RISCV_NONE, RiscV, RiscVInstruction, RiscVRelocation, RowAgrees, RowInfo, RowSize, SType, Shift10, Shift5, SizeAgrees, Some, UType, UiType, Written, aarch64_layout, aarch64_row, always_clear, and_parts, ap, arith, bits_from, consecutive_bits_sum, eqb, eqb-true, false, field, high_of, imm16_places, int_lt, int_rem_euclid, ints, is_of_halves, is_of_words, layout_laid, le-ltb, le_z, loongarch_form, loongarch_layout, loongarch_row, moved_bits, moved_value, movnz, neg_ℤ, negsuc, one_field, place_sum, pos, ppc64_form, ppc64_layout, ppc64_row, reach_of, reads_signed, refl, replaced, riscv_form, riscv_layout, riscv_relocation, shift10_imm16, shift_of, shl-shr, subst, sym, true, unsigned, unsigned_abs, ℕ, ℤ, ◌%◌, ◌&&◌, ◌+◌, ◌-◌, ◌/◌, ◌<ℤ◌, ◌<◌, ◌^◌, ◌||◌, ◌∙◌, ◌≡◌, ◌≤ℤ◌}
 use Rattle.linker_elf.proofs.AArch64Forms.{movnz_machine}
 use Rattle.linker_elf.proofs.Agreement.{is_agreeing, layout_check, layout_agrees, sum_agrees, le_yes, quotient_low, quotient_high, rem_below}
 use Rattle.linker_elf.proofs.LoongArch.{shift5_places, shift10_low_sum, shift10_low_field}

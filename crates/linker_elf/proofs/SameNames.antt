@@ -1,10 +1,8 @@
 -- Names of relocations: a derived `==` is equality.
-use Rattle.std.proofs.Common.{ℕ, List, [], ◌∷◌, Bool, true, false, ◌≡◌, ◌↔◌, ◌==◌, IsTrue, subst, refl, sym, ap, true≢false, inl, inr}
-use Rattle.std.proofs.lemmas.Bool.{eqb-true, eq-eqb}
-use Rattle.linker_elf.specs.Inner.ChoiceTables.{AreEqualities}
+use Rattle.linker_elf.proofs.Imports.{AreEqualities, Bool, IsTrue, List, Record, [], ap, eq-eqb, eqb-true, false, inl, inr, refl, subst, sym, true, true≢false, values_one, ℕ, ◌==◌, ◌↔◌, ◌∷◌, ◌≡◌}
 use denote.Struct.Field.{Field}
 use denote.Struct.Values.{Values}
-use denote.Enum.Declared.{Choice, Record, values_one}
+use denote.Enum.Declared.{Choice}
 use denote.Enum.Compared.{Each, by}
 
 -- how the values of each variant with fields are compared

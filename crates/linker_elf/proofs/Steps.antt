@@ -1,18 +1,5 @@
 -- Steps of bits, as the engine moves them, write places and read them.
-use Rattle.std.proofs.Common.{◌≡◌, ℕ, zero, suc, ◌+◌, ◌-◌, ◌*◌, ◌/◌, ◌%◌, ◌^◌, ◌<◌, ◌≤◌, max, true, false, not, ◌&&◌, ◌||◌, ltb, eqb, List, [], ◌∷◌, length, take, get_or, refl, sym, ◌∙◌, ap, subst, arith, ◌⊎◌, inl, inr}
-use Rattle.linker_elf.proofs.Imports.{bit_at, w64, bit_or, bit_and, All, agree_below_at, and_parts, or_cases, cases_lt, eqb-true, ltb-true, ne_eqb, cond-true, cond-false, All-nil, All-cons, mod_below, pow_pos, mod-eq_of_lt, bit_at_and, bit_at_or, bit_at-lt, same_from_bits, Mark, replaced, ored, cleared, ImmediateBit, consecutive_bits, values_apart, values_below, BitsWritten, is_placed, placed_bit, bit_for, place_sum, place_sum_below, subst_below, bit_at_mod, bit_at_shr}
-use Rattle.std.specs.Int.{rotate_left, rotate_right}
-use Rattle.std.specs.List.{list_all}
-use Rattle.std.proofs.lemmas.Bool.{agree_below, or_from, not-true}
-use Rattle.std.proofs.lemmas.Nat.{and_le_l, or_lt}
-use Rattle.std.proofs.Math.Nat.{div-le_self}
-use Rattle.std.proofs.lemmas.Nat.Bits.{bit_at_not, bit_at_above, bit_at-zero, same_from_bits_below}
-use Rattle.linker_base.specs.Form.{is_of}
-use Rattle.linker_base.proofs.Fields.{bit_at_mod_above, bit_at_shl, bit_at_shl_below}
-use Rattle.linker_base.proofs.Places.{value_bit, bit_at-place_sum}
-use Rattle.linker_elf.specs.declared.elf.engine.Encoding.{Encoding}
-use Rattle.linker_elf.specs.declared.elf.engine.Step.{Step}
-use Rattle.linker_elf.specs.Inner.Runs.{none_to, one_to, is_laid, steps_fit, writes, none_from, one_from, comes_from, reads, words_below}
+use Rattle.linker_elf.proofs.Imports.{All, All-cons, All-nil, BitsWritten, Encoding, ImmediateBit, List, Mark, Step, [], agree_below, agree_below_at, and_le_l, and_parts, ap, arith, bit_and, bit_at, bit_at-lt, bit_at-place_sum, bit_at-zero, bit_at_above, bit_at_and, bit_at_mod, bit_at_mod_above, bit_at_not, bit_at_or, bit_at_shl, bit_at_shl_below, bit_at_shr, bit_for, bit_or, cases_lt, cleared, comes_from, cond-false, cond-true, consecutive_bits, div-le_self, eqb, eqb-true, false, get_or, inl, inr, is_laid, is_of, is_placed, length, list_all, ltb, ltb-true, max, mod-eq_of_lt, mod_below, ne_eqb, none_from, none_to, not, not-true, one_from, one_to, or_cases, or_from, or_lt, ored, place_sum, place_sum_below, placed_bit, pow_pos, reads, refl, replaced, rotate_left, rotate_right, same_from_bits, same_from_bits_below, steps_fit, subst, subst_below, suc, sym, take, true, value_bit, values_apart, values_below, w64, words_below, writes, zero, ℕ, ◌%◌, ◌&&◌, ◌*◌, ◌+◌, ◌-◌, ◌/◌, ◌<◌, ◌^◌, ◌||◌, ◌∙◌, ◌∷◌, ◌≡◌, ◌≤◌, ◌⊎◌}
 
 -- ---- rotations
 

@@ -1,9 +1,5 @@
 -- The bits of a value that are written are bits of the whole number.
-use Rattle.std.proofs.Common.{IsTrue, nat_eq, bit_and, unsigned_abs, FitsSigned, ◌≡◌, ℕ, suc, ◌-◌, ◌*◌, ◌/◌, ◌%◌, ◌^◌, ◌<◌, ◌≤◌, refl, sym, ◌∙◌, ap, subst, arith, ℤ, pos, negsuc, inl, inr}
-use Rattle.linker_elf.proofs.Imports.{w64, cast_unsigned, int_rem_euclid, eqb-true, cases_lt, pow_pos, mod_below, one_shl, mod-eq_of_lt, BitRange, subst_below}
-use Rattle.linker_base.proofs.Bits.{low_mask_keeps}
-use Rattle.linker_elf.specs.Agrees.{IsFieldOf, bits_from}
-use Rattle.linker_elf.specs.Relocate.{bits_taken, IsAligned}
+use Rattle.linker_elf.proofs.Imports.{BitRange, FitsSigned, IsAligned, IsFieldOf, IsTrue, ap, arith, bit_and, bits_from, bits_taken, cases_lt, cast_unsigned, eqb-true, inl, inr, int_rem_euclid, low_mask_keeps, mod-eq_of_lt, mod_below, nat_eq, negsuc, one_shl, pos, pow_pos, refl, subst, subst_below, suc, sym, unsigned_abs, w64, ℕ, ℤ, ◌%◌, ◌*◌, ◌-◌, ◌/◌, ◌<◌, ◌^◌, ◌∙◌, ◌≡◌, ◌≤◌}
 use Rattle.linker_elf.proofs.Agreement.{rem_rem, from_zero}
 use Rattle.linker_base.proofs.TwosComplement.{negative}
 

@@ -1,22 +1,9 @@
 -- The value of a row by the bits that count of its formula's terms.
-use Rattle.std.proofs.Common.{◌≡◌, ℕ, ℤ, ◌-◌, ◌^◌, ◌<◌, ◌⊎◌, inl, inr, Bool, true, false, true≢false, not, ◌&&◌, ◌||◌, if◌then◌else◌, eqb, bit_and, Option, Some, None, Result, Ok, Err, refl, sym, ap, subst, ◌∙◌, arith}
-use Rattle.linker_elf.proofs.Imports.{cases_Bool, cond-true, cond-false, and_mask, w64, cast_signed, cast_unsigned, and_zero_r}
-use Rattle.std.proofs.lemmas.Nat.Bits.{and_high_mask}
-use Rattle.linker_elf.specs.Inner.RowTables.{bits_of, addend_bits, formula_of, is_set, terms_of, symbol_of, entry_of_terms, plt_of, of_entry, signed_in}
-use Rattle.linker_elf.specs.LoongArch.{high_distance, page}
-use Rattle.linker_elf.specs.Value.{sum_64, difference_64, page_if, masks_symbol, masks_entry, masks_place, masks_got, bias_number, entry_addend, symbol_term, entry_term, place_term, got_term, plt_term, size_term, sequence_pc, relative_term, formula, read_signed, names_got_entry, names_plt_entry, is_offset, loads_plt_word, completed, or_no_value, value_given, value_of, lacks, lacks_entry, lacks_tls_base}
-use Rattle.linker_elf.specs.declared.elf.AnyForm.TheVariants.{RiscV, Ppc64, LoongArch64, AArch64}
-use Rattle.linker_elf.specs.declared.elf.RelocationKind.{RelocationKind}
-use Rattle.linker_elf.specs.declared.elf.RelocationKind.TheVariants.{Relative}
+use Rattle.linker_elf.proofs.Imports.{AArch64, BitMasking, Bool, ByteSize, Err, FormulaError, LoongArch64, None, Ok, Operands, Option, Ppc64, Relative, RelocationKind, Result, RiscV, RowInfo, RowSize, Some, addend_bits, and_high_mask, and_mask, and_zero_r, ap, arith, bias_number, bit_and, bits_of, cases_Bool, cast_signed, cast_unsigned, completed, cond-false, cond-true, difference_64, entry_addend, entry_of_terms, entry_term, eqb, false, formula, formula_of, got_term, high_distance, if◌then◌else◌, inl, inr, is_offset, is_set, lacks, lacks_entry, lacks_tls_base, loads_plt_word, masks_entry, masks_got, masks_place, masks_symbol, names_got_entry, names_plt_entry, not, of_entry, or_no_value, page, page_if, place_term, plt_of, plt_term, read_signed, refl, relative_term, sequence_pc, signed_in, size_term, subst, sum_64, sym, symbol_of, symbol_term, terms_of, true, true≢false, value_given, value_of, w64, ℕ, ℤ, ◌&&◌, ◌-◌, ◌<◌, ◌^◌, ◌||◌, ◌∙◌, ◌≡◌, ◌⊎◌}
 use Rattle.linker_elf.specs.declared.elf.RelocationKind.TheVariants as kinds
-use Rattle.linker_elf.specs.declared.elf.RowInfo.{RowInfo}
-use Rattle.linker_elf.specs.declared.elf.RowSize.{RowSize}
-use Rattle.linker_elf.specs.declared.elf.RowSize.TheVariants.{ByteSize, BitMasking}
 use Rattle.linker_elf.specs.declared.elf.value.Formula.{Formula}
 use Rattle.linker_elf.specs.declared.elf.value.Formula.TheVariants as formulas
-use Rattle.linker_elf.specs.declared.elf.value.FormulaError.{FormulaError}
 use Rattle.linker_elf.specs.declared.elf.value.FormulaError.TheVariants.{NoEntry, NoTlsBase, NoValue}
-use Rattle.linker_elf.specs.declared.elf.value.Operands.{Operands}
 use Rattle.linker_elf.specs.declared.elf.value.FormulaTerms.{FormulaTerms}
 
 -- ---- terms

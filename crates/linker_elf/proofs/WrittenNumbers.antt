@@ -1,13 +1,5 @@
 -- Whole bytes hold the number that is written, modulo 2 ^ 8 for each.
-use Rattle.std.proofs.Common.{FitsSigned, ◌≡◌, ℕ, zero, suc, ◌+◌, ◌-◌, ◌*◌, ◌%◌, ◌^◌, ◌<◌, not, ltb, true, refl, sym, ◌∙◌, ap, arith, List, ◌++◌, drop, ℤ, pos, negsuc, ◌+ℤ◌, ◌-ℤ◌}
-use Rattle.linker_elf.proofs.Imports.{w64, cast_unsigned, int_rem_euclid, and_parts, ltb-true, ints, int_rem_euclid_is, mod_mod}
-use Rattle.linker_elf.specs.Relocate.{number_of_bytes, low_bytes, number_written, whole_number, SizeNumber, IsWritten, is_supported, is_of_uleb128, takes_size}
-use Rattle.linker_elf.specs.Value.{sum_64, difference_64}
-use Rattle.linker_elf.specs.declared.elf.RelocationKind.{RelocationKind}
-use Rattle.linker_elf.specs.declared.elf.RelocationKind.TheVariants.{AbsoluteSetWord6, AbsoluteAddition, AbsoluteAdditionWord6, AbsoluteSubtraction, AbsoluteSubtractionWord6}
-use Rattle.linker_elf.specs.declared.elf.RowInfo.{RowInfo}
-use Rattle.linker_elf.specs.declared.elf.RowSize.{RowSize}
-use Rattle.linker_elf.specs.declared.elf.RowSize.TheVariants.{ByteSize, BitMasking}
+use Rattle.linker_elf.proofs.Imports.{AbsoluteAddition, AbsoluteAdditionWord6, AbsoluteSetWord6, AbsoluteSubtraction, AbsoluteSubtractionWord6, BitMasking, ByteSize, FitsSigned, IsWritten, List, RelocationKind, RowInfo, RowSize, SizeNumber, and_parts, ap, arith, cast_unsigned, difference_64, drop, int_rem_euclid, int_rem_euclid_is, ints, is_of_uleb128, is_supported, low_bytes, ltb, ltb-true, mod_mod, negsuc, not, number_of_bytes, number_written, pos, refl, suc, sum_64, sym, takes_size, true, w64, whole_number, zero, ℕ, ℤ, ◌%◌, ◌*◌, ◌++◌, ◌+ℤ◌, ◌+◌, ◌-ℤ◌, ◌-◌, ◌<◌, ◌^◌, ◌∙◌, ◌≡◌}
 use Rattle.linker_elf.proofs.Agreement.{rem_rem}
 use Rattle.linker_elf.proofs.Relocated.{supported_size}
 

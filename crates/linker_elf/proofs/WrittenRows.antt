@@ -1,8 +1,5 @@
 -- A write of a row that is accepted does what the row says.
-use Rattle.std.proofs.Common.{ℕ, List, ℤ, FitsSigned}
-use Rattle.std.specs.Int.{w64}
-use Rattle.linker_elf.specs.Relocate.{IsAccepted, IsWritten, WritesRow}
-use Rattle.linker_elf.specs.declared.elf.RowInfo.{RowInfo}
+use Rattle.linker_elf.proofs.Imports.{FitsSigned, IsAccepted, IsWritten, List, RowInfo, WritesRow, w64, ℕ, ℤ}
 use Rattle.linker_elf.proofs.Halves.{row_holds}
 use Rattle.linker_elf.proofs.Relocated.{row_reads, row_reads_in_reach}
 use Rattle.linker_elf.proofs.WrittenNumbers.{row_number}

@@ -1,22 +1,12 @@
 -- AArch64: its instruction forms (Arm Architecture Reference Manual for A-profile, DDI 0487, C6.2
 -- and C7.2), its rewrites and the moves that load an address.
-use Rattle.std.specs.Prelude.{◌∷◌, [], ℕ, ◌+◌, ◌-◌, ◌*◌, ◌/◌, ◌%◌, ◌^◌, Bool, true, false, not}
-use Rattle.std.specs.Prelude.{◌&&◌, ◌||◌}
-use Rattle.std.specs.Prelude.{◌==◌, if◌then◌else◌, List, ◌++◌, ℤ, pos}
-use Rattle.std.specs.Prelude.{negsuc, nat_lt}
-use Rattle.std.specs.Int.{w32, bit_at}
-use Rattle.linker_base.specs.Bits.{field}
-use Rattle.linker_base.specs.Form.{Form, ImmediateBit, bits_to, or_bits_to, place_sum, Layout}
-use Rattle.linker_base.specs.Form.{one_field, own_form, form_of, Sign, unsigned, twos_complement}
-use Rattle.linker_base.specs.Form.{exactly, modulo}
-use Rattle.linker_elf.specs.declared.aarch64.forms.AArch64Instruction.{AArch64Instruction}
-use Rattle.linker_elf.specs.declared.aarch64.forms.AArch64Instruction.TheVariants.{Adr, Movkz}
-use Rattle.linker_elf.specs.declared.aarch64.forms.AArch64Instruction.TheVariants.{Movnz, Ldr}
-use Rattle.linker_elf.specs.declared.aarch64.forms.AArch64Instruction.TheVariants.{LdrRegister}
-use Rattle.linker_elf.specs.declared.aarch64.forms.AArch64Instruction.TheVariants.{Add, LdSt}
-use Rattle.linker_elf.specs.declared.aarch64.forms.AArch64Instruction.TheVariants.{TstBr, Bcond}
-use Rattle.linker_elf.specs.declared.aarch64.forms.AArch64Instruction.TheVariants.{JumpCall}
-use Rattle.linker_elf.specs.declared.aarch64.forms.AArch64Instruction.TheVariants.{MachOLow12}
+use Rattle.linker_elf.specs.Imports.{AArch64Instruction, Add, Adr, Bcond, Form, ImmediateBit}
+use Rattle.linker_elf.specs.Imports.{JumpCall, Layout, LdSt, Ldr, LdrRegister, MachOLow12, Movkz}
+use Rattle.linker_elf.specs.Imports.{Movnz, Sign, TstBr, bit_at, bits_to, exactly, field, form_of}
+use Rattle.linker_elf.specs.Imports.{modulo, one_field, or_bits_to, own_form, place_sum}
+use Rattle.linker_elf.specs.Imports.{twos_complement, unsigned, w32}
+use Rattle.std.specs.Prelude.{Bool, List, [], false, nat_lt, negsuc, not, pos, true, ℕ, ℤ, ◌∷◌, ◌+◌}
+use Rattle.std.specs.Prelude.{◌-◌, ◌*◌, ◌/◌, ◌%◌, ◌^◌, ◌&&◌, ◌||◌, ◌==◌, if◌then◌else◌, ◌++◌}
 
 -- ---- moves of 16 bits
 

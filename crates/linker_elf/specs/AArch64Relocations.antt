@@ -1,31 +1,18 @@
 -- The relocations of AArch64 (ELF for the Arm 64-bit Architecture, "Relocation").
-use Rattle.std.specs.Prelude.{codes, ℕ, Option}
+use Rattle.linker_elf.specs.Imports.{AArch64, AArch64Instruction, Absolute, AbsoluteLowPart, Add}
+use Rattle.linker_elf.specs.Imports.{Adr, Bcond, DtpOff, Got, GotRelGotBase, GotRelative, GotTpOff}
+use Rattle.linker_elf.specs.Imports.{GotTpOffGot, GotTpOffGotBase, JumpCall, LdSt, Ldr, LdrRegister}
+use Rattle.linker_elf.specs.Imports.{Movkz, Movnz, PltRelative, Relative, RelocationKind}
+use Rattle.linker_elf.specs.Imports.{SymRelGotBase, TlsDesc, TlsDescCall, TlsDescGot}
+use Rattle.linker_elf.specs.Imports.{TlsDescGotBase, TlsGd, TlsGdGot, TlsGdGotBase, TlsLd, TlsLdGot}
+use Rattle.linker_elf.specs.Imports.{TlsLdGotBase, TpOff, TstBr}
+use Rattle.std.specs.Prelude.{Option, codes, ℕ}
 use Rattle.linker_elf.specs.ElfNames.{ElfName}
 use Rattle.linker_elf.specs.Rows.{Relocation, with_row, unnamed_relocation, bytes_row, bits_row}
 use Rattle.linker_elf.specs.Rows.{signed_row, unsigned_row, signed_or_unsigned_row, aligned_row}
 use Rattle.linker_elf.specs.Rows.{paged_row, thunkable_row, place_pages, entry_pages, got_page}
-use Rattle.linker_elf.specs.declared.elf.RelocationKind.{RelocationKind}
-use Rattle.linker_elf.specs.declared.elf.RelocationKind.TheVariants.{Absolute, AbsoluteLowPart}
-use Rattle.linker_elf.specs.declared.elf.RelocationKind.TheVariants.{DtpOff, Got, GotRelGotBase}
-use Rattle.linker_elf.specs.declared.elf.RelocationKind.TheVariants.{GotRelative, GotTpOff}
-use Rattle.linker_elf.specs.declared.elf.RelocationKind.TheVariants.{GotTpOffGot, GotTpOffGotBase}
-use Rattle.linker_elf.specs.declared.elf.RelocationKind.TheVariants.{None as NoValue, PltRelative}
-use Rattle.linker_elf.specs.declared.elf.RelocationKind.TheVariants.{Relative, SymRelGotBase}
-use Rattle.linker_elf.specs.declared.elf.RelocationKind.TheVariants.{TlsDesc, TlsDescCall}
-use Rattle.linker_elf.specs.declared.elf.RelocationKind.TheVariants.{TlsDescGot, TlsDescGotBase}
-use Rattle.linker_elf.specs.declared.elf.RelocationKind.TheVariants.{TlsGd, TlsGdGot}
-use Rattle.linker_elf.specs.declared.elf.RelocationKind.TheVariants.{TlsGdGotBase, TlsLd}
-use Rattle.linker_elf.specs.declared.elf.RelocationKind.TheVariants.{TlsLdGot, TlsLdGotBase}
-use Rattle.linker_elf.specs.declared.elf.RelocationKind.TheVariants.{TpOff}
+use Rattle.linker_elf.specs.declared.elf.RelocationKind.TheVariants.{None as NoValue}
 use Rattle.linker_elf.specs.declared.elf.RowInfo.{RowInfo}
-use Rattle.linker_elf.specs.declared.elf.AnyForm.TheVariants.{AArch64}
-use Rattle.linker_elf.specs.declared.aarch64.forms.AArch64Instruction.{AArch64Instruction}
-use Rattle.linker_elf.specs.declared.aarch64.forms.AArch64Instruction.TheVariants.{Adr, Movkz}
-use Rattle.linker_elf.specs.declared.aarch64.forms.AArch64Instruction.TheVariants.{Movnz, Ldr}
-use Rattle.linker_elf.specs.declared.aarch64.forms.AArch64Instruction.TheVariants.{LdrRegister}
-use Rattle.linker_elf.specs.declared.aarch64.forms.AArch64Instruction.TheVariants.{Add, LdSt}
-use Rattle.linker_elf.specs.declared.aarch64.forms.AArch64Instruction.TheVariants.{TstBr, Bcond}
-use Rattle.linker_elf.specs.declared.aarch64.forms.AArch64Instruction.TheVariants.{JumpCall}
 use Rattle.linker_elf.specs.declared.aarch64.relocations.AArch64Relocation.{AArch64Relocation}
 use Rattle.linker_elf.specs.declared.aarch64.relocations.AArch64Relocation.TheVariants as r
 

@@ -2,41 +2,23 @@
 -- once written into its instruction, are read as those bits of the value. Rows of whole bytes have
 -- no instruction; those of a half or of the whole of an instruction pair agree together, as the
 -- contracts of the writes of pairs say. And when a row's bits fit its form.
-use Rattle.std.specs.Prelude.{◌≡◌, ℕ, ◌-◌, ◌^◌, ◌<◌, ◌≤◌, Bool, true, false, Option, Some, None, ℤ}
-use Rattle.std.specs.Prelude.{pos, int_lt, ◌<ℤ◌, ⊤}
-use Rattle.std.specs.Int.{int_div_euclid, int_rem_euclid}
-use Rattle.linker_base.specs.Bits.{field}
-use Rattle.linker_base.specs.Form.{Form, Fits, Written, IsClear, IsSameModulo}
-use Rattle.linker_base.specs.declared.bit_misc.BitRange.{BitRange}
+use Rattle.linker_elf.specs.Imports.{AArch64, AArch64Instruction, AnyForm, BitMasking, BitRange}
+use Rattle.linker_elf.specs.Imports.{ByteSize, Call30, Call36, CluiType, Fits, Form, IType, IsClear}
+use Rattle.linker_elf.specs.Imports.{IsSameModulo, LoongArch64, LoongArch64Instruction}
+use Rattle.linker_elf.specs.Imports.{LoongArch64Relocation, Movnz, Ppc64, R_LARCH_B16}
+use Rattle.linker_elf.specs.Imports.{R_LARCH_PCREL20_S2, R_LARCH_TLS_DESC_PCREL20_S2}
+use Rattle.linker_elf.specs.Imports.{R_LARCH_TLS_GD_PCREL20_S2, R_LARCH_TLS_LD_PCREL20_S2, RiscV}
+use Rattle.linker_elf.specs.Imports.{RiscVInstruction, RowSize, SType, Shift10, Shift5, UType}
+use Rattle.linker_elf.specs.Imports.{UiType, Written, field, int_div_euclid, int_rem_euclid}
+use Rattle.std.specs.Prelude.{Bool, None, Option, Some, false, int_lt, pos, true, ℕ, ℤ, ⊤, ◌≡◌, ◌-◌}
+use Rattle.std.specs.Prelude.{◌^◌, ◌<◌, ◌≤◌, ◌<ℤ◌}
 use Rattle.linker_elf.specs.AArch64.{aarch64_form, shift_of}
 use Rattle.linker_elf.specs.Elf.{IsWithin, relocation_form}
 use Rattle.linker_elf.specs.LoongArch.{loongarch_form}
 use Rattle.linker_elf.specs.Ppc64.{ppc64_form}
 use Rattle.linker_elf.specs.Reach.{reach_of}
 use Rattle.linker_elf.specs.RiscV.{riscv_form}
-use Rattle.linker_elf.specs.declared.aarch64.forms.AArch64Instruction.{AArch64Instruction}
-use Rattle.linker_elf.specs.declared.aarch64.forms.AArch64Instruction.TheVariants.{Movnz}
-use Rattle.linker_elf.specs.declared.loongarch64.forms.LoongArch64Instruction.{LoongArch64Instruction}
-use Rattle.linker_elf.specs.declared.loongarch64.forms.LoongArch64Instruction.TheVariants.{Shift5}
-use Rattle.linker_elf.specs.declared.loongarch64.forms.LoongArch64Instruction.TheVariants.{Shift10}
-use Rattle.linker_elf.specs.declared.loongarch64.forms.LoongArch64Instruction.TheVariants.{Call30}
-use Rattle.linker_elf.specs.declared.loongarch64.forms.LoongArch64Instruction.TheVariants.{Call36}
-use Rattle.linker_elf.specs.declared.elf.AnyForm.{AnyForm}
-use Rattle.linker_elf.specs.declared.elf.AnyForm.TheVariants.{RiscV, Ppc64}
-use Rattle.linker_elf.specs.declared.elf.AnyForm.TheVariants.{LoongArch64, AArch64}
 use Rattle.linker_elf.specs.declared.elf.RowInfo.{RowInfo}
-use Rattle.linker_elf.specs.declared.elf.RowSize.{RowSize}
-use Rattle.linker_elf.specs.declared.elf.RowSize.TheVariants.{ByteSize, BitMasking}
-use Rattle.linker_elf.specs.declared.riscv64.forms.RiscVInstruction.{RiscVInstruction}
-use Rattle.linker_elf.specs.declared.riscv64.forms.RiscVInstruction.TheVariants.{UType, IType}
-use Rattle.linker_elf.specs.declared.riscv64.forms.RiscVInstruction.TheVariants.{SType}
-use Rattle.linker_elf.specs.declared.riscv64.forms.RiscVInstruction.TheVariants.{CluiType, UiType}
-use Rattle.linker_elf.specs.declared.loongarch64.relocations.LoongArch64Relocation.{LoongArch64Relocation}
-use Rattle.linker_elf.specs.declared.loongarch64.relocations.LoongArch64Relocation.TheVariants.{R_LARCH_PCREL20_S2}
-use Rattle.linker_elf.specs.declared.loongarch64.relocations.LoongArch64Relocation.TheVariants.{R_LARCH_B16}
-use Rattle.linker_elf.specs.declared.loongarch64.relocations.LoongArch64Relocation.TheVariants.{R_LARCH_TLS_LD_PCREL20_S2}
-use Rattle.linker_elf.specs.declared.loongarch64.relocations.LoongArch64Relocation.TheVariants.{R_LARCH_TLS_GD_PCREL20_S2}
-use Rattle.linker_elf.specs.declared.loongarch64.relocations.LoongArch64Relocation.TheVariants.{R_LARCH_TLS_DESC_PCREL20_S2}
 
 -- the bits of v from bit s up; of a negative v, those of its two's complement
 abbrev pub bits_from : ℕ → ℤ → ℤ

@@ -1,9 +1,9 @@
 -- Relocations that are applied: their values are computed and written.
-use Rattle.std.specs.Prelude.{◌≡◌, ℕ, List, Some, ℤ}
+use Rattle.linker_elf.specs.Imports.{Operands}
+use Rattle.std.specs.Prelude.{List, Some, ℕ, ℤ, ◌≡◌}
 use Rattle.linker_elf.specs.Relocate.{IsAccepted, IsWritten}
 use Rattle.linker_elf.specs.Value.{value_of}
 use Rattle.linker_elf.specs.declared.elf.RowInfo.{RowInfo}
-use Rattle.linker_elf.specs.declared.elf.value.Operands.{Operands}
 
 -- The relocation has a value, which is written.
 pub record IsApplied (row : RowInfo) (o : Operands)

@@ -1,12 +1,11 @@
 -- What is made of a relocation whose value is computed and written at once, and why it isn't.
-use Rattle.std.specs.Prelude.{◌≡◌, ℕ, List, Option, Some, None, Result, Ok, Err, ℤ}
+use Rattle.linker_elf.specs.Imports.{FormulaError, Operands}
+use Rattle.std.specs.Prelude.{Err, List, None, Ok, Option, Result, Some, ℕ, ℤ, ◌≡◌}
 use Rattle.linker_elf.specs.Relocate.{WritesRow, RejectsValue}
 use Rattle.linker_elf.specs.Value.{value_given}
 use Rattle.linker_elf.specs.declared.elf.RowInfo.{RowInfo}
 use Rattle.linker_elf.specs.declared.elf.relocate.ApplyError.{ApplyError}
 use Rattle.linker_elf.specs.declared.elf.relocate.ApplyError.TheVariants.{Formula, Write}
-use Rattle.linker_elf.specs.declared.elf.value.FormulaError.{FormulaError}
-use Rattle.linker_elf.specs.declared.elf.value.Operands.{Operands}
 
 -- a value is written, or rejected
 abbrev pub IsWrittenOrRejected : RowInfo → ℤ → List ℕ → List ℕ → Result Unit ApplyError

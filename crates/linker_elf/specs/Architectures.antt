@@ -1,5 +1,7 @@
 -- What an architecture's `r_type`s and numbers name.
-use Rattle.std.specs.Prelude.{◌≡◌, ℕ, slice_get, Option, Some, None}
+use Rattle.linker_elf.specs.Imports.{AnyForm, Uleb128Role}
+use Rattle.linker_elf.specs.declared.elf.architecture.Architecture.{Architecture}
+use Rattle.std.specs.Prelude.{None, Option, Some, slice_get, ℕ, ◌≡◌}
 use Rattle.linker_elf.specs.AArch64.{aarch64_forms}
 use Rattle.linker_elf.specs.AArch64Relocations.{aarch64_name, aarch64_row}
 use Rattle.linker_elf.specs.ElfNames.{ElfName, IsNameOf}
@@ -11,14 +13,11 @@ use Rattle.linker_elf.specs.Ppc64Relocations.{ppc64_name, ppc64_row}
 use Rattle.linker_elf.specs.RiscV.{riscv_forms}
 use Rattle.linker_elf.specs.RiscVRelocations.{riscv_relocation, riscv_name, riscv_uleb128_role}
 use Rattle.linker_elf.specs.X86Relocations.{x86_64_name, x86_64_row}
-use Rattle.linker_elf.specs.declared.elf.architecture.Architecture.{Architecture}
 use Rattle.linker_elf.specs.declared.elf.architecture.Architecture.TheVariants.{AArch64, RiscV}
 use Rattle.linker_elf.specs.declared.elf.architecture.Architecture.TheVariants.{LoongArch64}
 use Rattle.linker_elf.specs.declared.elf.architecture.Architecture.TheVariants.{Ppc64, X86_64}
-use Rattle.linker_elf.specs.declared.elf.AnyForm.{AnyForm}
 use Rattle.linker_elf.specs.declared.elf.AnyForm.TheVariants as insns
 use Rattle.linker_elf.specs.declared.elf.RowInfo.{RowInfo}
-use Rattle.linker_elf.specs.declared.elf.Uleb128Role.{Uleb128Role}
 
 -- ---- relocations, by `r_type`
 

@@ -1,6 +1,5 @@
 -- The least and the last number within bounds.
-use Rattle.std.specs.Prelude.{◌-◌, ◌^◌, Some, None, ℤ, pos, neg_ℤ, ◌-ℤ◌, int_lt}
-use Rattle.std.specs.Prelude.{if◌then◌else◌}
+use Rattle.std.specs.Prelude.{None, Some, int_lt, neg_ℤ, pos, ℤ, ◌-◌, ◌^◌, ◌-ℤ◌, if◌then◌else◌}
 use Rattle.linker_elf.specs.Rows.{Bounds}
 
 -- of a number of 64 signed bits; where nothing is within bounds, the least is above the last

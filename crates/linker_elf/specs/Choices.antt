@@ -1,16 +1,13 @@
 -- Choosing a rewrite: entries of tables, and which of them is chosen. The tables of an architecture
 -- are in `specs/ARCHRewrites`.
-use Rattle.std.specs.Prelude.{◌≡◌, ℕ, ℤ, pos, neg_ℤ, ◌⊎◌, ⊤, List, [], ◌∷◌}
-use Rattle.std.specs.Prelude.{true, false, Option, None, Some}
-use Rattle.std.specs.Int.{w64, cast_signed, cast_unsigned}
+use Rattle.linker_elf.specs.Imports.{Choice, LinkFacts, Operands, cast_signed, cast_unsigned, w64}
+use Rattle.std.specs.Prelude.{List, None, Option, Some, [], false, neg_ℤ, pos, true, ℕ, ℤ, ⊤, ◌≡◌}
+use Rattle.std.specs.Prelude.{◌⊎◌, ◌∷◌}
 use Rattle.linker_base.specs.Rewrite.{Rewrite, offset_after, addend_after}
 use Rattle.linker_elf.specs.Elf.{IsWithin}
 use Rattle.linker_elf.specs.Relocate.{Reaches}
 use Rattle.linker_elf.specs.Value.{sum_64, difference_64, value_of}
 use Rattle.linker_elf.specs.declared.elf.RowInfo.{RowInfo}
-use Rattle.linker_elf.specs.declared.elf.choice.Choice.{Choice}
-use Rattle.linker_elf.specs.declared.elf.choice.LinkFacts.{LinkFacts}
-use Rattle.linker_elf.specs.declared.elf.value.Operands.{Operands}
 
 -- What an entry of a table requires of what the linker knows.
 pub data Condition (R : Type 0) : Type 0 where

@@ -1,14 +1,10 @@
 -- The vocabulary of relocations: machines, the ranges of values, and the forms of all
 -- architectures.
-use Rattle.std.specs.Prelude.{ℕ, ◌-◌, ◌^◌, ℤ, pos, neg_ℤ, ◌≤ℤ◌, ◌<ℤ◌, Option}
-use Rattle.std.specs.Prelude.{Some, None, ⊤}
-use Rattle.linker_base.specs.Form.{Form, Layout, form_of}
+use Rattle.linker_elf.specs.Imports.{AArch64, AnyForm, Form, Layout, LoongArch64, Ppc64, RiscV}
+use Rattle.linker_elf.specs.Imports.{Signed, Unsigned, form_of}
+use Rattle.std.specs.Prelude.{None, Option, Some, neg_ℤ, pos, ℕ, ℤ, ⊤, ◌-◌, ◌^◌, ◌≤ℤ◌, ◌<ℤ◌}
 use Rattle.linker_elf.specs.declared.elf.Sign.{Sign}
-use Rattle.linker_elf.specs.declared.elf.Sign.TheVariants.{Signed, Unsigned}
 use Rattle.linker_elf.specs.declared.elf.AllowedRange.{AllowedRange}
-use Rattle.linker_elf.specs.declared.elf.AnyForm.{AnyForm}
-use Rattle.linker_elf.specs.declared.elf.AnyForm.TheVariants.{RiscV, Ppc64}
-use Rattle.linker_elf.specs.declared.elf.AnyForm.TheVariants.{LoongArch64, AArch64}
 use Rattle.linker_elf.specs.Ppc64.{ppc64_layout}
 use Rattle.linker_elf.specs.AArch64.{aarch64_layout}
 use Rattle.linker_elf.specs.RiscV.{riscv_layout}

@@ -1,5 +1,5 @@
 -- How ELF files and psABI documents name a relocation.
-use Rattle.std.specs.Prelude.{◌≡◌, ℕ, List, codes, ⊤}
+use Rattle.std.specs.Prelude.{List, codes, ℕ, ⊤, ◌≡◌}
 
 -- the `r_type` of ELF files with the name; or one without a name
 pub data ElfName : Type 0 where

@@ -1,17 +1,14 @@
 -- What a relocation requires of a linker before addresses are known, and how its value is found, by
 -- its row's kind and size. `linker_section` proves of each row that its facts say what `Needed` and
 -- `Values` there do.
-use Rattle.std.specs.Prelude.{◌==◌, ◌&&◌, ◌||◌, nat_lt, if◌then◌else◌, Bool, true, false}
+use Rattle.linker_elf.specs.Imports.{AArch64, BType, Bcond, BitMasking, ByteSize, CbType, CjType}
+use Rattle.linker_elf.specs.Imports.{CluiType, IType, JType, LoongArch64, Ppc64, Prefixed}
+use Rattle.linker_elf.specs.Imports.{RelocationKind, RiscV, RowSize, SType, TstBr, UType}
+use Rattle.std.specs.Prelude.{Bool, false, nat_lt, true, ◌==◌, ◌&&◌, ◌||◌, if◌then◌else◌}
 use Rattle.linker_elf.specs.Entries.{is_branch}
 use Rattle.linker_elf.specs.Value.{names_got_entry, names_plt_entry}
-use Rattle.linker_elf.specs.declared.aarch64.forms.AArch64Instruction.TheVariants.{TstBr, Bcond}
-use Rattle.linker_elf.specs.declared.elf.AnyForm.TheVariants.{RiscV, Ppc64}
-use Rattle.linker_elf.specs.declared.elf.AnyForm.TheVariants.{LoongArch64, AArch64}
-use Rattle.linker_elf.specs.declared.elf.RelocationKind.{RelocationKind}
 use Rattle.linker_elf.specs.declared.elf.RelocationKind.TheVariants as kinds
 use Rattle.linker_elf.specs.declared.elf.RowInfo.{RowInfo}
-use Rattle.linker_elf.specs.declared.elf.RowSize.{RowSize}
-use Rattle.linker_elf.specs.declared.elf.RowSize.TheVariants.{ByteSize, BitMasking}
 use Rattle.linker_elf.specs.declared.elf.facts.EntryUse.{EntryUse}
 use Rattle.linker_elf.specs.declared.elf.facts.EntryUse.TheVariants as entries
 use Rattle.linker_elf.specs.declared.elf.facts.Length.{Length}
@@ -19,11 +16,6 @@ use Rattle.linker_elf.specs.declared.elf.facts.Length.TheVariants as lengths
 use Rattle.linker_elf.specs.declared.elf.facts.RowFacts.{RowFacts}
 use Rattle.linker_elf.specs.declared.elf.facts.Way.{Way}
 use Rattle.linker_elf.specs.declared.elf.facts.Way.TheVariants as ways
-use Rattle.linker_elf.specs.declared.ppc64.forms.Ppc64Form.TheVariants.{Prefixed}
-use Rattle.linker_elf.specs.declared.riscv64.forms.RiscVInstruction.TheVariants.{IType, SType}
-use Rattle.linker_elf.specs.declared.riscv64.forms.RiscVInstruction.TheVariants.{BType, JType}
-use Rattle.linker_elf.specs.declared.riscv64.forms.RiscVInstruction.TheVariants.{CbType, CjType}
-use Rattle.linker_elf.specs.declared.riscv64.forms.RiscVInstruction.TheVariants.{CluiType, UType}
 
 -- the entry whose address a formula names
 abbrev pub class_of : RelocationKind → EntryUse

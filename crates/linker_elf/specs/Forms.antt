@@ -1,19 +1,14 @@
 -- What a form says of an instruction, by numbers: which of its bits a write may change, and which
 -- bits of its number the immediate has.
-use Rattle.std.specs.Prelude.{ℕ, Bool, false, if◌then◌else◌}
-use Rattle.linker_base.specs.declared.bit_misc.BitRange.{BitRange}
+use Rattle.linker_elf.specs.Imports.{AArch64, AArch64Instruction, AnyForm, BitRange, LoongArch64}
+use Rattle.linker_elf.specs.Imports.{LoongArch64Instruction, Ppc64, Ppc64Form, RiscV}
+use Rattle.linker_elf.specs.Imports.{RiscVInstruction}
+use Rattle.std.specs.Prelude.{Bool, false, ℕ, if◌then◌else◌}
 use Rattle.linker_elf.specs.LoongArch.{has_16_bits}
 use Rattle.linker_elf.specs.Relocate.{is_dq_form}
-use Rattle.linker_elf.specs.declared.aarch64.forms.AArch64Instruction.{AArch64Instruction}
 use Rattle.linker_elf.specs.declared.aarch64.forms.AArch64Instruction.TheVariants as aarch64
-use Rattle.linker_elf.specs.declared.elf.AnyForm.{AnyForm}
-use Rattle.linker_elf.specs.declared.elf.AnyForm.TheVariants.{AArch64, LoongArch64}
-use Rattle.linker_elf.specs.declared.elf.AnyForm.TheVariants.{Ppc64, RiscV}
-use Rattle.linker_elf.specs.declared.loongarch64.forms.LoongArch64Instruction.{LoongArch64Instruction}
 use Rattle.linker_elf.specs.declared.loongarch64.forms.LoongArch64Instruction.TheVariants as loongarch
-use Rattle.linker_elf.specs.declared.ppc64.forms.Ppc64Form.{Ppc64Form}
 use Rattle.linker_elf.specs.declared.ppc64.forms.Ppc64Form.TheVariants as ppc64
-use Rattle.linker_elf.specs.declared.riscv64.forms.RiscVInstruction.{RiscVInstruction}
 use Rattle.linker_elf.specs.declared.riscv64.forms.RiscVInstruction.TheVariants as riscv
 
 -- ---- the bits that a write may change

@@ -1,8 +1,8 @@
 -- Handles of relocations: numbers that name an architecture and a type.
-use Rattle.std.specs.Prelude.{◌≡◌, ◌%◌, ℕ, nat_lt, if◌then◌else◌, Option, Some, None}
+use Rattle.linker_elf.specs.declared.elf.architecture.Architecture.{Architecture}
+use Rattle.std.specs.Prelude.{None, Option, Some, nat_lt, ℕ, ◌≡◌, ◌%◌, if◌then◌else◌}
 use Rattle.linker_elf.specs.declared.elf.RowInfo.{RowInfo}
 use Rattle.linker_elf.specs.Architectures.{IsRow}
-use Rattle.linker_elf.specs.declared.elf.architecture.Architecture.{Architecture}
 use Rattle.linker_elf.specs.declared.elf.architecture.Architecture.TheVariants as architectures
 
 -- an architecture's handles are its first and those after it by a relocation's type, which is below

@@ -12,6 +12,7 @@ pub mod Entries
 pub mod Facts
 pub mod Forms
 pub mod Handles
+pub mod Imports
 pub mod Inner
 pub mod LoongArch
 pub mod LoongArchRelocations

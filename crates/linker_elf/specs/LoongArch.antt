@@ -1,21 +1,14 @@
 -- LoongArch: its instruction forms (LoongArch Reference Manual, volume 1), and its calls and
 -- addresses of several instructions (LoongArch ELF psABI).
-use Rattle.std.specs.Prelude.{◌≡◌, ℕ, ◌+◌, ◌-◌, ◌*◌, ◌%◌, ◌^◌, Bool, true, false, ◌==◌, nat_lt}
-use Rattle.std.specs.Prelude.{if◌then◌else◌, List, [], ◌∷◌, ◌++◌, drop, ℤ, pos, neg_ℤ, ◌+ℤ◌}
-use Rattle.std.specs.Prelude.{◌-ℤ◌, ◌*ℤ◌, ◌≤ℤ◌, ◌<ℤ◌, ⊤, ◌≤◌}
-use Rattle.std.specs.Int.{w32, w64, bit_at, from_le_bytes, cast_unsigned, int_rem_euclid}
-use Rattle.linker_base.specs.Bits.{field, signed}
-use Rattle.linker_base.specs.Form.{Form, ImmediateBit, bits_to, or_bits_to, sum_bits_to}
-use Rattle.linker_base.specs.Form.{cleared_bits, place_sum, Field, field_form, Layout, one_field}
-use Rattle.linker_base.specs.Form.{own_form, form_of, unsigned, twos_complement, modulo, unclaimed}
-use Rattle.linker_base.specs.declared.bit_misc.BitRange.{BitRange}
-use Rattle.linker_elf.specs.declared.loongarch64.forms.LoongArch64Instruction.{LoongArch64Instruction}
-use Rattle.linker_elf.specs.declared.loongarch64.forms.LoongArch64Instruction.TheVariants.{Shift5}
-use Rattle.linker_elf.specs.declared.loongarch64.forms.LoongArch64Instruction.TheVariants.{Shift10}
-use Rattle.linker_elf.specs.declared.loongarch64.forms.LoongArch64Instruction.TheVariants.{Branch26}
-use Rattle.linker_elf.specs.declared.loongarch64.forms.LoongArch64Instruction.TheVariants.{Branch21}
-use Rattle.linker_elf.specs.declared.loongarch64.forms.LoongArch64Instruction.TheVariants.{Call30}
-use Rattle.linker_elf.specs.declared.loongarch64.forms.LoongArch64Instruction.TheVariants.{Call36}
+use Rattle.linker_elf.specs.Imports.{BitRange, Branch21, Branch26, Call30, Call36, Field, Form}
+use Rattle.linker_elf.specs.Imports.{ImmediateBit, Layout, LoongArch64Instruction, Shift10, Shift5}
+use Rattle.linker_elf.specs.Imports.{bit_at, bits_to, cast_unsigned, cleared_bits, field}
+use Rattle.linker_elf.specs.Imports.{field_form, form_of, from_le_bytes, int_rem_euclid, modulo}
+use Rattle.linker_elf.specs.Imports.{one_field, or_bits_to, own_form, place_sum, signed}
+use Rattle.linker_elf.specs.Imports.{sum_bits_to, twos_complement, unclaimed, unsigned, w32, w64}
+use Rattle.std.specs.Prelude.{Bool, List, [], drop, false, nat_lt, neg_ℤ, pos, true, ℕ, ℤ, ⊤, ◌≡◌}
+use Rattle.std.specs.Prelude.{◌+◌, ◌-◌, ◌*◌, ◌%◌, ◌^◌, ◌==◌, if◌then◌else◌, ◌∷◌, ◌++◌, ◌+ℤ◌, ◌-ℤ◌}
+use Rattle.std.specs.Prelude.{◌*ℤ◌, ◌≤ℤ◌, ◌<ℤ◌, ◌≤◌}
 
 -- ---- forms; bit j of a pair's second word is bit 32 + j
 

@@ -1,40 +1,21 @@
 -- The relocations of LoongArch (LoongArch ELF psABI, "Relocation Types").
-use Rattle.std.specs.Prelude.{codes, ℕ, Option, Some, None}
+use Rattle.linker_elf.specs.Imports.{Absolute, AbsoluteAddition, AbsoluteAdditionWord6}
+use Rattle.linker_elf.specs.Imports.{AbsoluteLowPart, AbsoluteSubtraction, AbsoluteSubtractionWord6}
+use Rattle.linker_elf.specs.Imports.{Adds, Alignment, Branch21, Branch26, Call30, Call36, DtpOff}
+use Rattle.linker_elf.specs.Imports.{Got, GotRelative, GotRelativeLoongArch64, GotTpOff}
+use Rattle.linker_elf.specs.Imports.{GotTpOffGot, GotTpOffLoongArch64, LoongArch64}
+use Rattle.linker_elf.specs.Imports.{LoongArch64Instruction, LoongArch64Relocation}
+use Rattle.linker_elf.specs.Imports.{PairSubtractionULEB128LoongArch, PltRelative, Relative}
+use Rattle.linker_elf.specs.Imports.{RelativeLoongArchHigh, RelocationKind, Shift10, Shift5}
+use Rattle.linker_elf.specs.Imports.{Subtracts, TlsDesc, TlsDescCall, TlsDescGot}
+use Rattle.linker_elf.specs.Imports.{TlsDescLoongArch64, TlsGd, TlsGdGot, TpOff, Uleb128Role}
+use Rattle.std.specs.Prelude.{None, Option, Some, codes, ℕ}
 use Rattle.linker_elf.specs.ElfNames.{ElfName}
 use Rattle.linker_elf.specs.Rows.{Relocation, with_row, with_own_row, raw_row, unnamed_relocation}
 use Rattle.linker_elf.specs.Rows.{bytes_row, bits_row, signed_row, signed_or_unsigned_row}
 use Rattle.linker_elf.specs.Rows.{aligned_row, biased_row, paged_row, place_pages, entry_pages}
-use Rattle.linker_elf.specs.declared.elf.RelocationKind.{RelocationKind}
-use Rattle.linker_elf.specs.declared.elf.RelocationKind.TheVariants.{Absolute, AbsoluteAddition}
-use Rattle.linker_elf.specs.declared.elf.RelocationKind.TheVariants.{AbsoluteAdditionWord6}
-use Rattle.linker_elf.specs.declared.elf.RelocationKind.TheVariants.{AbsoluteLowPart}
-use Rattle.linker_elf.specs.declared.elf.RelocationKind.TheVariants.{AbsoluteSubtraction}
-use Rattle.linker_elf.specs.declared.elf.RelocationKind.TheVariants.{AbsoluteSubtractionWord6}
-use Rattle.linker_elf.specs.declared.elf.RelocationKind.TheVariants.{Alignment, DtpOff, Got}
-use Rattle.linker_elf.specs.declared.elf.RelocationKind.TheVariants.{GotRelative}
-use Rattle.linker_elf.specs.declared.elf.RelocationKind.TheVariants.{GotRelativeLoongArch64}
-use Rattle.linker_elf.specs.declared.elf.RelocationKind.TheVariants.{GotTpOff, GotTpOffGot}
-use Rattle.linker_elf.specs.declared.elf.RelocationKind.TheVariants.{GotTpOffLoongArch64}
 use Rattle.linker_elf.specs.declared.elf.RelocationKind.TheVariants.{None as NoValue}
-use Rattle.linker_elf.specs.declared.elf.RelocationKind.TheVariants.{PairSubtractionULEB128LoongArch}
-use Rattle.linker_elf.specs.declared.elf.RelocationKind.TheVariants.{PltRelative, Relative}
-use Rattle.linker_elf.specs.declared.elf.RelocationKind.TheVariants.{RelativeLoongArchHigh}
-use Rattle.linker_elf.specs.declared.elf.RelocationKind.TheVariants.{TlsDesc, TlsDescCall}
-use Rattle.linker_elf.specs.declared.elf.RelocationKind.TheVariants.{TlsDescGot}
-use Rattle.linker_elf.specs.declared.elf.RelocationKind.TheVariants.{TlsDescLoongArch64, TlsGd}
-use Rattle.linker_elf.specs.declared.elf.RelocationKind.TheVariants.{TlsGdGot, TpOff}
 use Rattle.linker_elf.specs.declared.elf.RowInfo.{RowInfo}
-use Rattle.linker_elf.specs.declared.elf.AnyForm.TheVariants.{LoongArch64}
-use Rattle.linker_elf.specs.declared.loongarch64.forms.LoongArch64Instruction.{LoongArch64Instruction}
-use Rattle.linker_elf.specs.declared.loongarch64.forms.LoongArch64Instruction.TheVariants.{Shift5}
-use Rattle.linker_elf.specs.declared.loongarch64.forms.LoongArch64Instruction.TheVariants.{Shift10}
-use Rattle.linker_elf.specs.declared.loongarch64.forms.LoongArch64Instruction.TheVariants.{Branch26}
-use Rattle.linker_elf.specs.declared.loongarch64.forms.LoongArch64Instruction.TheVariants.{Branch21}
-use Rattle.linker_elf.specs.declared.loongarch64.forms.LoongArch64Instruction.TheVariants.{Call30}
-use Rattle.linker_elf.specs.declared.loongarch64.forms.LoongArch64Instruction.TheVariants.{Call36}
-use Rattle.linker_elf.specs.declared.elf.Uleb128Role.{Uleb128Role}
-use Rattle.linker_elf.specs.declared.elf.Uleb128Role.TheVariants.{Adds, Subtracts}
-use Rattle.linker_elf.specs.declared.loongarch64.relocations.LoongArch64Relocation.{LoongArch64Relocation}
 use Rattle.linker_elf.specs.declared.loongarch64.relocations.LoongArch64Relocation.TheVariants as r
 
 -- bits `start` and up, below `end`, into an instruction

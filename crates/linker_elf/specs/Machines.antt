@@ -1,7 +1,7 @@
 -- The architectures, by `e_machine` in the ELF header of their files.
-use Rattle.std.specs.Prelude.{ℕ, ◌==◌, if◌then◌else◌, Option, Some, None}
-use Rattle.linker_elf.specs.Elf.{em_aarch64, em_riscv, em_loongarch, em_ppc64, em_x86_64}
 use Rattle.linker_elf.specs.declared.elf.architecture.Architecture.{Architecture}
+use Rattle.std.specs.Prelude.{None, Option, Some, ℕ, ◌==◌, if◌then◌else◌}
+use Rattle.linker_elf.specs.Elf.{em_aarch64, em_riscv, em_loongarch, em_ppc64, em_x86_64}
 use Rattle.linker_elf.specs.declared.elf.architecture.Architecture.TheVariants as architectures
 
 -- e_machine in the ELF header of an architecture's files

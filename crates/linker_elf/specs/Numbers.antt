@@ -1,22 +1,17 @@
 -- Relocations in numbers. The numbers of kinds of relocations and of forms of instructions are
 -- their places in the enums, those of page masks their places and 1.
-use Rattle.std.specs.Prelude.{ℕ, Option, None, Some, ℤ, pos, Bool, true, false}
+use Rattle.linker_elf.specs.Imports.{AnyForm, BitMasking, ByteSize, GotBase, GotEntryAndPosition}
+use Rattle.linker_elf.specs.Imports.{PageMask, RelocationKind, RowSize, SymbolPlusAddendAndPosition}
+use Rattle.std.specs.Prelude.{Bool, None, Option, Some, false, pos, true, ℕ, ℤ}
 use denote.Enum.Declared.{tag_of}
 use Rattle.linker_elf.specs.contracts.aarch64.forms.AArch64Instruction as aarch64
 use Rattle.linker_elf.specs.contracts.riscv64.forms.RiscVInstruction as riscv
 use Rattle.linker_elf.specs.contracts.loongarch64.forms.LoongArch64Instruction as loongarch64
 use Rattle.linker_elf.specs.contracts.ppc64.forms.Ppc64Form as ppc64
-use Rattle.linker_elf.specs.declared.elf.AnyForm.{AnyForm}
 use Rattle.linker_elf.specs.declared.elf.AnyForm.TheVariants as insns
 use Rattle.linker_elf.specs.declared.elf.RowInfo.{RowInfo}
-use Rattle.linker_elf.specs.declared.elf.RowSize.{RowSize}
-use Rattle.linker_elf.specs.declared.elf.RowSize.TheVariants.{ByteSize, BitMasking}
 use Rattle.linker_elf.specs.declared.elf.numbers.RelocationNumbers.{RelocationNumbers}
 use Rattle.linker_elf.specs.Elf.{em_aarch64, em_riscv, em_loongarch, em_ppc64}
-use Rattle.linker_elf.specs.declared.elf.PageMask.{PageMask}
-use Rattle.linker_elf.specs.declared.elf.PageMask.TheVariants.{SymbolPlusAddendAndPosition}
-use Rattle.linker_elf.specs.declared.elf.PageMask.TheVariants.{GotEntryAndPosition, GotBase}
-use Rattle.linker_elf.specs.declared.elf.RelocationKind.{RelocationKind}
 use Rattle.linker_elf.specs.declared.elf.RelocationKind.TheVariants as kinds
 
 abbrev pub kind_number : RelocationKind → ℕ

@@ -1,16 +1,11 @@
 -- PowerPC64: its instruction forms (Power ISA, "Instruction Formats"), and addresses in two halves
 -- (64-bit ELF V2 ABI for Power, "@ha" and "@l").
-use Rattle.std.specs.Prelude.{◌∷◌, [], ◌≡◌, ℕ, List, drop, ℤ, pos, negsuc, false}
-use Rattle.std.specs.Prelude.{◌+ℤ◌, ◌*ℤ◌}
-use Rattle.std.specs.Prelude.{◌≤ℤ◌, ◌<ℤ◌, ◌^◌, ◌-◌, ◌+◌, ◌++◌}
-use Rattle.std.specs.Int.{Width, w32, w64, from_le_bytes}
-use Rattle.linker_base.specs.Bits.{field, signed}
-use Rattle.linker_base.specs.Form.{ImmediateBit, Form, Layout, one_field, form_of, bits_to}
-use Rattle.linker_base.specs.Form.{Sign, unsigned, twos_complement, modulo, IsSameModulo}
-use Rattle.linker_elf.specs.declared.ppc64.forms.Ppc64Form.{Ppc64Form}
-use Rattle.linker_elf.specs.declared.ppc64.forms.Ppc64Form.TheVariants.{D, Ds, Branch14}
-use Rattle.linker_elf.specs.declared.ppc64.forms.Ppc64Form.TheVariants.{Branch24}
-use Rattle.linker_elf.specs.declared.ppc64.forms.Ppc64Form.TheVariants.{Prefixed, DUnsigned}
+use Rattle.linker_elf.specs.Imports.{Branch14, Branch24, D, DUnsigned, Ds, Form, ImmediateBit}
+use Rattle.linker_elf.specs.Imports.{IsSameModulo, Layout, Ppc64Form, Prefixed, Sign, Width}
+use Rattle.linker_elf.specs.Imports.{bits_to, field, form_of, from_le_bytes, modulo, one_field}
+use Rattle.linker_elf.specs.Imports.{signed, twos_complement, unsigned, w32, w64}
+use Rattle.std.specs.Prelude.{List, [], drop, false, negsuc, pos, ℕ, ℤ, ◌∷◌, ◌≡◌, ◌+ℤ◌, ◌*ℤ◌, ◌≤ℤ◌}
+use Rattle.std.specs.Prelude.{◌<ℤ◌, ◌^◌, ◌-◌, ◌+◌, ◌++◌}
 
 -- an immediate of n bits, of which those from bit `low` up stand at places
 abbrev pub immediate_at : Sign → Width → ℕ → ℕ → List ImmediateBit → Layout

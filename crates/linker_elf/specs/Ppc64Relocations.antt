@@ -1,24 +1,16 @@
 -- The relocations of PowerPC64 (64-bit ELF V2 ABI for Power, "Relocation Types").
-use Rattle.std.specs.Prelude.{codes, ℕ, Option}
+use Rattle.linker_elf.specs.Imports.{Absolute, Branch14, Branch24, D, DUnsigned, Ds, DtpOff}
+use Rattle.linker_elf.specs.Imports.{GotRelGotBase, GotRelative, GotTpOff, GotTpOffGotBase}
+use Rattle.linker_elf.specs.Imports.{PltRelGotBase, PltRelative, Ppc64, Ppc64Form, Prefixed}
+use Rattle.linker_elf.specs.Imports.{Relative, RelocationKind, SymRelGotBase, TlsGd, TlsGdGotBase}
+use Rattle.linker_elf.specs.Imports.{TlsLd, TlsLdGotBase, TpOff}
+use Rattle.std.specs.Prelude.{Option, codes, ℕ}
 use Rattle.linker_elf.specs.ElfNames.{ElfName}
 use Rattle.linker_elf.specs.Rows.{Relocation, with_row, with_own_row}
 use Rattle.linker_elf.specs.Rows.{unnamed_relocation, bytes_row, bits_row}
 use Rattle.linker_elf.specs.Rows.{signed_row, signed_or_unsigned_row, aligned_row, biased_row}
-use Rattle.linker_elf.specs.declared.elf.RelocationKind.{RelocationKind}
-use Rattle.linker_elf.specs.declared.elf.RelocationKind.TheVariants.{Absolute, DtpOff}
-use Rattle.linker_elf.specs.declared.elf.RelocationKind.TheVariants.{GotRelative, GotTpOffGotBase}
-use Rattle.linker_elf.specs.declared.elf.RelocationKind.TheVariants.{GotRelGotBase, GotTpOff}
-use Rattle.linker_elf.specs.declared.elf.RelocationKind.TheVariants.{PltRelGotBase, PltRelative}
-use Rattle.linker_elf.specs.declared.elf.RelocationKind.TheVariants.{TlsGd, TlsLd}
-use Rattle.linker_elf.specs.declared.elf.RelocationKind.TheVariants.{None as NoValue, Relative}
-use Rattle.linker_elf.specs.declared.elf.RelocationKind.TheVariants.{SymRelGotBase, TlsGdGotBase}
-use Rattle.linker_elf.specs.declared.elf.RelocationKind.TheVariants.{TlsLdGotBase, TpOff}
+use Rattle.linker_elf.specs.declared.elf.RelocationKind.TheVariants.{None as NoValue}
 use Rattle.linker_elf.specs.declared.elf.RowInfo.{RowInfo}
-use Rattle.linker_elf.specs.declared.elf.AnyForm.TheVariants.{Ppc64}
-use Rattle.linker_elf.specs.declared.ppc64.forms.Ppc64Form.{Ppc64Form}
-use Rattle.linker_elf.specs.declared.ppc64.forms.Ppc64Form.TheVariants.{D, Ds, Branch14}
-use Rattle.linker_elf.specs.declared.ppc64.forms.Ppc64Form.TheVariants.{Branch24, Prefixed}
-use Rattle.linker_elf.specs.declared.ppc64.forms.Ppc64Form.TheVariants.{DUnsigned}
 use Rattle.linker_elf.specs.declared.ppc64.relocations.Ppc64Relocation.{Ppc64Relocation}
 use Rattle.linker_elf.specs.declared.ppc64.relocations.Ppc64Relocation.TheVariants as r
 

@@ -1,29 +1,15 @@
 -- Which values of a relocation the machine reads back as they are, or the psABI allows: the row's
 -- own range, and for halves and pairs of instructions, and where the psABI checks what the row
 -- doesn't, the ranges below.
-use Rattle.std.specs.Prelude.{ℕ, ◌+◌, ◌-◌, ◌^◌, ◌==◌, if◌then◌else◌, Some, None, ℤ, pos, neg_ℤ}
-use Rattle.std.specs.Prelude.{nat_lt, Bool, true, false, ◌&&◌}
-use Rattle.linker_base.specs.declared.bit_misc.BitRange.{BitRange}
+use Rattle.linker_elf.specs.Imports.{AArch64, AArch64Instruction, BitMasking, BitRange, ByteSize}
+use Rattle.linker_elf.specs.Imports.{Call36, CluiType, D, GotRelGotBase, GotRelative, IType}
+use Rattle.linker_elf.specs.Imports.{LoongArch64, LoongArch64Instruction, Movnz, PltRelative, Ppc64}
+use Rattle.linker_elf.specs.Imports.{Ppc64Form, RelocationKind, RiscV, RiscVInstruction, RowSize}
+use Rattle.linker_elf.specs.Imports.{SType, Signed, UType, UiType}
+use Rattle.std.specs.Prelude.{Bool, None, Some, false, nat_lt, neg_ℤ, pos, true, ℕ, ℤ, ◌+◌, ◌-◌}
+use Rattle.std.specs.Prelude.{◌^◌, ◌==◌, if◌then◌else◌, ◌&&◌}
 use Rattle.linker_elf.specs.Elf.{bit_bounds}
-use Rattle.linker_elf.specs.declared.aarch64.forms.AArch64Instruction.{AArch64Instruction}
-use Rattle.linker_elf.specs.declared.aarch64.forms.AArch64Instruction.TheVariants.{Movnz}
-use Rattle.linker_elf.specs.declared.loongarch64.forms.LoongArch64Instruction.{LoongArch64Instruction}
-use Rattle.linker_elf.specs.declared.loongarch64.forms.LoongArch64Instruction.TheVariants.{Call36}
-use Rattle.linker_elf.specs.declared.ppc64.forms.Ppc64Form.{Ppc64Form}
-use Rattle.linker_elf.specs.declared.ppc64.forms.Ppc64Form.TheVariants.{D}
-use Rattle.linker_elf.specs.declared.elf.AnyForm.TheVariants.{RiscV, Ppc64}
-use Rattle.linker_elf.specs.declared.elf.AnyForm.TheVariants.{LoongArch64, AArch64}
-use Rattle.linker_elf.specs.declared.elf.RelocationKind.{RelocationKind}
-use Rattle.linker_elf.specs.declared.elf.RelocationKind.TheVariants.{GotRelative, GotRelGotBase}
-use Rattle.linker_elf.specs.declared.elf.RelocationKind.TheVariants.{PltRelative}
 use Rattle.linker_elf.specs.declared.elf.RowInfo.{RowInfo}
-use Rattle.linker_elf.specs.declared.elf.RowSize.{RowSize}
-use Rattle.linker_elf.specs.declared.elf.RowSize.TheVariants.{ByteSize, BitMasking}
-use Rattle.linker_elf.specs.declared.riscv64.forms.RiscVInstruction.{RiscVInstruction}
-use Rattle.linker_elf.specs.declared.riscv64.forms.RiscVInstruction.TheVariants.{UType, IType}
-use Rattle.linker_elf.specs.declared.riscv64.forms.RiscVInstruction.TheVariants.{SType}
-use Rattle.linker_elf.specs.declared.riscv64.forms.RiscVInstruction.TheVariants.{CluiType, UiType}
-use Rattle.linker_elf.specs.declared.elf.Sign.TheVariants.{Signed}
 use Rattle.linker_elf.specs.Rows.{Bounds}
 
 -- `lui` or `auipc` with a low part of 12 signed bits: 2 ^ 31 on either side, less 0x800

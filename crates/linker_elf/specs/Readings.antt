@@ -1,6 +1,9 @@
 -- Which values the machine can read of relocated instructions.
-use Rattle.std.specs.Prelude.{◌≡◌, ℕ, ◌-◌, Bool, false, nat_lt, ℤ, ◌+ℤ◌, ◌⊎◌, ⊤}
-use Rattle.linker_base.specs.declared.bit_misc.BitRange.{BitRange}
+use Rattle.linker_elf.specs.Imports.{AArch64, AnyForm, BitMasking, BitRange, ByteSize, Call36}
+use Rattle.linker_elf.specs.Imports.{CluiType, IType, LdSt, LoongArch64, LoongArch64Instruction}
+use Rattle.linker_elf.specs.Imports.{LoongArch64Relocation, Movnz, Ppc64, RiscV, RiscVInstruction}
+use Rattle.linker_elf.specs.Imports.{RowSize, SType, UType, UiType}
+use Rattle.std.specs.Prelude.{Bool, false, nat_lt, ℕ, ℤ, ⊤, ◌≡◌, ◌-◌, ◌+ℤ◌, ◌⊎◌}
 use Rattle.linker_elf.specs.AArch64.{shift_of}
 use Rattle.linker_elf.specs.Agrees.{bits_from, aarch64_reads, loongarch_reads, reads_signed}
 use Rattle.linker_elf.specs.Elf.{IsWithin}
@@ -10,20 +13,7 @@ use Rattle.linker_elf.specs.Reach.{reach_of}
 use Rattle.linker_elf.specs.Relocate.{IsAligned}
 use Rattle.linker_elf.specs.RiscV.{riscv_form}
 use Rattle.linker_elf.specs.Rows.{Bounds}
-use Rattle.linker_elf.specs.declared.aarch64.forms.AArch64Instruction.TheVariants.{Movnz, LdSt}
-use Rattle.linker_elf.specs.declared.loongarch64.forms.LoongArch64Instruction.{LoongArch64Instruction}
-use Rattle.linker_elf.specs.declared.loongarch64.forms.LoongArch64Instruction.TheVariants.{Call36}
-use Rattle.linker_elf.specs.declared.elf.AnyForm.{AnyForm}
-use Rattle.linker_elf.specs.declared.elf.AnyForm.TheVariants.{RiscV, Ppc64}
-use Rattle.linker_elf.specs.declared.elf.AnyForm.TheVariants.{LoongArch64, AArch64}
 use Rattle.linker_elf.specs.declared.elf.RowInfo.{RowInfo}
-use Rattle.linker_elf.specs.declared.elf.RowSize.{RowSize}
-use Rattle.linker_elf.specs.declared.elf.RowSize.TheVariants.{ByteSize, BitMasking}
-use Rattle.linker_elf.specs.declared.riscv64.forms.RiscVInstruction.{RiscVInstruction}
-use Rattle.linker_elf.specs.declared.riscv64.forms.RiscVInstruction.TheVariants.{UType, IType}
-use Rattle.linker_elf.specs.declared.riscv64.forms.RiscVInstruction.TheVariants.{SType}
-use Rattle.linker_elf.specs.declared.riscv64.forms.RiscVInstruction.TheVariants.{CluiType, UiType}
-use Rattle.linker_elf.specs.declared.loongarch64.relocations.LoongArch64Relocation.{LoongArch64Relocation}
 
 -- a high part x and a low part y add up to v
 abbrev pub AddUp : RiscVInstruction → RiscVInstruction → ℕ → ℕ → ℤ → Type 0

@@ -1,15 +1,22 @@
 -- How a relocation's value is written, and when it isn't.
-use Rattle.std.specs.Prelude.{◌≡◌, ℕ, ◌+◌, ◌-◌, ◌%◌, ◌^◌, ◌<◌, ◌≤◌, ◌==◌, Bool, true, false, not}
-use Rattle.std.specs.Prelude.{◌&&◌, ◌||◌, nat_lt, if◌then◌else◌, List, [], ◌∷◌, ◌++◌, length, take}
-use Rattle.std.specs.Prelude.{drop}
-use Rattle.std.specs.Prelude.{replicate, ℤ, pos, ◌+ℤ◌, ◌-ℤ◌, ◌*◌, int_lt, Option, Some, None, ◌*ℤ◌}
-use Rattle.std.specs.Prelude.{⊤}
-use Rattle.std.specs.Int.{w64, byte_len, cast_unsigned, from_le_bytes, to_le_bytes, int_rem_euclid}
-use Rattle.std.specs.Int.{bit_at}
-use Rattle.linker_base.specs.Bits.{field, signed}
-use Rattle.linker_base.specs.Form.{ImmediateBit, Mark, replaced, ored, cleared, BitsWritten}
-use Rattle.linker_base.specs.Form.{Written, Fits, window_of, IsSameModulo}
-use Rattle.linker_base.specs.declared.bit_misc.BitRange.{BitRange}
+use Rattle.linker_elf.specs.Imports.{AArch64, AbsoluteAddition, AbsoluteAdditionWord6}
+use Rattle.linker_elf.specs.Imports.{AbsoluteLowPart, AbsoluteSetWord6, AbsoluteSubtraction}
+use Rattle.linker_elf.specs.Imports.{AbsoluteSubtractionWord6, AnyForm, BitMasking, BitRange}
+use Rattle.linker_elf.specs.Imports.{BitsWritten, ByteSize, Call30, Call36, CluiType, D, Ds, Fits}
+use Rattle.linker_elf.specs.Imports.{IType, ImmediateBit, IsSameModulo, LoongArch64}
+use Rattle.linker_elf.specs.Imports.{LoongArch64Instruction, Mark, Movkz, Movnz, Operands}
+use Rattle.linker_elf.specs.Imports.{PairSubtractionULEB128LoongArch, PairSubtractionULEB128RiscV}
+use Rattle.linker_elf.specs.Imports.{Ppc64, Ppc64Form, Relative, RelocateError, RelocationKind}
+use Rattle.linker_elf.specs.Imports.{RiscV, RiscVInstruction, RowSize, SType, Shift10, Signed}
+use Rattle.linker_elf.specs.Imports.{UType, UiType, Written, bit_at, byte_len, cast_unsigned}
+use Rattle.linker_elf.specs.Imports.{cleared, field, from_le_bytes, int_rem_euclid, ored, replaced}
+use Rattle.linker_elf.specs.Imports.{signed, to_le_bytes, w64, window_of}
+use Rattle.std.specs.Prelude.{Bool, List, None, Option, Some, [], drop, false, int_lt, length}
+use Rattle.std.specs.Prelude.{nat_lt, not, pos, replicate, take, true, ℕ, ℤ, ⊤, ◌≡◌, ◌+◌, ◌-◌, ◌%◌}
+use Rattle.std.specs.Prelude.{◌^◌, ◌<◌, ◌≤◌, ◌==◌, ◌&&◌, ◌||◌, if◌then◌else◌, ◌∷◌, ◌++◌, ◌+ℤ◌, ◌-ℤ◌}
+use Rattle.std.specs.Prelude.{◌*◌, ◌*ℤ◌}
+use Rattle.linker_elf.specs.declared.elf.relocate.RelocateError.TheVariants.{Misaligned, OutOfReach}
+use Rattle.linker_elf.specs.declared.elf.relocate.RelocateError.TheVariants.{TooShort, Unsupported}
 use Rattle.linker_elf.specs.AArch64.{aarch64_form, shift_of}
 use Rattle.linker_elf.specs.Agrees.{bits_from, IsSameIn, aarch64_reads, loongarch_reads}
 use Rattle.linker_elf.specs.Agrees.{is_of_halves, is_of_words, AgreesBy, AgreesInReach}
@@ -19,38 +26,7 @@ use Rattle.linker_elf.specs.Ppc64.{ppc64_form}
 use Rattle.linker_elf.specs.Reach.{reach_of, clui_hole}
 use Rattle.linker_elf.specs.RiscV.{riscv_form}
 use Rattle.linker_elf.specs.Value.{sum_64, difference_64, value_of}
-use Rattle.linker_elf.specs.declared.elf.value.Operands.{Operands}
-use Rattle.linker_elf.specs.declared.aarch64.forms.AArch64Instruction.TheVariants.{Movkz, Movnz}
-use Rattle.linker_elf.specs.declared.loongarch64.forms.LoongArch64Instruction.{LoongArch64Instruction}
-use Rattle.linker_elf.specs.declared.loongarch64.forms.LoongArch64Instruction.TheVariants.{Shift10}
-use Rattle.linker_elf.specs.declared.loongarch64.forms.LoongArch64Instruction.TheVariants.{Call30}
-use Rattle.linker_elf.specs.declared.loongarch64.forms.LoongArch64Instruction.TheVariants.{Call36}
-use Rattle.linker_elf.specs.declared.ppc64.forms.Ppc64Form.{Ppc64Form}
-use Rattle.linker_elf.specs.declared.ppc64.forms.Ppc64Form.TheVariants.{D, Ds}
-use Rattle.linker_elf.specs.declared.elf.Sign.TheVariants.{Signed}
-use Rattle.linker_elf.specs.declared.elf.AnyForm.{AnyForm}
-use Rattle.linker_elf.specs.declared.elf.AnyForm.TheVariants.{RiscV, Ppc64}
-use Rattle.linker_elf.specs.declared.elf.AnyForm.TheVariants.{LoongArch64, AArch64}
-use Rattle.linker_elf.specs.declared.elf.RelocationKind.{RelocationKind}
-use Rattle.linker_elf.specs.declared.elf.RelocationKind.TheVariants.{Relative, AbsoluteSetWord6}
-use Rattle.linker_elf.specs.declared.elf.RelocationKind.TheVariants.{AbsoluteAddition}
-use Rattle.linker_elf.specs.declared.elf.RelocationKind.TheVariants.{AbsoluteLowPart}
-use Rattle.linker_elf.specs.declared.elf.RelocationKind.TheVariants.{AbsoluteAdditionWord6}
-use Rattle.linker_elf.specs.declared.elf.RelocationKind.TheVariants.{AbsoluteSubtraction}
-use Rattle.linker_elf.specs.declared.elf.RelocationKind.TheVariants.{AbsoluteSubtractionWord6}
-use Rattle.linker_elf.specs.declared.elf.RelocationKind.TheVariants.{PairSubtractionULEB128RiscV}
-use Rattle.linker_elf.specs.declared.elf.RelocationKind.TheVariants.{PairSubtractionULEB128LoongArch}
 use Rattle.linker_elf.specs.declared.elf.RowInfo.{RowInfo}
-use Rattle.linker_elf.specs.declared.elf.RowSize.{RowSize}
-use Rattle.linker_elf.specs.declared.elf.RowSize.TheVariants.{ByteSize, BitMasking}
-use Rattle.linker_elf.specs.declared.riscv64.forms.RiscVInstruction.{RiscVInstruction}
-use Rattle.linker_elf.specs.declared.riscv64.forms.RiscVInstruction.TheVariants.{UType, IType}
-use Rattle.linker_elf.specs.declared.riscv64.forms.RiscVInstruction.TheVariants.{SType}
-use Rattle.linker_elf.specs.declared.riscv64.forms.RiscVInstruction.TheVariants.{CluiType, UiType}
-use Rattle.linker_elf.specs.declared.elf.relocate.RelocateError.{RelocateError}
-use Rattle.linker_elf.specs.declared.elf.relocate.RelocateError.TheVariants.{Unsupported}
-use Rattle.linker_elf.specs.declared.elf.relocate.RelocateError.TheVariants.{TooShort, Misaligned}
-use Rattle.linker_elf.specs.declared.elf.relocate.RelocateError.TheVariants.{OutOfReach}
 
 -- ---- whole bytes
 

@@ -1,20 +1,13 @@
 -- RISC-V: its instruction forms (RISC-V unprivileged ISA, "Immediate Encoding Variants"), its
 -- rewrites and its jumps (RISC-V ELF psABI, "Function Call Relaxation").
-use Rattle.std.specs.Prelude.{◌≡◌, ℕ, List, ◌++◌, ℤ, pos}
-use Rattle.std.specs.Prelude.{negsuc, ◌≤ℤ◌}
-use Rattle.std.specs.Prelude.{Bool, true, false, [], ◌∷◌, ◌<ℤ◌, ◌+ℤ◌, ⊤}
-use Rattle.std.specs.Int.{Width, w32, w16, w64}
-use Rattle.linker_base.specs.Bits.{signed}
-use Rattle.linker_base.specs.Form.{Form, Layout, one_field, own_form, form_of, bits_to}
-use Rattle.linker_base.specs.Form.{signed_field, ImmediateBit, sum_bits_to, place_sum, modulo}
-use Rattle.linker_base.specs.Form.{Written, IsSameModulo}
+use Rattle.linker_elf.specs.Imports.{BType, CbType, CjType, CluiType, Form, IType, ImmediateBit}
+use Rattle.linker_elf.specs.Imports.{IsSameModulo, JType, Layout, RiscVInstruction, SType, UType}
+use Rattle.linker_elf.specs.Imports.{UiType, Width, Written, bits_to, form_of, modulo, one_field}
+use Rattle.linker_elf.specs.Imports.{own_form, place_sum, signed, signed_field, sum_bits_to, w16}
+use Rattle.linker_elf.specs.Imports.{w32, w64}
+use Rattle.std.specs.Prelude.{Bool, List, [], false, negsuc, pos, true, ℕ, ℤ, ⊤, ◌≡◌, ◌++◌, ◌≤ℤ◌}
+use Rattle.std.specs.Prelude.{◌∷◌, ◌<ℤ◌, ◌+ℤ◌}
 use Rattle.linker_base.specs.Rounded.{rounded_immediate}
-use Rattle.linker_elf.specs.declared.riscv64.forms.RiscVInstruction.{RiscVInstruction}
-use Rattle.linker_elf.specs.declared.riscv64.forms.RiscVInstruction.TheVariants.{UType, IType}
-use Rattle.linker_elf.specs.declared.riscv64.forms.RiscVInstruction.TheVariants.{SType, BType}
-use Rattle.linker_elf.specs.declared.riscv64.forms.RiscVInstruction.TheVariants.{JType, CbType}
-use Rattle.linker_elf.specs.declared.riscv64.forms.RiscVInstruction.TheVariants.{CjType}
-use Rattle.linker_elf.specs.declared.riscv64.forms.RiscVInstruction.TheVariants.{CluiType, UiType}
 
 -- the places of a high part and of the low part in the second word
 abbrev pub ui_high : List ImmediateBit

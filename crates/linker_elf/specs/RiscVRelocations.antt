@@ -1,31 +1,18 @@
 -- The relocations of RISC-V (RISC-V ELF psABI, "Relocations").
-use Rattle.std.specs.Prelude.{codes, ℕ, Option, Some, None, ℤ, pos, negsuc}
+use Rattle.linker_elf.specs.Imports.{Absolute, AbsoluteAddition, AbsoluteSet, AbsoluteSetWord6}
+use Rattle.linker_elf.specs.Imports.{AbsoluteSubtraction, AbsoluteSubtractionWord6, Alignment}
+use Rattle.linker_elf.specs.Imports.{BType, CbType, CjType, CluiType, GotRelative, GotTpOff, IType}
+use Rattle.linker_elf.specs.Imports.{JType, PairSubtractionULEB128RiscV, PltRelative, Relative}
+use Rattle.linker_elf.specs.Imports.{RelativeRiscVLow12, RelocationKind, RiscV, RiscVInstruction}
+use Rattle.linker_elf.specs.Imports.{SType, Sets, Subtracts, TlsDesc, TlsDescCall, TlsGd, TpOff}
+use Rattle.linker_elf.specs.Imports.{UType, UiType, Uleb128Role}
+use Rattle.std.specs.Prelude.{None, Option, Some, codes, negsuc, pos, ℕ, ℤ}
 use Rattle.linker_elf.specs.ElfNames.{ElfName}
 use Rattle.linker_elf.specs.Rows.{Relocation, with_row, with_own_row, raw_row}
 use Rattle.linker_elf.specs.Rows.{unnamed_relocation, bytes_row, bits_row}
 use Rattle.linker_elf.specs.Rows.{within_row, signed_or_unsigned_row, aligned_row}
-use Rattle.linker_elf.specs.declared.elf.RelocationKind.{RelocationKind}
-use Rattle.linker_elf.specs.declared.elf.RelocationKind.TheVariants.{Absolute, AbsoluteAddition}
-use Rattle.linker_elf.specs.declared.elf.RelocationKind.TheVariants.{AbsoluteSet}
-use Rattle.linker_elf.specs.declared.elf.RelocationKind.TheVariants.{AbsoluteSetWord6}
-use Rattle.linker_elf.specs.declared.elf.RelocationKind.TheVariants.{AbsoluteSubtraction}
-use Rattle.linker_elf.specs.declared.elf.RelocationKind.TheVariants.{AbsoluteSubtractionWord6}
-use Rattle.linker_elf.specs.declared.elf.RelocationKind.TheVariants.{Alignment, GotRelative}
-use Rattle.linker_elf.specs.declared.elf.RelocationKind.TheVariants.{GotTpOff, None as NoValue}
-use Rattle.linker_elf.specs.declared.elf.RelocationKind.TheVariants.{PairSubtractionULEB128RiscV}
-use Rattle.linker_elf.specs.declared.elf.RelocationKind.TheVariants.{PltRelative, Relative}
-use Rattle.linker_elf.specs.declared.elf.RelocationKind.TheVariants.{RelativeRiscVLow12, TlsDesc}
-use Rattle.linker_elf.specs.declared.elf.RelocationKind.TheVariants.{TlsDescCall, TlsGd, TpOff}
+use Rattle.linker_elf.specs.declared.elf.RelocationKind.TheVariants.{None as NoValue}
 use Rattle.linker_elf.specs.declared.elf.RowInfo.{RowInfo}
-use Rattle.linker_elf.specs.declared.elf.AnyForm.TheVariants.{RiscV}
-use Rattle.linker_elf.specs.declared.riscv64.forms.RiscVInstruction.{RiscVInstruction}
-use Rattle.linker_elf.specs.declared.riscv64.forms.RiscVInstruction.TheVariants.{UType, IType}
-use Rattle.linker_elf.specs.declared.riscv64.forms.RiscVInstruction.TheVariants.{SType, BType}
-use Rattle.linker_elf.specs.declared.riscv64.forms.RiscVInstruction.TheVariants.{JType, CbType}
-use Rattle.linker_elf.specs.declared.riscv64.forms.RiscVInstruction.TheVariants.{CjType, CluiType}
-use Rattle.linker_elf.specs.declared.riscv64.forms.RiscVInstruction.TheVariants.{UiType}
-use Rattle.linker_elf.specs.declared.elf.Uleb128Role.{Uleb128Role}
-use Rattle.linker_elf.specs.declared.elf.Uleb128Role.TheVariants.{Sets, Subtracts}
 use Rattle.linker_elf.specs.declared.riscv64.relocations.RiscVRelocation.{RiscVRelocation}
 use Rattle.linker_elf.specs.declared.riscv64.relocations.RiscVRelocation.TheVariants as r
 

@@ -1,19 +1,13 @@
 -- The vocabulary of rows: where a relocation's value comes from, where it is written, and which
 -- values are allowed.
-use Rattle.std.specs.Prelude.{ℕ, ℤ, List, Option, Some, None}
-use Rattle.std.specs.Prelude.{Bool, true, false, if◌then◌else◌}
+use Rattle.linker_elf.specs.Imports.{AnyForm, BitMasking, ByteSize, GotBase, GotEntryAndPosition}
+use Rattle.linker_elf.specs.Imports.{PageMask, RelocationKind, RowSize, Signed}
+use Rattle.linker_elf.specs.Imports.{SymbolPlusAddendAndPosition, Unsigned}
+use Rattle.std.specs.Prelude.{Bool, List, None, Option, Some, false, true, ℕ, ℤ, if◌then◌else◌}
 use Rattle.linker_elf.specs.Elf.{bit_bounds, signed_or_unsigned}
 use Rattle.linker_elf.specs.ElfNames.{ElfName, named, unnamed}
-use Rattle.linker_elf.specs.declared.elf.PageMask.{PageMask}
-use Rattle.linker_elf.specs.declared.elf.PageMask.TheVariants.{SymbolPlusAddendAndPosition}
-use Rattle.linker_elf.specs.declared.elf.PageMask.TheVariants.{GotEntryAndPosition, GotBase}
 use Rattle.linker_elf.specs.declared.elf.PageMaskPattern.TheVariants.{Size4KB}
-use Rattle.linker_elf.specs.declared.elf.AnyForm.{AnyForm}
-use Rattle.linker_elf.specs.declared.elf.RelocationKind.{RelocationKind}
 use Rattle.linker_elf.specs.declared.elf.RowInfo.{RowInfo}
-use Rattle.linker_elf.specs.declared.elf.RowSize.{RowSize}
-use Rattle.linker_elf.specs.declared.elf.RowSize.TheVariants.{ByteSize, BitMasking}
-use Rattle.linker_elf.specs.declared.elf.Sign.TheVariants.{Signed, Unsigned}
 
 -- the bounds of values: from the first up, below the second, or none
 abbrev pub Bounds : Type 0

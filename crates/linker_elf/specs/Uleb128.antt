@@ -1,14 +1,11 @@
 -- What two relocations make of the ULEB128 number that they are at (RISC-V and
 -- LoongArch ELF psABIs: `R_RISCV_SET_ULEB128` and `R_RISCV_SUB_ULEB128`,
 -- `R_LARCH_ADD_ULEB128` and `R_LARCH_SUB_ULEB128`).
-use Rattle.std.specs.Prelude.{◌≡◌, ℕ, List, Option, Some, Result, Ok, Err}
+use Rattle.linker_elf.specs.Imports.{Adds, NotFirst, Number, Sets, Uleb128Role}
+use Rattle.std.specs.Prelude.{Err, List, Ok, Option, Result, Some, ℕ, ◌≡◌}
 use Rattle.linker_base.specs.Uleb.{Uleb, IsUlebWritten, IsUlebCause}
 use Rattle.linker_elf.specs.Value.{sum_64, difference_64}
-use Rattle.linker_elf.specs.declared.elf.Uleb128Role.{Uleb128Role}
-use Rattle.linker_elf.specs.declared.elf.Uleb128Role.TheVariants.{Sets, Adds}
 use Rattle.linker_elf.specs.declared.elf.architecture.Uleb128PairError.{Uleb128PairError}
-use Rattle.linker_elf.specs.declared.elf.architecture.Uleb128PairError.TheVariants.{NotFirst}
-use Rattle.linker_elf.specs.declared.elf.architecture.Uleb128PairError.TheVariants.{Number}
 
 -- the number that the values of both make, modulo 2 ^ 64: their difference, which the first of
 -- LoongArch adds to the existing number

@@ -2,24 +2,15 @@
 -- "Relocation types" of ELF for the Arm 64-bit Architecture, "Relocations" of the RISC-V ELF psABI,
 -- "Relocation Types" of the LoongArch ELF psABI, "Relocation Types" of the 64-bit ELF V2 ABI for
 -- Power, "Relocation Types" of the x86-64 psABI). Addresses are modulo 2 ^ 64.
-use Rattle.std.specs.Prelude.{ℕ, ◌+◌, ◌-◌, ◌%◌, ◌^◌, ◌==◌, if◌then◌else◌, Bool, true, false, Option}
-use Rattle.std.specs.Prelude.{Some, None, ℤ, Result, Ok, Err, not, ◌&&◌, ◌||◌}
-use Rattle.std.specs.Int.{w64, cast_signed, cast_unsigned}
+use Rattle.linker_elf.specs.Imports.{AArch64, BitMasking, ByteSize, FormulaError, GotBase}
+use Rattle.linker_elf.specs.Imports.{GotEntryAndPosition, LoongArch64, NoEntry, NoTlsBase, NoValue}
+use Rattle.linker_elf.specs.Imports.{Operands, PageMask, Ppc64, RelocationKind, RiscV, RowSize}
+use Rattle.linker_elf.specs.Imports.{SymbolPlusAddendAndPosition, cast_signed, cast_unsigned, w64}
+use Rattle.std.specs.Prelude.{Bool, Err, None, Ok, Option, Result, Some, false, not, true, ℕ, ℤ}
+use Rattle.std.specs.Prelude.{◌+◌, ◌-◌, ◌%◌, ◌^◌, ◌==◌, if◌then◌else◌, ◌&&◌, ◌||◌}
 use Rattle.linker_elf.specs.LoongArch.{page, high_distance}
-use Rattle.linker_elf.specs.declared.elf.PageMask.{PageMask}
-use Rattle.linker_elf.specs.declared.elf.PageMask.TheVariants.{SymbolPlusAddendAndPosition}
-use Rattle.linker_elf.specs.declared.elf.PageMask.TheVariants.{GotEntryAndPosition, GotBase}
-use Rattle.linker_elf.specs.declared.elf.AnyForm.TheVariants.{RiscV, Ppc64}
-use Rattle.linker_elf.specs.declared.elf.AnyForm.TheVariants.{LoongArch64, AArch64}
-use Rattle.linker_elf.specs.declared.elf.RelocationKind.{RelocationKind}
 use Rattle.linker_elf.specs.declared.elf.RelocationKind.TheVariants as kinds
 use Rattle.linker_elf.specs.declared.elf.RowInfo.{RowInfo}
-use Rattle.linker_elf.specs.declared.elf.RowSize.{RowSize}
-use Rattle.linker_elf.specs.declared.elf.RowSize.TheVariants.{ByteSize, BitMasking}
-use Rattle.linker_elf.specs.declared.elf.value.FormulaError.{FormulaError}
-use Rattle.linker_elf.specs.declared.elf.value.FormulaError.TheVariants.{NoEntry, NoTlsBase}
-use Rattle.linker_elf.specs.declared.elf.value.FormulaError.TheVariants.{NoValue}
-use Rattle.linker_elf.specs.declared.elf.value.Operands.{Operands}
 
 -- a + b and a - b, modulo 2 ^ 64
 abbrev pub sum_64 : ℕ → ℕ → ℕ

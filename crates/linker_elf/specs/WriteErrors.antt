@@ -1,11 +1,10 @@
 -- What is said of a value that isn't written.
-use Rattle.std.specs.Prelude.{◌^◌, ◌-◌, ℤ, pos, neg_ℤ, Some, None}
-use Rattle.std.specs.Int.{w64, cast_signed, cast_unsigned}
+use Rattle.linker_elf.specs.Imports.{RelocateError, cast_signed, cast_unsigned, w64}
+use Rattle.std.specs.Prelude.{None, Some, neg_ℤ, pos, ℤ, ◌^◌, ◌-◌}
 use Rattle.linker_elf.specs.Reach.{reach_of}
 use Rattle.linker_elf.specs.Rows.{Bounds}
 use Rattle.linker_elf.specs.Value.{difference_64}
 use Rattle.linker_elf.specs.declared.elf.RowInfo.{RowInfo}
-use Rattle.linker_elf.specs.declared.elf.relocate.RelocateError.{RelocateError}
 use Rattle.linker_elf.specs.declared.elf.relocate.WriteError.{WriteError}
 
 -- the least number within bounds, and the last one, which is before their end; of no bounds those

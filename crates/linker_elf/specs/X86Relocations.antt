@@ -1,17 +1,13 @@
 -- The relocations of x86-64 (x86-64 psABI, "Relocation Types").
-use Rattle.std.specs.Prelude.{codes, Option}
+use Rattle.linker_elf.specs.Imports.{Absolute, DtpOff, GotRelGotBase, GotRelative, GotTpOff}
+use Rattle.linker_elf.specs.Imports.{PltRelGotBase, PltRelative, Relative, SymRelGotBase}
+use Rattle.linker_elf.specs.Imports.{SymbolSize, TlsDesc, TlsDescCall, TlsGd, TlsLd, TpOff}
+use Rattle.std.specs.Prelude.{Option, codes}
 use Rattle.linker_elf.specs.ElfNames.{ElfName}
 use Rattle.linker_elf.specs.Rows.{Relocation, with_row, with_own_row, unnamed_relocation}
 use Rattle.linker_elf.specs.Rows.{bytes_row, signed_row}
 use Rattle.linker_elf.specs.Rows.{unsigned_row, signed_or_unsigned_row}
-use Rattle.linker_elf.specs.declared.elf.RelocationKind.TheVariants.{Absolute, DtpOff}
-use Rattle.linker_elf.specs.declared.elf.RelocationKind.TheVariants.{GotRelGotBase, GotRelative}
-use Rattle.linker_elf.specs.declared.elf.RelocationKind.TheVariants.{GotTpOff, None as NoValue}
-use Rattle.linker_elf.specs.declared.elf.RelocationKind.TheVariants.{PltRelGotBase, PltRelative}
-use Rattle.linker_elf.specs.declared.elf.RelocationKind.TheVariants.{Relative, SymRelGotBase}
-use Rattle.linker_elf.specs.declared.elf.RelocationKind.TheVariants.{SymbolSize, TlsDesc}
-use Rattle.linker_elf.specs.declared.elf.RelocationKind.TheVariants.{TlsDescCall, TlsGd, TlsLd}
-use Rattle.linker_elf.specs.declared.elf.RelocationKind.TheVariants.{TpOff}
+use Rattle.linker_elf.specs.declared.elf.RelocationKind.TheVariants.{None as NoValue}
 use Rattle.linker_elf.specs.declared.elf.RowInfo.{RowInfo}
 use Rattle.linker_elf.specs.declared.x86_64.relocations.X86_64Relocation.{X86_64Relocation}
 use Rattle.linker_elf.specs.declared.x86_64.relocations.X86_64Relocation.TheVariants as r

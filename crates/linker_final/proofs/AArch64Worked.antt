@@ -1,10 +1,9 @@
 -- The groups of AArch64's program that the calls link.
-use Rattle.linker_final.proofs.Imports.{AARCH64_OBJECT, AARCH64_RELOCATIONS, AArch64, AArch64Entry, AArch64Relocation, Addresses, All-cons, All-nil, AreAddresses, AreLinked, Begins, Bool, ComesTo, Decision, Grouped, HasGroups, IsGroupDecision, IsLinked, IsLoadRewritten, IsNameOf, IsNamed, IsOutside, IsPhase, IsPhaseOf, IsRelocated, IsRewrittenBy, IsRewrittenByNoOther, IsScopeDecision, Kept, Kinds, Linked, List, Operands, Phase, Rela, RewriteKind, Rewrites, RewritingPhase, Rewritten, Section, Some, State, Symbol, UntouchedInPhase, UntouchedInstruction, [], aarch64_name, aarch64_scope_in, all_below, and_parts, ap, arith, at_high, at_load, at_low, cases_lt, code_at, count, decision_at, entry, eqb, eqb-true, false, following, group_stays, half, halves, halves_to_local_exec, high, in_phase, inl, inr, instruction_at, ints, length, linked_by, lit<, lit≤, loaded, low, named_at, none_stays, object, offset_of, operands_with, pos, put, r_type_of, refl, register, relaxation_rewrite, relocation_in, replicate, same, sequences_are_whole, slice_get, span, subst, suc, sum_64, sym, true, window_of, window_of_rewrite, with_register, word_of, zero, ℕ, ◌+◌, ◌/◌, ◌<◌, ◌∙◌, ◌∷◌, ◌≡◌, ◌≤◌, ◌⊎◌}
-use Rattle.linker_base.specs.Form.{place_sum}
+use Rattle.linker_final.proofs.Imports.{AARCH64_OBJECT, AARCH64_RELOCATIONS, AArch64, AArch64Relocation, Addresses, All-cons, All-nil, AreAddresses, AreLinked, Begins, Bool, ComesTo, Decision, Grouped, HasFinal, HasGroups, IsGroupDecision, IsGroupOf, IsLinked, IsLoadRewritten, IsNameOf, IsNamed, IsOutside, IsPhase, IsPhaseOf, IsRewrittenBy, IsRewrittenByNoOther, IsRewrittenOf, IsScopeDecision, Kept, Kinds, Linked, List, Operands, Phase, Rela, RewriteKind, Rewrites, RewritingPhase, Rewritten, Section, Some, State, Symbol, UntouchedInPhase, UntouchedInstruction, [], aarch64_name, aarch64_scope_in, all_below, and_parts, ap, arith, at_high, at_load, at_low, cases_lt, code_at, count, decision_at, entry, eqb, eqb-true, false, following, group_stays, half, halves, high, in_phase, inl, inr, instruction_at, ints, length, linked_by, lit<, lit≤, load, loaded, low, named_at, none_stays, object, offset_of, operands_with, place_sum, pos, put, r_type_of, refl, register, relaxation_rewrite, relocation_in, replicate, rewriting, same, sequences_are_whole, slice_get, span, subst, suc, sum_64, sym, true, window_of, window_of_rewrite, with_register, word_of, zero, ℕ, ◌+◌, ◌/◌, ◌<◌, ◌∙◌, ◌∷◌, ◌≡◌, ◌≤◌, ◌⊎◌}
+use Rattle.linker_utils.specs.AArch64Rewrites.{AArch64Entry, halves_to_local_exec}
+use Rattle.linker_laws.specs.AArch64RewriteLaws.{IsRelocated}
 use Rattle.linker_final.proofs.AArch64.{IsNew, IsOfEntry, got_row, high_after as left_high, named_after, of_entry}
 use Rattle.linker_final.proofs.Written.{rela, same_windows}
-use Rattle.linker_final.specs.AArch64Section.{HasFinal, IsRewrittenOf, load, rewriting}
-use Rattle.linker_final.specs.Worked.{IsGroupOf}
 use Rattle.linker_laws.proofs.Relocated.{addresses as small, relocated}
 use Rattle.linker_laws.specs.AArch64Groups.{Has}
 use Rattle.linker_laws.specs.AArch64GroupsWorked.{known, starting}

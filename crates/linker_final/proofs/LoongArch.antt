@@ -1,20 +1,20 @@
 -- LoongArch: each rewrite of a section is of one instruction or of a load, which is a group.
-use Rattle.linker_final.proofs.Imports.{AbsoluteLowPart, Addresses, Architecture, AreDecidedIn, AreOf, AreRewritten, BeginsRewritten, Bool, CallOfDescriptor, Choice, Consumed, Decision, GotRelative, GotTpOff, GotTpOffGot, Grouped, HasEntry, Independent, IsAlone, IsApplied, IsArchitectureChoice, IsCallOfDescriptor, IsCandidate, IsCandidateWith, IsChosen, IsDecidedAfter, IsDecidedAlone, IsFinal, IsGroupDecision, IsKept, IsKeptInstruction, IsLeft, IsLinked, IsLoad, IsLoadAt, IsLoadOfDescriptor, IsLowOfDescriptor, IsLu12i, IsNameOf, IsNamed, IsNew, IsOfEntry, IsOfOne, IsPageOfDescriptor, IsPcalau12i, IsRewritten as PairIsRewritten, IsRewrittenAndPacked, IsRewrittenByNoOther, IsRow, IsScopeDecision, IsScopeIn, IsSomeAnd, IsTrue, IsWrittenByNoOther, Kept, Labelled, Left, LinkFacts, Linked, List, LoadOfDescriptor, LoadsTheSame, LoongArch64, LoongArch64Relocation, LoongArchApplies, LoongArchEntry, None, NotRelaxable, Ok, Operands, Option, Packed, Phase, Ppc64, Rela, Relative, RelaxContext, Relaxation, RewritesAreGroups, Rewritten, RewrittenWithSymbol, RowInfo, Scope, Some, Symbol, TpOff, UntouchedInstruction, UntouchedInstructions, [], addend_after, ap, applied, architecture_of, arith, by_itself, bytes_row, cases_Bool, chosen_at, cond, count, decision_at, decision_of, entry_by as entry_of_name, entry_pages, false, field, final_instruction, following, group_stays, high_row, inl, inr, instruction_at, is_some, is_taken, law_of, link_facts, loongarch_entries, loongarch_name, loongarch_rewrite, loongarch_row, loongarch_scope_in, none, of_one, offset_after, offset_of, operands_by, operands_in, operands_with, paged_row, place_pages, pre_layout, r_type_of, refl, relaxation_rewrite, relaxation_skipped, relocation_in, rj_of, rounded_row, slice_get, subst, suc, sym, takes_next, true, value_of, without_law, word_of, zero, ℕ, ℤ, ⊤, ◌*◌, ◌+◌, ◌-◌, ◌/◌, ◌<◌, ◌^◌, ◌∙◌, ◌∷◌, ◌≡◌, ◌≢◌, ◌≤◌, ◌⊎◌}
-use Rattle.linker_elf.specs.LoongArchRelocations.{low_row}
+use Rattle.linker_final.proofs.Imports.{AbsoluteLowPart, Addresses, Architecture, AreDecidedIn, AreRewritten, BeginsRewritten, Bool, Choice, Consumed, Decision, GotRelative, GotTpOff, GotTpOffGot, Grouped, Independent, IsApplied, IsArchitectureChoice, IsCandidate, IsCandidateWith, IsChosen, IsDecidedAfter, IsDecidedAlone, IsGroupDecision, IsKeptInstruction, IsLinked, IsLoadAt, IsNameOf, IsNamed, IsOfEntry, IsOfOne, IsRewrittenAndPacked, IsRewrittenByNoOther, IsRow, IsScopeDecision, IsScopeIn, IsSomeAnd, IsTrue, IsWrittenByNoOther, Kept, Labelled, LinkFacts, Linked, List, LoongArch64 as loongarch64, LoongArch64Relocation, None, NotRelaxable, Ok, Operands, Option, Packed, Phase, Ppc64, Rela, Relative, RelaxContext, Relaxation, RewritesAreGroups, Rewritten, RewrittenWithSymbol, RowInfo, Scope, Some, Symbol, TpOff, UntouchedInstruction, UntouchedInstructions, [], addend_after, ap, architecture_of, arith, bytes_row, cases_Bool, chosen_at, cond, count, decision_at, decision_of, entry_pages, false, field, final_instruction, following, group_stays, high_row, inl, inr, instruction_at, is_some, is_taken, link_facts, loongarch_name, loongarch_row, loongarch_scope_in, low_row, of_one, offset_after, offset_of, operands_by, operands_in, operands_with, paged_row, place_pages, pre_layout, r_type_of, refl, relaxation_rewrite, relaxation_skipped, relocation_in, rounded_row, slice_get, subst, suc, sym, takes_next, true, value_of, word_of, zero, ℕ, ℤ, ⊤, ◌*◌, ◌+◌, ◌-◌, ◌/◌, ◌<◌, ◌^◌, ◌∙◌, ◌∷◌, ◌≡◌, ◌≢◌, ◌≤◌, ◌⊎◌}
+use Rattle.linker_final.specs.LoongArchSection.{AreOf, HasEntry, IsAlone, IsFinal, IsKept, IsLeft, IsLoad, IsNew, Left, LoadsTheSame, applied, by_itself, entry_by as entry_of_name, law_of, none, without_law, IsMade, Law, RelocationsAreLeft, anywhere, final, load, named_as, packed, rewriting}
+use Rattle.linker_laws.specs.LoongArchGroups.{CallOfDescriptor, LoadOfDescriptor, Groups}
+use Rattle.linker_utils.specs.LoongArchRewrites.{IsCallOfDescriptor, IsLoadOfDescriptor, IsLowOfDescriptor, IsLu12i, IsPageOfDescriptor, IsPcalau12i, LoongArchApplies, LoongArchEntry, loongarch_entries, loongarch_rewrite, rj_of, HasPattern, IsAddTp, IsLd, adds_low12, rd_of, rewrites_word, tp}
+use Rattle.linker_rewriting.specs.Rewritten.{IsRewritten as PairIsRewritten}
+use Rattle.linker_elf.specs.declared.elf.architecture.Architecture.TheVariants.{LoongArch64}
 use Rattle.linker_elf.specs.declared.elf.RelocationKind.TheVariants.{None as NoValue}
 use Rattle.linker_final.proofs.PackedBytes.{own_there, r_type_is, unwritten_there, within}
 use Rattle.linker_final.proofs.SectionRuns.{AreIn, IsIn, beside_or, is_linked, without_label}
 use Rattle.linker_final.proofs.Written.{IsOfInstruction, IsRowOf, applied_after, by_name, made_there, of_bits, rela, rela_at, relocation_named, row_in, stays, unwritten_without, word_same}
-use Rattle.linker_final.specs.LoongArchSection.{IsMade, Law, RelocationsAreLeft, anywhere, final, load, named_as, packed, rewriting}
-use Rattle.linker_laws.specs.LoongArchGroups.{Groups}
 use Rattle.linker_laws.specs.LoongArchRewriteLaws.{IsPair, IsRelocated, IsRewritten}
 use Rattle.linker_rewriting.proofs.LoongArchLoads.{loads_are_whole}
 use Rattle.linker_rewriting.proofs.PreLayout.{AreEarly, IsListed, are_early, isnt, listed_at}
 use Rattle.linker_rewriting.proofs.SequenceMembers.{among, are_there}
 use Rattle.linker_rewriting.specs.Sequences.{IsWhole, are_members, is_marked_in, is_whole, marked_load}
 use Rattle.linker_rewriting.specs.declared.phases.Phase.TheVariants.{PreLayout}
-use Rattle.linker_runs.specs.declared.packing.Machine.TheVariants.{LoongArch64 as loongarch64}
-use Rattle.linker_utils.specs.LoongArchRewrites.{HasPattern, IsAddTp, IsLd, adds_low12, rd_of, rewrites_word, tp}
 use Rattle.linker_utils.specs.declared.loongarch64.rewrites.RewriteKind.{RewriteKind}
 use Rattle.linker_elf.specs.declared.loongarch64.relocations.LoongArch64Relocation.TheVariants as names
 use Rattle.linker_utils.specs.declared.loongarch64.rewrites.RewriteKind.TheVariants as kinds

@@ -1,10 +1,12 @@
 -- LoongArch: calls and addresses in the final bytes of a packed section, and what is deleted of it.
-use Rattle.linker_final.proofs.Imports.{AbsoluteLowPart, AddressesAreMade, All-drop, All-take, AnyForm, AreAddresses, AreBytes, AreDeleted as IsGone, BitMasking, BitRange, Bool, Branch26, CallsTheSame, Fits32, HaveCalled, HaveMade, HighPartIsLeftOut, InstructionWritten, IsAddi, IsAddress, IsApplied, IsBefore, IsCall, IsPacked, IsPairOf, IsSiteOf, IsSomeAnd, IsWritten, List, LoadedAddressesAreMade, LoadsEntry, LongAddressesStay, LongLoadedAddressesStay, LoongArch64Relocation, Ok, Operands, Packed, Relocated, RowInfo, Shift10, SiteBecomes, Some, State, StaysAs, Symbol, ValueIsWithin, [], ap, architecture_of, arith, drop, drop-drop, entry_and_addend, eqb, false, field, following, has_value, if◌then◌else◌, inl, inr, is_jirl, length, length-drop, loaded, loongarch_form, loongarch_row, names_label, ne_eqb, no_register, not, offset_at, operands_at, operands_in, or_parts, pair, pcalau12i, place_of, plt_address, pos, refl, relocation_in, rj_of, signed, signed_32, site_after, site_bytes, site_len, site_offset, site_place, site_target, slice_get, subst, sum_64, sym, symbol_address, take, true, value_of, window_len, word_below, word_of, word_of_front, words_in, wrapped, ℕ, ℤ, ⊤, ◌*ℤ◌, ◌+ℤ◌, ◌+◌, ◌/◌, ◌<◌, ◌==◌, ◌^◌, ◌∙◌, ◌∷◌, ◌≡◌, ◌≢◌, ◌≤◌}
+use Rattle.linker_final.proofs.Imports.{AbsoluteLowPart, All-drop, All-take, AnyForm, AreAddresses, AreBytes, AreDeleted as IsGone, BitMasking, BitRange, Bool, Branch26, InstructionWritten, IsAddress, IsApplied, IsBefore, IsPacked, IsSiteOf, IsSomeAnd, IsWritten, List, LoongArch64, LoongArch64Relocation, Ok, Operands, Packed, Relocated, RowInfo, Shift10, SiteBecomes, Some, State, Symbol, ValueIsWithin, [], ap, architecture_of, arith, drop, drop-drop, entry_and_addend, eqb, false, field, following, has_value, if◌then◌else◌, inl, inr, is_jirl, length, length-drop, loaded, loongarch_form, loongarch_row, names_label, ne_eqb, not, offset_at, operands_in, or_parts, pcalau12i, place_of, plt_address, pos, refl, relocation_in, signed, site_after, site_bytes, site_len, site_offset, site_place, site_target, slice_get, subst, sum_64, sym, symbol_address, take, true, value_of, window_len, word_below, word_of, word_of_front, wrapped, ℕ, ℤ, ⊤, ◌*ℤ◌, ◌+ℤ◌, ◌+◌, ◌/◌, ◌<◌, ◌==◌, ◌^◌, ◌∙◌, ◌∷◌, ◌≡◌, ◌≢◌, ◌≤◌}
+use Rattle.linker_final.specs.LoongArchSection.{AddressesAreMade, CallsTheSame, HighPartIsLeftOut, IsPairOf, LoadedAddressesAreMade, LongAddressesStay, LongLoadedAddressesStay, StaysAs, operands_at, words_in, LongCallsStay, SumIsLeftOut}
+use Rattle.linker_laws.specs.LoongArchRewriteLaws.{Fits32, HaveCalled, HaveMade, LoadsEntry, no_register, pair, IsRelocated, IsRewritten}
+use Rattle.linker_utils.specs.LoongArchRewrites.{IsAddi, IsCall, rj_of, signed_32, AreOfOneRegister, IsLd, rd_of, word_at}
 use Rattle.linker_elf.proofs.Relocated.{plain_written}
 use Rattle.linker_elf.specs.declared.elf.AnyForm.TheVariants.{LoongArch64 as of_loongarch}
 use Rattle.linker_final.proofs.PackedBytes.{are_addresses, instructions, no_place, place_after, places_inside, site_becomes, site_inside, site_length, site_small, stay_inside, the_row}
 use Rattle.linker_final.proofs.Written.{back_of_pair, front_of_pair, some_value, window_length}
-use Rattle.linker_final.specs.LoongArchSection.{LongCallsStay, SumIsLeftOut}
 use Rattle.linker_laws.proofs.AArch64Pairs.{word_made}
 use Rattle.linker_laws.proofs.AArch64Steps.{address_is}
 use Rattle.linker_laws.proofs.LoongArchCalls.{call_is, decodes_b, decodes_bl, decodes_far, decodes_jirl, new_first, new_second, target_is}
@@ -13,13 +15,10 @@ use Rattle.linker_laws.proofs.LoongArchSteps.{ends_so, loaded_of, read_back, run
 use Rattle.linker_laws.proofs.LoongArchWords.{high_after, low_after}
 use Rattle.linker_laws.specs.LoongArchGroups.{AreDeleted, Code, Groups}
 use Rattle.linker_laws.specs.LoongArchMachine.{AreAlikeBut, EndSo, State as Processor, branch_target, execute, far_address, go_to, near_address, next_pc, page_address, read, register_target, run, step, sum_of, with_register, write}
-use Rattle.linker_laws.specs.LoongArchRewriteLaws.{IsRelocated, IsRewritten}
 use Rattle.linker_runs.specs.LoongArchSites.{IsBranch, IsCall36At, IsFarCall, IsPcaddi, IsPcalaAt, LoongArchBecomes, destination}
 use Rattle.linker_runs.specs.LoongArchSites.LoongArchBecomes.{address, call, far_address as far_pair, far_call, jump}
 use Rattle.linker_runs.specs.Sites.{operands_of}
-use Rattle.linker_runs.specs.declared.packing.Machine.TheVariants.{LoongArch64}
 use Rattle.linker_runs.specs.declared.relaxation.Site.{Site as sites}
-use Rattle.linker_utils.specs.LoongArchRewrites.{AreOfOneRegister, IsLd, rd_of, word_at}
 use Rattle.linker_elf.specs.declared.loongarch64.relocations.LoongArch64Relocation.TheVariants as names
 use Rattle.linker_laws.specs.LoongArchRelocationLaws as relocation_laws
 use Rattle.linker_utils.specs.declared.loongarch64.rewrites.RewriteKind.TheVariants as kinds

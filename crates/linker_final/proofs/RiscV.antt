@@ -1,12 +1,13 @@
 -- RISC-V: what the rewrites of a section leave, and that those with a law are groups.
-use Rattle.linker_final.proofs.Imports.{Absolute, Addresses, All-drop, All-from_get_or, All-take, AllHold, AppliesToRiscV, Architecture, AreBytes, AreOfPair, AreRewritten, AreWritten, BecomesNop, BitRange, Bool, Changes, Choice, Consumed, Decision, GotTpOff, Grouped, Groups, Has, HasAddresses, HasLow, HasNamed, HasOwn, HasPattern, HasValue, HasWord, HighPartGoes, IType, IsAddTp, IsAddiOfLoad, IsApplied, IsArchitectureChoice, IsAuipc, IsCandidateWith, IsChosen, IsDecidedAfter, IsDeleted, IsDone, IsGroupDecision, IsHighIn, IsKeptInstruction, IsLabelCandidate, IsLabelDecision, IsLd, IsLinked, IsLoadFromGot, IsLowOffset, IsLui, IsLuiOfLoad, IsMade, IsNameOf, IsNamed, IsNamedAs, IsNop, IsNotRewrittenBy, IsOfDescriptor, IsOfEntry as IsOfEntryIn, IsOfOne as IsOfOneIn, IsRewrittenAndPacked, IsRewrittenByNoOther, IsRewrittenOf, IsRow, IsScopeDecision, IsScopeIn, IsSomeAnd, IsTrue, IsUnchanged, IsWithin, Kept, Labelled, Lawful, Leaves, LinkFacts, Linked, List, New, None, NoneIsInitialExec, Nops, NopsOf, NotRelaxable, OffsetsAreLow, OffsetsAreLowOf, Ok, Operands, Option, Packed, Phase, Rela, Relative, RelativeRiscVLow12, RelaxContext, Relaxation, RelocationsAreLeft, RewritesAreGroups, Rewritten, RewrittenWithSymbol, RiscV, RiscVEntry, RiscVRelocation, RowInfo, SType, Scope, Some, Stands, Subject, SumGoes, Symbol, TpOff, UType, UntouchedInstruction, [], action_at, action_of, addend_after, address_in, adds_low12, after_rewrite, anywhere, ap, architecture_of, arith, by_low_offset, cast_signed, cast_unsigned, choice_of, chosen_or_labelled, count, decision_at, deleted_of, descriptor, difference_64, drop, entry, facts_at, facts_by, facts_with, false, far_entry, final, final_instruction, fixed, from_le_bytes, funct3_of, get_or, got_high_part, group_stays, high_part, if◌then◌else◌, inl, inr, instruction_at, ints, is_label_marked, is_labelled, is_some, is_taken, label_decision, label_facts, law, length, length-drop, length-take-le, link_facts, list_any, load, load_to_addi, low_12_bounds, low_address, low_law, low_part, low_store, ltb-true, named_as, nat_lt, negsuc, of_destination, of_entry as of_entry_in, of_one, offset_after, offset_at, offset_of, offset_row, one_index, opcode_of, operands_before, operands_in, operands_of, operands_with, or_parts, packed, pair_row, place_of, placed_facts, pos, r_type_of, refl, relaxation_deleted, relaxation_rewrite, relaxation_skipped, relocation_in, rewrites_word, rewritten_by, riscv_entries, riscv_matches, riscv_name, riscv_pair_bounds, riscv_relocation, riscv_rewrite, riscv_row, riscv_row_of, riscv_scope_in, riscv_skipped, short_descriptor, slice_get, subst, suc, sum, sum_64, sym, take, takes_next, takes_symbol, to_le_bytes, tp, true, unwrap_or, value_of, w32, w64, with_rs1, without_entry, without_got, word_of, zero, ℕ, ℤ, ◌*◌, ◌+◌, ◌-◌, ◌/◌, ◌<◌, ◌^◌, ◌∙◌, ◌∷◌, ◌≡◌, ◌≢◌, ◌≤◌, ◌⊎◌}
+use Rattle.linker_final.proofs.Imports.{Absolute, Addresses, All-drop, All-from_get_or, All-take, AllHold, AppliesToRiscV, Architecture, AreBytes, AreRewritten, AreWritten, BitRange, Bool, Choice, Consumed, Decision, GotTpOff, Grouped, HasAddresses, HasWord, IType, IsApplied, IsArchitectureChoice, IsAuipc, IsCandidateWith, IsChosen, IsDecidedAfter, IsDone, IsGroupDecision, IsHighIn, IsKeptInstruction, IsLabelCandidate, IsLabelDecision, IsLinked, IsLoadFromGot, IsLowOffset, IsLui, IsMade, IsNameOf, IsNamed, IsOfEntry as IsOfEntryIn, IsOfOne as IsOfOneIn, IsRewrittenAndPacked, IsRewrittenByNoOther, IsRow, IsScopeDecision, IsScopeIn, IsSomeAnd, IsTrue, IsUnchanged, IsWithin, Kept, Labelled, LinkFacts, Linked, List, None, NotRelaxable, Ok, Operands, Option, Packed, Phase, Reaches, Rela, Relative, RelativeRiscVLow12, RelaxContext, Relaxation, RewritesAreGroups, Rewritten, RewrittenWithSymbol, RiscV, RiscVEntry, RiscVRelocation, RowInfo, SType, Scope, Some, Subject, Symbol, TpOff, UType, UntouchedInstruction, [], action_at, addend_after, address_in, adds_low12, after_rewrite, ap, architecture_of, arith, by_low_offset, cast_signed, cast_unsigned, choice_of, chosen_or_labelled, count, decision_at, deleted_of, difference_64, drop, entry, facts_at, facts_by, facts_with, false, far_entry, final_instruction, from_le_bytes, funct3_of, get_or, got_high_part, group_stays, if◌then◌else◌, inl, inr, instruction_at, ints, is_label_marked, is_labelled, is_some, is_taken, label_decision, label_facts, length, length-drop, length-take-le, link_facts, list_any, load_to_addi, low_12_bounds, ltb-true, nat_lt, negsuc, of_destination, of_entry as of_entry_in, of_one, offset_after, offset_at, offset_of, offset_row, one_index, opcode_of, operands_before, operands_in, operands_of, operands_with, or_parts, pair_row, place_of, placed_facts, pos, r_type_of, refl, relaxation_deleted, relaxation_rewrite, relaxation_skipped, relocation_in, rewritten, rewritten_by, riscv_entries, riscv_matches, riscv_name, riscv_pair_bounds, riscv_relocation, riscv_rewrite, riscv_row, riscv_row_of, riscv_scope_in, riscv_skipped, slice_get, subst, suc, sum_64, sym, take, takes_next, takes_symbol, to_le_bytes, true, unwrap_or, value_of, w32, w64, with_rs1, without_entry, without_got, word_of, zero, ℕ, ℤ, ◌*◌, ◌+◌, ◌-◌, ◌/◌, ◌<◌, ◌^◌, ◌∙◌, ◌∷◌, ◌≡◌, ◌≢◌, ◌≤◌, ◌⊎◌}
+use Rattle.linker_laws.specs.RiscVMachine.{action_of}
+use Rattle.linker_final.specs.RiscVSection.{AreOfPair, BecomesNop, Changes, HasLow, HasNamed, HasOwn, HasValue, HighPartGoes, IsAddiOfLoad, IsDeleted, IsLuiOfLoad, IsNamedAs, IsNop, IsNotRewrittenBy, IsOfDescriptor, IsRewrittenOf, Lawful, Leaves, New, NoneIsInitialExec, Nops, NopsOf, OffsetsAreLow, OffsetsAreLowOf, RelocationsAreLeft, SumGoes, anywhere, descriptor, final, fixed, high_part, law, load, low_address, low_law, low_part, low_store, named_as, packed, short_descriptor, sum, rewriting}
+use Rattle.linker_laws.specs.RiscVGroups.{Groups, Has, Stands}
+use Rattle.linker_utils.specs.RiscVRewrites.{HasPattern, IsAddTp, IsLd, rewrites_word, tp}
 use Rattle.linker_base.proofs.Bits.{cast_negative}
-use Rattle.linker_base.specs.Rewrite.{rewritten}
-use Rattle.linker_elf.specs.Relocate.{Reaches}
 use Rattle.linker_final.proofs.PackedBytes.{final_inside, place_is, r_type_is, rewritten_inside, same_kept, unwritten_there, within}
 use Rattle.linker_final.proofs.SectionRuns.{AreIn, beside_or, is_linked}
 use Rattle.linker_final.proofs.Written.{IsOfInstruction, IsRowOf, applied, applied_found, by_name, bytes_left, last_length, last_within, later_bytes, low_found, mapped, of_bits, rela, rela_at, relocation_left, row_in, stays, unwritten_without, with_operands, word_same}
-use Rattle.linker_final.specs.RiscVSection.{rewriting}
 use Rattle.linker_rewriting.specs.declared.facts.OutputFacts.{OutputFacts}
 use Rattle.linker_rewriting.specs.declared.facts.SymbolFacts.{SymbolFacts}
 use Rattle.linker_utils.specs.declared.riscv64.rewrites.RewriteKind.{RewriteKind}

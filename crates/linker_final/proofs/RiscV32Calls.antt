@@ -1,33 +1,10 @@
 -- RV32's calls, by what RV64's instructions do.
-use Rattle.std.proofs.Common.{◌≡◌, ◌≢◌, ℕ, ◌+◌, ◌-◌, ◌%◌, ◌^◌, ◌≤◌, ◌==◌, ◌&&◌, nat_le, Bool, true, false, if◌then◌else◌, ℤ, pos, negsuc, ◌+ℤ◌, List, drop, length, Some, IsSomeAnd, refl, sym, ap, ◌∙◌, subst, arith, ne_eqb, eq-eqb, le-leb}
-use Rattle.std.proofs.lemmas.List.{length-drop}
-use Rattle.std.specs.Int.{w16, w32, from_le_bytes}
-use Rattle.linker_base.specs.Bits.{field}
-use Rattle.linker_elf.specs.declared.elf.RelocationKind.TheVariants.{PltRelative}
+use Rattle.linker_final.proofs.Imports.{Bool, CjType, IType, IsApplied, IsSame32, IsSomeAnd, List, Operands, PltRelative, RiscVRelocation, Some, UType, UiType, after_rewrite, ap, ap₂, arith, call_to_cjal, drop, eq-eqb, even, false, fetched_word, field, from_le_bytes, if◌then◌else◌, ints, jump_row, le-leb, length, length-drop, lift, moved, nat_le, ne_eqb, negsuc, pair_row, plt_address, pos, put_there, rd_of, refl, riscv_form, riscv_row, same_low_two, subst, sum_64, sym, symbol_address, true, w16, w32, word_of, wrapped_is, ℕ, ℤ, ◌%◌, ◌&&◌, ◌+ℤ◌, ◌+◌, ◌-◌, ◌==◌, ◌^◌, ◌∙◌, ◌≡◌, ◌≢◌, ◌≤◌}
+use Rattle.linker_laws.specs.RiscVMachine.{Hart, Instruction, auipc, executed, fetched, goes_on, goes_to, jal, jumps, of_word, rs1_of, sums, with_integer, register}
 use Rattle.linker_elf.specs.declared.riscv64.relocations.RiscVRelocation.TheVariants as names
 use Rattle.linker_final.proofs.RiscV32.{symbol_32, with_addend_sum}
-use Rattle.linker_elf.specs.Applied.{IsApplied}
-use Rattle.linker_elf.specs.RiscV.{riscv_form}
-use Rattle.linker_elf.specs.RiscVRelocations.{pair_row, riscv_row}
-use Rattle.linker_elf.specs.Value.{sum_64}
-use Rattle.linker_elf.specs.declared.elf.value.Operands.{Operands}
-use Rattle.linker_elf.specs.declared.riscv64.forms.RiscVInstruction.TheVariants.{CjType, IType, UType, UiType}
-use Rattle.linker_elf.specs.declared.riscv64.relocations.RiscVRelocation.{RiscVRelocation}
-use Rattle.linker_final.specs.RiscV32.{IsSame32}
-use Rattle.linker_laws.specs.Machine.{moved}
-use Rattle.linker_laws.specs.RiscVMachine.{register, rs1_of}
-use Rattle.linker_laws.specs.RiscVRewriteLaws.{after_rewrite, word_of}
-use Rattle.linker_laws.specs.Schemes.{plt_address, symbol_address}
-use Rattle.linker_riscv64.specs.RiscVFields.{rd_of}
 use Rattle.linker_final.specs.RiscV32Calls.{Calls, HasCalled, LongCall, ShortCall, executed_32, fetched_32, is_cjal, modulo_32, step_32}
-use Rattle.linker_laws.proofs.Imports.{ap₂, ints, jump_row}
 use Rattle.linker_laws.proofs.RiscVJumps.{high_decodes, high_long, low_decodes, low_long, pair_base, pair_leads, pair_link, pair_register, short_jump_function, short_jump_leads, short_jump_low}
-use Rattle.linker_laws.proofs.RiscVMachine.{fetched_word}
-use Rattle.linker_laws.proofs.Sums.{lift, wrapped_is}
-use Rattle.linker_laws.proofs.Words.{put_there, same_low_two}
-use Rattle.linker_laws.specs.RiscVRelocationLaws.{even}
-use Rattle.linker_laws.specs.RiscVMachine.{Hart, Instruction, auipc, executed, fetched, goes_on, goes_to, jal, jumps, of_word, sums, with_integer}
-use Rattle.linker_utils.specs.RiscVRewrites.{call_to_cjal}
 use Rattle.linker_utils.specs.declared.riscv64.rewrites.RewriteKind.TheVariants as kinds
 
 -- ---- what is fetched

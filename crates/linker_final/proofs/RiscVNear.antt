@@ -1,10 +1,14 @@
 -- RISC-V: low parts over x3 and x0, and what is deleted before them.
-use Rattle.linker_final.proofs.Imports.{Absolute, AbsoluteAddresses, Action, AuipcGoes, Bool, Has, IType, IsAddress, IsTrue, List, LowPartsFromBase, LuiGoes, None, Operands, Option, PartsFromBase, Relative, RelativeAddresses, RelativeRiscVLow12, Relocated, RelocationKind, RowInfo, Some, UType, ValuesAreDistances, absolute_rows, address_in, adds_low12, after_base, ap, arith, auipc, based_group, below_32, cast_signed, cast_unsigned, difference_64, distance, drop, false, from_le_bytes, funct3_of, goes_to, if◌then◌else◌, ints, labelled_row, lo12, low_row, ltb-true, lui, machine, moved, moved_twice, nothing_left, of_z-to_z, opcode_of, pair_row, pos, puts, rd_of, refl, riscv_form, row_of, rs1_of, seen, signed, stores, subst, sum_64, sum_zero, sym, symbol_address, true, true≢false, unsigned_abs, w32, w64, with_integer, word_at, word_goes, word_of, wrapped, written, ℕ, ℤ, ◌%◌, ◌&&◌, ◌+ℤ◌, ◌+◌, ◌-◌, ◌<◌, ◌^◌, ◌∙◌, ◌≡◌, ◌≤◌, ◌⊎◌}
+use Rattle.linker_final.proofs.Imports.{Absolute, Bool, IType, IsAddress, IsTrue, List, None, Operands, Option, Relative, RelativeRiscVLow12, Relocated, RelocationKind, RowInfo, Some, UType, absolute_rows, address_in, adds_low12, ap, arith, based_group, below_32, cast_signed, cast_unsigned, difference_64, drop, false, from_le_bytes, funct3_of, if◌then◌else◌, ints, lo12, ltb-true, moved, moved_twice, nothing_left, of_z-to_z, opcode_of, pair_row, pos, puts, rd_of, refl, riscv_form, row_of, signed, subst, sum_64, sum_zero, sym, symbol_address, true, true≢false, unsigned_abs, w32, w64, word_at, word_goes, word_of, wrapped, written, ℕ, ℤ, ◌%◌, ◌&&◌, ◌+ℤ◌, ◌+◌, ◌-◌, ◌<◌, ◌^◌, ◌∙◌, ◌≡◌, ◌≤◌, ◌⊎◌}
+use Rattle.linker_laws.specs.RiscVMachine.{Action, auipc, goes_to, lui, rs1_of, stores, with_integer, register}
+use Rattle.linker_laws.specs.RiscVRelocationLaws.{AbsoluteAddresses, RelativeAddresses}
+use Rattle.linker_final.specs.RiscVSection.{AuipcGoes, LowPartsFromBase, LuiGoes, PartsFromBase, ValuesAreDistances, after_base, distance, labelled_row}
+use Rattle.linker_laws.specs.RiscVGroups.{Has, machine, seen}
+use Rattle.linker_laws.specs.RiscVRewriteLaws.{low_row}
 use Rattle.linker_elf.proofs.Entries.{sum_below}
 use Rattle.linker_laws.proofs.RiscVDescriptors.{lui_word, upper_long, upper_word}
 use Rattle.linker_laws.proofs.RiscVHighParts.{IsFormulaOf, of_address}
 use Rattle.linker_laws.proofs.RiscVLowParts.{based_there, i_stands, low_sum, some_action}
-use Rattle.linker_laws.specs.RiscVMachine.{register}
 use Rattle.linker_rewriting.specs.GlobalPointer.{address_of, base_by, base_for, base_of, based_relocation, is_near, relocation_over}
 use Rattle.std.proofs.lemmas.Option.{same_Some}
 

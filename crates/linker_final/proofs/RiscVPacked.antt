@@ -1,8 +1,10 @@
 -- RISC-V: calls in the final bytes of a packed section, and what is deleted of it.
-use Rattle.linker_final.proofs.Imports.{All-drop, All-take, AreAddresses, AreBytes, AreDeleted as IsGone, CallIsAlike, CallStays, Code, DeletedLui, Groups, HasWord, HighPartsAreLeftOut, IsApplied, IsBefore, IsCallPair, IsLow12, IsLowOffset, IsLui, IsOfCall, IsSomeAnd, List, LongCallsStay, LuiIsLeftOut, Operands, Packed, RiscV, RiscVRelocation, Site, SiteBecomes, SitesCallTheSame, Some, State, SumIsLeftOut, address_is, ap, architecture_of, arith, call_row, cases_Bool, cj_goes, drop, drop-drop, eqb-true, even, false, false≢true, field, from_le_bytes, if◌then◌else◌, inl, inr, instructions_in, jal_goes, jump_group, landing, length, length-drop, link_register, offset_at, operands_with, place_of, plt_address, rd_of, refl, relocation_in, riscv_matches, riscv_relocation, site_bytes, site_len, site_offset, site_place, site_target, subst, sym, take, take_all, true, value_of, w16, w32, word_at, ℕ, ◌%◌, ◌&&◌, ◌+◌, ◌-◌, ◌<◌, ◌==◌, ◌^◌, ◌||◌, ◌∙◌, ◌≡◌, ◌≢◌, ◌≤◌}
+use Rattle.linker_final.proofs.Imports.{All-drop, All-take, AreAddresses, AreBytes, AreDeleted as IsGone, HasWord, IsApplied, IsBefore, IsCallPair, IsLow12, IsLowOffset, IsLui, IsSomeAnd, List, Operands, Packed, RiscV, RiscVRelocation, Site, SiteBecomes, Some, State, ap, architecture_of, arith, cases_Bool, cj_goes, drop, drop-drop, eqb-true, even, false, false≢true, field, from_le_bytes, if◌then◌else◌, inl, inr, jal_goes, jump_group, length, length-drop, link_register, offset_at, operands_with, place_of, plt_address, rd_of, refl, relocation_in, riscv_matches, riscv_relocation, site_bytes, site_len, site_offset, site_place, site_target, subst, sym, take, take_all, true, value_of, w16, w32, word_at, ℕ, ◌%◌, ◌&&◌, ◌+◌, ◌-◌, ◌<◌, ◌==◌, ◌^◌, ◌||◌, ◌∙◌, ◌≡◌, ◌≢◌, ◌≤◌}
+use Rattle.linker_final.specs.RiscVSection.{CallIsAlike, HighPartsAreLeftOut, IsOfCall, LongCallsStay, LuiIsLeftOut, SitesCallTheSame, SumIsLeftOut, call_row, instructions_in, landing}
+use Rattle.linker_laws.specs.RiscVGroups.{CallStays, Code, DeletedLui, Groups, AreDeleted}
+use Rattle.linker_laws.proofs.RiscVMachine.{address_is}
 use Rattle.linker_final.proofs.PackedBytes.{are_addresses, instructions, no_place, places_inside, site_becomes, site_inside, site_length, site_small, stay_inside}
 use Rattle.linker_final.proofs.Written.{back_of_pair, front_of_pair, some_value, window_length}
-use Rattle.linker_laws.specs.RiscVGroups.{AreDeleted}
 use Rattle.linker_riscv64.specs.declared.calls.LinkRegister.TheVariants.{OfJalr}
 use Rattle.linker_runs.specs.Origins.{HasItsInstructions}
 use Rattle.linker_runs.specs.RiscVItems.{IsCallAt, links_short}

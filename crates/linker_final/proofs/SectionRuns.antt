@@ -1,6 +1,7 @@
 -- What stands at each place of a section, and runs of its code, of any architecture; and what the
 -- calls leave.
-use Rattle.linker_final.proofs.Imports.{Addresses, Architecture, AreCalled, AreDecidedIn, AreInTurn, AreLeft, AreListed, ArePhases, AreWritten, Bool, Choice, Comparison, Decision, EachPlace, HasRewritten, IsBesideAll, IsFollowed, IsLinked, IsLinkedAs, IsOfCalls, IsPackedRun, IsPhase, IsPhaseIn, IsRewrittenAs, IsScopeIn, Item, Kept, Kinds, Known, Knows, Labelled, Linked, List, Machine, Next, Phase, Place, RelaxContext, Relaxation, RewritesAreGroups, Rewriting, RewritingPhase, Rewritten, RewrittenWithSymbol, RunsAreFollowed, Scope, Section, Simulates, State, Subject, Symbol, UnrelaxableGroups, [], ap, arith, begins, by_group, cases_eq, cases_lt, chosen_or_labelled, code_at, comparison, count, count_of, decision_at, deletions_by, drop, elsewhere, false, get_or, inl, inr, length, linked_by, offset_of, pairs_in, refl, relocation_in, rewriting_phase, rewritten, section_of, subst, suc, sym, take, true, unchanged, uncovered, within, zero, ℕ, ◌+◌, ◌-◌, ◌<◌, ◌^◌, ◌∙◌, ◌∷◌, ◌≡◌, ◌≢◌, ◌≤◌, ◌⊎◌}
+use Rattle.linker_final.proofs.Imports.{Addresses, Architecture, AreCalled, AreDecidedIn, AreInTurn, AreLeft, AreListed, ArePhases, AreWritten, Bool, Choice, Comparison, Decision, EachPlace, HasRewritten, IsBesideAll, IsFollowed, IsLinked, IsLinkedAs, IsOfCalls, IsPackedRun, IsPhase, IsPhaseIn, IsRewrittenAs, IsScopeIn, Item, Kept, Kinds, Known, Knows, Labelled, Linked, List, Machine, Next, Phase, Place, RelaxContext, Relaxation, RewritesAreGroups, Rewriting, RewritingPhase, Rewritten, RewrittenWithSymbol, RunsAreFollowed, Scope, Section, Simulates, State, Subject, Symbol, UnrelaxableGroups, [], ap, arith, begins, by_group, cases_eq, cases_lt, chosen_or_labelled, code_at, comparison, count, count_of, decision_at, deletions_by, drop, elsewhere, false, get_or, inl, inr, length, linked_by, offset_of, pairs_in, refl, relocation_in, rewriting_phase, section_of, subst, suc, sym, take, true, unchanged, uncovered, within, zero, ℕ, ◌+◌, ◌-◌, ◌<◌, ◌^◌, ◌∙◌, ◌∷◌, ◌≡◌, ◌≢◌, ◌≤◌, ◌⊎◌}
+use Rattle.linker_final.specs.Final.{rewritten}
 use Rattle.linker_final.proofs.PackedBytes.{are_bytes}
 use Rattle.linker_rewriting.specs.declared.decisions.Deletion.{Deletion}
 use Rattle.linker_runs.specs.Moved.{AreMoved}

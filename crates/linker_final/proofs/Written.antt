@@ -1,12 +1,10 @@
 -- What the bytes are once a section's values are written, by its relocations and its phases.
-use Rattle.linker_final.proofs.Imports.{Addresses, All, All-get_or, All-head, All-tail, All-weaker, AnyForm, Architecture, AreApart, AreBytes, ArePhases, AreRewritten, AreWritten, BitMasking, BitRange, Bool, ByteSize, Choice, Composes, Decision, ElfName, Err, Found, HoldsNumber, HoldsValue, IsAccepted, IsApplied, IsDone, IsField, IsHeld, IsHighPartAt, IsLinked, IsLowValue, IsMade, IsNamed, IsNamedValue, IsOutside, IsRewrittenByNoOther, IsRow, IsRowValue, IsSomeAnd, IsValueBy, IsValueIn, IsWithin, IsWrittenByNoOther, Keeps, Linked, List, NoEntry, NoHighPart, NoTlsBase, None, Ok, Operands, Option, OtherBytes, OtherFields, Rela, Relaxation, RelocationKind, Result, Rewrite, RewritesNone, RewritingPhase, Rewritten, RowInfo, RowSize, Some, Symbol, UType, UntouchedBytes, UntouchedBytesAreTheSame, UntouchedInPhase, ValueError, WritesRow, [], addend_after, and_parts, ap, arith, begins_pair, byte_at, bytes_row, cases_Bool, cases_eq, cases_lt, cast_unsigned, composed, composed_by, composed_with, cond, cond-false, continues, count, count_of, decision_at, difference_64, drop, drop-drop, drop-take, ends_pair, entry_address, entry_of, eq-eqb, eqb, eqb-true, ext_get_or, false, field_bytes, field_end, field_len, from_le_bytes, get_or, get_or-drop, get_or-take, get_or_past, has_value, inl, inr, instruction_at, int_rem_euclid, is_auipc, is_high_kind, is_high_part, is_of_pair, is_there, lacks_origin, le-ltb, length, length-append, length-drop, length-take, length-take-le, low_by, low_bytes, low_operands, low_value, lt-ltb, ltb, ltb-true, names_label, number_of_bytes, number_written, of_number, of_pair, offset_after, offset_at, one_info, one_row, operands_by, operands_in, operands_of, operands_with, or_from, pos, put_back, r_type_of, reach_of, refl, relaxation_rewrite, relocation_after, relocation_at, relocation_in, rewrite_window, size_len, slice_get, some_window, subst, suc, sym, take, take-take, true, two_at, unsigned_abs, value_by, value_of, w32, w64, window_len, window_of, window_of_rewrite, word_of_front, written_end_at, written_end_by, zero, ℕ, ℤ, ⊤, ◌%◌, ◌*◌, ◌++◌, ◌+◌, ◌-◌, ◌/◌, ◌<◌, ◌^◌, ◌||◌, ◌∙◌, ◌∷◌, ◌≡◌, ◌≤◌, ◌⊎◌}
-use Rattle.linker_base.specs.Rewrite.{rewritten}
+use Rattle.linker_final.proofs.Imports.{Addresses, All, All-get_or, All-head, All-tail, All-weaker, AnyForm, Architecture, AreApart, AreBytes, ArePhases, AreRewritten, AreWritten, BitMasking, BitRange, Bool, ByteSize, Choice, Composes, Decision, ElfName, Entry, Err, Found, HoldsNumber, HoldsValue, IsAccepted, IsApplied, IsDone, IsField, IsHeld, IsHighPartAt, IsLinked, IsLowValue, IsMade, IsNamed, IsNamedValue, IsOutside, IsRewrittenByNoOther, IsRow, IsSomeAnd, IsValueBy, IsValueIn, IsWithin, IsWrittenByNoOther, Keeps, Linked, List, NoEntry, NoHighPart, NoTlsBase, None, Ok, Operands, Option, OtherBytes, OtherFields, Rela, Relaxation, RelocationKind, Result, Rewrite, RewritesNone, RewritingPhase, Rewritten, RowInfo, RowSize, Some, Symbol, UType, UntouchedBytes, UntouchedBytesAreTheSame, UntouchedInPhase, ValueError, WritesRow, [], addend_after, and_parts, ap, arith, begins_pair, byte_at, bytes_row, cases_Bool, cases_eq, cases_lt, cast_unsigned, composed, composed_by, composed_with, cond, cond-false, continues, count, count_of, decision_at, difference_64, drop, drop-drop, drop-take, ends_pair, entry_address, entry_of, eq-eqb, eqb, eqb-true, ext_get_or, false, field_bytes, field_end, field_len, from_le_bytes, get_or, get_or-drop, get_or-take, get_or_past, has_value, inl, inr, instruction_at, int_rem_euclid, is_auipc, is_high_kind, is_high_part, is_of_pair, is_there, lacks_origin, le-ltb, length, length-append, length-drop, length-take, length-take-le, low_by, low_bytes, low_operands, low_value, lt-ltb, ltb, ltb-true, names_label, number_of_bytes, number_written, of_number, of_pair, offset_after, offset_at, one_info, one_row, operands_by, operands_in, operands_of, operands_with, or_from, pos, r_type_of, reach_of, refl, relaxation_rewrite, relocation_after, relocation_at, relocation_in, rewrite_window, rewritten, size_len, slice_get, slice_index, some_window, subst, suc, sym, take, take-take, true, two_at, unsigned_abs, value_by, value_of, w32, w64, window_len, window_of, window_of_rewrite, word_of_front, written_end_at, written_end_by, zero, ℕ, ℤ, ⊤, ◌%◌, ◌*◌, ◌++◌, ◌+◌, ◌-◌, ◌/◌, ◌<◌, ◌^◌, ◌||◌, ◌∙◌, ◌∷◌, ◌≡◌, ◌≤◌, ◌⊎◌}
+use Rattle.linker_section.specs.Sections.{IsRowValue, HasValue, IsInNoField}
+use Rattle.linker_final.specs.X86Section.{put_back}
 use Rattle.linker_elf.specs.declared.elf.AnyForm.TheVariants.{RiscV}
 use Rattle.linker_elf.specs.declared.elf.RelocationKind.TheVariants.{None as NoValue}
 use Rattle.linker_section.proofs.Windows.{IsReplaced, in_window, outside_window}
-use Rattle.linker_section.specs.Sections.{HasValue, IsInNoField}
-use Rattle.std.specs.Prelude.{slice_index}
-use Rattle.linker_section.specs.declared.needed.Entry.{Entry}
 use Rattle.linker_elf.specs.declared.elf.RelocationKind.TheVariants as kinds
 
 -- ---- bytes in which a window is another's
@@ -859,12 +857,12 @@ pub none_written : {architecture : Architecture} {addresses : Addresses} {bytes 
     → (p : ℕ) → IsInNoField architecture bytes before (length bytes / 24) p → slice_index after p ≡ slice_index before p
 none_written {architecture} {addresses} {bytes} {symbols} {before} {after} written p free =
     written.left p (λ i row v below is.
-      let has : HasValue architecture addresses bytes symbols (relocation_in bytes i) row v =
-          subst (λ f. IsRowValue architecture addresses bytes symbols (relocation_in bytes i) (Ok f)) is (written.can.are_found i below) in
-      elim (cases_lt 0 (field_len row (drop (offset_at bytes i) before))) [
-        | inl some ↦ free i row below (record { is_row = has.is_row; some = some })
-        | inr none ↦ elim (cases_lt p (offset_at bytes i)) [ inl ahead ↦ inl ahead | inr following ↦ inr (omega (arith, none, following)) ]
-      ])
+    let has : HasValue architecture addresses bytes symbols (relocation_in bytes i) row v =
+    subst (λ f. IsRowValue architecture addresses bytes symbols (relocation_in bytes i) (Ok f)) is (written.can.are_found i below) in
+    elim (cases_lt 0 (field_len row (drop (offset_at bytes i) before))) [
+      | inl some ↦ free i row below (record { is_row = has.is_row; some = some })
+      | inr none ↦ elim (cases_lt p (offset_at bytes i)) [ inl ahead ↦ inl ahead | inr following ↦ inr (omega (arith, none, following)) ]
+    ])
 
 -- The field of a relocation is apart from an instruction.
 abbrev pub IsApart : Linked → ℕ → ℕ → Type 0

@@ -1,23 +1,22 @@
 -- AArch64: what the rewrites of a section are, and where they begin in a run of old.
 use Rattle.std.specs.Prelude.{◌≡◌, ℕ, ◌+◌, ◌<◌, ◌≤◌, List, length, ◌≢◌, ◌*◌, ◌^◌, ◌⊎◌, Some}
 use Rattle.std.specs.Prelude.{IsSomeAnd, false, slice_get}
-use Rattle.linker_final.specs.Imports.{Addresses, Agree, AreAddresses, Choice, IsNameOf, Kinds}
-use Rattle.linker_final.specs.Imports.{Operands, Relaxation, Rewritten, State, Symbol, anything}
-use Rattle.linker_final.specs.Imports.{decision_at, following, go_to, half, loaded, operands_with}
-use Rattle.linker_final.specs.Imports.{plt_address, put, rd_of, relocation_in, same, sum_64}
-use Rattle.linker_final.specs.Imports.{symbol_address, thread_offset, with_register, word_of}
+use Rattle.linker_final.specs.Imports.{AArch64, Addresses, Agree, AreAddresses, Choice}
+use Rattle.linker_final.specs.Imports.{IsAddressRewritten, IsDescriptorRewritten, IsLoadRewritten}
+use Rattle.linker_final.specs.Imports.{IsNameOf, Kinds, Operands, Relaxation, Rewritten, State}
+use Rattle.linker_final.specs.Imports.{Symbol, anything, decision_at, following, go_to, half}
+use Rattle.linker_final.specs.Imports.{loaded, operands_with, page, plt_address, put, relocation_in}
+use Rattle.linker_final.specs.Imports.{same, sum_64, symbol_address, thread_offset, with_register}
+use Rattle.linker_laws.specs.RiscVRewriteLaws.{word_of}
+use Rattle.linker_utils.specs.AArch64Rewrites.{rd_of}
 use Rattle.linker_elf.specs.AArch64Relocations.{aarch64_name, aarch64_row}
-use Rattle.linker_elf.specs.LoongArch.{page}
 use Rattle.linker_elf.specs.declared.aarch64.relocations.AArch64Relocation.{AArch64Relocation}
-use Rattle.linker_elf.specs.declared.elf.architecture.Architecture.TheVariants.{AArch64}
 use Rattle.linker_final.specs.Final.{IsBesideAll, IsLinked, IsPhase, IsRewrittenByNoOther}
 use Rattle.linker_final.specs.Final.{IsWrittenByNoOther, Linked, Rewriting, Section}
 use Rattle.linker_final.specs.Final.{UntouchedInstruction, UntouchedInstructions, count}
 use Rattle.linker_final.specs.Final.{instruction_at, offset_of, two_at}
 use Rattle.linker_laws.specs.AArch64Groups.{Code, Descriptor, Has, go_and_link, link}
 use Rattle.linker_laws.specs.AArch64Machine.{load_64}
-use Rattle.linker_rewriting.specs.Rewritten.{IsAddressRewritten, IsDescriptorRewritten}
-use Rattle.linker_rewriting.specs.Rewritten.{IsLoadRewritten}
 use Rattle.linker_elf.specs.declared.aarch64.relocations.AArch64Relocation.TheVariants as names
 use Rattle.linker_utils.specs.declared.aarch64.rewrites.RewriteKind.TheVariants as kinds
 

@@ -1,8 +1,7 @@
 -- What definitions of forms say that the machine reads from words, compared with what an emulator
 -- made of them.
 use Rattle.std.specs.Prelude.{◌≡◌, ℕ, ◌-◌, ◌==◌, ◌%◌, ◌^◌, true, List, map, ◌++◌, ℤ, pos, ◌*ℤ◌}
-use Rattle.std.specs.Int.{w64, cast_unsigned}
-use Rattle.std.specs.List.{list_all}
+use Rattle.linker_final.specs.Imports.{cast_unsigned, list_all, w64}
 
 -- Words of one instruction, each with the number of 64 bits that came of it. What is read counts
 -- units of it, and n of its low bits are compared.

@@ -3,18 +3,17 @@
 -- architecture is a parameter (`Rewriting`).
 use Rattle.std.specs.Prelude.{◌≡◌, ◌≢◌, ◌⊎◌, ℕ, ◌+◌, ◌/◌, ◌^◌, ◌<◌, ◌≤◌, List, [], ◌∷◌, length}
 use Rattle.std.specs.Prelude.{take, drop, get_or, ℤ, Some, IsSomeAnd}
-use Rattle.std.specs.List.{All}
-use Rattle.linker_final.specs.Imports.{Addresses, Agree, Architecture, AreDecidedIn, AreWritten}
+use Rattle.linker_final.specs.Imports.{Addresses, Agree, All, Architecture, AreDecidedIn, AreDone}
+use Rattle.linker_final.specs.Imports.{AreRelocationsAfter, AreWritten, Comparison, Covered}
 use Rattle.linker_final.specs.Imports.{Decision, Group, IsHeld, IsRejected, IsRejectedIn}
-use Rattle.linker_final.specs.Imports.{IsRejectedPlaced, Kept, Kinds, RelaxContext, RowInfo, State}
-use Rattle.linker_final.specs.Imports.{Symbol, UnrelaxableGroups, decision_at, deletions_by}
-use Rattle.linker_final.specs.Imports.{of_link, offset_at, pairs_in, pre_layout, relocation_in}
-use Rattle.linker_final.specs.Imports.{start_at, written_end_at}
+use Rattle.linker_final.specs.Imports.{IsRejectedPlaced, Kept, Kinds, Link, Next, OthersStay}
+use Rattle.linker_final.specs.Imports.{RelaxContext, RowInfo, State, Stops, Symbol, decision_at}
+use Rattle.linker_final.specs.Imports.{deletions_by, of_link, offset_at, pairs_in, pre_layout}
+use Rattle.linker_final.specs.Imports.{relocation_in, run, start_at, uncovered, written_end_at}
+use Rattle.linker_rewriting.specs.declared.groups.UnrelaxableGroups.{UnrelaxableGroups}
 use Rattle.linker_final.specs.declared.sections.LinkError.{LinkError}
 use Rattle.linker_final.specs.declared.sections.PhaseError.{PhaseError}
-use Rattle.linker_laws.specs.Simulation.{Comparison, Covered, Link, Next, Stops, run, uncovered}
 use Rattle.linker_rewriting.specs.Kept.{IsWritingCause}
-use Rattle.linker_rewriting.specs.Rewritten.{AreDone, AreRelocationsAfter, OthersStay}
 use Rattle.linker_rewriting.specs.declared.decisions.Deletion.{Deletion}
 use Rattle.linker_rewriting.specs.declared.facts.OutputFacts.{OutputFacts}
 use Rattle.linker_rewriting.specs.declared.facts.SymbolFacts.{SymbolFacts}

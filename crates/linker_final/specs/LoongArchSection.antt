@@ -3,13 +3,15 @@
 use Rattle.std.specs.Prelude.{◌≡◌, ◌≢◌, ℕ, pos, ◌+◌, ◌<◌, ◌^◌, true, List, Some, ⊤, IsSomeAnd}
 use Rattle.std.specs.Prelude.{slice_get, ◌==◌, [], ◌∷◌, take, drop, if◌then◌else◌}
 use Rattle.linker_final.specs.Imports.{Addresses, AreAddresses, Choice, Group, IsNameOf, Kinds}
-use Rattle.linker_final.specs.Imports.{LoongArch64 as loongarch64, LoongArch64Relocation}
-use Rattle.linker_final.specs.Imports.{NotRelaxable, Operands, Rela, Relaxation, Relocated}
+use Rattle.linker_final.specs.Imports.{LoongArch64Relocation, Operands, Rela, Relaxation, Relocated}
 use Rattle.linker_final.specs.Imports.{Rewritten, RowInfo, Site as site, State, Symbol, decision_at}
 use Rattle.linker_final.specs.Imports.{entry_and_addend, following, is_there, loaded}
-use Rattle.linker_final.specs.Imports.{loongarch_name, loongarch_row, of_link, offset_at}
-use Rattle.linker_final.specs.Imports.{operands_with, plt_address, pre_layout, r_type_of}
-use Rattle.linker_final.specs.Imports.{relocation_in, sum_64, symbol_address, word_of}
+use Rattle.linker_final.specs.Imports.{loongarch_name, loongarch_row, loongarch_scope_in, of_link}
+use Rattle.linker_final.specs.Imports.{offset_at, operands_with, plt_address, pre_layout, r_type_of}
+use Rattle.linker_final.specs.Imports.{relocation_in, sum_64, symbol_address}
+use Rattle.linker_laws.specs.RiscVRewriteLaws.{word_of}
+use Rattle.linker_runs.specs.declared.packing.Machine.TheVariants.{LoongArch64 as loongarch64}
+use Rattle.linker_rewriting.specs.declared.groups.Scope.TheVariants.{NotRelaxable}
 use Rattle.linker_elf.specs.Choices.{RowIsWithin}
 use Rattle.linker_elf.specs.declared.elf.architecture.Architecture.TheVariants.{LoongArch64}
 use Rattle.linker_final.specs.Final.{AreRewritten, IsBesideAll, IsLinked, IsRewrittenByNoOther}
@@ -27,7 +29,6 @@ use Rattle.linker_laws.specs.LoongArchGroups.{MakesOffset, Stands, deleted_by, l
 use Rattle.linker_laws.specs.LoongArchMachine.{AreAlikeBut, EndSo}
 use Rattle.linker_laws.specs.LoongArchRewriteLaws.{Fits32, HaveCalled, HaveMade, IsRelocated}
 use Rattle.linker_laws.specs.LoongArchRewriteLaws.{IsRewritten, LoadsEntry, no_register, pair}
-use Rattle.linker_rewriting.specs.Groups.{loongarch_scope_in}
 use Rattle.linker_runs.specs.LoongArchSites.{IsCall36At, IsPcalaAt, destination}
 use Rattle.linker_section.specs.declared.needed.EntryClass.TheVariants.{ThreadOffset}
 use Rattle.linker_utils.specs.LoongArchRewrites.{IsAddTp, IsLd, IsLu12i, rd_of, rj_of, signed_12}

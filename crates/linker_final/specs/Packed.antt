@@ -3,16 +3,19 @@
 use Rattle.std.specs.Prelude.{◌≡◌, ◌≢◌, ℕ, ◌+◌, ◌-◌, ◌/◌, ◌^◌, ◌<◌, ◌≤◌, List, length, take, drop}
 use Rattle.std.specs.Prelude.{slice_index, IsTrue, Ok, Some, true, false, ℤ, ◌⊎◌, ◌%◌, MatchOption}
 use Rattle.std.specs.Prelude.{None, pos, ◌+ℤ◌, ◌*ℤ◌, slice_get, IsSomeAnd, Option, Bool}
-use Rattle.linker_final.specs.Imports.{Addresses, Architecture, AreAddresses, AreItems, AreMoved}
-use Rattle.linker_final.specs.Imports.{AreWritten, BType, Branch21, Branch26, CbType, CjType}
-use Rattle.linker_final.specs.Imports.{IsApplied, IsFirstFault, IsMoved, IsPackedRun, IsRelaxation}
-use Rattle.linker_final.specs.Imports.{IsRow, Item, JType, LoongArch64, LoongArch64Relocation}
-use Rattle.linker_final.specs.Imports.{Operands, RiscVInstruction, RiscVRelocation, RowInfo}
-use Rattle.linker_final.specs.Imports.{Shift10, Shift5, Site as site, Symbol, deletions_of_run}
-use Rattle.linker_final.specs.Imports.{loongarch_form, loongarch_row, number_at, offset_at}
+use Rattle.linker_final.specs.Imports.{Addresses, Architecture, AreAddresses, AreMoved, AreWritten}
+use Rattle.linker_final.specs.Imports.{BType, Branch21, Branch26, CbType, CjType, IsAddress}
+use Rattle.linker_final.specs.Imports.{IsApplied, IsFirstFault, IsMoved, IsRow, Item, JType}
+use Rattle.linker_final.specs.Imports.{LoongArch64Relocation, Operands, RiscVInstruction}
+use Rattle.linker_final.specs.Imports.{RiscVRelocation, RowInfo, Shift10, Shift5, Site as site}
+use Rattle.linker_final.specs.Imports.{Symbol, deletions_of_run, has_value, loongarch_form}
+use Rattle.linker_final.specs.Imports.{loongarch_row, names_label, number_at, offset_at}
 use Rattle.linker_final.specs.Imports.{operands_with, plt_address, relocation_in, riscv_form}
-use Rattle.linker_final.specs.Imports.{riscv_row, section_of, sum_64, symbol_address, value_of}
-use Rattle.linker_final.specs.Imports.{window_len}
+use Rattle.linker_final.specs.Imports.{riscv_row, sum_64, symbol_address, value_of, window_len}
+use Rattle.linker_runs.specs.Choosing.{AreItems, IsRelaxation}
+use Rattle.linker_runs.specs.Packing.{IsPackedRun, section_of, IsFirstRejected, IsInside, IsNotIn}
+use Rattle.linker_runs.specs.Packing.{Section, address_of, is_fixed, kept_len, nops, packed_offset}
+use Rattle.linker_runs.specs.declared.packing.Machine.TheVariants.{LoongArch64, RiscV}
 use Rattle.linker_base.specs.Deletions.{is_kept}
 use Rattle.linker_base.specs.declared.bit_misc.BitRange.{BitRange}
 use Rattle.linker_elf.specs.declared.elf.AnyForm.{AnyForm}
@@ -22,17 +25,13 @@ use Rattle.linker_final.specs.Final.{AreBytes, ArePhases, HasRewritten, Linked, 
 use Rattle.linker_final.specs.declared.packed.PackError.{PackError}
 use Rattle.linker_final.specs.declared.packed.PackError.TheVariants.{Misplaced, Packing, Writing}
 use Rattle.linker_final.specs.declared.packed.RunSection.{RunSection}
-use Rattle.linker_laws.specs.Schemes.{IsAddress}
 use Rattle.linker_runs.specs.Origins.{HasItsInstructions}
-use Rattle.linker_runs.specs.Packing.{IsFirstRejected, IsInside, IsNotIn, Section, address_of}
-use Rattle.linker_runs.specs.Packing.{is_fixed, kept_len, nops, packed_offset}
 use Rattle.linker_runs.specs.Relaxing.{end_of, item_at, items_in, len_of, offset_of}
 use Rattle.linker_runs.specs.declared.packing.Machine.{Machine}
-use Rattle.linker_runs.specs.declared.packing.Machine.TheVariants.{RiscV}
 use Rattle.linker_runs.specs.declared.relaxation.Alignment.{Alignment}
 use Rattle.linker_runs.specs.declared.relaxation.Item.TheVariants.{Aligned, Site}
 use Rattle.linker_section.specs.Sections.{IsInNoField}
-use Rattle.linker_section.specs.Values.{has_value, names_label, operands_of}
+use Rattle.linker_section.specs.Values.{operands_of}
 use Rattle.linker_runs.specs.declared.packing.Machine.TheVariants as machines
 use Rattle.linker_elf.specs.declared.elf.architecture.Architecture.TheVariants as architectures
 use Rattle.linker_elf.specs.declared.loongarch64.relocations.LoongArch64Relocation.TheVariants as loongarch_names

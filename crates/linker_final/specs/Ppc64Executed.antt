@@ -5,9 +5,7 @@
 use Rattle.std.specs.Prelude.{ℕ, ◌+◌, ◌-◌, ◌*◌, ◌/◌, ◌^◌, ◌==◌, nat_lt, if◌then◌else◌, Bool, false}
 use Rattle.std.specs.Prelude.{Option, Some, None, ◌≡◌, ◌&&◌, length, true, slice_get, List, [], ◌∷◌}
 use Rattle.std.specs.Prelude.{IsSomeAnd}
-use Rattle.std.specs.Int.{w64, leading_zeros}
-use Rattle.std.specs.List.{list_all}
-use Rattle.linker_final.specs.Imports.{field, sum_64}
+use Rattle.linker_final.specs.Imports.{field, leading_zeros, list_all, sum_64, w64}
 use Rattle.linker_final.specs.Ppc64Steps.{ppc64_groups, ppc64_restfpr, ppc64_restgpr0}
 use Rattle.linker_final.specs.Ppc64Steps.{ppc64_restgpr1, ppc64_restvr, ppc64_savefpr}
 use Rattle.linker_final.specs.Ppc64Steps.{ppc64_savegpr0, ppc64_savegpr1, ppc64_savevr}

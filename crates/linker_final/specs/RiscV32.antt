@@ -2,20 +2,19 @@
 -- (RISC-V unprivileged ISA, "RV32I Base Integer Instruction Set": registers have 32 bits).
 use Rattle.std.specs.Prelude.{◌≡◌, ◌≢◌, ℕ, ◌<◌, ◌+◌, ◌%◌, ◌^◌, ◌/◌, ℤ, pos, ◌+ℤ◌, ◌*ℤ◌, ⊤, List, []}
 use Rattle.std.specs.Prelude.{◌∷◌, length, Option, Some, Result, Ok, IsSomeAnd}
-use Rattle.std.specs.Int.{w64, cast_unsigned, int_rem_euclid}
-use Rattle.linker_final.specs.Imports.{Addresses, AreAddresses, BType, CbType, CjType, IsApplied}
-use Rattle.linker_final.specs.Imports.{IsRow, IsValue, JType, Operands, Rela, RiscV}
-use Rattle.linker_final.specs.Imports.{RiscVInstruction, RiscVRelocation, RowInfo, Symbol, UiType}
-use Rattle.linker_final.specs.Imports.{clui_row, entry_and_addend, even, number_at, number_of_bytes}
-use Rattle.linker_final.specs.Imports.{plt_address, relocation_in, riscv_form, riscv_relocation}
-use Rattle.linker_final.specs.Imports.{riscv_row, symbol_address, without_bit_0, zero}
+use Rattle.linker_final.specs.Imports.{Addresses, AreAddresses, BType, CbType, CjType, CluiType}
+use Rattle.linker_final.specs.Imports.{Computed, IType, IsApplied, IsRow, IsValue, JType, Operands}
+use Rattle.linker_final.specs.Imports.{PremiseHolds, Rela, RiscV, RiscVInstruction, RiscVRelocation}
+use Rattle.linker_final.specs.Imports.{RowInfo, SType, Step, Symbol, UType, UiType, cast_unsigned}
+use Rattle.linker_final.specs.Imports.{clui_row, entry_and_addend, even, here, int_rem_euclid}
+use Rattle.linker_final.specs.Imports.{low_load, low_store, number_at, number_of_bytes, of_entry}
+use Rattle.linker_final.specs.Imports.{place, plt_address, relocation_in, riscv_form}
+use Rattle.linker_final.specs.Imports.{riscv_relocation, riscv_row, symbol_address, tls_base}
+use Rattle.linker_final.specs.Imports.{upper_and_low, w64, without_bit_0}
+use Rattle.linker_laws.specs.Schemes.{zero}
 use Rattle.linker_elf.specs.Elf.{IsWithin}
 use Rattle.linker_elf.specs.Reach.{reach_of, riscv_pair_bounds}
 use Rattle.linker_elf.specs.Rows.{Bounds}
-use Rattle.linker_elf.specs.declared.riscv64.forms.RiscVInstruction.TheVariants.{CluiType, IType}
-use Rattle.linker_elf.specs.declared.riscv64.forms.RiscVInstruction.TheVariants.{SType, UType}
-use Rattle.linker_laws.specs.RiscVRelocationLaws.{low_load, low_store, of_entry, upper_and_low}
-use Rattle.linker_laws.specs.Schemes.{Computed, PremiseHolds, Step, here, place, tls_base}
 use Rattle.linker_section.specs.RiscV32.{AreWrapped}
 use Rattle.linker_section.specs.declared.values.ValueError.{ValueError}
 use Rattle.linker_elf.specs.declared.riscv64.relocations.RiscVRelocation.TheVariants as names

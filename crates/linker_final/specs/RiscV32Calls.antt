@@ -3,17 +3,13 @@
 -- Instructions").
 use Rattle.std.specs.Prelude.{◌≡◌, ◌≢◌, ℕ, ◌+◌, ◌%◌, ◌^◌, ◌==◌, ◌&&◌, nat_le, if◌then◌else◌, Bool}
 use Rattle.std.specs.Prelude.{true, false, ℤ, List, length, drop, Option, Some, None, IsSomeAnd}
-use Rattle.std.specs.Int.{w16, from_le_bytes}
-use Rattle.linker_base.specs.Bits.{field}
-use Rattle.linker_elf.specs.declared.riscv64.relocations.RiscVRelocation.TheVariants as names
-use Rattle.linker_final.specs.Imports.{riscv_row, riscv_form, Operands, CjType, RiscVRelocation}
-use Rattle.linker_final.specs.Imports.{AreAddresses, even, plt_address, symbol_address, register}
-use Rattle.linker_riscv64.specs.RiscVFields.{rd_of}
-use Rattle.linker_final.specs.RiscV32.{IsSame32}
-use Rattle.linker_laws.specs.Machine.{Relocated}
-use Rattle.linker_laws.specs.RiscVMachine.{Hart, Instruction, adds, executed, fetched, jal}
-use Rattle.linker_laws.specs.RiscVMachine.{jumps, sums}
+use Rattle.linker_final.specs.Imports.{AreAddresses, CjType, Hart, Instruction, Operands, Relocated}
+use Rattle.linker_final.specs.Imports.{RiscVRelocation, adds, even, executed, fetched, field}
+use Rattle.linker_final.specs.Imports.{from_le_bytes, jal, jumps, plt_address, rd_of, register}
+use Rattle.linker_final.specs.Imports.{riscv_form, riscv_row, sums, symbol_address, w16}
 use Rattle.linker_laws.specs.RiscVRewriteLaws.{after_rewrite, word_of}
+use Rattle.linker_elf.specs.declared.riscv64.relocations.RiscVRelocation.TheVariants as names
+use Rattle.linker_final.specs.RiscV32.{IsSame32}
 use Rattle.linker_utils.specs.RiscVRewrites.{riscv_matches}
 use Rattle.linker_utils.specs.declared.riscv64.rewrites.RewriteKind.TheVariants as kinds
 

@@ -3,8 +3,7 @@
 -- have 64 bits in the emulator.
 use Rattle.std.specs.Prelude.{ℕ, ◌+◌, ◌-◌, ◌%◌, ◌^◌, ◌==◌, nat_lt, if◌then◌else◌, List, take, Bool}
 use Rattle.std.specs.Prelude.{false, Option, Some, None}
-use Rattle.std.specs.Int.{w32, to_le_bytes}
-use Rattle.linker_final.specs.Imports.{Hart, register, step}
+use Rattle.linker_final.specs.Imports.{Hart, register, step, to_le_bytes, w32}
 use Rattle.linker_final.specs.RiscVSteps.{riscv_groups}
 use Rattle.linker_final.specs.Steps.{AllPass, Executed, Group, Numbers, at, bytes_from, is_left}
 use Rattle.linker_final.specs.Steps.{made_high, memory_in, pc}

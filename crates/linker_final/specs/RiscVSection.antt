@@ -6,18 +6,21 @@ use Rattle.std.specs.Prelude.{◌≡◌, ◌≢◌, ℕ, ◌+◌, ◌*◌, ◌<�
 use Rattle.std.specs.Prelude.{true, Option, ◌≤◌, drop, length, ◌⊎◌, ◌-◌, ◌%◌, ◌==◌, take}
 use Rattle.std.specs.Prelude.{if◌then◌else◌}
 use Rattle.linker_final.specs.Imports.{Action, Addresses, Agree, AreAddresses, AreOf, Choice}
-use Rattle.linker_final.specs.Imports.{Decision, Group, Grouped, IsNameOf, Kept, Kind, Kinds}
-use Rattle.linker_final.specs.Imports.{NotRelaxable, Operands, Rela, Relaxation, Relocated}
-use Rattle.linker_final.specs.Imports.{Rewritten, RiscV, RiscV64, RiscVRelocation, RowInfo}
-use Rattle.linker_final.specs.Imports.{Site as site, State, Symbol, UiType, anything, decision_at}
-use Rattle.linker_final.specs.Imports.{deleted_of, difference_64, entry_and_addend, even, loaded}
-use Rattle.linker_final.specs.Imports.{moved, of_link, offset_at, operands_with, plt_address, put}
-use Rattle.linker_final.specs.Imports.{r_type_of, register, relocation_in, riscv_row, same, stores}
-use Rattle.linker_final.specs.Imports.{stores_float, sum_64, symbol_address, thread_offset}
-use Rattle.linker_final.specs.Imports.{value_of, with_register, word_of}
+use Rattle.linker_final.specs.Imports.{Decision, Group, IsNameOf, Kept, Kind, Kinds, Operands, Rela}
+use Rattle.linker_final.specs.Imports.{Relaxation, Relocated, Rewritten, RewrittenWithSymbol, RiscV}
+use Rattle.linker_final.specs.Imports.{RiscVRelocation, RowInfo, Site as site, State, Symbol}
+use Rattle.linker_final.specs.Imports.{UiType, anything, decision_at, deleted_of, difference_64}
+use Rattle.linker_final.specs.Imports.{entry_and_addend, even, loaded, moved, of_link, offset_at}
+use Rattle.linker_final.specs.Imports.{operands_with, pair_row, plt_address, put, r_type_of, rd_of}
+use Rattle.linker_final.specs.Imports.{register, relocation_in, riscv_name, riscv_row}
+use Rattle.linker_final.specs.Imports.{riscv_scope_in, rs1_of, same, stores, stores_float, sum_64}
+use Rattle.linker_final.specs.Imports.{symbol_address, thread_offset, value_of, with_register}
+use Rattle.linker_laws.specs.RiscVRewriteLaws.{IsLow12, IsLowOffset, action_at, after_rewrite}
+use Rattle.linker_laws.specs.RiscVRewriteLaws.{low_row, offset_row, word_of, of_entry}
+use Rattle.linker_runs.specs.Machines.{RiscV64}
+use Rattle.linker_rewriting.specs.declared.groups.Scope.TheVariants.{Grouped, NotRelaxable}
 use Rattle.linker_base.specs.Rewrite.{rewritten}
 use Rattle.linker_elf.specs.Originals.{HasWord}
-use Rattle.linker_elf.specs.RiscVRelocations.{pair_row, riscv_name}
 use Rattle.linker_elf.specs.declared.elf.RelocationKind.TheVariants.{PltRelative}
 use Rattle.linker_final.specs.Final.{AreRewritten, IsBesideAll, IsLinked, IsRewrittenByNoOther}
 use Rattle.linker_final.specs.Final.{IsWrittenByNoOther, Linked, Rewriting, Section}
@@ -29,18 +32,12 @@ use Rattle.linker_final.specs.Packed.{site_offset, site_place, site_target}
 use Rattle.linker_laws.specs.RiscVGroups.{AreBefore, AreDeleted, AreNops, Code, Descriptor, Has}
 use Rattle.linker_laws.specs.RiscVGroups.{IsCall, IsLeftOut, LeavesAddress, LoadFromGot, LowPartBy}
 use Rattle.linker_laws.specs.RiscVGroups.{Stands, link, seen, upper, upper_from, uses}
-use Rattle.linker_laws.specs.RiscVRewriteLaws.{IsLow12, IsLowOffset}
-use Rattle.linker_laws.specs.RiscVRewriteLaws.{action_at, after_rewrite, low_row, of_entry}
-use Rattle.linker_laws.specs.RiscVRewriteLaws.{offset_row}
 use Rattle.linker_rewriting.specs.GlobalPointer.{address_of, base_for, based_relocation}
 use Rattle.linker_rewriting.specs.GlobalPointer.{is_low_word, low_r_type}
-use Rattle.linker_rewriting.specs.Groups.{riscv_scope_in}
 use Rattle.linker_rewriting.specs.RiscVPcrelGroups.{IsHighIn}
-use Rattle.linker_rewriting.specs.declared.decisions.Decision.TheVariants.{RewrittenWithSymbol}
 use Rattle.linker_rewriting.specs.declared.decisions.Subject.{Subject}
 use Rattle.linker_rewriting.specs.declared.groups.Scope.{Scope}
 use Rattle.linker_riscv64.specs.RiscVCalls.{word_at}
-use Rattle.linker_riscv64.specs.RiscVFields.{rd_of, rs1_of}
 use Rattle.linker_runs.specs.RiscVItems.{IsCallAt}
 use Rattle.linker_runs.specs.Sites.{operands_of}
 use Rattle.linker_utils.specs.RiscVRewrites.{IsAddTp, IsAuipc, IsLui, deleted_from, lo12}

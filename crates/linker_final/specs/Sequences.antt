@@ -1,10 +1,11 @@
 -- What the definitions say of instructions in sequence, by their words as one number: the first
 -- word is bits 0 to 31.
 use Rattle.std.specs.Prelude.{ℕ, ◌+◌, ◌*◌, ◌++◌, ℤ, pos, false}
-use Rattle.std.specs.Int.{w64, to_le_bytes}
+use Rattle.linker_final.specs.Imports.{Operands, UiType, field, five_instructions, riscv_form}
+use Rattle.linker_final.specs.Imports.{to_le_bytes, upper_and_lower_value, w64, without_bit_0}
 use Rattle.std.specs.Option.{unwrap_or}
-use Rattle.linker_final.specs.Imports.{Operands, UiType, field, five_instructions, moved4, rd_of}
-use Rattle.linker_final.specs.Imports.{riscv_form, upper_and_lower_value, without_bit_0, zero}
+use Rattle.linker_utils.specs.AArch64Rewrites.{moved4, rd_of}
+use Rattle.linker_laws.specs.Schemes.{zero}
 use Rattle.linker_elf.specs.Ppc64.{pair}
 use Rattle.linker_elf.specs.declared.aarch64.forms.AArch64Instruction.TheVariants.{Add}
 use Rattle.linker_laws.specs.AArch64RelocationLaws.{page_and_offset}

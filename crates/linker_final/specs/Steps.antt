@@ -3,9 +3,7 @@
 -- defined here, and `tools/oracle steps` gives the emulator the same ones.
 use Rattle.std.specs.Prelude.{ℕ, zero, suc, ◌+◌, ◌*◌, ◌/◌, ◌%◌, ◌^◌, ◌==◌, ◌&&◌, Bool, true, ◌≡◌}
 use Rattle.std.specs.Prelude.{nat_lt, if◌then◌else◌, List, [], ◌∷◌, bit_and}
-use Rattle.std.specs.Int.{byte_at}
-use Rattle.std.specs.List.{list_all}
-use Rattle.linker_final.specs.Imports.{difference_64, sum_64}
+use Rattle.linker_final.specs.Imports.{byte_at, difference_64, list_all, sum_64}
 
 -- ---- rows
 

@@ -2,7 +2,7 @@
 -- an emulator. Register 16 is where the FS segment begins.
 use Rattle.std.specs.Prelude.{ℕ, ◌==◌, Bool, false, Option, Some, None, if◌then◌else◌, List, []}
 use Rattle.std.specs.Prelude.{length}
-use Rattle.std.specs.Int.{bit_at}
+use Rattle.linker_final.specs.Imports.{bit_at}
 use Rattle.linker_final.specs.Steps.{AllPass, Executed, Group, Numbers, at, bytes_from, flags}
 use Rattle.linker_final.specs.Steps.{is_left, made_high, memory_in, pc}
 use Rattle.linker_final.specs.X86Steps.{x86_groups}

@@ -4,10 +4,9 @@ use Rattle.std.specs.Prelude.{◌≡◌, ℕ, ◌+◌, ◌-◌, ◌^◌, ◌<◌
 use Rattle.std.specs.Prelude.{drop, ◌++◌, Option, Some, None, IsSomeAnd, slice_get}
 use Rattle.linker_final.specs.Imports.{Addresses, AreAddresses, Choice, Group, IsNameOf, IsRow}
 use Rattle.linker_final.specs.Imports.{Kinds, Operands, Relaxation, Rewritten, RowInfo, State}
-use Rattle.linker_final.specs.Imports.{Symbol, decision_at, difference_64, number_of_bytes, of_link}
-use Rattle.linker_final.specs.Imports.{operands_with, relocation_in, sum_64}
+use Rattle.linker_final.specs.Imports.{Symbol, X86_64, decision_at, difference_64, number_of_bytes}
+use Rattle.linker_final.specs.Imports.{of_link, operands_with, relocation_in, sum_64}
 use Rattle.linker_elf.specs.X86Relocations.{x86_64_name, x86_64_row}
-use Rattle.linker_elf.specs.declared.elf.architecture.Architecture.TheVariants.{X86_64}
 use Rattle.linker_elf.specs.declared.x86_64.relocations.X86_64Relocation.{X86_64Relocation}
 use Rattle.linker_final.specs.Final.{IsLinked, Linked, Rewriting, Section, UntouchedByOthers}
 use Rattle.linker_final.specs.Final.{UntouchedBytes, count, offset_of}

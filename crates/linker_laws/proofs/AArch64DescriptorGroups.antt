@@ -1,11 +1,8 @@
 -- AArch64's groups of TLS descriptors.
-use Rattle.linker_laws.proofs.Imports.{◌≡◌, ℕ, ◌+◌, Bool, true, false, refl, sym, ◌∙◌, ap, ap₂, subst, arith, cond, eqb, List, Some, pos, ◌+ℤ◌, cond-false, cond-true, eq-eqb, ne_eqb, aarch64_form, sum_64, Add, Operands, IsAdrp, IsLdr64, nop, rd_of, rn_of, go_to, put, loaded, AreAddresses, State, Program, Kinds, Agree, Group, of_link, run, suc-add}
-use Rattle.linker_laws.specs.AArch64Groups.{Code, Descriptor, EndsInNops, called, executed, link, machine, seen}
+use Rattle.linker_laws.proofs.Imports.{Add, Agree, AreAddresses, Bool, Code, Descriptor, EndsInNops, Group, IsAdrp, IsLdr64, Kinds, List, Operands, Program, Some, State, aarch64_form, added, adrp_address, ap, ap₂, arith, called, cond, cond-false, cond-true, eq-eqb, eqb, executed, false, go_to, in_64_bits, link, load_64, loaded, machine, ne_eqb, nop, of_link, pos, put, rd_of, refl, rn_of, run, seen, step, subst, suc-add, sum_64, sym, true, with_entry, word_of, ℕ, ◌+ℤ◌, ◌+◌, ◌∙◌, ◌≡◌}
 use Rattle.linker_laws.specs.AArch64Groups as groups
-use Rattle.linker_laws.specs.AArch64Machine.{added, adrp_address, in_64_bits, load_64, step}
 use Rattle.linker_laws.specs.AArch64Machine as aarch64_machine
 use Rattle.linker_laws.specs.AArch64RelocationLaws as relocation_laws
-use Rattle.linker_laws.specs.AArch64RewriteLaws.{with_entry, word_of}
 use Rattle.linker_laws.proofs.AArch64Groups.{below_32, nop_goes, sets, sets_twice, still_seen}
 use Rattle.linker_laws.proofs.AArch64Moves.{offset_moves}
 use Rattle.linker_laws.proofs.AArch64Pairs.{adds_up, loads, word_is}

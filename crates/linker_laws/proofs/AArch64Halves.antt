@@ -1,14 +1,13 @@
 -- The halves of initial-exec, each by itself.
-use Rattle.linker_laws.proofs.Imports.{◌≢◌, ◌≡◌, ℕ, ◌+◌, ◌-◌, ◌*◌, ◌/◌, ◌%◌, ◌^◌, ◌<◌, refl, sym, ◌∙◌, ap, subst, arith, List, eqb, ℤ, pos, ◌+ℤ◌, ◌*ℤ◌, Some, not, ◌&&◌, nat_lt, w64, cast_signed, bit_at, int_rem_euclid, eq-eqb, ne_eqb, cond-false, ints, int_rem_euclid_is, field, IsAdrp, IsIntoOwnSource, IsLdr64, rd_of, MovkXn, MovzXnLsl16, aarch64_form, shift_of, bits_from, bit_bounds, page, is_movk, sum_64, difference_64, Adr, LdrRegister, LdSt, Movkz, Movnz, AArch64, TpOff, Signed, Operands, plain_written, aarch64_rows, AreAddresses, symbol_address, tls_base}
+use Rattle.linker_laws.proofs.Imports.{AArch64, Adr, AreAddresses, IsAdrp, IsIntoOwnSource, IsLdr64, LdSt, LdrRegister, List, MovkXn, Movkz, Movnz, MovzXnLsl16, Operands, Signed, Some, TpOff, aarch64_form, aarch64_rows, ap, arith, bit_at, bit_bounds, bits_from, cast_signed, cond-false, difference_64, eq-eqb, eqb, field, in_64_bits, int_rem_euclid, int_rem_euclid_is, ints, is_movk, load_64, movk, movn_or_movz, nat_lt, ne_eqb, not, page, plain_written, pos, rd_of, read_x, refl, shift_of, step, subst, sum_64, sym, symbol_address, thread_offset, tls_base, w64, with_moved, word_of, ℕ, ℤ, ◌%◌, ◌&&◌, ◌*ℤ◌, ◌*◌, ◌+ℤ◌, ◌+◌, ◌-◌, ◌/◌, ◌<◌, ◌^◌, ◌∙◌, ◌≡◌, ◌≢◌}
 use Rattle.linker_elf.specs.declared.aarch64.relocations.AArch64Relocation.TheVariants as names
-use Rattle.linker_laws.specs.AArch64RelocationLaws.{movk, movn_or_movz}
 use Rattle.linker_laws.proofs.Instructions.{reads_bits, field_sum, relative, symbol_from_tls, unbiased}
 use Rattle.linker_laws.proofs.AArch64WideMoves.{movn_first}
 use Rattle.linker_laws.proofs.AArch64Pages.{offset_reads, IsUnsigned}
 use Rattle.linker_laws.proofs.Sums.{sum_below, difference_below, page_halves_sum, taken_off, cast_is, euclid, lift, lifted_is, page_below, page_parts}
-use Rattle.linker_laws.specs.AArch64RewriteLaws.{word_of, thread_offset, IsRelocated}
+use Rattle.linker_laws.specs.AArch64RewriteLaws.{IsRelocated}
 use Rattle.linker_laws.specs.AArch64RewriteLaws as aarch64_laws
-use Rattle.linker_laws.specs.AArch64Machine.{State, step, in_64_bits, moved, with_moved, read_x, loaded, load_64}
+use Rattle.linker_laws.specs.AArch64Machine.{State, moved, loaded}
 use Rattle.linker_laws.proofs.AArch64Moves.{movk_lifted, movz_is_no_movk}
 use Rattle.linker_laws.proofs.AArch64Pairs.{word_made}
 use Rattle.linker_laws.proofs.AArch64Steps.{set, step_adrp, step_ldr, step_move, step_movk, address_is}

@@ -1,8 +1,7 @@
 -- Where `adr` reaches an address, its page is near.
-use Rattle.linker_laws.proofs.Imports.{◌≡◌, ℕ, ◌^◌, ◌<◌, ◌≤◌, ◌-◌, ◌⊎◌, inl, inr, sym, ◌∙◌, ap, subst, arith, ℤ, pos, ◌+ℤ◌, Some, w64, cast_signed, cases_lt, ints, to_z_pos, cast_negative, IsWithin, bit_bounds, page, difference_64, sum_64, Signed, Operands, AreAddresses, symbol_address}
+use Rattle.linker_laws.proofs.Imports.{AreAddresses, IsWithin, Operands, Signed, Some, ap, arith, bit_bounds, cases_lt, cast_negative, cast_signed, difference_64, following, inl, inr, ints, page, pos, subst, sum_64, sym, symbol_address, to_z_pos, w64, ℕ, ℤ, ◌+ℤ◌, ◌-◌, ◌<◌, ◌^◌, ◌∙◌, ◌≡◌, ◌≤◌, ◌⊎◌}
 use Rattle.linker_laws.proofs.Relocated.{addresses as are_addresses}
 use Rattle.linker_laws.proofs.Sums.{difference_below, sum_below}
-use Rattle.linker_laws.specs.AArch64RewriteLaws.{following}
 
 -- a number of 64 bits in two's complement
 in_two_ways : (n : ℕ) → n < 2 ^ 64

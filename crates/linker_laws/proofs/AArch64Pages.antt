@@ -1,7 +1,6 @@
 -- Pages and offsets in them, of AArch64.
-use Rattle.linker_laws.proofs.Imports.{◌≡◌, ℕ, ◌+◌, ◌-◌, ◌*◌, ◌/◌, ◌%◌, ◌^◌, ◌<◌, ◌≤◌, Bool, true, refl, sym, ◌∙◌, ap, subst, arith, List, [], ◌∷◌, leb, ℤ, pos, ◌+ℤ◌, ◌*ℤ◌, Option, Some, w64, cast_signed, leb-true, bit_bounds, Signed, mod_below, pow_pos, pow-add, field, window_of, is_sound_layout, low_of, high_of, aarch64_form, aarch64_layout, IsWithin, page, reach_of, value_of, sum_64, difference_64, AArch64Instruction, Adr, Add, AllowedRange, PageMask, AArch64, RelocationKind, RowInfo, Operands, IsApplied, place_sum, subst_below, AreAddresses, Law, Premise, PremiseHolds, none, LdSt}
+use Rattle.linker_laws.proofs.Imports.{AArch64, AArch64Instruction, Add, Adr, AllowedRange, AreAddresses, Bool, IsApplied, IsWithin, Law, LdSt, List, Operands, Option, PageMask, Premise, PremiseHolds, RelocationKind, RowInfo, Signed, Some, [], aarch64_form, aarch64_layout, ap, arith, bit_bounds, cast_signed, difference_64, field, got_page, high_of, is_sound_layout, leb, leb-true, low_of, mod_below, none, page, page_and_offset, place_sum, pos, pow-add, pow_pos, reach_of, refl, subst, subst_below, sum_64, sym, true, value_of, w64, window_of, ℕ, ℤ, ◌%◌, ◌*ℤ◌, ◌*◌, ◌+ℤ◌, ◌+◌, ◌-◌, ◌/◌, ◌<◌, ◌^◌, ◌∙◌, ◌∷◌, ◌≡◌, ◌≤◌}
 use Rattle.std.proofs.Math.Arith.{mod-mul}
-use Rattle.linker_laws.specs.AArch64RelocationLaws.{got_page, page_and_offset}
 use Rattle.linker_laws.proofs.Instructions.{FirstHasNumber, HasNumber, IsNumber, IsSmall, absolute, first_step, row_of, is_read, reads_bits, field_sum, multiple, step_of}
 use Rattle.linker_laws.proofs.Applied.{sound_written}
 use Rattle.linker_laws.proofs.Sums.{halves_sum, page_halves_sum, sum_below, difference_below}

@@ -1,9 +1,7 @@
 -- `adrp` with an instruction that has the offset in the page.
-use Rattle.linker_laws.proofs.Imports.{◌≡◌, ◌≢◌, ℕ, ◌^◌, ◌<◌, sym, ◌∙◌, ap, List, pos, ◌*ℤ◌, ◌+ℤ◌, Some, take, drop, ◌+◌, ◌*◌, arith, w32, from_le_bytes, to_le_bytes, w64, from_le_bytes-to_le_bytes_4, word_of_front, aarch64_form, nop, rn_of, page, Adr, Add, LdSt, Operands, IsAddress}
-use Rattle.linker_laws.specs.AArch64RelocationLaws.{page_and_offset}
+use Rattle.linker_laws.proofs.Imports.{Add, Adr, IsAddress, LdSt, List, Operands, Some, aarch64_form, add, added, adr_address, adrp_address, ap, arith, drop, from_le_bytes, from_le_bytes-to_le_bytes_4, in_64_bits, ldr, load_64, nop, page, page_and_offset, pos, rn_of, step, sym, take, to_le_bytes, w32, w64, word_of, word_of_front, ℕ, ◌*ℤ◌, ◌*◌, ◌+ℤ◌, ◌+◌, ◌<◌, ◌^◌, ◌∙◌, ◌≡◌, ◌≢◌}
 use Rattle.linker_laws.proofs.Sums.{once}
-use Rattle.linker_laws.specs.AArch64RewriteLaws.{word_of}
-use Rattle.linker_laws.specs.AArch64Machine.{State, step, in_64_bits, load_64, adrp_address, loaded, added, add, ldr, adr_address}
+use Rattle.linker_laws.specs.AArch64Machine.{State, loaded}
 use Rattle.linker_laws.proofs.AArch64Steps.{set, step_adrp, step_ldr, step_add, in_two_steps, loaded_from, address_is, read_back}
 use Rattle.linker_laws.proofs.Words.{back_word, front_pair}
 use Rattle.linker_laws.proofs.AArch64Words.{IsAdrOf, IsInstructionOf, decodes_adrp}

@@ -1,7 +1,7 @@
 -- Steps of AArch64's instructions.
-use Rattle.linker_laws.proofs.Imports.{◌≡◌, ◌≢◌, ℕ, ◌+◌, ◌%◌, ◌^◌, sym, ◌∙◌, ap, arith, List, [], ◌∷◌, eqb, ℤ, pos, ◌+ℤ◌, ◌*ℤ◌, Some, None, unsigned_abs, eq-eqb, ne_eqb, cond-true, cond-false, ints, rd_of, rn_of, aarch64_form, JumpCall, LdSt, Operands, IsAddress, plt_address}
+use Rattle.linker_laws.proofs.Imports.{IsAddress, JumpCall, LdSt, List, None, Operands, Some, [], aarch64_form, add, added, adr, adr_address, adrp, adrp_address, ap, arith, blr, branch_target, cond-false, cond-true, continue, eq-eqb, eqb, in_64_bits, ints, ldr, load_64, movk_64, ne_eqb, next_pc, plt_address, pos, rd_of, read_x, rn_of, step, sym, unsigned_abs, with_moved, write_x, write_x_or_sp, ℕ, ℤ, ◌%◌, ◌*ℤ◌, ◌+ℤ◌, ◌+◌, ◌^◌, ◌∙◌, ◌∷◌, ◌≡◌, ◌≢◌}
 use Rattle.linker_laws.proofs.Sums.{lift, lifted_is}
-use Rattle.linker_laws.specs.AArch64Machine.{State, step, run, decode, in_64_bits, write_x, write_x_or_sp, go_on, next_pc, continue, execute, adrp, adr, add, ldr, adrp_address, adr_address, added, loaded, load_64, movn_or_movz, movk_64, moved, with_moved, blr, branch_target, go_to, read_x}
+use Rattle.linker_laws.specs.AArch64Machine.{State, run, decode, go_on, execute, loaded, movn_or_movz, moved, go_to}
 
 -- ---- sums
 

@@ -1,7 +1,5 @@
 -- Moves of 16 bits of AArch64.
-use Rattle.linker_laws.proofs.Imports.{◌≡◌, ℕ, ◌+◌, ◌-◌, ◌*◌, ◌/◌, ◌%◌, ◌^◌, ◌<◌, ◌≤◌, Bool, true, false, refl, sym, ◌∙◌, ap, subst, arith, List, [], ◌∷◌, ℤ, pos, negsuc, ◌+ℤ◌, ◌-ℤ◌, ◌*ℤ◌, Option, Some, None, suc, unsigned_abs, eqb, ltb, not, ◌==◌, ◌&&◌, w32, w64, bit_at, cast_signed, from_le_bytes, int_rem_euclid, and_parts, eqb-true, ints, int_rem_euclid_is, mod_below, pow_pos, pow-add, div-add-mod', field, BitRange, aarch64_form, shift_of, bits_from, AgreesInReach, IsWithin, reach_of, is_movk, stays_movk, value_of, sum_64, Movkz, Movnz, AllowedRange, PageMask, AArch64, RelocationKind, RowInfo, Operands, taken_is_field, IsApplied, div-mul-add, IsSameModulo, IsSameIn, aarch64_reads, MoveReads, IsAddress, AreAddresses, Law, Premise, PremiseHolds, of_words, none, number_at}
-use Rattle.std.proofs.Math.Nat.{mul-add-mod_self_right}
-use Rattle.linker_laws.specs.AArch64RelocationLaws.{movk, movz, movn_or_movz}
+use Rattle.linker_laws.proofs.Imports.{AArch64, AgreesInReach, AllowedRange, AreAddresses, BitRange, Bool, IsAddress, IsApplied, IsSameIn, IsSameModulo, IsWithin, Law, List, MoveReads, Movkz, Movnz, None, Operands, Option, PageMask, Premise, PremiseHolds, RelocationKind, RowInfo, Some, [], aarch64_form, aarch64_reads, and_parts, ap, arith, bit_at, bits_from, cast_signed, div-add-mod', div-mul-add, eqb, eqb-true, false, field, from_le_bytes, int_rem_euclid, int_rem_euclid_is, ints, is_movk, ltb, mod_below, movk, movn_or_movz, movz, mul-add-mod_self_right, negsuc, none, not, number_at, of_words, pos, pow-add, pow_pos, reach_of, refl, shift_of, stays_movk, subst, suc, sum_64, sym, taken_is_field, true, unsigned_abs, value_of, w32, w64, ℕ, ℤ, ◌%◌, ◌&&◌, ◌*ℤ◌, ◌*◌, ◌+ℤ◌, ◌+◌, ◌-ℤ◌, ◌-◌, ◌/◌, ◌<◌, ◌==◌, ◌^◌, ◌∙◌, ◌∷◌, ◌≡◌, ◌≤◌}
 use Rattle.linker_laws.proofs.Applied.{value_is, reads, taken_bits}
 use Rattle.linker_laws.proofs.Instructions.{HasNumber, IsNumber, first_step, row_of, is_read, reads_bits, field_sum, step_of}
 use Rattle.linker_laws.proofs.Sums.{halves_sum, lift, lifted_is, euclid, small_cast}

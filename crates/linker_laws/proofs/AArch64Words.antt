@@ -1,8 +1,7 @@
 -- Words of AArch64 to which a relocation was applied, and which instructions they are.
-use Rattle.linker_laws.proofs.Imports.{◌≡◌, ◌≢◌, ℕ, ◌+◌, ◌-◌, ◌/◌, ◌^◌, ◌<◌, ◌≤◌, Bool, true, false, refl, sym, ◌∙◌, ap, subst, arith, List, [], ◌∷◌, ◌++◌, ltb, leb, eqb, inl, inr, min, ◌%◌, ◌&&◌, ◌||◌, bit_and, bit_at, w32, from_le_bytes, and_parts, or_cases, ltb-true, leb-true, ne_eqb, cond-true, cond-false, eq-eqb, eqb-true, field, ImmediateBit, is_placed, BitsWritten, BitRange, same_fields, rd_of, rn_of, shift_of, IsAdrp, IsLdr64, InstructionWritten, ored_cleared, bits_taken, with_bit_31_if, Adr, Add, LdSt, LdrRegister, Movnz, Movkz, JumpCall, AArch64, high_kept, same_window, ℤ, pos, int_lt, ◌*◌, or_from, or_bits_to, bit_at_run, movn_opcode, movz_opcode, movk_opcode, imm16_places, move_opcode, moved_bits}
-use Rattle.std.proofs.lemmas.Nat.Bits.{bit_at_and, bit_at-lt, bit_at_ones}
+use Rattle.linker_laws.proofs.Imports.{AArch64, Add, Adr, BitRange, BitsWritten, Bool, ImmediateBit, InstructionWritten, IsAdrp, IsLdr64, JumpCall, LdSt, LdrRegister, List, Movkz, Movnz, [], add, adr, adrp, and_parts, ap, arith, b, bit_and, bit_at, bit_at-lt, bit_at_and, bit_at_ones, bit_at_run, bits_taken, bl, blr, cond-false, cond-true, eq-eqb, eqb, eqb-true, false, field, from_le_bytes, high_kept, imm16_places, inl, inr, int_lt, is_adr, is_placed, ldr, leb, leb-true, ltb, ltb-true, min, move_opcode, moved_bits, movk_64, movk_opcode, movn_opcode, movz_opcode, ne_eqb, or_bits_to, or_cases, or_from, ored_cleared, pos, rd_of, refl, rn_of, same_fields, same_window, shift_of, subst, sym, true, w32, with_bit_31_if, ℕ, ℤ, ◌%◌, ◌&&◌, ◌*◌, ◌++◌, ◌+◌, ◌-◌, ◌/◌, ◌<◌, ◌^◌, ◌||◌, ◌∙◌, ◌∷◌, ◌≡◌, ◌≢◌, ◌≤◌}
 use Rattle.linker_elf.specs.Inner.Runs.{words_below}
-use Rattle.linker_laws.specs.AArch64Machine.{decode, is_adr, adrp, adr, add, ldr, Instruction, movn_or_movz, movk_64, blr, bl, b}
+use Rattle.linker_laws.specs.AArch64Machine.{decode, Instruction, movn_or_movz}
 
 -- ---- what a write keeps
 

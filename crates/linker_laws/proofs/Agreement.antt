@@ -1,8 +1,6 @@
 -- States that agree, after a register is written, and at other addresses.
-use Rattle.linker_laws.proofs.Imports.{◌≡◌, ℕ, suc, ◌+◌, ◌-◌, nat_lt, ◌^◌, ◌<◌, Bool, true, false, refl, sym, ◌∙◌, ap, subst, eqb-true, Some, None, Covered, arith, inl, inr, IsSomeAnd, if◌then◌else◌, ◌&&◌, ◌==◌, ◌⊎◌, loaded, State, Program, Link, Kind, Kinds, AreOf, AreStored, Agree, Group, Other, anything, of_link, run, same, ChangesOpen, OthersAgree, put, go_to, with_register}
-use Rattle.linker_laws.specs.SimulationWorked.{AreRuns}
+use Rattle.linker_laws.proofs.Imports.{Agree, AreOf, AreRuns, AreStored, Bool, ChangesOpen, Covered, Group, IsSomeAnd, Kind, Kinds, Link, None, Other, OthersAgree, Program, Some, State, anything, ap, arith, eqb-true, false, go_to, if◌then◌else◌, inl, inr, loaded, nat_lt, nat_tests, of_link, put, refl, run, same, subst, suc, sym, true, with_register, ℕ, ◌&&◌, ◌+◌, ◌-◌, ◌<◌, ◌==◌, ◌^◌, ◌∙◌, ◌≡◌, ◌⊎◌}
 use Rattle.linker_laws.proofs.CoveredRuns.{holds_of, once, run_first}
-use Rattle.std.proofs.lemmas.Bool.Decides.{nat_tests}
 
 pick : (l : Link) (b : Bool) (k k' : Kind) (x x' y y' : ℕ) → AreOf l 8 k x y → AreOf l 8 k' x' y'
     → AreOf l 8 (if b then k else k') (if b then x else x') (if b then y else y')

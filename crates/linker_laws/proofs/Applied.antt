@@ -1,5 +1,5 @@
 -- What the machine reads of an instruction to which a relocation was applied.
-use Rattle.linker_laws.proofs.Imports.{false, FitsSigned, ◌≡◌, ℕ, ◌-◌, ◌%◌, ◌^◌, ◌<◌, ◌≤◌, true, refl, sym, ◌∙◌, ap, subst, arith, List, ℤ, pos, Option, Some, None, int_lt, unsigned_abs, Bool, eqb, aarch64_layout, eqb-true, w64, cast_signed, cast_unsigned, int_rem_euclid, of_z-to_z, field, signed, window_of, BitsWritten, BitRange, is_sound_layout, layout_laid, low_of, high_of, always_clear, aarch64_form, bits_from, AgreesInReach, IsWithin, relocation_form, relocation_layout, loongarch_form, ppc64_form, reach_of, InstructionWritten, SizeHolds, bits_taken, IsAligned, ppc64_reads, places_cleared, IsWritten, stays_movk, is_low_jump, RelocationKind, riscv_form, value_of, AArch64Instruction, Movnz, Shift10, D, Ds, AnyForm, AArch64, RiscV, Ppc64, LoongArch64, RowInfo, BitMasking, UiType, Operands, layout_check, taken_is_field, taken_below, IsApplied, place_sum, Written, IsClear, SizeReads, IsInUnits, MachOLow12, layout_agrees, clear_after, row_reads_in_reach, plain_written as rows_written, taken_in_units}
+use Rattle.linker_laws.proofs.Imports.{AArch64, AArch64Instruction, AgreesInReach, AnyForm, BitMasking, BitRange, BitsWritten, Bool, D, Ds, FitsSigned, InstructionWritten, IsAligned, IsApplied, IsClear, IsInUnits, IsWithin, IsWritten, List, LoongArch64, MachOLow12, Movnz, None, Operands, Option, Ppc64, RelocationKind, RiscV, RowInfo, Shift10, SizeHolds, SizeReads, Some, UiType, Written, aarch64_form, aarch64_layout, always_clear, ap, arith, bits_from, bits_taken, cast_signed, cast_unsigned, clear_after, eqb, eqb-true, false, field, high_of, int_lt, int_rem_euclid, is_low_jump, is_sound_layout, layout_agrees, layout_check, layout_laid, loongarch_form, low_of, of_z-to_z, place_sum, places_cleared, plain_written as rows_written, pos, ppc64_form, ppc64_reads, reach_of, refl, relocation_form, relocation_layout, riscv_form, row_reads_in_reach, signed, stays_movk, subst, sym, taken_below, taken_in_units, taken_is_field, true, unsigned_abs, value_of, w64, window_of, ℕ, ℤ, ◌%◌, ◌-◌, ◌<◌, ◌^◌, ◌∙◌, ◌≡◌, ◌≤◌}
 use Rattle.linker_elf.proofs.Halves.{row_holds}
 use Rattle.linker_elf.proofs.Placed.{reads_as}
 use Rattle.linker_laws.proofs.Sums.{small_cast, cast_low}

@@ -1,11 +1,9 @@
 -- The worked chain.
-use Rattle.linker_laws.proofs.Imports.{◌≡◌, ◌≢◌, ℕ, ◌+◌, ◌-◌, ◌<◌, Bool, true, false, refl, Some, arith, ap, sym, ◌∙◌, subst, lit<, ne_eqb, cond-false, IsSomeAnd, if◌then◌else◌, ◌==◌, State, Kinds, AreStored, Agree, run, same, half, anything, Other, Group, Covered, ends, other, group, of_link, put, go_to, with_register}
-use Rattle.linker_laws.specs.SimulationWorked.{machine, put_out, with_byte, of_byte, rewritten, packed, chain, all_same, with_entry, IsChainWorked}
-use Rattle.linker_laws.specs.Chains.{of_chain}
+use Rattle.linker_laws.proofs.Imports.{Agree, AreStored, Bool, Covered, Group, IsChainWorked, IsSomeAnd, Kinds, Other, Some, State, all_same, anything, ap, arith, chain, cond-false, ends, false, go_to, group, half, if◌then◌else◌, lit<, nat_tests, ne_eqb, of_byte, of_chain, of_link, other, packed, put, put_out, refl, run, same, subst, sym, true, with_byte, with_register, ℕ, ◌+◌, ◌-◌, ◌<◌, ◌==◌, ◌∙◌, ◌≡◌, ◌≢◌}
+use Rattle.linker_laws.specs.SimulationWorked.{machine, rewritten, with_entry}
 use Rattle.linker_laws.proofs.CoveredRuns.{run_first, same_value, composes}
 use Rattle.linker_laws.proofs.Agreement.{agree_put, agree_put_old, another, one}
 use Rattle.linker_laws.proofs.SimulationWorked.{apart, put_out_agrees}
-use Rattle.std.proofs.lemmas.Bool.Decides.{nat_tests}
 
 -- ---- the first link
 

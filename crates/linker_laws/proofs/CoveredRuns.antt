@@ -1,6 +1,6 @@
 -- Covered runs are followed, and comparisons compose.
-use Rattle.linker_laws.proofs.Imports.{◌≡◌, ℕ, zero, suc, ◌+◌, ◌*◌, ◌^◌, ◌<◌, ◌≤◌, sym, ◌∙◌, ap, subst, refl, Option, Some, None, arith, zero-add, suc-add, le_refl, subst₂, inl, inr, add_assoc, add-one, true≢false, pred, ◌-◌, suc-le-suc, ◌⊎◌, IsSomeAnd, option_and_then, is_some, true, IsSome, unwrap_or, false, State, Program, Comparison, run, Covered, ends, other, group, Stops, IsRun, Follows, StopsToo, GoesOnToo, Simulates, CoversRuns, Following, IsCovered, Next, by_other, by_group, stopping, uncovered}
-use Rattle.linker_laws.specs.Chains.{both, Compose}
+use Rattle.linker_laws.proofs.Imports.{Comparison, Compose, Covered, CoversRuns, Following, Follows, GoesOnToo, IsCovered, IsSome, IsSomeAnd, Next, None, Option, Program, Simulates, Some, State, Stops, StopsToo, add-one, add_assoc, ap, arith, both, by_group, by_other, ends, false, group, inl, inr, is_some, le_refl, option_and_then, other, pred, refl, run, stopping, subst, subst₂, suc, suc-add, suc-le-suc, sym, true, true≢false, uncovered, unwrap_or, zero, zero-add, ℕ, ◌*◌, ◌+◌, ◌-◌, ◌<◌, ◌^◌, ◌∙◌, ◌≡◌, ◌≤◌, ◌⊎◌}
+use Rattle.linker_laws.specs.Simulation.{IsRun}
 
 -- ---- what an option holds
 

@@ -1,6 +1,6 @@
 -- The law of a field of whole bytes.
-use Rattle.linker_laws.proofs.Imports.{◌≡◌, ℕ, zero, suc, ◌+◌, ◌*◌, ◌%◌, ◌^◌, ◌<◌, Bool, true, sym, ◌∙◌, ap, subst, arith, List, [], ◌∷◌, ℤ, pos, ◌+ℤ◌, ◌*ℤ◌, Option, Some, unsigned_abs, w64, cast_signed, int_rem_euclid, bits_from, IsWithin, reach_of, number_of_bytes, SizeNumber, value_of, AllowedRange, PageMask, RelocationKind, RowInfo, ByteSize, Operands, rem_below, row_number, IsApplied, Sign, number_of, whole_number, number_agrees, reaches, from_zero, AreAddresses, Law, none, of_values}
-use Rattle.std.proofs.Math.Nat.{mod-eq_of_lt}
+use Rattle.linker_laws.proofs.Imports.{AllowedRange, AreAddresses, Bool, ByteSize, IsApplied, IsWithin, Law, List, Operands, Option, PageMask, RelocationKind, RowInfo, Sign, SizeNumber, Some, [], ap, arith, bits_from, cast_signed, from_zero, int_rem_euclid, mod-eq_of_lt, none, number_agrees, number_of, number_of_bytes, of_values, pos, reach_of, reaches, rem_below, subst, suc, sym, true, unsigned_abs, value_of, w64, whole_number, zero, ℕ, ℤ, ◌%◌, ◌*ℤ◌, ◌*◌, ◌+ℤ◌, ◌+◌, ◌<◌, ◌^◌, ◌∙◌, ◌∷◌, ◌≡◌}
+use Rattle.linker_elf.proofs.WrittenNumbers.{row_number}
 use Rattle.linker_laws.proofs.Applied.{fits, value_is}
 use Rattle.linker_laws.proofs.Instructions.{IsNumber, first_step}
 use Rattle.linker_laws.proofs.Sums.{goes, cast_low, cast_is, once}

@@ -1,5 +1,5 @@
 -- The law of one instruction, over all rows of one field.
-use Rattle.linker_laws.proofs.Imports.{◌≡◌, ℕ, ◌-◌, ◌%◌, ◌^◌, ◌<◌, ◌≤◌, ◌&&◌, Bool, true, sym, ◌∙◌, ap, subst, arith, List, [], ◌∷◌, ℤ, pos, ◌+ℤ◌, ◌*ℤ◌, Option, Some, ltb, leb, eqb, ◌||◌, inl, inr, w64, cast_signed, cast_unsigned, and_parts, or_cases, ltb-true, leb-true, eqb-true, field, window_of, BitRange, is_sound_layout, low_of, high_of, bits_from, IsWithin, relocation_form, relocation_layout, reach_of, IsAligned, value_of, sum_64, difference_64, AllowedRange, PageMask, AnyForm, RelocationKind, RowInfo, BitMasking, Operands, layout_check, IsApplied, place_sum, IsAddress, AreAddresses, Law, Premise, Step, none, symbol_address, plt_address, entry_and_addend, entry_address, place, got_base, tls_base, size_and_addend}
+use Rattle.linker_laws.proofs.Imports.{AllowedRange, AnyForm, AreAddresses, BitMasking, BitRange, Bool, IsAddress, IsAligned, IsApplied, IsWithin, Law, List, Operands, Option, PageMask, Premise, RelocationKind, RowInfo, Some, Step, [], and_parts, ap, arith, bits_from, cast_signed, cast_unsigned, difference_64, entry_address, entry_and_addend, eqb, eqb-true, field, got_base, high_of, inl, inr, is_sound_layout, layout_check, leb, leb-true, low_of, ltb, ltb-true, none, or_cases, place, place_sum, plt_address, pos, reach_of, relocation_form, relocation_layout, size_and_addend, subst, sum_64, sym, symbol_address, tls_base, true, value_of, w64, window_of, ℕ, ℤ, ◌%◌, ◌&&◌, ◌*ℤ◌, ◌+ℤ◌, ◌-◌, ◌<◌, ◌^◌, ◌||◌, ◌∙◌, ◌∷◌, ◌≡◌, ◌≤◌}
 use Rattle.linker_laws.specs.Schemes.{zero}
 use Rattle.linker_laws.proofs.Applied.{insn_reads, is_plain, begins, fits, value_is, reads_within, aligned_low, stands, taken_bits, sound_written}
 use Rattle.linker_laws.proofs.Sums.{Leads, difference_leads, itself_leads, sum_below, difference_below, multiple_part}

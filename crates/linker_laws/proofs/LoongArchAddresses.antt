@@ -1,6 +1,6 @@
 -- Addresses of LoongArch in parts.
 use Rattle.linker_laws.proofs.Sums.{high_sum, halves_sum, page_halves_sum, signed_12, sum_below, goes, difference_below, once}
-use Rattle.linker_laws.proofs.Imports.{◌≡◌, ℕ, ◌+◌, ◌-◌, ◌*◌, ◌/◌, ◌%◌, ◌^◌, ◌<◌, Bool, refl, sym, ◌∙◌, ap, subst, true, false, arith, List, [], ◌∷◌, ℤ, pos, ◌+ℤ◌, ◌-ℤ◌, ◌*ℤ◌, inl, inr, Option, Some, w64, cast_signed, int_rem_euclid, ints, int_rem_euclid_is, mod_below, pow_pos, field, signed, window_of, BitRange, signed_cases, bits_from, IsWithin, bit_bounds, loongarch_form, page, reach, value_of, sum_64, difference_64, AllowedRange, PageMask, Shift5, Shift10, Call36, LoongArch64, RelocationKind, Signed, Operands, page_and_distance, IsApplied, plain_written, AgreesInReach, is_jirl, is_low_jump, taken_below, shift5_sum, without_low, AreAddresses, Law, place, Premise, PremiseHolds, none, of_values, of_words, high_distance, shift10_low_sum, shift10_low_field, made, first_of_five, high_of_five, five_from}
+use Rattle.linker_laws.proofs.Imports.{AgreesInReach, AllowedRange, AreAddresses, BitRange, Bool, Call36, IsApplied, IsWithin, Law, List, LoongArch64, Operands, Option, PageMask, Premise, PremiseHolds, RelocationKind, Shift10, Shift5, Signed, Some, [], ap, arith, bit_bounds, bits_from, cast_signed, difference_64, false, field, first_of_five, five_from, high_distance, high_of_five, inl, inr, int_rem_euclid, int_rem_euclid_is, ints, is_jirl, is_low_jump, loongarch_form, made, mod_below, none, of_values, of_words, page, page_and_distance, place, plain_written, pos, pow_pos, reach, refl, shift10_low_field, shift10_low_sum, shift5_sum, signed, signed_cases, subst, sum_64, sym, taken_below, true, value_of, w64, window_of, without_low, ℕ, ℤ, ◌%◌, ◌*ℤ◌, ◌*◌, ◌+ℤ◌, ◌+◌, ◌-ℤ◌, ◌-◌, ◌/◌, ◌<◌, ◌^◌, ◌∙◌, ◌∷◌, ◌≡◌}
 use Rattle.linker_laws.specs.LoongArchRelocationLaws.{five, four, page_and_jump, page_and_low, upper_and_or}
 use Rattle.linker_laws.proofs.Applied.{holds, reads, value_is, taken_bits}
 use Rattle.linker_laws.proofs.Rounded.{IsRounded}

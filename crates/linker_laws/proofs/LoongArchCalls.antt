@@ -1,9 +1,8 @@
 -- Calls of LoongArch, by two instructions and by one.
-use Rattle.std.proofs.lemmas.Bool.Decides.{nat_tests}
-use Rattle.linker_laws.proofs.Imports.{◌≡◌, ◌≢◌, ℕ, ◌/◌, ◌^◌, ◌<◌, refl, ◌∙◌, ap, arith, List, ◌++◌, drop, ℤ, pos, ◌+ℤ◌, ◌*ℤ◌, w64, from_le_bytes, ints, length-drop, All-drop, field, signed, bits_to, reach, IsCall, loongarch_row, rj_of, InstructionWritten, ored_cleared, LoongArch64, Operands, Branch26, Call36, call36_high, call36_low, IsAddress, plt_address, wrapped, Relocated}
+use Rattle.linker_laws.proofs.Imports.{All-drop, Branch26, Call36, InstructionWritten, IsAddress, List, LoongArch64, Operands, Relocated, ap, arith, bits_to, call36_high, call36_low, drop, field, from_le_bytes, ints, length-drop, loongarch_row, nat_tests, ored_cleared, plt_address, pos, reach, refl, signed, w64, word_of, wrapped, ℕ, ℤ, ◌*ℤ◌, ◌++◌, ◌+ℤ◌, ◌/◌, ◌<◌, ◌^◌, ◌∙◌, ◌≡◌, ◌≢◌}
+use Rattle.linker_utils.specs.LoongArchRewrites.{IsCall, rj_of, rd_of}
 use Rattle.linker_elf.specs.declared.loongarch64.relocations.LoongArch64Relocation.TheVariants as names
-use Rattle.linker_utils.specs.LoongArchRewrites.{rd_of}
-use Rattle.linker_laws.specs.LoongArchRewriteLaws.{word_of, pair}
+use Rattle.linker_laws.specs.LoongArchRewriteLaws.{pair}
 use Rattle.linker_laws.specs.LoongArchMachine.{State, decode, far_address, register_target, pcaddu_18, jirl, b, bl}
 use Rattle.linker_laws.proofs.AArch64Steps.{address_is, in_two_steps}
 use Rattle.linker_laws.proofs.AArch64Words.{field_kept, top_kept}

@@ -1,13 +1,13 @@
 -- LoongArch's groups.
-use Rattle.linker_laws.proofs.Imports.{◌≡◌, ◌≢◌, ℕ, suc, ◌+◌, ◌-◌, ◌*◌, ◌/◌, ◌^◌, ◌<◌, Bool, true, false, refl, sym, ◌∙◌, ap, ap₂, subst, arith, List, drop, Some, pos, ◌+ℤ◌, ◌*ℤ◌, not, ℤ, w64, ◌==◌, if◌then◌else◌, cast_signed, cond-false, eq-eqb, ne_eqb, or_shifted, field, signed, RowIsWithin, IsWithin, loongarch_form, page, pcalau12i, loongarch_row, InstructionWritten, difference_64, sum_64, LoongArch64, Operands, Branch26, Shift10, Shift5, IsCall, IsLowOfDescriptor, rj_of, signed_12, signed_32, ValueIsWithin, ChangesOpen, OthersAgree, go_to, put, with_register, Relocated, loaded, wrapped, AreAddresses, IsAddress, entry_and_addend, plt_address, symbol_address, tls_base, State, Agree, AreOf, Group, Kind, Kinds, anything, half, of_link, run, same}
-use Rattle.linker_elf.specs.declared.loongarch64.relocations.LoongArch64Relocation.{LoongArch64Relocation}
+use Rattle.linker_laws.proofs.Imports.{Agree, AreAddresses, AreOf, Bool, Branch26, ChangesOpen, Group, InstructionWritten, IsAddress, IsWithin, Kind, Kinds, List, LoongArch64, LoongArch64Relocation, Operands, OthersAgree, Relocated, RowIsWithin, Shift10, Shift5, Some, State, ValueIsWithin, anything, ap, ap₂, arith, cast_signed, cond-false, difference_64, drop, entry_and_addend, eq-eqb, false, field, go_to, half, if◌then◌else◌, loaded, loongarch_form, loongarch_row, ne_eqb, not, of_link, or_shifted, page, pcalau12i, plt_address, pos, put, refl, run, same, signed, subst, suc, sum_64, sym, symbol_address, thread_offset, tls_base, true, w64, with_register, word_of, wrapped, ℕ, ℤ, ◌*ℤ◌, ◌*◌, ◌+ℤ◌, ◌+◌, ◌-◌, ◌/◌, ◌<◌, ◌==◌, ◌^◌, ◌∙◌, ◌≡◌, ◌≢◌}
+use Rattle.linker_utils.specs.LoongArchRewrites.{IsCall, IsLowOfDescriptor, rj_of, signed_12, signed_32, IsAddi, IsCallOfDescriptor, IsLd, IsLoadOfDescriptor, IsPcalau12i, rd_of, unsigned_12}
 use Rattle.linker_elf.specs.declared.loongarch64.relocations.LoongArch64Relocation.TheVariants as names
 use Rattle.linker_laws.specs.LoongArchGroups as groups
 use Rattle.linker_laws.specs.LoongArchGroups.{AreBefore, AreDeleted, Code, HighHalf, IsFollowed, LowHalfIf, LowOfDescriptor, Processor, Stands, executed, left, link, machine, seen, uses, put_unless_zero, register, with_unless_zero}
 use Rattle.linker_laws.specs.LoongArchMachine as loongarch_machine
 use Rattle.linker_laws.specs.LoongArchMachine.{action_of, added, branch_target, execute, far_address, read, register_target, step, used}
 use Rattle.linker_laws.specs.LoongArchRelocationLaws as relocation_laws
-use Rattle.linker_laws.specs.LoongArchRewriteLaws.{Fits32, IsPair, IsRelocated, IsRewritten, high_offset, near_entry, thread_offset, word_of}
+use Rattle.linker_laws.specs.LoongArchRewriteLaws.{Fits32, IsPair, IsRelocated, IsRewritten, high_offset, near_entry}
 use Rattle.linker_laws.specs.RiscVGroups.{of_place}
 use Rattle.linker_laws.proofs.AArch64Pairs.{word_made}
 use Rattle.linker_laws.proofs.AArch64Steps.{address_is}
@@ -22,7 +22,6 @@ use Rattle.linker_laws.proofs.LoongArchSteps.{set}
 use Rattle.linker_laws.proofs.LoongArchWords.{IsHigh, IsLow, high_after, low_after, low12_is}
 use Rattle.linker_laws.proofs.RiscVGroups.{counts}
 use Rattle.linker_laws.proofs.Sums.{difference_below, sum_below, eight}
-use Rattle.linker_utils.specs.LoongArchRewrites.{IsAddi, IsCallOfDescriptor, IsLd, IsLoadOfDescriptor, IsPcalau12i, rd_of, unsigned_12}
 use Rattle.linker_utils.specs.declared.loongarch64.rewrites.RewriteKind.TheVariants as kinds
 
 -- ---- states

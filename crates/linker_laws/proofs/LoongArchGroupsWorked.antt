@@ -1,13 +1,10 @@
 -- The worked program of LoongArch.
-use Rattle.linker_laws.proofs.Imports.{List, ◌≡◌, ℕ, ◌+◌, ◌-◌, ◌<◌, true, false, refl, ap, arith, [], ◌∷◌, lit<, pos, eqb-true, ◌==◌, IsSomeAnd, ints, Operands, place_sum, Agree, ends, group, run, same, and_parts}
-use Rattle.linker_elf.specs.declared.loongarch64.relocations.LoongArch64Relocation.{LoongArch64Relocation}
+use Rattle.linker_laws.proofs.Imports.{Agree, IsSomeAnd, List, LoongArch64Relocation, Operands, [], all_same, and_parts, ap, arith, ends, eqb-true, false, group, ints, lit<, nat_tests, place_sum, pos, refl, run, same, true, words, ℕ, ◌+◌, ◌-◌, ◌<◌, ◌==◌, ◌∷◌, ◌≡◌}
 use Rattle.linker_laws.specs.LoongArchRewriteLaws.{IsRelocated}
 use Rattle.linker_laws.proofs.Agreement.{runs}
 use Rattle.linker_laws.specs.LoongArchGroups.{Has, Stands, Groups, link, machine}
 use Rattle.linker_laws.specs.LoongArchGroupsWorked.{EndsAt, IsWorked, code, moved, new, old, starting}
-use Rattle.linker_laws.specs.SimulationWorked.{all_same, words}
 use Rattle.linker_laws.proofs.Relocated.{small, applied}
-use Rattle.std.proofs.lemmas.Bool.Decides.{nat_tests}
 
 -- ---- operands
 

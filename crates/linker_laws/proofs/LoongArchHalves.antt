@@ -1,12 +1,12 @@
 -- Instructions of initial-exec and of descriptors of LoongArch.
-use Rattle.linker_laws.proofs.Imports.{◌≡◌, ℕ, ◌+◌, ◌*◌, ◌/◌, ◌%◌, ◌^◌, ◌<◌, Bool, refl, sym, ◌∙◌, ap, arith, List, ℤ, pos, ◌+ℤ◌, ◌-ℤ◌, ◌*ℤ◌, Option, Some, w64, cast_signed, int_rem_euclid, ints, or_shifted, field, signed, bits_from, IsWithin, bit_bounds, page, pcalau12i, value_of, sum_64, difference_64, AllowedRange, PageMask, LoongArch64, RelocationKind, Signed, Operands, Shift5, page_and_distance, IsLowOfDescriptor, IsApplied, shift5_sum, IsAddress, AreAddresses, symbol_address, entry_and_addend, tls_base, wrapped, loaded}
-use Rattle.std.specs.Int.RustNames.{bit_or}
+use Rattle.linker_laws.proofs.Imports.{AllowedRange, AreAddresses, Bool, IsAddress, IsApplied, IsWithin, List, LoongArch64, Operands, Option, PageMask, RelocationKind, Shift5, Signed, Some, ap, arith, bit_bounds, bit_or, bits_from, cast_signed, difference_64, entry_and_addend, field, int_rem_euclid, ints, loaded, or_shifted, page, page_and_distance, pcalau12i, pos, refl, shift5_sum, signed, sum_64, sym, symbol_address, thread_offset, tls_base, value_of, w64, word_of, wrapped, ℕ, ℤ, ◌%◌, ◌*ℤ◌, ◌*◌, ◌+ℤ◌, ◌+◌, ◌-ℤ◌, ◌/◌, ◌<◌, ◌^◌, ◌∙◌, ◌≡◌}
+use Rattle.linker_utils.specs.LoongArchRewrites.{IsLowOfDescriptor}
 use Rattle.linker_elf.specs.declared.loongarch64.relocations.LoongArch64Relocation.TheVariants as names
 use Rattle.linker_laws.proofs.Applied.{value_is, taken_bits}
 use Rattle.linker_laws.proofs.Instructions.{row_of, reads_bits, relative, unbiased}
 use Rattle.linker_laws.proofs.LoongArchAddresses.{page_distance}
 use Rattle.linker_laws.proofs.Sums.{sum_below, difference_below, page_halves_sum, taken_off, plus, cast_is, cast_low, euclid, lifted_is, signed_12, page_below, page_parts}
-use Rattle.linker_laws.specs.LoongArchRewriteLaws.{word_of, thread_offset, high_offset, near_page, IsRelocated}
+use Rattle.linker_laws.specs.LoongArchRewriteLaws.{high_offset, near_page, IsRelocated}
 use Rattle.linker_laws.specs.LoongArchMachine.{State, step, execute, read, write, go_on, page_address, high_part, sum_of, ored}
 use Rattle.linker_laws.proofs.AArch64Steps.{address_is}
 use Rattle.linker_laws.proofs.LoongArchSteps.{loaded_of}

@@ -1,10 +1,8 @@
 -- Instructions of an offset of 12 bits from the thread pointer.
-use Rattle.std.proofs.lemmas.Bool.Decides.{nat_tests}
-use Rattle.linker_laws.proofs.Imports.{◌≡◌, ℕ, ◌+◌, ◌/◌, ◌%◌, ◌^◌, ◌<◌, true, refl, sym, ◌∙◌, ap, subst, arith, List, ℤ, pos, ◌+ℤ◌, Some, inl, inr, w64, cast_signed, ints, to_z_pos, field, signed, sum_64, difference_64, Operands, RowIsWithin, IsWithin, page, signed_32, signed_12, loongarch_row, adds_low12, rj_of, AreAddresses, symbol_address, wrapped}
+use Rattle.linker_laws.proofs.Imports.{AreAddresses, IsWithin, List, Operands, RowIsWithin, Some, ap, arith, cast_signed, difference_64, field, inl, inr, ints, loongarch_row, nat_tests, page, pos, refl, signed, subst, sum_64, sym, symbol_address, thread_offset, to_z_pos, true, w64, word_of, wrapped, ℕ, ℤ, ◌%◌, ◌+ℤ◌, ◌+◌, ◌/◌, ◌<◌, ◌^◌, ◌∙◌, ◌≡◌}
+use Rattle.linker_utils.specs.LoongArchRewrites.{signed_32, signed_12, adds_low12, rj_of, rd_of}
 use Rattle.linker_elf.specs.declared.loongarch64.relocations.LoongArch64Relocation.TheVariants as names
-use Rattle.linker_utils.specs.LoongArchRewrites.{rd_of}
 use Rattle.linker_laws.proofs.Applied.{value_is, taken_bits}
-use Rattle.linker_laws.specs.LoongArchRewriteLaws.{word_of, thread_offset}
 use Rattle.linker_laws.specs.LoongArchRewriteLaws as laws
 use Rattle.linker_laws.specs.LoongArchMachine.{State, step, read, go_on, decode, execute, high_part, sum_of, add_d, action_of, used}
 use Rattle.linker_laws.proofs.LoongArchHalves.{high_made}

@@ -1,6 +1,6 @@
 -- Steps of LoongArch's instructions.
-use Rattle.linker_laws.proofs.Imports.{◌≡◌, ◌≢◌, ℕ, refl, sym, ◌∙◌, ap, subst, List, [], ◌∷◌, eqb, ℤ, pos, ◌+ℤ◌, Some, None, IsSomeAnd, eq-eqb, ne_eqb, cond-true, cond-false, field, signed, rj_of, wrapped, loaded}
-use Rattle.linker_utils.specs.LoongArchRewrites.{rd_of}
+use Rattle.linker_laws.proofs.Imports.{IsSomeAnd, List, None, Some, [], ap, cond-false, cond-true, eq-eqb, eqb, field, loaded, ne_eqb, pos, refl, signed, subst, sym, wrapped, ℕ, ℤ, ◌+ℤ◌, ◌∙◌, ◌∷◌, ◌≡◌, ◌≢◌}
+use Rattle.linker_utils.specs.LoongArchRewrites.{rj_of, rd_of}
 use Rattle.linker_laws.specs.LoongArchMachine.{State, step, run, decode, read, write, with_register, go_on, next_pc, continue, execute, EndSo, pcalau_12, pcadd_2, sums, adds, loads, page_address, near_address, sum_of}
 use Rattle.linker_laws.proofs.AArch64Steps.{in_two_steps}
 

@@ -1,7 +1,6 @@
 -- Words of LoongArch to which a relocation was applied, and which instructions they are.
-use Rattle.std.proofs.lemmas.Bool.Decides.{nat_tests}
-use Rattle.linker_laws.proofs.Imports.{◌≡◌, ℕ, ◌+◌, ◌-◌, ◌/◌, ◌%◌, ◌^◌, ◌<◌, ◌≤◌, ◌⊎◌, inl, inr, refl, max, ◌∙◌, subst, arith, List, [], ltb, if◌then◌else◌, ℤ, true, false, ◌==◌, ◌&&◌, ◌||◌, nat_le, bit_at, w32, from_le_bytes, All-nil, or_cases, and_parts, eqb-true, leb-true, field, ImmediateBit, BitsWritten, bit_for, placed_bit, adds_low12, rj_of, InstructionWritten, bits_taken, ored_cleared, Shift5, Shift10, LoongArch64, high_kept, same_window, shift5_places, ored, shift10_places, shift10_field}
-use Rattle.linker_utils.specs.LoongArchRewrites.{rd_of}
+use Rattle.linker_laws.proofs.Imports.{All-nil, BitsWritten, ImmediateBit, InstructionWritten, List, LoongArch64, Shift10, Shift5, [], and_parts, arith, bit_at, bit_for, bits_taken, eqb-true, false, field, from_le_bytes, high_kept, if◌then◌else◌, inl, inr, leb-true, ltb, max, nat_le, nat_tests, or_cases, ored, ored_cleared, placed_bit, refl, same_window, shift10_field, shift10_places, shift5_places, subst, true, w32, ℕ, ℤ, ◌%◌, ◌&&◌, ◌+◌, ◌-◌, ◌/◌, ◌<◌, ◌==◌, ◌^◌, ◌||◌, ◌∙◌, ◌≡◌, ◌≤◌, ◌⊎◌}
+use Rattle.linker_utils.specs.LoongArchRewrites.{adds_low12, rj_of, rd_of}
 use Rattle.linker_laws.specs.LoongArchMachine.{decode, pcalau_12, pcadd_2, lu12i_w, sums, action_of, adds, loads, ori}
 use Rattle.linker_laws.proofs.AArch64Words.{field_kept, top_kept}
 

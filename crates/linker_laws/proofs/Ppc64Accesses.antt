@@ -1,8 +1,7 @@
 -- PowerPC64: loads and stores, by their words.
 use Rattle.linker_laws.proofs.Ppc64Addresses.{some_of, reads_ds}
 use Rattle.linker_laws.specs.Ppc64Machine.{State, Formats, Access, loads, loads_signed, stores, accessed, access_with, decode, access, step, execute, by_opcode, base, go_on, word_access, of_58, of_62, word_access_with}
-use Rattle.linker_laws.specs.Ppc64RewriteLaws.{access_number, ds_access, is_over_base}
-use Rattle.linker_laws.proofs.Imports.{◌≡◌, ℕ, ◌+◌, ◌*◌, ◌-◌, ◌<◌, ◌%◌, Bool, true, false, refl, sym, ◌∙◌, ap, arith, cond, if◌then◌else◌, Some, ◌≢◌, ◌^◌, inl, inr, field, ppc64_form, ppc64_reads, sum_64, D, Ds, is_access, opcode_of, rt_of, ra_of, rb_of, access_of, is_indexed, is_over_thread, is_indexed_word, is_word_access, by_word_displacement, registers_of, is_ds_access, and_parts, ne_eqb, cond-true, cond-false, ltb-true, lt-ltb, eqb-true, or_cases, ◌&&◌, ◌||◌, ◌==◌, not, nat_lt, moved, is_store, is_d_access, keeps_base}
+use Rattle.linker_laws.proofs.Imports.{Bool, D, Ds, Some, access_number, access_of, and_parts, ap, arith, by_word_displacement, cond, cond-false, cond-true, ds_access, eqb-true, false, field, if◌then◌else◌, inl, inr, is_access, is_d_access, is_ds_access, is_indexed, is_indexed_word, is_over_base, is_over_thread, is_store, is_word_access, keeps_base, lt-ltb, ltb-true, moved, nat_lt, ne_eqb, not, opcode_of, or_cases, ppc64_form, ppc64_reads, ra_of, rb_of, refl, registers_of, rt_of, sum_64, sym, true, ℕ, ◌%◌, ◌&&◌, ◌*◌, ◌+◌, ◌-◌, ◌<◌, ◌==◌, ◌^◌, ◌||◌, ◌∙◌, ◌≡◌, ◌≢◌}
 
 -- ---- the accesses by their numbers
 

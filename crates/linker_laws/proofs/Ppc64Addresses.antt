@@ -1,5 +1,5 @@
 -- PowerPC64: addresses from the TOC pointer.
-use Rattle.linker_laws.proofs.Imports.{◌≡◌, ◌≢◌, ℕ, refl, sym, ◌∙◌, ap, true, cond, ◌-◌, ◌%◌, ◌&&◌, ◌||◌, ◌==◌, not, and_parts, eqb-true, false≢true, field, ppc64_form, is_ld, is_add_of_thread, is_over_thread, opcode_of, rt_of, ra_of, rb_of, ppc64_reads, Ds}
+use Rattle.linker_laws.proofs.Imports.{Ds, and_parts, ap, cond, eqb-true, false≢true, field, is_add_of_thread, is_ld, is_over_thread, not, opcode_of, ppc64_form, ppc64_reads, ra_of, rb_of, refl, rt_of, sym, true, ℕ, ◌%◌, ◌&&◌, ◌-◌, ◌==◌, ◌||◌, ◌∙◌, ◌≡◌, ◌≢◌}
 use Rattle.linker_laws.proofs.Ppc64Words.{HasParts}
 
 pub some_of : (n : ℕ) → not (n == 0) ≡ true → n ≢ 0

@@ -1,8 +1,7 @@
 -- PowerPC64: instructions that stand apart, each in two runs, and those of thread-local sequences.
-use Rattle.linker_laws.proofs.Imports.{◌≡◌, ◌≢◌, ℕ, ◌*◌, ◌^◌, List, eqb, pos, ◌*ℤ◌, Some, cond-false, ne_eqb, ppc64_form, Operands, D, Ds, Ppc64Relocation, opcode_of, rt_of, ra_of, AreAddresses, symbol_address, moved, ◌+◌, ◌/◌, ◌<◌, ◌%◌, refl, ◌∙◌, ap, arith, ℤ, ◌+ℤ◌, ints, signed, replaced, consecutive_bits_sum, sum_64, addis_of_thread, place_sum}
+use Rattle.linker_laws.proofs.Imports.{AreAddresses, D, Ds, IsRelocated, List, Operands, Ppc64Relocation, Some, addis_of_thread, ap, arith, cond-false, consecutive_bits_sum, eqb, ints, moved, ne_eqb, opcode_of, place_sum, pos, ppc64_form, ra_of, refl, replaced, rt_of, signed, sum_64, symbol_address, thread_offset, word_of, ℕ, ℤ, ◌%◌, ◌*ℤ◌, ◌*◌, ◌+ℤ◌, ◌+◌, ◌/◌, ◌<◌, ◌^◌, ◌∙◌, ◌≡◌, ◌≢◌}
 use Rattle.linker_elf.specs.declared.ppc64.relocations.Ppc64Relocation.TheVariants as names
 use Rattle.linker_laws.specs.Ppc64RelocationLaws as relocation_laws
-use Rattle.linker_laws.specs.Ppc64RewriteLaws.{word_of, IsRelocated, thread_offset}
 use Rattle.linker_laws.specs.Ppc64RewriteLaws as laws
 use Rattle.linker_laws.specs.Ppc64Machine.{State, Formats, base, step, go_on}
 use Rattle.linker_laws.proofs.Ppc64Words.{HasParts, sum_from}

@@ -1,7 +1,6 @@
 -- PowerPC64: what takes the place of a `nop` after a call.
-use Rattle.linker_laws.proofs.Imports.{◌≡◌, ℕ, ◌^◌, ◌<◌, refl, sym, ◌∙◌, ap, arith, List, take, drop, Some, true, ◌&&◌, ◌==◌, and_parts, eqb-true, field, is_call, opcode_of, sum_64, place_sum, loaded}
-use Rattle.linker_utils.specs.Ppc64Rewrites.{nop, two_words}
-use Rattle.linker_laws.specs.Ppc64RewriteLaws.{IsRewritten, word_of}
+use Rattle.linker_laws.proofs.Imports.{IsRewritten, List, Some, and_parts, ap, arith, drop, eqb-true, field, is_call, loaded, opcode_of, place_sum, refl, sum_64, sym, take, true, two_words, word_of, ℕ, ◌&&◌, ◌<◌, ◌==◌, ◌^◌, ◌∙◌, ◌≡◌}
+use Rattle.linker_utils.specs.Ppc64Rewrites.{nop}
 use Rattle.linker_utils.specs.declared.ppc64.rewrites.RewriteKind.TheVariants as kinds
 use Rattle.linker_laws.specs.Ppc64Machine.{State, Formats, step, write, go_on}
 use Rattle.linker_laws.proofs.Ppc64Words.{step_nop}

@@ -1,8 +1,7 @@
 -- PowerPC64: the TOC pointer at the entry of a function.
-use Rattle.linker_laws.proofs.Imports.{◌≡◌, ℕ, ◌^◌, refl, ◌∙◌, ap, arith, List, Some, true, pos, ◌*ℤ◌, ◌+ℤ◌, eqb-true, field, ppc64_form, Operands, D, AreAddresses, symbol_address, IsAddress, moved, is_addi_of_toc, is_addis_of_entry}
+use Rattle.linker_laws.proofs.Imports.{AreAddresses, D, IsAddress, IsRelocated, IsRewritten, List, Operands, Some, ap, arith, eqb-true, field, four_on, is_addi_of_toc, is_addis_of_entry, moved, pos, ppc64_form, refl, symbol_address, true, word_of, ℕ, ◌*ℤ◌, ◌+ℤ◌, ◌^◌, ◌∙◌, ◌≡◌}
 use Rattle.linker_elf.specs.declared.ppc64.relocations.Ppc64Relocation.TheVariants as names
 use Rattle.linker_laws.specs.Ppc64RelocationLaws as relocation_laws
-use Rattle.linker_laws.specs.Ppc64RewriteLaws.{IsRelocated, IsRewritten, four_on, word_of}
 use Rattle.linker_laws.specs.Ppc64Machine.{State, Formats, base, step}
 use Rattle.linker_laws.proofs.AArch64Pairs.{word_made}
 use Rattle.linker_laws.proofs.Ppc64Addresses.{same_parts}

@@ -1,5 +1,5 @@
 -- PowerPC64's groups.
-use Rattle.linker_laws.proofs.Imports.{◌≡◌, ◌≢◌, ℕ, suc, ◌+◌, ◌-◌, ◌*◌, ◌^◌, ◌<◌, ◌≤◌, Bool, true, false, refl, sym, ◌∙◌, ap, subst, subst₂, arith, List, drop, take, ◌/◌, Some, pos, ◌+ℤ◌, ◌*ℤ◌, inl, inr, eqb, true≢false, IsTrue, ◌==◌, if◌then◌else◌, nat_lt, is_some, and_parts, cond-true, cond-false, cases_lt, eq-eqb, eqb-true, lt-ltb, le-ltb, ne_eqb, eqb_tells, ints, field, ppc64_form, sum_64, Operands, Ppc64Form, Branch24, D, Ds, Prefixed, Ppc64Relocation, addi_of_thread, is_addi, is_call, is_ld, is_pla, is_pld, addis_of_thread, opcode_of, ra_of, registers_of, rt_of, RewriteKind, go_to, put, with_register, loaded, moved, AreAddresses, symbol_address, State, Agree, AreOf, Group, Kind, Kinds, anything, half, of_link, run, same, not}
+use Rattle.linker_laws.proofs.Imports.{Agree, AreAddresses, AreOf, Bool, Branch24, D, Ds, Group, IsRelocated, IsRewritten, IsTrue, Kind, Kinds, List, LowHalfLeads, Operands, Ppc64Form, Ppc64Relocation, Prefixed, RewriteKind, Some, State, Use, addi_of_thread, addis_of_thread, and_parts, anything, ap, arith, cases_lt, cond-false, cond-true, drop, eq-eqb, eqb, eqb-true, eqb_tells, false, field, from_thread, go_to, half, if◌then◌else◌, inl, inr, ints, is_addi, is_addis_over, is_call, is_ld, is_pla, is_pld, is_some, le-ltb, loaded, lt-ltb, moved, nat_lt, ne_eqb, not, of_link, opcode_of, pos, ppc64_form, prefixed_of, prefixed_target, put, ra_of, refl, registers_of, rt_of, run, same, subst, subst₂, suc, sum_64, sym, symbol_address, take, thread_offset, true, true≢false, two_words as two_words_of, with_register, word_of, ℕ, ◌*ℤ◌, ◌*◌, ◌+ℤ◌, ◌+◌, ◌-◌, ◌/◌, ◌<◌, ◌==◌, ◌^◌, ◌∙◌, ◌≡◌, ◌≢◌, ◌≤◌}
 use Rattle.linker_elf.specs.declared.ppc64.relocations.Ppc64Relocation.TheVariants as names
 use Rattle.linker_laws.specs.Ppc64Groups as groups
 use Rattle.linker_laws.specs.Ppc64Groups.{AreHalves, Code, Has, Leaves, Processor, Returns, Stands, Takes, Uses, called, executed, execute, high_part, instruction_at, is_prefix, left, link, machine, seen, used}
@@ -7,7 +7,6 @@ use Rattle.linker_laws.specs.Ppc64Machine as ppc64_machine
 use Rattle.linker_laws.specs.Ppc64Machine.{Formats, base, by_opcode, go_on, shifted_sum, step, step_prefixed, write}
 use Rattle.linker_laws.specs.Ppc64RelocationLaws as relocation_laws
 use Rattle.linker_laws.specs.Ppc64RewriteLaws as laws
-use Rattle.linker_laws.specs.Ppc64RewriteLaws.{IsRelocated, IsRewritten, LowHalfLeads, Use, from_thread, prefixed_of, prefixed_target, thread_offset, word_of}
 use Rattle.linker_laws.proofs.AArch64Pairs.{word_is, word_made}
 use Rattle.linker_laws.proofs.Agreement.{agree_go, agree_put, agree_put_old, both_true, group_of, last_counts, others_agree, unchanged as nothing_changes, value_group}
 use Rattle.linker_laws.proofs.CoveredRuns.{holds_of, run_first}
@@ -23,7 +22,7 @@ use Rattle.linker_laws.proofs.Ppc64Words.{HasParts, d_after, ds_after, set, step
 use Rattle.linker_laws.proofs.RiscVMachine.{address_is, times_one}
 use Rattle.linker_laws.proofs.Sums.{sum_below, eight, wrapped_is}
 use Rattle.linker_laws.proofs.Words.{two_words}
-use Rattle.linker_utils.specs.Ppc64Rewrites.{is_addis_over, two_words as two_words_of, nop}
+use Rattle.linker_utils.specs.Ppc64Rewrites.{nop}
 use Rattle.linker_utils.specs.declared.ppc64.rewrites.RewriteKind.TheVariants as kinds
 
 -- ---- states

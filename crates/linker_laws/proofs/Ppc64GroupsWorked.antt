@@ -1,10 +1,9 @@
 -- The worked program of PowerPC64.
-use Rattle.linker_laws.proofs.Imports.{◌≡◌, ℕ, ◌<◌, true, false, refl, sym, subst, ap, [], ◌∷◌, lit<, pos, List, eqb-true, and_parts, ◌==◌, IsSomeAnd, Operands, D, Ds, is_add_of_thread, is_addi, place_sum, put, with_register, Agree, Group, Kinds, State, anything, ends, group, half, of_link, run, same, Ppc64Relocation, loaded}
+use Rattle.linker_laws.proofs.Imports.{Agree, D, Ds, Group, IsRelocated, IsSomeAnd, Kinds, List, LowHalfLeads, Operands, Ppc64Relocation, State, [], all_same, and_parts, anything, ap, ends, entry_from_toc, eqb-true, false, from_thread, from_toc, group, half, is_add_of_thread, is_addi, lit<, loaded, of_link, place_sum, pos, put, refl, run, same, subst, sym, true, with_register, word_of, words, ℕ, ◌<◌, ◌==◌, ◌∷◌, ◌≡◌}
 use Rattle.linker_elf.specs.declared.ppc64.relocations.Ppc64Relocation.TheVariants as names
 use Rattle.linker_laws.specs.Ppc64Groups.{Groups, Leaves, Low, NewLeads, execute, high_part, instruction_at, link, machine, used, Has}
 use Rattle.linker_laws.specs.Ppc64GroupsWorked.{IsWorked, code, new, old, starting}
-use Rattle.linker_laws.specs.SimulationWorked.{all_same, words}
-use Rattle.linker_laws.specs.Ppc64RewriteLaws.{IsRelocated, LowHalfLeads, adds, entry_from_toc, from_thread, from_toc, word_of}
+use Rattle.linker_laws.specs.Ppc64RewriteLaws.{adds}
 use Rattle.linker_laws.proofs.Relocated.{applied, small}
 use Rattle.linker_laws.proofs.Ppc64Groups.{sum_keeps}
 

@@ -1,6 +1,5 @@
 -- Halves of PowerPC64.
-use Rattle.linker_laws.proofs.Imports.{◌-◌, ◌≡◌, ℕ, ◌+◌, ◌%◌, ◌^◌, ◌<◌, Bool, true, refl, sym, ◌∙◌, ap, subst, arith, List, [], ◌∷◌, ℤ, pos, ◌+ℤ◌, ◌*ℤ◌, Option, Some, w64, cast_signed, field, signed, window_of, replaced, consecutive_bits_sum, IsWithin, ppc64_form, reach_of, ppc64_reads, value_of, sum_64, difference_64, AllowedRange, PageMask, Ppc64Form, D, Ds, Ppc64, RelocationKind, Operands, IsApplied, place_sum, AreAddresses, Law, none, without_low}
-use Rattle.linker_laws.specs.Ppc64RelocationLaws.{adjusted, unadjusted}
+use Rattle.linker_laws.proofs.Imports.{AllowedRange, AreAddresses, Bool, D, Ds, IsApplied, IsWithin, Law, List, Operands, Option, PageMask, Ppc64, Ppc64Form, RelocationKind, Some, [], adjusted, ap, arith, cast_signed, consecutive_bits_sum, difference_64, field, none, place_sum, pos, ppc64_form, ppc64_reads, reach_of, refl, replaced, signed, subst, sum_64, sym, true, unadjusted, value_of, w64, window_of, without_low, ℕ, ℤ, ◌%◌, ◌*ℤ◌, ◌+ℤ◌, ◌+◌, ◌-◌, ◌<◌, ◌^◌, ◌∙◌, ◌∷◌, ◌≡◌}
 use Rattle.linker_laws.proofs.Applied.{fits, value_is, taken_bits, ds_stands}
 use Rattle.linker_laws.proofs.Instructions.{HasNumber, IsNumber, IsSmall, first_step, row_of, step_of, is_read, reads_bits, field_sum, multiple}
 use Rattle.linker_laws.proofs.Rounded.{IsRounded}

@@ -1,9 +1,8 @@
 -- PowerPC64: instructions with a low half over the base of the high half, each in two runs.
-use Rattle.linker_laws.proofs.Imports.{◌≡◌, ℕ, ◌+◌, ◌%◌, ◌^◌, ◌<◌, refl, sym, true, ◌∙◌, ap, arith, List, ℤ, pos, ◌+ℤ◌, ◌*ℤ◌, Some, ◌==◌, not, and_parts, eqb-true, ints, field, ppc64_form, ppc64_reads, sum_64, difference_64, Operands, Ppc64Form, D, Ds, Ppc64Relocation, opcode_of, rt_of, ra_of, is_addi, is_ds_access, RewriteKind, over_base, is_vector_access, AreAddresses, symbol_address, IsAddress, moved}
+use Rattle.linker_laws.proofs.Imports.{AreAddresses, D, Ds, IsAddress, IsRelocated, IsRewritten, List, Operands, Ppc64Form, Ppc64Relocation, RewriteKind, Some, access_number, and_parts, ap, arith, at_place, difference_64, ds_access, eqb-true, field, ints, is_addi, is_d_over, is_ds_access, is_over_base, is_vector_access, moved, not, opcode_of, over_base, pos, ppc64_form, ppc64_reads, ra_of, refl, rt_of, sum_64, sym, symbol_address, true, word_of, ℕ, ℤ, ◌%◌, ◌*ℤ◌, ◌+ℤ◌, ◌+◌, ◌<◌, ◌==◌, ◌^◌, ◌∙◌, ◌≡◌}
 use Rattle.linker_elf.specs.declared.ppc64.relocations.Ppc64Relocation.TheVariants as names
 use Rattle.linker_utils.specs.declared.ppc64.rewrites.RewriteKind.TheVariants as kinds
 use Rattle.linker_laws.specs.Ppc64RelocationLaws as relocation_laws
-use Rattle.linker_laws.specs.Ppc64RewriteLaws.{word_of, IsRelocated, IsRewritten, at_place, access_number, ds_access, is_d_over, is_over_base}
 use Rattle.linker_laws.specs.Ppc64Groups as groups
 use Rattle.linker_laws.specs.Ppc64RewriteLaws as laws
 use Rattle.linker_laws.specs.Ppc64Machine.{State, Formats, base, go_on, accessed, access_with}

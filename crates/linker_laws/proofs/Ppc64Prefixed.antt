@@ -1,9 +1,8 @@
 -- PowerPC64: prefixed instructions.
-use Rattle.linker_laws.proofs.Imports.{◌≡◌, ℕ, ◌+◌, ◌*◌, ◌/◌, ◌^◌, ◌<◌, ◌++◌, refl, ◌∙◌, ap, arith, List, [], drop, Some, true, ℤ, ◌&&◌, ◌==◌, and_parts, eqb-true, cond-true, cond-false, eq-eqb, field, ImmediateBit, bits_to, BitRange, ppc64_form, is_pld, opcode_of, rt_of, ra_of, InstructionWritten, sum_64, Ppc64, Operands, Prefixed, li_of, two_words as both_words, AreAddresses, symbol_address, moved, loaded}
+use Rattle.linker_laws.proofs.Imports.{AreAddresses, BitRange, ImmediateBit, InstructionWritten, List, Operands, Ppc64, Prefixed, Some, [], and_parts, ap, arith, bits_to, cond-false, cond-true, drop, eq-eqb, eqb-true, field, is_pld, li_of, loaded, moved, opcode_of, ppc64_form, prefixed_of, ra_of, refl, rt_of, sum_64, symbol_address, true, two_words as both_words, word_of, ℕ, ℤ, ◌&&◌, ◌*◌, ◌++◌, ◌+◌, ◌/◌, ◌<◌, ◌==◌, ◌^◌, ◌∙◌, ◌≡◌}
 use Rattle.linker_utils.specs.declared.ppc64.rewrites.RewriteKind.TheVariants as kinds
 use Rattle.linker_elf.specs.declared.ppc64.relocations.Ppc64Relocation.TheVariants as names
 use Rattle.linker_laws.specs.Ppc64RelocationLaws as relocation_laws
-use Rattle.linker_laws.specs.Ppc64RewriteLaws.{word_of, prefixed_of}
 use Rattle.linker_laws.specs.Ppc64Groups as groups
 use Rattle.linker_laws.specs.Ppc64RewriteLaws as laws
 use Rattle.linker_laws.specs.Ppc64Machine.{State, Formats, base, step_prefixed, write, go_to}

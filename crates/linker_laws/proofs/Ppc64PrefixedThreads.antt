@@ -1,12 +1,12 @@
 -- PowerPC64: instructions of thread-local sequences of prefixed code, each in two runs.
-use Rattle.linker_laws.proofs.Imports.{◌≡◌, ℕ, ◌+◌, ◌*◌, ◌/◌, ◌%◌, ◌^◌, ◌<◌, refl, sym, ◌∙◌, ap, subst, arith, List, eqb, ℤ, pos, ◌+ℤ◌, Some, drop, take, inl, inr, Bool, true, false, ◌&&◌, ◌==◌, if◌then◌else◌, and_parts, or_cases, cases_Bool, eqb-true, cond-true, cond-false, eq-eqb, eqb_tells, ints, field, signed, bits_to, replaced, consecutive_bits_sum, ppc64_form, sum_64, Operands, D, Ds, Prefixed, opcode_of, rt_of, ra_of, rb_of, access_of, registers_of, addi_of_thread, by_displacement, by_word_displacement, is_access, is_add_of_thread, is_indexed, is_indexed_word, is_pla, is_word_access, RewriteKind, place_sum, moved, AreAddresses, symbol_address}
+use Rattle.linker_laws.proofs.Imports.{AreAddresses, Bool, D, Ds, IsRelocated, List, Operands, Prefixed, RewriteKind, Some, access_of, accesses, addi_of_thread, and_parts, ap, arith, bits_to, by_displacement, by_word_displacement, cases_Bool, cond-false, cond-true, consecutive_bits_sum, drop, eq-eqb, eqb, eqb-true, eqb_tells, false, field, from_thread, if◌then◌else◌, inl, inr, ints, is_access, is_add_of_thread, is_indexed, is_indexed_any, is_indexed_word, is_pla, is_word_access, ld_of, move_of, moved, opcode_of, or_cases, place_sum, pos, ppc64_form, prefixed_of, ra_of, rb_of, refl, registers_of, replaced, rt_of, signed, subst, sum_64, sym, symbol_address, take, to_move, true, two_words as both_words, word_of, ℕ, ℤ, ◌%◌, ◌&&◌, ◌*◌, ◌+ℤ◌, ◌+◌, ◌/◌, ◌<◌, ◌==◌, ◌^◌, ◌∙◌, ◌≡◌}
 use Rattle.linker_base.proofs.Places.{sums}
 use Rattle.linker_elf.specs.declared.ppc64.relocations.Ppc64Relocation.TheVariants as names
-use Rattle.linker_utils.specs.Ppc64Rewrites.{nop, direct, ld_of, is_indexed_any, move_of, to_move, two_words as both_words}
+use Rattle.linker_utils.specs.Ppc64Rewrites.{nop, direct}
 use Rattle.linker_utils.specs.declared.ppc64.rewrites.RewriteKind.TheVariants as kinds
 use Rattle.linker_laws.specs.Ppc64Machine.{State, Formats, Access, accessed, access_with, write, by_opcode, execute, go_on, step, word_access_with}
 use Rattle.linker_laws.specs.Ppc64RelocationLaws as relocation_laws
-use Rattle.linker_laws.specs.Ppc64RewriteLaws.{IsRelocated, accesses, adds, from_thread, prefixed_of, word_of}
+use Rattle.linker_laws.specs.Ppc64RewriteLaws.{adds}
 use Rattle.linker_laws.specs.Ppc64RewriteLaws as laws
 use Rattle.linker_laws.proofs.AArch64Pairs.{word_made}
 use Rattle.linker_laws.proofs.Ppc64Accesses.{step_access, indexed_parts, below, indexed_word_parts, is_direct, step_word}

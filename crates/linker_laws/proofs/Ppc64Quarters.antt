@@ -1,6 +1,5 @@
 -- Numbers of 64 bits of PowerPC64 by parts of 16 bits.
-use Rattle.linker_laws.proofs.Imports.{◌≡◌, ℕ, ◌+◌, ◌-◌, ◌*◌, ◌/◌, ◌%◌, ◌^◌, ◌<◌, Bool, refl, sym, ◌∙◌, ap, subst, arith, List, [], ◌∷◌, pos, Option, Some, w64, cast_signed, mod_below, pow_pos, field, window_of, replaced, consecutive_bits_sum, ppc64_form, ppc64_reads, value_of, AllowedRange, PageMask, Ppc64Form, D, Ppc64, RelocationKind, Operands, IsApplied, sum_64, place_sum, DUnsigned, Law, none}
-use Rattle.linker_laws.specs.Ppc64RelocationLaws.{adjusted_quarters, unadjusted_quarters, upper_parts}
+use Rattle.linker_laws.proofs.Imports.{AllowedRange, Bool, D, DUnsigned, IsApplied, Law, List, Operands, Option, PageMask, Ppc64, Ppc64Form, RelocationKind, Some, [], adjusted_quarters, ap, arith, cast_signed, consecutive_bits_sum, field, mod_below, none, place_sum, pos, pow_pos, ppc64_form, ppc64_reads, refl, replaced, subst, sum_64, sym, unadjusted_quarters, upper_parts, value_of, w64, window_of, ℕ, ◌%◌, ◌*◌, ◌+◌, ◌-◌, ◌/◌, ◌<◌, ◌^◌, ◌∙◌, ◌∷◌, ◌≡◌}
 use Rattle.linker_laws.proofs.Ppc64Halves.{ReadsLow, adjusted_low, d_field}
 use Rattle.linker_laws.proofs.Rounded.{IsRounded}
 use Rattle.linker_laws.proofs.Instructions.{FirstHasNumber, HasNumber, IsNumber, first_step, row_of, field_sum, step_of}

@@ -1,5 +1,5 @@
 -- Words of PowerPC64 to which a relocation was applied, and the steps of their instructions.
-use Rattle.linker_laws.proofs.Imports.{◌≡◌, ◌≢◌, ℕ, ◌+◌, ◌*◌, ◌%◌, ◌^◌, ◌<◌, refl, sym, ◌∙◌, ap, arith, List, [], eqb, ℤ, pos, ◌+ℤ◌, ◌*ℤ◌, Some, w32, from_le_bytes, eq-eqb, ne_eqb, cond-true, cond-false, ints, field, bits_to, BitRange, ppc64_form, opcode_of, rt_of, ra_of, rb_of, InstructionWritten, sum_64, difference_64, Ppc64, Branch24, D, Ds, IsAddress, moved, wrapped, loaded}
+use Rattle.linker_laws.proofs.Imports.{BitRange, Branch24, D, Ds, InstructionWritten, IsAddress, List, Ppc64, Some, [], ap, arith, bits_to, cond-false, cond-true, difference_64, eq-eqb, eqb, field, from_le_bytes, ints, loaded, moved, ne_eqb, opcode_of, pos, ppc64_form, ra_of, rb_of, refl, rt_of, sum_64, sym, w32, wrapped, ℕ, ℤ, ◌%◌, ◌*ℤ◌, ◌*◌, ◌+ℤ◌, ◌+◌, ◌<◌, ◌^◌, ◌∙◌, ◌≡◌, ◌≢◌}
 use Rattle.linker_utils.specs.Ppc64Rewrites.{nop}
 use Rattle.linker_laws.proofs.Sums.{lift, wrapped_is}
 use Rattle.linker_laws.specs.Ppc64Machine.{State, Formats, step, execute, by_opcode, of_58, base, write, go_on, go_to, next_pc, shifted_sum, d_address, ds_address}

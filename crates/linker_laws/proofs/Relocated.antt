@@ -1,11 +1,8 @@
 -- Relocations of a program that is given: by computation, what they write is what their rows say.
-use Rattle.linker_laws.proofs.Imports.{◌≡◌, ◌≢◌, ℕ, zero, suc, ◌+◌, ◌-◌, ◌^◌, ◌<◌, ◌≤◌, Bool, true, false, refl, sym, ◌∙◌, Option, None, int_lt, length, ℤ, subst, arith, drop, Some, ◌*◌, List, [], ◌∷◌, pos, true≢false, eqb-true, inl, inr, ltb-true, leb, leb-true, leb-false, and_parts, cond-false, ◌==◌, ◌&&◌, ◌||◌, ◌⊎◌, bit_at, eq-eqb, All-nil, All-cons, BitsWritten, ImmediateBit, bit_for, is_placed, placed_bit, window_of, IsApplied, IsWithin, reach_of, relocation_form, InstructionWritten, bits_taken, places_cleared, with_bit_31_if, value_of, AllowedRange, BitRange, PageMask, AnyForm, RelocationKind, RowInfo, Operands, byte_len, HoldsBits, IsAccepted, IsEncoded, IsMultiple, IsReached, bits_at, insn_at, is_32_bit_move, is_supported, number_placed, value_at, window_len, le_yes, AreAddresses}
-use Rattle.std.specs.Prelude.{All, nat_le, nat_lt}
-use Rattle.std.proofs.lemmas.Nat.Bits.{bit_at_above}
+use Rattle.linker_laws.proofs.Imports.{All, All-cons, All-nil, AllowedRange, AnyForm, AreAddresses, BitRange, BitsWritten, Bool, HoldsBits, ImmediateBit, InstructionWritten, IsAccepted, IsApplied, IsEncoded, IsMultiple, IsReached, IsWithin, List, None, Operands, Option, PageMask, RelocationKind, RowInfo, Some, [], and_parts, arith, bit_at, bit_at_above, bit_for, bits_at, bits_taken, byte_len, cond-false, drop, entry, eq-eqb, eqb-true, false, inl, inr, insn_at, int_lt, is_32_bit_move, is_placed, is_supported, le_yes, leb, leb-false, leb-true, length, ltb-true, nat_le, nat_lt, number_placed, placed_bit, places_cleared, pos, reach_of, refl, relocation_form, subst, suc, sym, true, true≢false, value_at, value_of, window_len, window_of, with_bit_31_if, zero, ℕ, ℤ, ◌&&◌, ◌*◌, ◌+◌, ◌-◌, ◌<◌, ◌==◌, ◌^◌, ◌||◌, ◌∙◌, ◌∷◌, ◌≡◌, ◌≢◌, ◌≤◌, ◌⊎◌}
 use Rattle.std.proofs.lemmas.Float.{T_from_true}
 use Rattle.std.specs.Int.Signed.{le_z, lt_z, lt_z_yes}
 use Rattle.linker_laws.proofs.Instructions.{row_of}
-use Rattle.linker_laws.specs.SimulationWorked.{entry}
 
 -- ---- bits that are written, by computation
 

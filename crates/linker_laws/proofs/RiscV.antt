@@ -1,7 +1,5 @@
 -- Upper and low parts of RISC-V, and calls.
-use Rattle.linker_laws.proofs.Imports.{◌≡◌, ℕ, ◌-◌, ◌*◌, ◌%◌, ◌^◌, Bool, refl, sym, ◌∙◌, ap, subst, arith, [], ◌∷◌, ℤ, pos, ◌+ℤ◌, ◌-ℤ◌, Option, Some, int_lt, unsigned_abs, w64, cast_signed, int_rem_euclid, ints, int_rem_euclid_is, window_of, BitRange, SizeHolds, InstructionWritten, riscv_form, value_of, AllowedRange, PageMask, RiscV, RelocationKind, BitMasking, RiscVInstruction, UiType, Operands, IsCompletedBy, IsAddress, Law, none, place}
-use Rattle.linker_elf.specs.Relocate.{RiscVHolds}
-use Rattle.linker_laws.specs.RiscVRelocationLaws.{without_bit_0, even, upper_and_low}
+use Rattle.linker_laws.proofs.Imports.{AllowedRange, BitMasking, BitRange, Bool, InstructionWritten, IsAddress, IsCompletedBy, Law, Operands, Option, PageMask, RelocationKind, RiscV, RiscVHolds, RiscVInstruction, SizeHolds, Some, UiType, [], ap, arith, cast_signed, even, int_lt, int_rem_euclid, int_rem_euclid_is, ints, none, place, pos, refl, riscv_form, subst, sym, unsigned_abs, upper_and_low, value_of, w64, window_of, without_bit_0, ℕ, ℤ, ◌%◌, ◌*◌, ◌+ℤ◌, ◌-ℤ◌, ◌-◌, ◌^◌, ◌∙◌, ◌∷◌, ◌≡◌}
 use Rattle.linker_laws.proofs.Applied.{value_is, holds}
 use Rattle.linker_laws.proofs.Instructions.{IsNumber, first_step, row_of, step_of}
 use Rattle.linker_laws.proofs.Sums.{goes, lift, lifted_is}

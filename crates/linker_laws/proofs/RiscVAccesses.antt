@@ -1,15 +1,14 @@
 -- RISC-V: what loads, stores and sums leave of states that agree.
-use Rattle.linker_laws.proofs.Imports.{◌≡◌, ◌⊎◌, ℕ, zero, suc, ◌+◌, ◌-◌, ◌*◌, ◌%◌, ◌^◌, ◌<◌, ◌≤◌, refl, sym, ◌∙◌, ap, ap₂, subst, arith, inl, inr, pos, true≢false, ℤ, int_rem_euclid, ◌==◌, if◌then◌else◌, nat_lt, cond-false, cond-true, cases_lt, le-ltb, lt-ltb, rem_below, difference_64, sum_64, put, with_register, Memory, extended, loaded, stored, State, Agree, AreOf, AreStored, Kind, Kinds, anything, code, half, same}
+use Rattle.linker_laws.proofs.Imports.{Agree, AreOf, AreStored, Kind, Kinds, Memory, State, anything, ap, ap₂, arith, as_loaded, as_loaded_float, as_stored, as_stored_float, as_sum, as_target, as_whole, as_word, boxed, bytes_of, cases_lt, code, cond-false, cond-true, difference_64, goes_to, half, if◌then◌else◌, inl, inr, int_rem_euclid, le-ltb, load_number, loaded, lt-ltb, nat_lt, nat_tests, pos, put, refl, rem_below, rs2_of, same, stored, subst, suc, sum_64, sym, true≢false, with_float, with_integer, with_register, zero, ℕ, ℤ, ◌%◌, ◌*◌, ◌+◌, ◌-◌, ◌<◌, ◌==◌, ◌^◌, ◌∙◌, ◌≡◌, ◌≤◌, ◌⊎◌}
+use Rattle.linker_laws.specs.Machine.{extended}
 use Rattle.linker_laws.specs.RiscVGroups as groups
 use Rattle.linker_laws.specs.RiscVGroups.{AreApart, BeginsAt, Code, HasRoom, left, link, seen, with_stored}
-use Rattle.linker_laws.specs.RiscVGroups.AreUsed.{as_loaded, as_loaded_float, as_stored, as_stored_float, as_sum, as_target, as_whole, as_word}
-use Rattle.linker_laws.specs.RiscVMachine.{boxed, bytes_of, goes_to, load_number, register, rs2_of, with_float, with_integer}
+use Rattle.linker_laws.specs.RiscVMachine.{register}
 use Rattle.linker_laws.proofs.Agreement.{agree_put, both_parts}
 use Rattle.linker_laws.proofs.RiscVDescriptors.{whole_number}
 use Rattle.linker_laws.proofs.RiscVGroups.{below_32, counts, wrote}
 use Rattle.linker_laws.proofs.Sums.{sum_below}
 use Rattle.linker_riscv64.specs.RiscVFields.{rd_of}
-use Rattle.std.proofs.lemmas.Bool.Decides.{nat_tests}
 
 -- ---- states
 

@@ -1,7 +1,8 @@
 -- Which instructions those of a TLS descriptor and of a load from the GOT are.
-use Rattle.linker_laws.proofs.Imports.{◌≡◌, ◌≢◌, ℕ, ◌+◌, ◌-◌, ◌*◌, ◌/◌, ◌%◌, ◌^◌, ◌<◌, true, false, refl, sym, ◌∙◌, ap, arith, List, length, pos, Some, inl, inr, w64, w32, from_le_bytes, cast_signed, cast_unsigned, agree_below, ints, to_z_pos, of_z-to_z, field, signed, replaced, is_placed, consecutive_bits_sum, signed_cases, riscv_form, riscv_places, pair_row, RelocationKind, Operands, UType, IType, funct3_of, rewrites_word, rewritten, cast_negative, IsApplied, extended}
-use Rattle.linker_riscv64.specs.RiscVFields.{opcode_of, rd_of}
-use Rattle.linker_laws.specs.RiscVMachine.{lui, auipc, sums, adds, jumps, loads, of_word, action_of, rs1_of}
+use Rattle.linker_laws.proofs.Imports.{IType, IsApplied, List, Operands, RelocationKind, Some, UType, action_of, adds, agree_below, ap, arith, auipc, cast_negative, cast_signed, cast_unsigned, consecutive_bits_sum, false, field, from_le_bytes, inl, inr, ints, is_placed, jumps, length, loads, lui, of_word, of_z-to_z, pair_row, pos, refl, replaced, rewritten, riscv_form, riscv_places, rs1_of, signed, signed_cases, sums, sym, to_z_pos, true, w32, w64, ℕ, ◌%◌, ◌*◌, ◌+◌, ◌-◌, ◌/◌, ◌<◌, ◌^◌, ◌∙◌, ◌≡◌, ◌≢◌}
+use Rattle.linker_riscv64.specs.RiscVFields.{funct3_of, opcode_of, rd_of}
+use Rattle.linker_utils.specs.RiscVRewrites.{rewrites_word}
+use Rattle.linker_laws.specs.Machine.{extended}
 use Rattle.linker_laws.proofs.RiscVLowParts.{is_action, word_there}
 use Rattle.linker_laws.proofs.RiscVMachine.{is_long, is_lui, is_auipc, is_jalr, written}
 use Rattle.linker_laws.proofs.Words.{kept_field}

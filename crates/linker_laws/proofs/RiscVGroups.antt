@@ -1,10 +1,9 @@
 -- RISC-V's groups.
-use Rattle.linker_laws.proofs.Imports.{Bool, add-one, zero, ◌≡◌, ◌≢◌, ℕ, suc, ◌+◌, ◌-◌, ◌*◌, ◌%◌, ◌^◌, ◌<◌, ◌≤◌, true, false, refl, sym, ◌∙◌, ap, ap₂, subst, arith, List, [], ◌∷◌, length, take, drop, Some, le_refl, w64, pos, ◌+ℤ◌, ◌-ℤ◌, ℤ, ◌==◌, if◌then◌else◌, option_map, IsSomeAnd, IsTrue, w16, w32, cast_signed, from_le_bytes, int_rem_euclid, ne_eqb, ints, field, signed, rewritten, low_12_bounds, IsWithin, riscv_form, riscv_places, pair_row, riscv_row, difference_64, sum_64, RelocationKind, Absolute, TpOff, PltRelative, RowInfo, Operands, UType, IType, SType, CluiType, CjType, JType, UiType, IsCallPair, funct3_of, word_of_front, rewrites_word, with_rs1, IsApplied, Option, sum, ⊤, place_sum, GotRelative, GotTpOff, Relative, TlsDesc, go_to, put, with_register, AreBytes, loaded, moved, wrapped, AreAddresses, entry_and_addend, plt_address, symbol_address, State, Program, Agree, AreOf, OthersAgree, Group, Kind, Kinds, anything, of_link, run, same, suc-add}
-use Rattle.linker_elf.specs.declared.elf.RelocationKind.TheVariants.{RelativeRiscVLow12}
+use Rattle.linker_laws.proofs.Imports.{Absolute, AbsoluteAddresses, Action, Agree, AreAddresses, AreBytes, AreOf, Bool, CjType, CluiType, DescriptorAddresses, EntryAddresses, GotRelative, GotTpOff, Group, Hart, IType, Instruction, IsApplied, IsCallPair, IsLoadFromGot, IsLow12, IsSomeAnd, IsTrue, IsWithin, JType, Kind, Kinds, List, Operands, Option, OthersAgree, PltRelative, Program, Relative, RelativeAddresses, RelativeRiscVLow12, RelocationKind, RowInfo, SType, Some, State, ThreadAddresses, TlsDesc, TpOff, UType, UiType, [], action_at, action_of, add-one, adds, adds_word, after_rewrite, anything, ap, ap₂, arith, auipc, cast_signed, difference_64, drop, drop-take, entry_and_addend, even, false, field, from_le_bytes, go_to, goes_to, i_type, if◌then◌else◌, int_rem_euclid, ints, jal, jumps, le_refl, length, load_number, loaded, loads, loads_float, low_12_bounds, low_row, lui, moved, ne_eqb, of_entry, of_half, of_link, of_word, offset_row, option_map, pair_row, place_sum, plt_address, pos, put, refl, rewritten, riscv_form, riscv_places, riscv_row, rs1_of, rs2_of, run, s_type, same, signed, stores, stores_float, subst, suc, suc-add, sum, sum_64, sums, sym, symbol_address, t0, take, take-take, thread_offset, true, w16, w32, w64, with_action, with_integer, with_register, word_of, word_of_front, wrapped, zero, ℕ, ℤ, ⊤, ◌%◌, ◌*◌, ◌+ℤ◌, ◌+◌, ◌-ℤ◌, ◌-◌, ◌<◌, ◌==◌, ◌^◌, ◌∙◌, ◌∷◌, ◌≡◌, ◌≢◌, ◌≤◌}
+use Rattle.linker_riscv64.specs.RiscVFields.{funct3_of, opcode_of, rd_of}
+use Rattle.linker_utils.specs.RiscVRewrites.{rewrites_word, with_rs1, a0, adds_low12, call_to_jal, clui_to_cli, half_at, hi20_to_clui, IsLui, load_to_addi, of_destination, riscv_matches, tail_to_cj, tail_to_jal}
 use Rattle.linker_laws.specs.RiscVGroups.{AreBefore, AreDeleted, Code, Has, Stands, bytes_at, continued, instruction_at, left, link, machine, seen, LowPartOf, upper, upper_from, uses}
-use Rattle.linker_laws.specs.RiscVMachine.{Action, Hart, Instruction, action_of, add, adds, adds_word, auipc, executed, goes_to, i_type, jal, jumps, load_number, loads, loads_float, lui, of_half, of_word, register, rs1_of, rs2_of, s_type, step, stores, stores_float, sums, used, with_action, with_integer}
-use Rattle.linker_laws.specs.RiscVRelocationLaws.{AbsoluteAddresses, DescriptorAddresses, EntryAddresses, RelativeAddresses, ThreadAddresses, even}
-use Rattle.linker_laws.specs.RiscVRewriteLaws.{action_at, after_rewrite, IsLoadFromGot, IsLow12, low_row, of_entry, offset_row, t0, thread_offset, word_of}
+use Rattle.linker_laws.specs.RiscVMachine.{add, executed, register, step, used}
 use Rattle.linker_laws.proofs.AArch64Moves.{distance_is}
 use Rattle.linker_laws.proofs.AArch64Steps.{in_two_steps}
 use Rattle.linker_laws.proofs.Agreement.{agree_open, agree_put, agree_put_old, group_of, last_counts, one_written, others_agree, unchanged, value_group}
@@ -16,11 +15,8 @@ use Rattle.linker_laws.proofs.RiscVLowParts.{IsBased, clear_0, clear_7, clear_12
 use Rattle.linker_laws.proofs.RiscVMachine.{address_is, fetched_half, fetched_word, is_cj, is_jal, is_long, is_sum, moved_twice, other, written}
 use Rattle.linker_laws.proofs.Sums.{lifted_is, sum_below, sum_on, eight}
 use Rattle.linker_laws.proofs.Words.{half_of_bytes, put_there, word_below, word_of_bytes}
-use Rattle.linker_riscv64.specs.RiscVFields.{opcode_of, rd_of}
 use Rattle.linker_utils.proofs.RiscVRewrites.{half_of_front}
-use Rattle.linker_utils.specs.RiscVRewrites.{a0, adds_low12, call_to_jal, clui_to_cli, half_at, hi20_to_clui, IsLui, load_to_addi, of_destination, riscv_matches, tail_to_cj, tail_to_jal}
 use Rattle.linker_utils.specs.declared.riscv64.rewrites.RewriteKind.{RewriteKind}
-use Rattle.std.proofs.lemmas.List.{take-take, drop-take}
 use Rattle.linker_elf.specs.declared.riscv64.relocations.RiscVRelocation.TheVariants as names
 use Rattle.linker_laws.specs.RiscVGroups as groups
 use Rattle.linker_utils.specs.declared.riscv64.rewrites.RewriteKind.TheVariants as kinds

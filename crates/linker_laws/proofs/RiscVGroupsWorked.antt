@@ -1,16 +1,11 @@
 -- The worked program of RISC-V.
-use Rattle.linker_laws.proofs.Imports.{◌≡◌, ℕ, ◌+◌, ◌-◌, ◌^◌, ◌<◌, ◌≤◌, true, false, refl, sym, ap, subst, arith, List, [], ◌∷◌, length, Option, lit<, lit≤, pos, Some, inr, IsSomeAnd, ints, IsApplied, difference_64, sum_64, RowInfo, Operands, ◌%◌, unsigned_abs, place_sum, put, with_register, moved as plus, Agree, Kinds, Other, State, anything, ends, group, of_link, other, run, same}
+use Rattle.linker_laws.proofs.Imports.{Agree, IsApplied, IsSomeAnd, Kinds, List, Operands, Option, Other, RowInfo, Some, State, [], adds, after_rewrite, all_same, anything, ap, arith, as_stored, as_sum, difference_64, ends, false, goes_to, group, inr, ints, length, lit<, lit≤, moved as plus, nat_tests, of_link, other, place_sum, pos, put, refl, run, same, stores, subst, sum_64, sym, true, unsigned_abs, with_integer, with_register, words, ℕ, ◌%◌, ◌+◌, ◌-◌, ◌<◌, ◌^◌, ◌∷◌, ◌≡◌, ◌≤◌}
 use Rattle.linker_laws.specs.RiscVGroups.{Groups, Has, Stands, link, machine, HasRoom, left, of_place, seen, uses, with_stored}
-use Rattle.linker_laws.specs.RiscVGroups.AreUsed.{as_stored, as_sum}
 use Rattle.linker_laws.specs.RiscVGroupsWorked.{EndsAt, IsWorked, code, moved, new, old, others, starting}
-use Rattle.linker_laws.specs.RiscVMachine.{adds, goes_to, stores, with_integer}
-use Rattle.linker_laws.specs.RiscVRewriteLaws.{after_rewrite}
 use Rattle.linker_utils.specs.declared.riscv64.rewrites.RewriteKind.TheVariants as kinds
-use Rattle.linker_laws.specs.SimulationWorked.{all_same, words}
 use Rattle.linker_laws.proofs.Relocated.{small, all_small, are_bytes, applied}
 use Rattle.linker_laws.proofs.Agreement.{agree_put, runs}
 use Rattle.linker_laws.proofs.RiscVGroups.{wrote}
-use Rattle.std.proofs.lemmas.Bool.Decides.{nat_tests}
 
 -- ---- bytes
 

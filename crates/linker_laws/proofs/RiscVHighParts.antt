@@ -1,14 +1,11 @@
 -- What `lui` and `c.lui` put in a register, once their relocations are applied.
-use Rattle.linker_laws.proofs.Imports.{◌≡◌, ◌≢◌, ℕ, zero, suc, ◌+◌, ◌-◌, ◌*◌, ◌/◌, ◌%◌, ◌^◌, ◌<◌, ◌≤◌, refl, sym, ◌∙◌, ap, subst, arith, List, length, ℤ, pos, negsuc, Some, inl, inr, ◌⊎◌, w64, w16, w32, from_le_bytes, cast_signed, cases_lt, ints, to_z_pos, field, signed, BitRange, signed_cases, low_12_bounds, IsWithin, riscv_form, riscv_places, pair_row, sum_64, difference_64, value_of, RelocationKind, Absolute, TpOff, RiscVInstruction, Operands, UType, CluiType, cast_negative, IsApplied, place_sum, clui_bounds, symbol_address, wrapped}
+use Rattle.linker_laws.proofs.Imports.{Absolute, BitRange, CluiType, Instruction, IsApplied, IsLow12, IsWithin, List, Operands, RelocationKind, RiscVInstruction, Some, TpOff, UType, adds, ap, arith, cases_lt, cast_negative, cast_signed, cli_immediate, clui_bounds, difference_64, field, from_le_bytes, inl, inr, ints, length, low_12_bounds, lui, nat_tests, negsuc, of_clui, of_half, pair_row, place_sum, pos, refl, riscv_form, riscv_places, signed, signed_cases, subst, suc, sum_64, sums, sym, symbol_address, thread_offset, to_z_pos, value_of, w16, w32, w64, wrapped, zero, ℕ, ℤ, ◌%◌, ◌*◌, ◌+◌, ◌-◌, ◌/◌, ◌<◌, ◌^◌, ◌∙◌, ◌≡◌, ◌≢◌, ◌≤◌, ◌⊎◌}
 use Rattle.linker_riscv64.specs.RiscVFields.{rd_of}
 use Rattle.linker_elf.proofs.RiscV.{u_laid, clui_laid}
 use Rattle.linker_laws.proofs.Applied.{value_is, taken_bits}
 use Rattle.linker_laws.proofs.Instructions.{unbiased}
 use Rattle.linker_laws.proofs.Sums.{sum_below}
-use Rattle.linker_laws.specs.RiscVRewriteLaws.{IsLow12, thread_offset}
-use Rattle.linker_laws.specs.RiscVMachine.{lui, sums, of_half, of_clui, Instruction, adds, cli_immediate}
 use Rattle.linker_laws.proofs.Words.{kept_field}
-use Rattle.std.proofs.lemmas.Bool.Decides.{nat_tests}
 
 -- ---- numbers of 12 bits, and those of 18 that `c.lui` and a low part make
 

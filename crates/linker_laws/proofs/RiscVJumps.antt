@@ -1,10 +1,8 @@
 -- What a call's pair and the jumps do, once their relocations are applied.
-use Rattle.linker_laws.proofs.Imports.{◌≡◌, ℕ, ◌+◌, ◌-◌, ◌*◌, ◌%◌, ◌^◌, ◌<◌, ◌≤◌, true, false, refl, sym, ◌∙◌, ap, arith, List, length, drop, pos, negsuc, ◌+ℤ◌, Some, w16, w32, w64, from_le_bytes, agree_below, field, is_placed, riscv_form, riscv_places, IsCallPair, funct3_of, pair_row, PltRelative, Operands, UType, IType, JType, CjType, UiType, IsApplied, jump_row, AreAddresses, plt_address, symbol_address, AreBytes, moved}
-use Rattle.linker_riscv64.specs.RiscVFields.{opcode_of, rd_of}
-use Rattle.linker_laws.specs.RiscVRelocationLaws.{even}
+use Rattle.linker_laws.proofs.Imports.{AreAddresses, AreBytes, CjType, IType, IsApplied, IsCallPair, JType, List, Operands, PltRelative, Some, UType, UiType, agree_below, ap, arith, auipc, drop, even, false, field, from_le_bytes, is_placed, jump_row, jumps, length, moved, negsuc, of_word, pair_row, plt_address, pos, refl, riscv_form, riscv_places, rs1_of, sums, sym, symbol_address, true, w16, w32, w64, ℕ, ◌%◌, ◌*◌, ◌+ℤ◌, ◌+◌, ◌-◌, ◌<◌, ◌^◌, ◌∙◌, ◌≡◌, ◌≤◌}
+use Rattle.linker_riscv64.specs.RiscVFields.{funct3_of, opcode_of, rd_of}
 use Rattle.linker_laws.proofs.Instructions.{adds, plt_from_place, symbol_from_place}
 use Rattle.linker_laws.proofs.RiscV.{calls}
-use Rattle.linker_laws.specs.RiscVMachine.{auipc, sums, jumps, rs1_of, of_word}
 use Rattle.linker_laws.proofs.Words.{two_words, word_below, kept_field}
 use Rattle.linker_laws.proofs.RiscVMachine.{moved_twice, cleared_sum, address_is, times_one, is_long, is_auipc, is_jalr, ui_of_words}
 

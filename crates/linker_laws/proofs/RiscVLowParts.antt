@@ -1,13 +1,10 @@
 -- The instructions that add a low part do the same with x0 as their base.
-use Rattle.std.proofs.lemmas.Bool.Decides.{nat_tests}
-use Rattle.linker_laws.proofs.Imports.{◌≡◌, ℕ, ◌+◌, ◌-◌, ◌*◌, ◌%◌, ◌^◌, ◌<◌, ◌≤◌, Bool, true, false, refl, ◌∙◌, ap, arith, List, length, drop, ◌++◌, ℤ, pos, ◌-ℤ◌, ◌+ℤ◌, Option, Some, None, inl, inr, ◌⊎◌, if◌then◌else◌, w64, int_lt, ◌==◌, ◌&&◌, ◌||◌, nat_lt, IsTrue, w32, from_le_bytes, to_le_bytes, cast_signed, and_parts, eqb-true, agree_below, ints, length-drop, field, signed, is_placed, rewritten, BitRange, layout_laid, always_clear, signed_cases, bits_taken, riscv_places, rewrites_word, with_rs1, RelocationKind, funct3_of, pair_row, sum_64, value_of, Operands, IType, SType, word_of_front, IsApplied, cond_both, place_sum, riscv_layout, word_at, AreBytes, moved}
+use Rattle.linker_laws.proofs.Imports.{Action, AreBytes, BitRange, Bool, IType, IsApplied, IsTrue, List, None, Operands, Option, RelocationKind, SType, Some, action_of, adds, adds_word, after_rewrite, agree_below, always_clear, and_parts, ap, arith, bits_taken, cast_signed, cond_both, drop, eqb-true, false, field, from_le_bytes, if◌then◌else◌, inl, inr, int_lt, ints, is_placed, jumps, layout_laid, length, length-drop, loads, loads_float, moved, nat_lt, nat_tests, of_word, pair_row, place_sum, pos, refl, rewritten, riscv_layout, riscv_places, signed, signed_cases, stores, stores_float, sum_64, to_le_bytes, true, value_of, w32, w64, with_action, word_at, word_of_front, ℕ, ℤ, ◌%◌, ◌&&◌, ◌*◌, ◌++◌, ◌+ℤ◌, ◌+◌, ◌-ℤ◌, ◌-◌, ◌<◌, ◌==◌, ◌^◌, ◌||◌, ◌∙◌, ◌≡◌, ◌≤◌, ◌⊎◌}
+use Rattle.linker_utils.specs.RiscVRewrites.{rewrites_word, with_rs1, adds_low12}
+use Rattle.linker_riscv64.specs.RiscVFields.{funct3_of, opcode_of}
 use Rattle.linker_utils.specs.declared.riscv64.rewrites.RewriteKind.{RewriteKind}
-use Rattle.linker_riscv64.specs.RiscVFields.{opcode_of}
-use Rattle.linker_utils.specs.RiscVRewrites.{adds_low12}
 use Rattle.linker_utils.specs.declared.riscv64.rewrites.RewriteKind.TheVariants as kinds
 use Rattle.linker_laws.proofs.Applied.{value_is, taken_bits}
-use Rattle.linker_laws.specs.RiscVRewriteLaws.{after_rewrite}
-use Rattle.linker_laws.specs.RiscVMachine.{Action, adds, adds_word, jumps, loads, stores, loads_float, stores_float, action_of, with_action, of_word}
 use Rattle.linker_laws.proofs.RiscVMachine.{wrapped_is, written}
 use Rattle.linker_laws.proofs.Words.{kept_field, put_there, word_below, word_of_bytes}
 

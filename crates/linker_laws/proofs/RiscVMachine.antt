@@ -1,13 +1,11 @@
 -- What RISC-V's instructions are, by their bits, and what they leave.
-use Rattle.linker_laws.proofs.Imports.{◌≡◌, ◌≢◌, ℕ, ◌+◌, ◌-◌, ◌*◌, ◌/◌, ◌%◌, ◌^◌, ◌<◌, ◌≤◌, false, refl, sym, ◌∙◌, ap, arith, List, length, drop, ℤ, pos, negsuc, ◌+ℤ◌, ◌*ℤ◌, unsigned_abs, Option, Some, if◌then◌else◌, ◌==◌, ◌&&◌, option_map, w16, w32, from_le_bytes, ints, field, signed, replaced, consecutive_bits_sum, riscv_form, riscv_places, funct3_of, sum_64, difference_64, UType, IType, CjType, JType, UiType, place_sum, ui_high, ui_low, IsAddress, wrapped, moved}
-use Rattle.linker_riscv64.specs.RiscVFields.{opcode_of, rd_of}
-use Rattle.linker_laws.specs.RiscVRelocationLaws.{without_bit_0}
+use Rattle.linker_laws.proofs.Imports.{CjType, Hart, IType, Instruction, IsAddress, JType, List, Option, Some, Steps, UType, UiType, action_of, ap, arith, auipc, consecutive_bits_sum, difference_64, drop, false, fetched, field, from_le_bytes, if◌then◌else◌, ints, jal, jumps, length, lui, moved, nat_tests, negsuc, of_half, of_word, option_map, place_sum, pos, refl, replaced, riscv_form, riscv_places, rs1_of, rs2_of, signed, sum_64, sums, sym, ui_high, ui_low, unsigned_abs, w16, w32, with_action, with_integer, without_bit_0, wrapped, ℕ, ℤ, ◌%◌, ◌&&◌, ◌*ℤ◌, ◌*◌, ◌+ℤ◌, ◌+◌, ◌-◌, ◌/◌, ◌<◌, ◌==◌, ◌^◌, ◌∙◌, ◌≡◌, ◌≢◌, ◌≤◌}
+use Rattle.linker_riscv64.specs.RiscVFields.{funct3_of, opcode_of, rd_of}
 use Rattle.linker_laws.proofs.RiscV.{bit_cleared}
 use Rattle.linker_laws.proofs.Sums.{lift}
 pub use Rattle.linker_laws.proofs.Sums.{wrapped_is}
-use Rattle.linker_laws.specs.RiscVMachine.{Hart, register, with_integer, Instruction, lui, auipc, jal, sums, jumps, rs1_of, rs2_of, action_of, with_action, add, of_word, of_half, executed, sized, fetched, Steps}
+use Rattle.linker_laws.specs.RiscVMachine.{register, add, executed, sized}
 use Rattle.linker_laws.proofs.Words.{same_low_two}
-use Rattle.std.proofs.lemmas.Bool.Decides.{nat_tests}
 
 -- ---- sums of addresses
 

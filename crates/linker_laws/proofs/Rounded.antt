@@ -1,5 +1,5 @@
 -- Numbers that are rounded before they are taken apart.
-use Rattle.linker_laws.proofs.Imports.{◌≡◌, ℕ, ◌^◌, ◌<◌, arith, sum_64, difference_64, Operands, AreAddresses}
+use Rattle.linker_laws.proofs.Imports.{AreAddresses, Operands, arith, difference_64, sum_64, ℕ, ◌<◌, ◌^◌, ◌≡◌}
 use Rattle.linker_laws.proofs.Instructions.{IsSmall, relative, absolute}
 
 abbrev pub rounded_relative : ℕ → (Operands → ℕ) → (Operands → ℕ) → Operands → ℕ

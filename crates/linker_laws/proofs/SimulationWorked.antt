@@ -1,8 +1,7 @@
 -- The worked program.
-use Rattle.linker_laws.proofs.Imports.{◌≡◌, ◌≢◌, ℕ, ◌+◌, ◌-◌, ◌%◌, ◌^◌, ◌<◌, Bool, true, false, refl, arith, ap, ap₂, sym, ◌∙◌, subst, subst₂, true≢false, lit<, add-zero, pos, unsigned_abs, eqb-true, ne_eqb, cond-false, eq-eqb, if◌then◌else◌, ◌==◌, [], ◌∷◌, Memory, loaded, State, Kind, Kinds, Link, Covered, of_link, AreOf, AreStored, Agree, same, half, code, anything, ends, other, group, put, go_to, with_register}
-use Rattle.linker_laws.specs.SimulationWorked.{IsWorked, link, first_old, first_new, put_byte, put_out, with_byte, case_less_base, first_known, of_byte, new_address}
+use Rattle.linker_laws.proofs.Imports.{Agree, AreOf, AreStored, Bool, Covered, Kind, Kinds, Link, Memory, State, [], add-zero, anything, ap, ap₂, arith, case_less_base, code, cond-false, ends, eq-eqb, eqb-true, false, first_known, first_new, first_old, go_to, group, half, if◌then◌else◌, lit<, loaded, nat_tests, ne_eqb, new_address, of_byte, of_link, other, pos, put, put_byte, put_out, refl, same, subst, subst₂, sym, true, true≢false, unsigned_abs, with_byte, with_register, ℕ, ◌%◌, ◌+◌, ◌-◌, ◌<◌, ◌==◌, ◌^◌, ◌∙◌, ◌∷◌, ◌≡◌, ◌≢◌}
+use Rattle.linker_laws.specs.SimulationWorked.{IsWorked, link}
 use Rattle.linker_laws.proofs.Agreement.{agree_put, agree_put_old, agree_go, another, one, runs, several}
-use Rattle.std.proofs.lemmas.Bool.Decides.{nat_tests}
 
 -- ---- memory of bytes
 

@@ -1,5 +1,5 @@
 -- Sums of addresses modulo 2 ^ 64, of numbers in parts.
-use Rattle.linker_laws.proofs.Imports.{FitsSigned, ◌≡◌, ℕ, suc, ◌+◌, ◌-◌, ◌*◌, ◌/◌, ◌%◌, ◌^◌, ◌<◌, refl, sym, ◌∙◌, ap, subst, arith, inl, inr, ℤ, pos, negsuc, ◌+ℤ◌, ◌*ℤ◌, unsigned_abs, w64, cast_signed, int_rem_euclid, cases_lt, ints, int_rem_euclid_is, to_z_pos, mod_below, pow_pos, div-add-mod', signed, signed_cases, bits_from, page, sum_64, difference_64, rem_rem, cast_negative, IsAddress, wrapped}
+use Rattle.linker_laws.proofs.Imports.{FitsSigned, IsAddress, ap, arith, bits_from, cases_lt, cast_negative, cast_signed, difference_64, div-add-mod', inl, inr, int_rem_euclid, int_rem_euclid_is, ints, mod_below, negsuc, page, pos, pow_pos, refl, rem_rem, signed, signed_cases, subst, suc, sum_64, sym, to_z_pos, unsigned_abs, w64, wrapped, ℕ, ℤ, ◌%◌, ◌*ℤ◌, ◌*◌, ◌+ℤ◌, ◌+◌, ◌-◌, ◌/◌, ◌<◌, ◌^◌, ◌∙◌, ◌≡◌}
 use Rattle.std.proofs.Math.Facts.{sfits_to_z}
 
 -- ---- addresses of sums

@@ -1,5 +1,5 @@
 -- Words and halves of bytes, and what writing an immediate keeps of them.
-use Rattle.linker_laws.proofs.Imports.{◌≡◌, ℕ, ◌+◌, ◌-◌, ◌*◌, ◌^◌, ◌<◌, ◌≤◌, Bool, true, false, refl, ◌∙◌, ap, arith, List, [], ◌∷◌, ◌++◌, length, take, drop, ℤ, pos, int_lt, subst, Some, w16, w32, w64, from_le_bytes, to_le_bytes, bit_at, agree_below, append_assoc, drop_at, from_le_bytes-to_le_bytes_4, field, window_of, is_placed, rewritten, replaces, BitRange, same_fields, InstructionWritten, riscv_form, RiscV, RiscVInstruction, word_of_front, agree_below_at, length-take, from_le_bytes-to_le_bytes_2, AreBytes, word_of}
+use Rattle.linker_laws.proofs.Imports.{AreBytes, BitRange, Bool, InstructionWritten, List, RiscV, RiscVInstruction, Some, [], agree_below, agree_below_at, ap, append_assoc, arith, bit_at, drop, drop_at, false, field, from_le_bytes, from_le_bytes-to_le_bytes_2, from_le_bytes-to_le_bytes_4, int_lt, is_placed, length, length-take, pos, refl, replaces, rewritten, riscv_form, same_fields, subst, take, to_le_bytes, true, w16, w32, w64, window_of, word_of, word_of_front, ℕ, ℤ, ◌*◌, ◌++◌, ◌+◌, ◌-◌, ◌<◌, ◌^◌, ◌∙◌, ◌∷◌, ◌≡◌, ◌≤◌}
 
 -- ---- words
 

@@ -1,10 +1,9 @@
 -- Branches through the GOT, and direct ones.
-use Rattle.linker_laws.proofs.Imports.{◌≡◌, ℕ, ◌-◌, ◌^◌, ◌<◌, ◌≤◌, List, [], ◌∷◌, take, drop, sym, ◌∙◌, ap, arith, subst, Some, w64, cast_unsigned, All-drop, rewritten, number_of_bytes, sum_64, difference_64, x86_64_rewrite, original, byte, field4, x86_64_originals, Operands, IsApplied}
+use Rattle.linker_laws.proofs.Imports.{All-drop, IsApplied, IsBefore, List, Operands, Some, Target, [], address, ap, arith, byte, call, cast_unsigned, decode, difference_64, direct, drop, extended, field4, indirect, jump, load, number_of_bytes, original, rewritten, subst, sum_64, sym, take, w64, x86_64_originals, x86_64_rewrite, ℕ, ◌-◌, ◌<◌, ◌^◌, ◌∙◌, ◌∷◌, ◌≡◌, ◌≤◌}
 use Rattle.linker_elf.specs.declared.x86_64.relocations.X86_64Relocation.TheVariants as names
 use Rattle.linker_utils.specs.declared.x86_64.rewrites.RewriteKind.TheVariants as kinds
 use Rattle.linker_laws.proofs.Sums.{difference_below}
-use Rattle.linker_laws.specs.X86RewriteLaws.{IsBefore, address}
-use Rattle.linker_laws.specs.X86Machine.{State, Target, Instruction, load, extended, call, jump, direct, indirect, decode}
+use Rattle.linker_laws.specs.X86Machine.{State, Instruction}
 use Rattle.linker_laws.proofs.X86Bytes.{begin_with}
 use Rattle.linker_laws.proofs.X86Codes.{pattern_there, call_codes, jump_codes}
 use Rattle.linker_laws.proofs.X86Decoding.{Rewrites, begun, fewer}

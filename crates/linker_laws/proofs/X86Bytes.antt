@@ -1,7 +1,6 @@
 -- What bytes of x86-64's instructions say, before and after a rewrite.
-use Rattle.linker_laws.proofs.Imports.{map, ◌++◌, ◌*◌, ◌≡◌, ℕ, zero, suc, ◌+◌, ◌^◌, ◌<◌, List, [], ◌∷◌, Bool, true, false, not, ◌&&◌, ◌||◌, refl, sym, ◌∙◌, ap, arith, bit_and, eqb, inl, inr, subst, cases_lt, eqb-true, and_parts, false≢true, bit_at, All, All-head, All-tail, begins, byte, rip_operand, rex, rex2, evex_registers}
+use Rattle.linker_laws.proofs.Imports.{All, All-head, All-tail, Bool, List, [], and_parts, ap, arith, begins, bit_and, bit_at, byte, cases_lt, eqb, eqb-true, evex_reg, evex_registers, evex_rm, false, false≢true, inl, inr, is_map_4, is_register, is_relative, is_rex, map, not, refl, reg_of, rex, rex2, rip_operand, rm_of, subst, suc, sym, true, zero, ℕ, ◌&&◌, ◌*◌, ◌++◌, ◌+◌, ◌<◌, ◌^◌, ◌||◌, ◌∙◌, ◌∷◌, ◌≡◌}
 use Rattle.linker_utils.specs.X86Rewrites as x86
-use Rattle.linker_laws.specs.X86Machine.{is_relative, is_register, is_rex, reg_of, rm_of, is_map_4, evex_reg, evex_rm}
 
 -- ---- tests of all bytes
 

@@ -1,7 +1,6 @@
 -- The code before and after each rewrite, from the instruction's first byte.
-use Rattle.linker_laws.proofs.Imports.{◌≡◌, ℕ, ◌+◌, ◌-◌, ◌<◌, ◌≤◌, List, [], ◌∷◌, ◌++◌, length, take, drop, sym, ◌∙◌, ap, arith, Some, true, IsTrue, and_parts, leb-true, or-false, length-drop, Rewrite, rewritten, replaces, absolute, operand, prefixed_operand, evex_operand, puts, Original, is_one_at, is_at, begins}
+use Rattle.linker_laws.proofs.Imports.{IsTrue, JmpIndirectToRelative, List, Original, Rewrite, Some, [], absolute, and_parts, ap, arith, begins, drop, evex_operand, is_at, is_one_at, leb-true, length, length-drop, operand, or-false, prefixed_operand, puts, replaces, rewritten, sym, take, true, ℕ, ◌++◌, ◌+◌, ◌-◌, ◌<◌, ◌∙◌, ◌∷◌, ◌≡◌, ◌≤◌}
 use Rattle.linker_utils.specs.X86Rewrites as x86
-use Rattle.linker_utils.specs.declared.x86_64.rewrites.RewriteKind.TheVariants.{JmpIndirectToRelative}
 use Rattle.linker_laws.proofs.X86Sections.{original_code, rewritten_code}
 
 -- an instruction of one pattern

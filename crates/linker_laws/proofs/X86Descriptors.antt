@@ -1,14 +1,13 @@
 -- The `lea` and the call of a descriptor of x86-64, each by itself.
-use Rattle.linker_laws.proofs.Imports.{◌≡◌, ℕ, ◌+◌, ◌-◌, ◌*◌, ◌%◌, ◌^◌, ◌<◌, List, [], ◌∷◌, take, drop, refl, sym, ◌∙◌, IsTrue, ap₂, ap, arith, subst, pos, Some, IsSomeAnd, eqb, cond, bit_and, true, false, ◌++◌, append_assoc, length-take, length, min, ◌&&◌, ◌||◌, not, w64, bit_at, cast_unsigned, All, eqb-true, and_parts, false≢true, drop_at, All-drop, All-head, All-tail, rewritten, offset_after, operands_after, number_of_bytes, sum_64, difference_64, Operands, X86_64Relocation, IsApplied, x86_64_matches, is_one_at, x86_64_rewrite, begins, byte, rip_operand, with_rex, with_rex2, x86_64_relocation_after, lea_of_descriptor, rex_w, rex2_w, AreAddresses}
+use Rattle.linker_laws.proofs.Imports.{All, All-drop, All-head, All-tail, AreAddresses, IsApplied, IsBefore, IsSomeAnd, IsTrue, List, MOV, Operand, Operands, Some, X86_64Relocation, [], and_parts, ap, append_assoc, ap₂, arith, begins, bit_and, bit_at, byte, cast_unsigned, cond, decode, difference_64, drop, drop_at, eqb, eqb-true, extended, false, false≢true, immediate, is_one_at, is_relative, lea, lea_of_descriptor, length, length-take, load, min, not, number_of_bytes, offset_after, operand_value, operands_after, operate, pos, refl, reg_after_rex, reg_after_rex2, reg_of, register, relative, rewritten, rex2_prefix, rex2_w, rex_prefix, rex_w, rip_operand, subst, sum_64, sym, take, true, w64, with_rex, with_rex2, x86_64_matches, x86_64_relocation_after, x86_64_rewrite, ℕ, ◌%◌, ◌&&◌, ◌*◌, ◌++◌, ◌+◌, ◌-◌, ◌<◌, ◌^◌, ◌||◌, ◌∙◌, ◌∷◌, ◌≡◌}
 use Rattle.linker_elf.specs.declared.x86_64.relocations.X86_64Relocation.TheVariants as names
 use Rattle.linker_utils.specs.X86Rewrites as x86
 use Rattle.linker_utils.specs.declared.x86_64.rewrites.RewriteKind.{RewriteKind}
 use Rattle.linker_utils.specs.declared.x86_64.rewrites.RewriteKind.TheVariants as kinds
 use Rattle.linker_laws.proofs.Relocated.{addresses as are_addresses}
 use Rattle.linker_laws.proofs.Sums.{difference_below, sum_zero}
-use Rattle.linker_laws.specs.X86RewriteLaws.{IsBefore, IsRelocated, thread_offset}
-use Rattle.linker_laws.specs.X86Machine.{State, Operand, load, extended, decode, lea, operate, MOV, register, relative, immediate, operand_value, reg_of, rex_prefix, rex2_prefix, is_relative}
-use Rattle.linker_laws.specs.X86Groups.{reg_after_rex, reg_after_rex2}
+use Rattle.linker_laws.specs.X86RewriteLaws.{IsRelocated, thread_offset}
+use Rattle.linker_laws.specs.X86Machine.{State}
 use Rattle.linker_laws.proofs.X86Bytes.{begin_with, IsRex, IsRex2, rex_byte, rex2_byte, below, implied, same_byte, on_relative, modrm_byte}
 use Rattle.linker_laws.proofs.X86Codes.{pattern_there, rex_lea_codes, rex2_lea_codes, rex_immediate_codes, rex2_immediate_codes}
 use Rattle.linker_laws.proofs.X86Decoding.{begun, from_relative, from_immediate, after_rex_byte, after_rex2_byte}

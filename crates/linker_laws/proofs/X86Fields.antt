@@ -1,11 +1,10 @@
 -- What relocated fields come to, as numbers modulo 2 ^ 64.
-use Rattle.linker_laws.proofs.Imports.{◌≡◌, ℕ, ◌+◌, ◌-◌, ◌*◌, ◌%◌, ◌^◌, refl, sym, ◌∙◌, ap, arith, List, ℤ, pos, ◌+ℤ◌, ◌*ℤ◌, inl, inr, unsigned_abs, Some, true, w64, cast_signed, int_rem_euclid, ints, signed, unsigned, twos_complement, signed_cases, number_of_bytes, reach_of, sum_64, value_of, RelocationKind, RowInfo, Operands, IsApplied, cast_rem, reaches, IsAddress, AreAddresses, symbol_address, entry_and_addend}
+use Rattle.linker_laws.proofs.Imports.{AreAddresses, IsAddress, IsApplied, List, Operands, RelocationKind, RowInfo, Some, ap, arith, cast_rem, cast_signed, entry_and_addend, extended, inl, inr, int_rem_euclid, ints, number_of_bytes, pos, reach_of, reaches, refl, signed, signed_cases, sum_64, sym, symbol_address, true, twos_complement, unsigned, unsigned_abs, value_of, w64, ℕ, ℤ, ◌%◌, ◌*ℤ◌, ◌*◌, ◌+ℤ◌, ◌+◌, ◌-◌, ◌^◌, ◌∙◌, ◌≡◌}
 use Rattle.linker_elf.specs.Rows.{bytes_row, signed_row, unsigned_row}
 use Rattle.linker_elf.specs.declared.elf.RelocationKind.TheVariants as values
 use Rattle.linker_laws.proofs.Fields.{IsValue, field_adds, whole_field_adds}
 use Rattle.linker_laws.proofs.Instructions.{IsNumber, symbol_from_place, symbol_from_tls, symbol_itself, entry_and_addend_from_place}
 use Rattle.linker_laws.proofs.Sums.{lifted_is}
-use Rattle.linker_laws.specs.X86Machine.{extended}
 
 -- 32 bits in two's complement are some number, less 2 ^ 64
 record IsLifted (f : ℕ) : Type 0 where

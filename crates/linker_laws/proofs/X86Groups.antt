@@ -1,13 +1,12 @@
 -- x86-64's groups.
-use Rattle.linker_laws.proofs.Imports.{◌≡◌, ℕ, zero, suc, ◌+◌, ◌-◌, ◌*◌, ◌^◌, ◌<◌, ◌≤◌, refl, sym, ◌∙◌, ap, ap₂, subst, arith, Bool, true, false, List, [], ◌∷◌, take, drop, Some, IsSomeAnd, inl, inr, length, get_or, lit≤, eqb-true, eq-eqb, and_parts, cond-true, cond-false, le-ltb, lt-ltb, ◌==◌, ◌&&◌, nat_lt, if◌then◌else◌, sum_64, difference_64, Operands, X86_64Relocation, rewritten, x86_64_relocation_after, Original, x86_64_rewrite, byte_at, go_to, put, with_register, Memory, State, Program, Kind, Kinds, Agree, AreOf, AreStored, Group, half, of_link, same}
+use Rattle.linker_laws.proofs.Imports.{Agree, AreOf, AreStored, Bool, CallOfDescriptor, Decoded, Group, IsApart, IsJump, IsKnownAfter, IsLea, IsSomeAnd, KeepsRegisters, Kind, Kinds, LeaOfDescriptor, LeaToEntry, LeaToOffset, List, LoadsNumber, MOV, MakesOffset, Memory, Operands, Original, Program, Reads, SkipTlsDescCall, Some, State, TlsDescToInitialExec, TlsDescToLocalExec, X86_64Relocation, [], and_parts, ap, ap₂, arith, bit_of, byte_at, bytes_at, call, cond-false, cond-true, decode, difference_64, direct, does, drop, eq-eqb, eqb-true, execute, false, flag, get_or, go_to, half, if◌then◌else◌, indirect, inl, inr, is_flag, jump, le-ltb, lea, length, lit≤, load, lt-ltb, nat_lt, of_link, operate, put, refl, reg_after_rex, reg_after_rex2, register, rewritten, same, store_8, subst, suc, sum_64, sym, take, through, true, with_register, x86_64_relocation_after, x86_64_rewrite, zero, ℕ, ◌&&◌, ◌*◌, ◌+◌, ◌-◌, ◌<◌, ◌==◌, ◌^◌, ◌∙◌, ◌∷◌, ◌≡◌, ◌≤◌}
 use Rattle.linker_laws.specs.Machine as shared
-use Rattle.linker_laws.specs.X86Groups.{Code, IsApart, IsCall, IsJump, IsKnownAfter, KeepsRegisters, Reads, Stands, bytes_at, called, does, executed, flag, is_flag, left, link, machine, seen, CallOfDescriptor, IsLea, LeaOfDescriptor, LeaToEntry, LeaToOffset, LoadsNumber, MakesOffset, reg_after_rex, reg_after_rex2}
+use Rattle.linker_laws.specs.X86Groups.{Code, IsCall, Stands, called, executed, left, link, machine, seen}
 use Rattle.linker_laws.specs.X86Machine as x86_machine
-use Rattle.linker_laws.specs.X86Machine.{MOV, lea, load, nop, operate, register, through, Decoded, bit_of, call, decode, direct, execute, indirect, jump, store_8}
+use Rattle.linker_laws.specs.X86Machine.{nop}
 use Rattle.linker_laws.specs.X86RewriteLaws.{thread_offset}
 use Rattle.linker_elf.specs.declared.x86_64.relocations.X86_64Relocation.TheVariants as names
 use Rattle.linker_utils.specs.declared.x86_64.rewrites.RewriteKind.{RewriteKind}
-use Rattle.linker_utils.specs.declared.x86_64.rewrites.RewriteKind.TheVariants.{SkipTlsDescCall, TlsDescToInitialExec, TlsDescToLocalExec}
 use Rattle.linker_laws.proofs.Agreement.{agree_go, agree_open, agree_put, agree_put_old, both_true, group_of}
 use Rattle.linker_laws.proofs.CoveredRuns.{holds_of, once, run_first}
 use Rattle.linker_laws.proofs.X86Branches.{Leads}

@@ -1,11 +1,8 @@
 -- The worked program of x86-64.
-use Rattle.linker_laws.proofs.Imports.{◌≡◌, ℕ, ◌+◌, ◌-◌, ◌*◌, ◌^◌, ◌<◌, Bool, true, false, refl, sym, ◌∙◌, ◌≤◌, ap, ap₂, subst, arith, List, [], ◌∷◌, ◌++◌, take, drop, ℤ, Some, lit<, lit≤, pos, negsuc, inl, inr, ltb-true, ltb-false, ◌&&◌, ◌||◌, ◌==◌, IsSomeAnd, nat_le, nat_lt, if◌then◌else◌, cond-false, cond-true, eqb-true, le-leb, lt-ltb, IsWritten, RowInfo, difference_64, value_of, Operands, neg_ℤ, HoldsBits, IsEncoded, IsMultiple, AreAddresses, IsKept, put, with_register, Agree, AreOf, Group, Kinds, State, anything, ends, group, half, of_link, same}
-use Rattle.std.specs.Option.{unwrap_or}
+use Rattle.linker_laws.proofs.Imports.{Agree, AreAddresses, AreOf, Bool, Group, HoldsBits, IsBefore, IsEncoded, IsKept, IsKnownAfter, IsMultiple, IsRelocatedBy, IsSomeAnd, IsWritten, KeepsRegisters, Kinds, List, Operands, RowInfo, Some, State, [], anything, ap, ap₂, arith, bytes_at, cond-false, cond-true, difference_64, does, drop, ends, eqb-true, false, group, half, if◌then◌else◌, inl, inr, le-leb, lit<, lit≤, lt-ltb, ltb-false, ltb-true, nat_le, nat_lt, neg_ℤ, negsuc, of_byte, of_link, pos, put, refl, same, subst, sym, take, true, unwrap_or, value_of, with_register, ℕ, ℤ, ◌&&◌, ◌*◌, ◌++◌, ◌+◌, ◌-◌, ◌<◌, ◌==◌, ◌^◌, ◌||◌, ◌∙◌, ◌∷◌, ◌≡◌, ◌≤◌}
 use Rattle.linker_laws.proofs.Relocated.{accepted_by, all_small, are_bytes, is_accepted, small}
-use Rattle.linker_laws.specs.X86Groups.{Groups, IsKnownAfter, KeepsRegisters, bytes_at, called, does, link, machine}
+use Rattle.linker_laws.specs.X86Groups.{Groups, called, link, machine}
 use Rattle.linker_laws.specs.X86Machine as x86_machine
-use Rattle.linker_laws.specs.X86RewriteLaws.{IsBefore, IsRelocatedBy}
-use Rattle.linker_laws.specs.SimulationWorked.{of_byte}
 use Rattle.linker_laws.specs.X86GroupsWorked.{IsWorked, bytes, code, entries, is_entry, known, new, of_function, starting}
 
 -- ---- operands and bytes

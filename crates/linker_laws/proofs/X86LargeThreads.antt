@@ -1,5 +1,5 @@
 -- TLS sequences of the large code model.
-use Rattle.linker_laws.proofs.Imports.{◌≡◌, ℕ, ◌+◌, ◌-◌, ◌^◌, ◌<◌, ◌≤◌, List, [], ◌∷◌, ◌++◌, take, drop, sym, ◌∙◌, ap, arith, pos, false, inl, inr, ◌||◌, IsTrue, ℤ, w64, cast_unsigned, All, or_cases, or-false, rewritten, x86_64_rewrite, puts, is_at, is_one_at, lea_rdi, original, field4, Original, drop-drop, low_bytes, large, large_call}
+use Rattle.linker_laws.proofs.Imports.{All, IsTrue, List, Original, [], ap, arith, cast_unsigned, drop, drop-drop, false, field4, inl, inr, is_at, is_one_at, large, large_call, lea_rdi, low_bytes, or-false, or_cases, original, pos, puts, rewritten, sym, take, w64, x86_64_rewrite, ℕ, ℤ, ◌++◌, ◌+◌, ◌-◌, ◌<◌, ◌^◌, ◌||◌, ◌∙◌, ◌∷◌, ◌≡◌, ◌≤◌}
 use Rattle.linker_utils.specs.declared.x86_64.rewrites.RewriteKind.TheVariants as kinds
 use Rattle.linker_laws.proofs.X86Codes.{inside}
 use Rattle.linker_laws.proofs.X86Sections.{original_code, rewritten_code, code_after}

@@ -1,10 +1,9 @@
 -- Loads of addresses from the GOT, and `lea`.
-use Rattle.linker_laws.proofs.Imports.{◌≡◌, ℕ, ◌+◌, ◌-◌, ◌^◌, ◌<◌, List, [], ◌∷◌, take, drop, refl, sym, ◌∙◌, ap, ap₂, arith, Some, subst, inl, inr, eqb, ℤ, if◌then◌else◌, w64, cast_unsigned, bit_at, All-drop, cases_Bool, cond-true, cond-false, number_of_bytes, sum_64, difference_64, operands_after, x86_64_rewrite, rewritten, legacy, original, rip_operand, with_rex, rex, with_rex2, rex2, Operands, IsApplied, AreAddresses}
+use Rattle.linker_laws.proofs.Imports.{All-drop, AreAddresses, IsApplied, IsBefore, List, MOV, Operands, Some, [], address, ap, ap₂, arith, bit_at, cases_Bool, cast_unsigned, cond-false, cond-true, decode, difference_64, drop, eqb, extended, if◌then◌else◌, inl, inr, lea, legacy, load, no_prefix, number_of_bytes, operands_after, operate, original, refl, reg_of, register, relative, rewritten, rex, rex2, rex2_prefix, rex_prefix, rip_operand, subst, sum_64, sym, take, w64, with_rex, with_rex2, x86_64_rewrite, ℕ, ℤ, ◌+◌, ◌-◌, ◌<◌, ◌^◌, ◌∙◌, ◌∷◌, ◌≡◌}
 use Rattle.linker_laws.proofs.Relocated.{addresses as are_addresses}
 use Rattle.linker_elf.specs.declared.x86_64.relocations.X86_64Relocation.TheVariants as names
 use Rattle.linker_utils.specs.declared.x86_64.rewrites.RewriteKind.TheVariants as kinds
-use Rattle.linker_laws.specs.X86RewriteLaws.{IsBefore, address}
-use Rattle.linker_laws.specs.X86Machine.{State, load, extended, reg_of, rex_prefix, no_prefix, MOV, rex2_prefix, operate, register, relative, lea, decode}
+use Rattle.linker_laws.specs.X86Machine.{State}
 use Rattle.linker_laws.proofs.X86Bytes.{on_relative, after_rex, after_rex2}
 use Rattle.linker_laws.proofs.X86Codes.{pattern_there, lea_codes, rex_lea_codes, rex2_lea_codes}
 use Rattle.linker_laws.proofs.X86Decoding.{Replaced, Replaces, begun, from_relative, after_rex_byte, after_rex2_byte}

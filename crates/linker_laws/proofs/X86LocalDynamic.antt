@@ -1,9 +1,7 @@
 -- Local-dynamic TLS: the argument of the call, and offsets in a module's block.
-use Rattle.linker_laws.proofs.Imports.{◌≡◌, ℕ, ◌^◌, ◌<◌, List, [], ◌∷◌, ◌∙◌, ap, arith, w64, cast_unsigned, IsApplied, number_of_bytes, sum_64, difference_64, Operands, AreAddresses, symbol_address}
+use Rattle.linker_laws.proofs.Imports.{AreAddresses, BlockOffsets, IsApplied, IsBefore, List, Operands, [], ap, arith, cast_unsigned, difference_64, extended, number_of_bytes, sum_64, symbol_address, w64, ℕ, ◌<◌, ◌^◌, ◌∙◌, ◌∷◌, ◌≡◌}
 use Rattle.linker_laws.proofs.Relocated.{addresses as are_addresses}
-use Rattle.linker_laws.specs.X86Groups.{BlockOffsets}
-use Rattle.linker_laws.specs.X86Machine.{State, extended}
-use Rattle.linker_laws.specs.X86RewriteLaws.{IsBefore}
+use Rattle.linker_laws.specs.X86Machine.{State}
 use Rattle.linker_laws.proofs.X86Fields.{tls_module_field, tls_module_row, block_field, thread_field, long_block_field, long_thread_field}
 use Rattle.linker_laws.proofs.X86Loads.{from_next}
 

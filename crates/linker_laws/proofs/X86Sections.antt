@@ -1,6 +1,5 @@
 -- The code in a section before and after a rewrite.
-use Rattle.linker_laws.proofs.Imports.{◌≡◌, ℕ, ◌+◌, ◌-◌, ◌≤◌, List, ◌++◌, length, take, drop, sym, ◌∙◌, ap, arith, append_assoc, Some, take-append-drop, length-take-le, Rewrite, rewritten}
-use Rattle.std.proofs.Math.Seq.{take-append-add, drop-append-add}
+use Rattle.linker_laws.proofs.Imports.{List, Rewrite, Some, ap, append_assoc, arith, drop, drop-append-add, length, length-take-le, rewritten, sym, take, take-append-add, take-append-drop, ℕ, ◌++◌, ◌+◌, ◌-◌, ◌∙◌, ◌≡◌, ◌≤◌}
 
 -- what follows the first bytes, of which the rest is replaced from further bytes on
 code_following : (front d rest : List ℕ) (n k : ℕ)

@@ -1,8 +1,8 @@
 -- x86-64's groups of general- and local-dynamic TLS.
-use Rattle.linker_laws.proofs.Imports.{◌≡◌, ℕ, zero, suc, ◌+◌, ◌-◌, ◌%◌, ◌^◌, ◌<◌, ◌≤◌, refl, sym, ◌∙◌, ap, ap₂, subst, arith, List, [], ◌∷◌, ◌++◌, take, drop, Some, inl, inr, length, get_or, lit≤, pos, w64, cast_unsigned, ◌==◌, ◌⊎◌, cases_Bool, cond-false, eq-eqb, or-false, rewritten, IsApplied, number_of_bytes, sum_64, difference_64, Operands, byte, field4, is_at, lea_rdi, puts, x86_64_rewrite, go_to, put, with_register, AreAddresses, State, Kind, Kinds, Agree, AreOf, Group, Link, anything, AreStored, half, of_link, run, same, original as original_at}
-use Rattle.linker_laws.specs.X86Groups.{Code, GeneralDynamic, HasPointer, LocalDynamic, ModuleCall, Returns, Stands, ToInitialExec, ToLocalExec, bytes_at, HasThreadPointer, ToLocalExecLarge, is_flag, left, link, machine, seen}
-use Rattle.linker_laws.specs.X86Machine.{ADD, decode, execute, extended, lea, lea_from, load, load_thread, nop, operate, register, relative}
-use Rattle.linker_laws.specs.X86RewriteLaws.{IsBefore, IsRelocatedBy, thread_offset}
+use Rattle.linker_laws.proofs.Imports.{ADD, Agree, AreAddresses, AreOf, AreStored, GeneralDynamic, Group, HasPointer, HasThreadPointer, IsApplied, IsBefore, IsRelocatedBy, Kind, Kinds, Link, List, LocalDynamic, ModuleCall, Operands, Some, State, ToInitialExec, ToLocalExec, ToLocalExecLarge, [], anything, ap, ap₂, arith, byte, bytes_at, cases_Bool, cast_unsigned, cond-false, decode, difference_64, drop, eq-eqb, execute, extended, field4, get_or, go_to, half, inl, inr, is_at, is_flag, lea, lea_from, lea_rdi, length, lit≤, load, load_thread, number_of_bytes, of_link, operate, or-false, original as original_at, pos, put, puts, refl, register, relative, rewritten, run, same, subst, suc, sum_64, sym, take, w64, with_register, x86_64_rewrite, zero, ℕ, ◌%◌, ◌++◌, ◌+◌, ◌-◌, ◌<◌, ◌==◌, ◌^◌, ◌∙◌, ◌∷◌, ◌≡◌, ◌≤◌, ◌⊎◌}
+use Rattle.linker_laws.specs.X86Groups.{Code, Returns, Stands, left, link, machine, seen}
+use Rattle.linker_laws.specs.X86Machine.{nop}
+use Rattle.linker_laws.specs.X86RewriteLaws.{thread_offset}
 use Rattle.linker_laws.proofs.Agreement.{agree_open, agree_put, both_true, group_of, last_counts}
 use Rattle.linker_laws.proofs.CoveredRuns.{holds_of, run_first, run_on}
 use Rattle.linker_laws.proofs.Relocated.{addresses as are_addresses}

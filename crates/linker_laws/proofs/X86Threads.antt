@@ -1,8 +1,7 @@
 -- General-dynamic and local-exec TLS.
-use Rattle.linker_laws.proofs.Imports.{◌≡◌, ℕ, ◌+◌, ◌-◌, ◌%◌, ◌^◌, ◌<◌, ◌≤◌, List, [], ◌∷◌, ◌++◌, map, take, drop, sym, ◌∙◌, ap, arith, pos, true, false, IsTrue, inl, inr, leb, ◌&&◌, ◌||◌, ℤ, Some, IsApplied, w64, cast_unsigned, All, and_parts, leb-true, or_cases, or-false, All-drop, rewritten, number_of_bytes, sum_64, difference_64, puts, begins, byte, is_at, is_one_at, original, field4, lea_rdi, Original, Operands, general_dynamic}
-use Rattle.linker_laws.specs.X86RewriteLaws.{IsBefore, thread_offset}
-use Rattle.linker_laws.specs.X86Groups.{HasThreadPointer}
-use Rattle.linker_laws.specs.X86Machine.{State, load, extended}
+use Rattle.linker_laws.proofs.Imports.{All, All-drop, HasThreadPointer, IsApplied, IsBefore, IsTrue, List, Operands, Original, Some, [], and_parts, ap, arith, begins, byte, cast_unsigned, difference_64, drop, extended, false, field4, general_dynamic, inl, inr, is_at, is_one_at, lea_rdi, leb, leb-true, load, map, number_of_bytes, or-false, or_cases, original, pos, puts, rewritten, sum_64, sym, take, true, w64, ℕ, ℤ, ◌%◌, ◌&&◌, ◌++◌, ◌+◌, ◌-◌, ◌<◌, ◌^◌, ◌||◌, ◌∙◌, ◌∷◌, ◌≡◌, ◌≤◌}
+use Rattle.linker_laws.specs.X86RewriteLaws.{thread_offset}
+use Rattle.linker_laws.specs.X86Machine.{State}
 use Rattle.linker_laws.proofs.X86Bytes.{begin_with}
 use Rattle.linker_laws.proofs.X86Codes.{inside}
 use Rattle.linker_laws.proofs.X86Fields.{tls_pair_field, tls_pair_row, thread_field, thread_row}

@@ -1,6 +1,6 @@
 -- Operations whose operands are the same numbers.
-use Rattle.linker_laws.proofs.Imports.{◌≡◌, ℕ, ◌+◌, ◌*◌, ◌/◌, ◌%◌, ◌^◌, ◌<◌, sym, ◌∙◌, ap, arith, inl, inr, ◌⊎◌, subst, Bool, if◌then◌else◌, and_comm, sum_64}
-use Rattle.linker_laws.specs.X86Machine.{State, Operation, MOV, TEST, register, relative, immediate, operate, execute, perform, operand_value, load, extended, logical, lea, with_register, operate_into, result}
+use Rattle.linker_laws.proofs.Imports.{Bool, MOV, Operation, TEST, and_comm, ap, arith, execute, extended, if◌then◌else◌, immediate, inl, inr, lea, load, logical, operand_value, operate, operate_into, perform, register, relative, result, subst, sum_64, sym, ℕ, ◌%◌, ◌*◌, ◌+◌, ◌/◌, ◌<◌, ◌^◌, ◌∙◌, ◌≡◌, ◌⊎◌}
+use Rattle.linker_laws.specs.X86Machine.{State, with_register}
 
 abbrev execute_lea : ℕ → ℕ → ℕ → ℕ → State → State
 execute_lea n r address next s =

@@ -1,7 +1,9 @@
 -- AArch64: rewritten instructions are groups of the simulation. No code moves.
 use Rattle.std.specs.Prelude.{◌≡◌, ◌≢◌, ℕ, Bool, true, ◌*◌, ◌/◌, ◌^◌, ◌<◌, ◌==◌, ◌&&◌, List, Option}
 use Rattle.std.specs.Prelude.{Some, None, drop}
-use Rattle.linker_laws.specs.Imports.{page, sum_64, AArch64Relocation, Operands, rn_of}
+use Rattle.linker_laws.specs.Imports.{AArch64Relocation, Operands, page, sum_64}
+use Rattle.linker_utils.specs.AArch64Rewrites.{rn_of, AreOfDescriptor, IsAdd64, IsAdrp}
+use Rattle.linker_utils.specs.AArch64Rewrites.{IsIntoOwnSource, IsLdr64, rd_of}
 use Rattle.linker_elf.specs.declared.aarch64.relocations.AArch64Relocation.TheVariants as names
 use Rattle.linker_laws.specs.AArch64Machine as aarch64_machine
 use Rattle.linker_laws.specs.AArch64Machine.{is_b, is_bl, load_64, step}
@@ -12,8 +14,6 @@ use Rattle.linker_laws.specs.Machine.{loaded}
 use Rattle.linker_laws.specs.Schemes.{AreAddresses, plt_address, symbol_address}
 use Rattle.linker_laws.specs.Simulation.{State, Program, Machine, Link, Kinds, Agree, Group}
 use Rattle.linker_laws.specs.Simulation.{anything, half, of_link, run, same}
-use Rattle.linker_utils.specs.AArch64Rewrites.{AreOfDescriptor, IsAdd64, IsAdrp, IsIntoOwnSource}
-use Rattle.linker_utils.specs.AArch64Rewrites.{IsLdr64, rd_of}
 use Rattle.linker_utils.specs.declared.aarch64.rewrites.RewriteKind.TheVariants as kinds
 
 -- ---- the machine

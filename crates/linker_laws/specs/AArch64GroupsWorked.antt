@@ -1,7 +1,7 @@
 -- Programs of AArch64 with groups, of which every premise holds, and both runs computed to the end.
 use Rattle.std.specs.Prelude.{◌≡◌, ℕ, ◌+◌, ◌-◌, ◌/◌, ◌%◌, ◌^◌, ◌==◌, Bool, nat_le, ◌&&◌}
 use Rattle.std.specs.Prelude.{if◌then◌else◌, List, [], ◌∷◌, Some, None}
-use Rattle.linker_elf.specs.Value.{sum_64}
+use Rattle.linker_laws.specs.Imports.{sum_64}
 use Rattle.linker_laws.specs.AArch64Groups.{Code, link}
 use Rattle.linker_laws.specs.Changes.{go_to, put}
 use Rattle.linker_laws.specs.Simulation.{State, Program, Kinds, same, anything}

@@ -2,11 +2,11 @@
 -- A-profile, DDI 0487, C6.2). None of them changes memory, the thread pointer or the flags.
 use Rattle.std.specs.Prelude.{ℕ, ℤ, pos, ◌+ℤ◌, ◌*ℤ◌, ◌/◌, ◌^◌, ◌==◌, ◌&&◌, if◌then◌else◌, Bool, ◌∷◌}
 use Rattle.std.specs.Prelude.{[], List, Option, Some, None, unsigned_abs}
-use Rattle.std.specs.Int.{w64, bit_at, from_le_bytes, int_rem_euclid}
-use Rattle.linker_laws.specs.Imports.{field, aarch64_form, shift_of, rn_of, page, sum_64, Adr, LdSt}
-use Rattle.linker_laws.specs.Imports.{Add, Movnz, JumpCall}
-use Rattle.linker_utils.specs.AArch64Rewrites.{rd_of, nop, is_ldr64}
-use Rattle.linker_elf.specs.AArch64.{opcode_of, movn_opcode, movz_opcode, movk_opcode}
+use Rattle.linker_laws.specs.Imports.{Add, Adr, JumpCall, LdSt, Movnz, bit_at, field, from_le_bytes}
+use Rattle.linker_laws.specs.Imports.{int_rem_euclid, page, sum_64, w64}
+use Rattle.linker_elf.specs.AArch64.{aarch64_form, shift_of, opcode_of, movn_opcode, movz_opcode}
+use Rattle.linker_elf.specs.AArch64.{movk_opcode}
+use Rattle.linker_utils.specs.AArch64Rewrites.{rn_of, rd_of, nop, is_ldr64}
 use Rattle.linker_laws.specs.AArch64RelocationLaws.{movk}
 
 -- ---- the state

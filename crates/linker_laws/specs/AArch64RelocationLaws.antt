@@ -2,13 +2,11 @@
 -- Arm Architecture Reference Manual for A-profile, DDI 0487, C6.2).
 use Rattle.std.specs.Prelude.{ℕ, List, [], ◌∷◌, map, length, ℤ, pos, ◌+◌, ◌*◌, ◌+ℤ◌, ◌-ℤ◌, ◌*ℤ◌}
 use Rattle.std.specs.Prelude.{◌^◌, ◌==◌, ◌&&◌, not}
-use Rattle.std.specs.Int.{bit_at, int_rem_euclid}
-use Rattle.linker_laws.specs.Imports.{aarch64_form, shift_of, aarch64_row, page, Adr, Add, LdSt}
-use Rattle.linker_laws.specs.Imports.{JumpCall, Movnz, Signed, Operands, AArch64Relocation, is_movk}
+use Rattle.linker_laws.specs.Imports.{AArch64Relocation, Add, Adr, Bcond, JumpCall, LdSt, Ldr}
+use Rattle.linker_laws.specs.Imports.{LdrRegister, Movkz, Movnz, Operands, Signed, TstBr}
+use Rattle.linker_laws.specs.Imports.{aarch64_row, bit_at, int_rem_euclid, is_movk, page}
+use Rattle.linker_elf.specs.AArch64.{aarch64_form, shift_of}
 use Rattle.linker_elf.specs.declared.aarch64.forms.AArch64Instruction.{AArch64Instruction}
-use Rattle.linker_elf.specs.declared.aarch64.forms.AArch64Instruction.TheVariants.{Ldr, LdrRegister}
-use Rattle.linker_elf.specs.declared.aarch64.forms.AArch64Instruction.TheVariants.{TstBr, Bcond}
-use Rattle.linker_elf.specs.declared.aarch64.forms.AArch64Instruction.TheVariants.{Movkz}
 use Rattle.linker_elf.specs.declared.aarch64.relocations.AArch64Relocation.TheVariants as names
 use Rattle.linker_laws.specs.Schemes.{entry_and_addend, HoldsDistance, Step, Computed, here}
 use Rattle.linker_laws.specs.Schemes.{anywhere, moved_on, of_bits, of_words, Law, Adds}

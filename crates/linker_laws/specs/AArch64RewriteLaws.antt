@@ -1,7 +1,8 @@
 -- AArch64: bytes of instructions, as rewrites and relocations leave them.
 use Rattle.std.specs.Prelude.{◌≡◌, ℕ, List, drop, None, ⊤, ◌-◌, Option, Some, IsSomeAnd}
-use Rattle.linker_laws.specs.Imports.{Rewrite, rewritten, aarch64_row, AArch64Relocation, Operands}
-use Rattle.linker_laws.specs.Imports.{IsApplied, IsRewritable, aarch64_rewrite, AreOfOneRegister}
+use Rattle.linker_laws.specs.Imports.{AArch64Relocation, IsApplied, IsRewritable, Operands, Rewrite}
+use Rattle.linker_laws.specs.Imports.{aarch64_row, rewritten}
+use Rattle.linker_utils.specs.AArch64Rewrites.{aarch64_rewrite, AreOfOneRegister}
 use Rattle.linker_utils.specs.declared.aarch64.rewrites.RewriteKind.{RewriteKind}
 use Rattle.linker_laws.specs.Schemes.{AreAddresses}
 pub use Rattle.linker_laws.specs.Machine.{BeginsRewritten, word_of}

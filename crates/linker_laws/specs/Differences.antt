@@ -1,8 +1,8 @@
 -- The difference of two labels, which two relocations of one place leave there (RISC-V ELF psABI,
 -- "Relocation Types", ADD, SUB and SET; LoongArch ELF psABI, "Relocation Types", ADD and SUB).
 use Rattle.std.specs.Prelude.{◌≡◌, ℕ, ◌*◌, ◌%◌, ◌^◌, List, Option, IsSomeAnd}
-use Rattle.linker_laws.specs.Imports.{field, number_of_bytes, sum_64, difference_64}
-use Rattle.linker_laws.specs.Imports.{RowInfo, Operands, IsApplied}
+use Rattle.linker_laws.specs.Imports.{IsApplied, Operands, RowInfo, difference_64, field}
+use Rattle.linker_laws.specs.Imports.{number_of_bytes, sum_64}
 use Rattle.linker_laws.specs.Schemes.{symbol_address}
 
 -- S + A of the first, less that of the second

@@ -2,10 +2,14 @@
 -- old's and what is new's stand at places of their own.
 use Rattle.std.specs.Prelude.{◌≡◌, ℕ, ◌+◌, ◌-◌, ◌/◌, ◌^◌, ◌<◌, ◌==◌, ◌&&◌, nat_lt, if◌then◌else◌}
 use Rattle.std.specs.Prelude.{List, drop, Option, Some, None, IsTrue, option_map, ⊤}
-use Rattle.std.specs.Option.{unwrap_or}
+use Rattle.linker_laws.specs.Imports.{LoongArch64Relocation, Operands, RewriteKind, RowIsWithin}
+use Rattle.linker_laws.specs.Imports.{loongarch_row, sum_64, unwrap_or}
 use Rattle.linker_base.specs.declared.rewrite.DeletedBytes.{DeletedBytes}
-use Rattle.linker_laws.specs.Imports.{RowIsWithin, loongarch_row, sum_64, Operands}
-use Rattle.linker_laws.specs.Imports.{LoongArch64Relocation, adds_low12, rj_of, RewriteKind}
+use Rattle.linker_utils.specs.LoongArchRewrites.{adds_low12, rj_of, IsAddTp, IsAddi, IsCall}
+use Rattle.linker_utils.specs.LoongArchRewrites.{IsCallOfDescriptor, IsLd, IsLoadOfDescriptor}
+use Rattle.linker_utils.specs.LoongArchRewrites.{IsLowOfDescriptor, IsLu12i, IsPcalau12i}
+use Rattle.linker_utils.specs.LoongArchRewrites.{loongarch_deleted, rd_of, signed_12, tp}
+use Rattle.linker_utils.specs.LoongArchRewrites.{unsigned_12}
 use Rattle.linker_elf.specs.declared.loongarch64.relocations.LoongArch64Relocation.TheVariants as names
 use Rattle.linker_laws.specs.Changes.{ChangesOpen, OthersAgree, go_to, put, with_register}
 use Rattle.linker_laws.specs.LoongArchMachine as loongarch_machine
@@ -18,10 +22,6 @@ use Rattle.linker_laws.specs.RiscVGroups.{of_place}
 use Rattle.linker_laws.specs.Schemes.{AreAddresses, entry_and_addend, plt_address, symbol_address}
 use Rattle.linker_laws.specs.Simulation.{State, Program, Machine, Link, Kind, Kinds, Agree, AreOf}
 use Rattle.linker_laws.specs.Simulation.{Group, anything, half, of_link, run, same}
-use Rattle.linker_utils.specs.LoongArchRewrites.{IsAddTp, IsAddi, IsCall, IsCallOfDescriptor, IsLd}
-use Rattle.linker_utils.specs.LoongArchRewrites.{IsLoadOfDescriptor, IsLowOfDescriptor, IsLu12i}
-use Rattle.linker_utils.specs.LoongArchRewrites.{IsPcalau12i, loongarch_deleted, rd_of, signed_12}
-use Rattle.linker_utils.specs.LoongArchRewrites.{tp, unsigned_12}
 use Rattle.linker_utils.specs.declared.loongarch64.rewrites.RewriteKind.TheVariants as kinds
 
 -- ---- the machine

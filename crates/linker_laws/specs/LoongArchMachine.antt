@@ -3,10 +3,9 @@
 use Rattle.std.specs.Prelude.{ℕ, pos, ◌+ℤ◌, ◌*ℤ◌, ◌*◌, ◌/◌, ◌%◌, ◌^◌, ◌==◌, List, [], ◌∷◌, Option}
 use Rattle.std.specs.Prelude.{Some, None, IsSomeAnd, ◌≡◌, Bool, false, bit_or, bit_and}
 use Rattle.std.specs.Prelude.{if◌then◌else◌, ◌-◌, slice_get}
-use Rattle.std.specs.Option.{unwrap_or}
-use Rattle.linker_laws.specs.Imports.{field, signed, loongarch_form, pcalau12i, adds_low12, rj_of}
-use Rattle.linker_laws.specs.Imports.{sum_64, Shift5, Branch26}
-use Rattle.linker_utils.specs.LoongArchRewrites.{rd_of}
+use Rattle.linker_laws.specs.Imports.{Branch26, Shift5, field, loongarch_form, pcalau12i, signed}
+use Rattle.linker_laws.specs.Imports.{sum_64, unwrap_or}
+use Rattle.linker_utils.specs.LoongArchRewrites.{adds_low12, rj_of, rd_of}
 use Rattle.linker_laws.specs.Machine.{Memory, wrapped, extended, loaded, stored}
 
 -- ---- the state

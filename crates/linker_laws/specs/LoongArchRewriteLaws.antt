@@ -1,8 +1,8 @@
 -- LoongArch: bytes of instructions, as rewrites and relocations leave them, and runs that are
 -- alike.
 use Rattle.std.specs.Prelude.{◌≡◌, ◌≢◌, ℕ, Bool, false, ◌==◌, ◌||◌, List, [], ◌∷◌, IsSomeAnd}
-use Rattle.linker_laws.specs.Imports.{IsApplied, RowIsWithin, page, loongarch_row, sum_64, Operands}
-use Rattle.linker_laws.specs.Imports.{LoongArch64Relocation, RewriteKind}
+use Rattle.linker_laws.specs.Imports.{IsApplied, LoongArch64Relocation, Operands, RewriteKind}
+use Rattle.linker_laws.specs.Imports.{RowIsWithin, loongarch_row, page, sum_64}
 use Rattle.linker_laws.specs.LoongArchMachine.{State, read, AreAlikeBut}
 use Rattle.linker_laws.specs.Schemes.{entry_and_addend}
 pub use Rattle.linker_laws.specs.Machine.{BeginsRewritten, word_of}

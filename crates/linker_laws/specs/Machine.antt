@@ -2,9 +2,9 @@
 -- relocation was applied.
 use Rattle.std.specs.Prelude.{ℕ, zero, suc, ◌+◌, ◌*◌, ◌^◌, ◌<◌, ℤ, pos, ◌+ℤ◌, nat_lt, List, length}
 use Rattle.std.specs.Prelude.{◌≡◌, take, Option, IsSomeAnd, All, if◌then◌else◌, unsigned_abs}
-use Rattle.std.specs.Int.{int_rem_euclid, w32, w64, cast_unsigned, from_le_bytes}
-use Rattle.linker_laws.specs.Imports.{field, signed, sum_64, difference_64, RowInfo}
-use Rattle.linker_laws.specs.Imports.{Operands, IsApplied, Rewrite}
+use Rattle.linker_laws.specs.Imports.{IsApplied, Operands, Rewrite, RowInfo, cast_unsigned}
+use Rattle.linker_laws.specs.Imports.{difference_64, field, from_le_bytes, int_rem_euclid, signed}
+use Rattle.linker_laws.specs.Imports.{sum_64, w32, w64}
 
 -- ---- numbers
 

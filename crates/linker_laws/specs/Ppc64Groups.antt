@@ -2,9 +2,14 @@
 -- before it. No code moves.
 use Rattle.std.specs.Prelude.{◌≡◌, ℕ, zero, suc, ◌+◌, ◌-◌, ◌*◌, ◌^◌, ◌<◌, ◌==◌, ◌&&◌, nat_lt, Bool}
 use Rattle.std.specs.Prelude.{if◌then◌else◌, List, drop, Option, Some, None, IsTrue, ⊤, true}
-use Rattle.linker_laws.specs.Imports.{ppc64_form, sum_64, Operands, Ppc64Form, Branch24, D}
-use Rattle.linker_laws.specs.Imports.{Ds, Ppc64Relocation, access_of, opcode_of, ppc64_rewrite}
-use Rattle.linker_laws.specs.Imports.{ra_of, rt_of}
+use Rattle.linker_laws.specs.Imports.{Branch24, D, Ds, Operands, Ppc64Form, Ppc64Relocation}
+use Rattle.linker_laws.specs.Imports.{ppc64_form, sum_64}
+use Rattle.linker_utils.specs.Ppc64Rewrites.{access_of, opcode_of, ppc64_rewrite, ra_of, rt_of}
+use Rattle.linker_utils.specs.Ppc64Rewrites.{is_add_of_thread, is_addi, is_addi_of_toc}
+use Rattle.linker_utils.specs.Ppc64Rewrites.{is_addis_of_entry, is_addis_of_toc, is_addis_over}
+use Rattle.linker_utils.specs.Ppc64Rewrites.{is_bl, is_call, is_ds_access, is_indexed}
+use Rattle.linker_utils.specs.Ppc64Rewrites.{is_indexed_any, is_indexed_word, is_ld, is_pla, is_pld}
+use Rattle.linker_utils.specs.Ppc64Rewrites.{is_vector_access}
 use Rattle.linker_elf.specs.declared.ppc64.relocations.Ppc64Relocation.TheVariants as names
 use Rattle.linker_laws.specs.Changes.{ChangesOpen, OthersAgree, go_to, put, with_register}
 use Rattle.linker_laws.specs.Machine.{loaded, moved}
@@ -19,11 +24,6 @@ use Rattle.linker_laws.specs.Ppc64RewriteLaws.{prefixed_target, thread_offset, w
 use Rattle.linker_laws.specs.Schemes.{AreAddresses, symbol_address}
 use Rattle.linker_laws.specs.Simulation.{State, Program, Machine, Link, Kind, Kinds, Agree, Group}
 use Rattle.linker_laws.specs.Simulation.{anything, half, of_link, run, same}
-use Rattle.linker_utils.specs.Ppc64Rewrites.{is_add_of_thread, is_addi, is_addi_of_toc}
-use Rattle.linker_utils.specs.Ppc64Rewrites.{is_addis_of_entry, is_addis_of_toc, is_addis_over}
-use Rattle.linker_utils.specs.Ppc64Rewrites.{is_bl, is_call, is_ds_access, is_indexed}
-use Rattle.linker_utils.specs.Ppc64Rewrites.{is_indexed_any, is_indexed_word, is_ld, is_pla, is_pld}
-use Rattle.linker_utils.specs.Ppc64Rewrites.{is_vector_access}
 use Rattle.linker_utils.specs.declared.ppc64.rewrites.RewriteKind.{RewriteKind}
 use Rattle.linker_utils.specs.declared.ppc64.rewrites.RewriteKind.TheVariants as kinds
 

@@ -4,9 +4,9 @@
 -- register.
 use Rattle.std.specs.Prelude.{ℕ, ◌-◌, ◌*◌, ◌/◌, ◌^◌, ◌==◌, ◌&&◌, nat_lt, if◌then◌else◌, pos, ◌*ℤ◌}
 use Rattle.std.specs.Prelude.{Option, Some, None}
-use Rattle.linker_laws.specs.Imports.{field, ppc64_form, opcode_of, rt_of, ra_of, access_of, sum_64}
-use Rattle.linker_laws.specs.Imports.{D, Ds, Branch24, Prefixed}
-use Rattle.linker_utils.specs.Ppc64Rewrites.{is_access, is_word_access, rb_of, nop}
+use Rattle.linker_laws.specs.Imports.{Branch24, D, Ds, Prefixed, field, ppc64_form, sum_64}
+use Rattle.linker_utils.specs.Ppc64Rewrites.{opcode_of, rt_of, ra_of, access_of, is_access}
+use Rattle.linker_utils.specs.Ppc64Rewrites.{is_word_access, rb_of, nop}
 use Rattle.linker_laws.specs.Machine.{Memory, moved, extended, loaded, stored}
 
 -- ---- the state

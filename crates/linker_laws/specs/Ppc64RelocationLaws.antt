@@ -1,9 +1,9 @@
 -- PowerPC64: what relocated instructions compute (64-bit ELF V2 ABI for Power, "Relocation Types";
 -- Power ISA, version 3.1, book I).
 use Rattle.std.specs.Prelude.{ℕ, [], ◌∷◌, ℤ, pos, ◌+ℤ◌, ◌*ℤ◌, ◌+◌, ◌*◌, ◌^◌}
-use Rattle.linker_laws.specs.Imports.{field, ppc64_form, ppc64_row, ppc64_reads, Ppc64Form}
-use Rattle.linker_laws.specs.Imports.{D, Ds, Branch24, Prefixed, Operands, Ppc64Relocation}
-use Rattle.linker_elf.specs.declared.ppc64.forms.Ppc64Form.TheVariants.{Branch14}
+use Rattle.linker_laws.specs.Imports.{Branch14, Branch24, D, Ds, Operands, Ppc64Form}
+use Rattle.linker_laws.specs.Imports.{Ppc64Relocation, Prefixed, field, ppc64_form, ppc64_reads}
+use Rattle.linker_elf.specs.Ppc64Relocations.{ppc64_row}
 use Rattle.linker_elf.specs.declared.ppc64.relocations.Ppc64Relocation.TheVariants as names
 use Rattle.linker_laws.specs.Schemes.{HoldsDistance, without_low, here, anywhere, moved_on, Law}
 use Rattle.linker_laws.specs.Schemes.{Adds, symbol_address, plt_address, entry_address, zero, place}

@@ -1,11 +1,11 @@
 -- PowerPC64: what laws of rewritten instructions are stated by: their bytes, the addresses that
 -- they lead to, and what they do with an address.
 use Rattle.std.specs.Prelude.{◌≡◌, ℕ, Bool, ◌==◌, ◌&&◌, not, List, IsSomeAnd, drop, if◌then◌else◌}
-use Rattle.std.specs.Int.{w64, from_le_bytes}
-use Rattle.linker_utils.specs.Ppc64Rewrites.{is_d_access}
-use Rattle.linker_laws.specs.Imports.{ppc64_row, ppc64_reads, ppc64_rewrite, opcode_of, rt_of}
-use Rattle.linker_laws.specs.Imports.{ra_of, access_of, field, sum_64, difference_64, Operands}
-use Rattle.linker_laws.specs.Imports.{Ppc64Form, D, Ds, Ppc64Relocation, IsApplied}
+use Rattle.linker_laws.specs.Imports.{D, Ds, IsApplied, Operands, Ppc64Form, Ppc64Relocation}
+use Rattle.linker_laws.specs.Imports.{difference_64, field, from_le_bytes, ppc64_reads, sum_64, w64}
+use Rattle.linker_utils.specs.Ppc64Rewrites.{is_d_access, ppc64_rewrite, opcode_of, rt_of, ra_of}
+use Rattle.linker_utils.specs.Ppc64Rewrites.{access_of}
+use Rattle.linker_elf.specs.Ppc64Relocations.{ppc64_row}
 use Rattle.linker_elf.specs.declared.ppc64.relocations.Ppc64Relocation.TheVariants as names
 use Rattle.linker_utils.specs.declared.ppc64.rewrites.RewriteKind.{RewriteKind}
 pub use Rattle.linker_laws.specs.Machine.{word_of}

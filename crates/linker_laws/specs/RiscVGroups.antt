@@ -3,10 +3,12 @@
 use Rattle.std.specs.Prelude.{◌≡◌, ◌≢◌, ℕ, zero, suc, ◌+◌, ◌-◌, ◌*◌, ◌^◌, ◌<◌, ◌≤◌, ◌%◌, ◌==◌}
 use Rattle.std.specs.Prelude.{false, nat_lt, if◌then◌else◌, List, [], ◌∷◌, take, drop, length}
 use Rattle.std.specs.Prelude.{Option, Some, None, IsSomeAnd, ⊤, ◌⊎◌}
-use Rattle.std.specs.Int.{w16, w64, cast_signed, from_le_bytes}
-use Rattle.linker_laws.specs.Imports.{low_12_bounds, IsWithin, riscv_form, clui_row}
-use Rattle.linker_laws.specs.Imports.{riscv_relocation, riscv_row, difference_64, sum_64, RowInfo}
-use Rattle.linker_laws.specs.Imports.{Operands, UType, RiscVRelocation, rd_of, a0}
+use Rattle.linker_laws.specs.Imports.{IsCallPair, IsWithin, Operands, RowInfo, UType, cast_signed}
+use Rattle.linker_laws.specs.Imports.{clui_row, difference_64, from_le_bytes, low_12_bounds}
+use Rattle.linker_laws.specs.Imports.{riscv_form, riscv_relocation, riscv_row, sum_64, w16, w64}
+use Rattle.linker_elf.specs.declared.riscv64.relocations.RiscVRelocation.{RiscVRelocation}
+use Rattle.linker_riscv64.specs.RiscVFields.{rd_of}
+use Rattle.linker_utils.specs.RiscVRewrites.{a0, IsAddTp, IsLui, half_at, riscv_matches, tp}
 use Rattle.linker_elf.specs.declared.riscv64.relocations.RiscVRelocation.TheVariants as names
 use Rattle.linker_laws.specs.Changes.{ChangesOpen, OthersAgree, put, with_register}
 use Rattle.linker_laws.specs.Machine.{Relocated, loaded, moved, wrapped}
@@ -21,8 +23,6 @@ use Rattle.linker_laws.specs.RiscVRewriteLaws.{thread_offset, word_of}
 use Rattle.linker_laws.specs.Schemes.{AreAddresses, entry_and_addend, plt_address, symbol_address}
 use Rattle.linker_laws.specs.Simulation.{State, Program, Machine, Link, Kind, Kinds, Agree, AreOf}
 use Rattle.linker_laws.specs.Simulation.{Group, anything, code as counted, of_link, run, same}
-use Rattle.linker_riscv64.specs.RiscVCalls.{IsCallPair}
-use Rattle.linker_utils.specs.RiscVRewrites.{IsAddTp, IsLui, half_at, riscv_matches, tp}
 use Rattle.linker_utils.specs.declared.riscv64.rewrites.RewriteKind.{RewriteKind}
 use Rattle.linker_utils.specs.declared.riscv64.rewrites.RewriteKind.TheVariants as kinds
 

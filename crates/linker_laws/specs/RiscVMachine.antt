@@ -4,10 +4,9 @@
 use Rattle.std.specs.Prelude.{◌≡◌, ℕ, zero, suc, ◌+◌, ◌-◌, ◌*◌, ◌%◌, ◌^◌, ◌==◌, ◌&&◌, ◌||◌, nat_lt}
 use Rattle.std.specs.Prelude.{nat_le, if◌then◌else◌, List, length, drop, ℤ, pos, Option, Some, None}
 use Rattle.std.specs.Prelude.{option_map, Bool, not}
-use Rattle.std.specs.Int.{w16, w32, from_le_bytes}
-use Rattle.linker_laws.specs.Imports.{field, signed, riscv_form, funct3_of, rd_of, sum_64}
-use Rattle.linker_laws.specs.Imports.{difference_64, UType, IType, SType, JType, CjType, CluiType}
-use Rattle.linker_riscv64.specs.RiscVFields.{opcode_of}
+use Rattle.linker_laws.specs.Imports.{CjType, CluiType, IType, JType, SType, UType, difference_64}
+use Rattle.linker_laws.specs.Imports.{field, from_le_bytes, riscv_form, signed, sum_64, w16, w32}
+use Rattle.linker_riscv64.specs.RiscVFields.{funct3_of, rd_of, opcode_of}
 pub use Rattle.linker_riscv64.specs.RiscVFields.{rs1_of, rs2_of}
 use Rattle.linker_laws.specs.Machine.{Memory, moved, wrapped, extended, loaded, stored}
 

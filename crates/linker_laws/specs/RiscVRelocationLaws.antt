@@ -1,13 +1,11 @@
 -- RISC-V: what relocated instructions compute (RISC-V ELF psABI, "Relocations"; the instructions by
 -- the RISC-V unprivileged ISA).
 use Rattle.std.specs.Prelude.{ℕ, [], ◌∷◌, ℤ, pos, ◌+ℤ◌, ◌-ℤ◌, ◌-◌, ◌%◌, Option, Some}
-use Rattle.std.specs.Int.{int_rem_euclid}
-use Rattle.linker_laws.specs.Imports.{riscv_form, riscv_relocation, riscv_row, clui_row}
-use Rattle.linker_laws.specs.Imports.{RowInfo, UType, IType, SType, JType, CjType}
-use Rattle.linker_laws.specs.Imports.{CluiType, Operands, RiscVRelocation}
+use Rattle.linker_laws.specs.Imports.{BType, CbType, CjType, CluiType, IType, JType, Operands}
+use Rattle.linker_laws.specs.Imports.{RowInfo, SType, UType, UiType, clui_row, int_rem_euclid}
+use Rattle.linker_laws.specs.Imports.{riscv_form, riscv_relocation, riscv_row}
+use Rattle.linker_elf.specs.declared.riscv64.relocations.RiscVRelocation.{RiscVRelocation}
 use Rattle.linker_elf.specs.declared.riscv64.forms.RiscVInstruction.{RiscVInstruction}
-use Rattle.linker_elf.specs.declared.riscv64.forms.RiscVInstruction.TheVariants.{BType, CbType}
-use Rattle.linker_elf.specs.declared.riscv64.forms.RiscVInstruction.TheVariants.{UiType}
 use Rattle.linker_elf.specs.declared.riscv64.relocations.RiscVRelocation.TheVariants as names
 use Rattle.linker_laws.specs.Differences.{AddsDistance, SetsDistance, SetsDistance6}
 use Rattle.linker_laws.specs.Schemes.{HoldsDistance, Step, here, Law, Adds, symbol_address}

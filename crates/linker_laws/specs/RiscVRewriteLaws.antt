@@ -1,13 +1,10 @@
 -- RISC-V: what laws of rewrites name.
 use Rattle.std.specs.Prelude.{◌≡◌, ℕ, List, Option, Some, ◌≢◌}
-use Rattle.std.specs.Int.{w64, cast_signed}
-use Rattle.linker_laws.specs.Imports.{rewritten, low_12_bounds, IsWithin, a0, funct3_of, rd_of}
-use Rattle.linker_laws.specs.Imports.{riscv_row, RowInfo, Operands}
-use Rattle.linker_elf.specs.Choices.{symbol_and_addend}
-use Rattle.linker_utils.specs.RiscVRewrites.{riscv_rewrite, IsAuipc, IsLd, IsAddiToA0}
+use Rattle.linker_laws.specs.Imports.{IsWithin, Operands, RowInfo, cast_signed, low_12_bounds}
+use Rattle.linker_laws.specs.Imports.{rewritten, riscv_row, symbol_and_addend, w64, word_at}
+use Rattle.linker_utils.specs.RiscVRewrites.{a0, riscv_rewrite, IsAuipc, IsLd, IsAddiToA0}
 use Rattle.linker_utils.specs.RiscVRewrites.{IsCallOfDescriptor}
-use Rattle.linker_riscv64.specs.RiscVCalls.{word_at}
-use Rattle.linker_riscv64.specs.RiscVFields.{opcode_of}
+use Rattle.linker_riscv64.specs.RiscVFields.{funct3_of, rd_of, opcode_of}
 use Rattle.linker_elf.specs.declared.riscv64.relocations.RiscVRelocation.TheVariants as names
 use Rattle.linker_utils.specs.declared.riscv64.rewrites.RewriteKind.{RewriteKind}
 pub use Rattle.linker_laws.specs.Machine.{word_of}

@@ -3,7 +3,7 @@
 use Rattle.std.specs.Prelude.{◌≡◌, ◌<◌, ◌≤◌, ◌+◌, ◌-◌, ◌*◌, ◌^◌, ◌⊎◌, ℕ, zero, suc, ℤ, pos, ◌+ℤ◌}
 use Rattle.std.specs.Prelude.{◌-ℤ◌, Bool, IsTrue, List, map, sum, Option, Some, None, IsSome, ⊤}
 use Rattle.std.specs.Prelude.{IsSomeAnd, option_and_then}
-use Rattle.std.specs.Int.{int_rem_euclid}
+use Rattle.linker_laws.specs.Imports.{int_rem_euclid}
 use Rattle.linker_laws.specs.Machine.{Memory, loaded}
 
 -- ---- a machine

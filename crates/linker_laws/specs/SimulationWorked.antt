@@ -2,7 +2,7 @@
 -- computed to the end.
 use Rattle.std.specs.Prelude.{◌≡◌, ℕ, ◌+◌, ◌-◌, ◌/◌, ◌%◌, ◌^◌, ◌==◌, nat_le, if◌then◌else◌, ◌&&◌}
 use Rattle.std.specs.Prelude.{List, [], ◌∷◌, Option, Some, None, IsSomeAnd, nat_lt, slice_get}
-use Rattle.std.specs.Option.{unwrap_or}
+use Rattle.linker_laws.specs.Imports.{unwrap_or}
 use Rattle.linker_laws.specs.Simulation.{State, Machine, Link, Kind, code, same, anything, Stored}
 use Rattle.linker_laws.specs.Simulation.{Kinds, Agree, of_link, run, Covered, Stops}
 use Rattle.linker_laws.specs.Changes.{put, go_to, with_register}

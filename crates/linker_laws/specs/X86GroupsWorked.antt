@@ -1,9 +1,8 @@
 -- A program of x86-64 with groups, of which every premise holds, and both runs computed to the end.
 use Rattle.std.specs.Prelude.{◌≡◌, ℕ, ◌-◌, ◌/◌, ◌%◌, ◌^◌, ◌==◌, ◌&&◌, ◌||◌, nat_lt, nat_le, Bool}
 use Rattle.std.specs.Prelude.{if◌then◌else◌, List, [], ◌∷◌, Some, None, slice_get}
-use Rattle.std.specs.Option.{unwrap_or}
+use Rattle.linker_laws.specs.Imports.{sum_64, unwrap_or}
 use Rattle.linker_laws.specs.Machine.{Memory, loaded}
-use Rattle.linker_elf.specs.Value.{sum_64}
 use Rattle.linker_laws.specs.Changes.{put}
 use Rattle.linker_laws.specs.Simulation.{State, Program, Kinds, anything, same}
 use Rattle.linker_laws.specs.SimulationWorked.{AreRuns, of_byte}

@@ -4,8 +4,8 @@
 use Rattle.std.specs.Prelude.{ℕ, zero, suc, ◌+◌, ◌-◌, ◌*◌, ◌/◌, ◌%◌, ◌^◌, ◌==◌, ◌&&◌, Bool, true}
 use Rattle.std.specs.Prelude.{false, not, if◌then◌else◌, nat_lt, List, [], ◌∷◌, Option, Some, None}
 use Rattle.std.specs.Prelude.{bit_and, bit_or, bit_xor, option_map, slice_get}
-use Rattle.std.specs.Int.{w64, bit_at, byte_at, cast_unsigned}
-use Rattle.linker_laws.specs.Imports.{field, signed, number_of_bytes, sum_64, difference_64}
+use Rattle.linker_laws.specs.Imports.{bit_at, byte_at, cast_unsigned, difference_64, field}
+use Rattle.linker_laws.specs.Imports.{number_of_bytes, signed, sum_64, w64}
 
 -- ---- the state
 

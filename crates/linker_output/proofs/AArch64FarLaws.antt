@@ -1,8 +1,7 @@
 -- AArch64's stubs to anywhere go there.
-use Rattle.linker_output.proofs.Imports.{◌≡◌, ℕ, ◌+◌, ◌*◌, ◌%◌, ◌^◌, ◌<◌, Bool, true, false, refl, sym, ◌∙◌, ap, subst, arith, List, [], ◌∷◌, ◌++◌, eqb, cond, Some, None, drop, pos, ◌+ℤ◌, IsSomeAnd, ◌||◌, w64, cast_unsigned, eq-eqb, cond-true, append-nil, aarch64_name, aarch64_row, number_of_bytes, sum_64, load_64, go_to, in_64_bits, word_of, low_bytes, write_x, adr_address, Fields, aarch64_output, GoesTo, run_far, literal, registers_added, operands_of}
-use Rattle.linker_base.specs.Form.{place_sum}
+use Rattle.linker_output.proofs.Imports.{Bool, Fields, GoesTo, IsSomeAnd, List, None, Some, [], aarch64_name, aarch64_output, aarch64_row, ap, append-nil, arith, cast_unsigned, cond, cond-true, drop, eq-eqb, eqb, false, literal, low_bytes, number_of_bytes, operands_of, place_sum, pos, refl, registers_added, run_far, subst, sum_64, sym, true, w64, word_of, ℕ, ◌%◌, ◌*◌, ◌++◌, ◌+ℤ◌, ◌+◌, ◌<◌, ◌^◌, ◌||◌, ◌∙◌, ◌∷◌, ◌≡◌}
+use Rattle.linker_laws.specs.AArch64Machine.{load_64, go_to, in_64_bits, write_x, adr_address, State, go_on, next_pc}
 use Rattle.linker_elf.specs.declared.aarch64.relocations.AArch64Relocation.TheVariants as r
-use Rattle.linker_laws.specs.AArch64Machine.{State, go_on, next_pc}
 use Rattle.linker_output.proofs.AArch64StubLaws.{some_or}
 use Rattle.linker_output.proofs.StubWords.{applies, are_addresses}
 use Rattle.linker_output.specs.AArch64Stubs as stubs

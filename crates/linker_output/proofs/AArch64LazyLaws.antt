@@ -1,11 +1,11 @@
 -- AArch64's lazy PLT.
-use Rattle.linker_output.proofs.Imports.{◌≡◌, ℕ, ◌+◌, ◌-◌, ◌*◌, ◌^◌, ◌<◌, ◌≤◌, Bool, true, false, refl, sym, ◌∙◌, ap, subst, arith, List, [], ◌∷◌, ◌++◌, take, drop, eqb, cond, Some, pos, negsuc, ◌+ℤ◌, ◌||◌, ◌==◌, IsSomeAnd, nat_lt, if◌then◌else◌, w64, from_le_bytes, cast_unsigned, cond-true, cond-false, or_parts, ints, field, aarch64_name, aarch64_row, sum_64, difference_64, Operands, adrp_address, added, load_64, add, ldr, go_to, in_64_bits, RelativeAddresses, word_of, stored, IsAddress, loads, IsAdrOf, IsInstructionOf, adrp_after, ldr_after, add_after, of_registers, wrapped_is, AArch64, sum_zero, page_and_offset, adds_up, step_add, operands_at, header_places, aarch64_loads, aarch64_entry, aarch64_wide_entry, aarch64_landing_entry, aarch64_header, aarch64_landing_header, padded, words, or_else, field_of, code_of_words, LazyEntry, LazyField, LazyPiece, Word}
-use Rattle.linker_laws.proofs.AArch64Steps.{set}
+use Rattle.linker_output.proofs.Imports.{AArch64, Bool, IsAddress, IsAdrOf, IsInstructionOf, IsSomeAnd, LazyEntry, LazyField, LazyPiece, List, Operands, RelativeAddresses, Some, Word, [], aarch64_entry, aarch64_header, aarch64_landing_entry, aarch64_landing_header, aarch64_loads, aarch64_name, aarch64_row, aarch64_wide_entry, add_after, adds_up, adrp_after, ap, arith, cast_unsigned, code_of_words, cond, cond-false, cond-true, difference_64, drop, eqb, false, field, field_of, from_le_bytes, header_places, if◌then◌else◌, ints, ldr_after, loads, nat_lt, negsuc, of_registers, operands_at, or_else, or_parts, padded, page_and_offset, pos, refl, stored, subst, sum_64, sum_zero, sym, take, true, w64, word_of, words, wrapped_is, ℕ, ◌*◌, ◌++◌, ◌+ℤ◌, ◌+◌, ◌-◌, ◌<◌, ◌==◌, ◌^◌, ◌||◌, ◌∙◌, ◌∷◌, ◌≡◌, ◌≤◌}
+use Rattle.linker_laws.specs.AArch64Machine.{adrp_address, added, load_64, add, ldr, go_to, in_64_bits, State, loaded, go_on}
+use Rattle.linker_laws.proofs.AArch64Steps.{step_add, set}
 use Rattle.linker_elf.specs.AArch64.{aarch64_form}
 use Rattle.linker_elf.specs.declared.aarch64.forms.AArch64Instruction.TheVariants.{LdSt, Add}
 use Rattle.linker_elf.specs.declared.aarch64.relocations.AArch64Relocation.TheVariants as r
 use Rattle.linker_laws.specs.AArch64Machine as machine
-use Rattle.linker_laws.specs.AArch64Machine.{State, loaded, go_on}
 use Rattle.linker_output.proofs.LazyRuns.{run_more, one_word, are_addresses_at}
 use Rattle.linker_output.proofs.StubWords.{applies, no_addend}
 use Rattle.linker_output.specs.AArch64LazyPlt.{step, further, run, pair_stored, pair_address, GoesTo, Asks, IsOffStack}

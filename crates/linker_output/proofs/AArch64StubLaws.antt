@@ -1,9 +1,9 @@
 -- AArch64's stubs go to their targets.
-use Rattle.linker_output.proofs.Imports.{◌≡◌, ℕ, Bool, true, false, refl, sym, ◌∙◌, ap, subst, arith, List, [], ◌∷◌, ◌++◌, eqb, cond, Some, None, Option, drop, IsSomeAnd, ◌||◌, eq-eqb, cond-true, field, sum_64, load_64, adrp_address, added, add, ldr, go_to, RelativeAddresses, word_of, symbol_address, loads, IsInstructionOf, adrp_after, ldr_after, add_after, of_registers, aarch64_name, aarch64_row, AArch64, sum_zero, adds_pair, run_pair, aarch64_output, StubCode, WritesPair, operands_of, field_of, run_stub, run_landing, then_jumped, jumped, GoesTo, eight}
-use Rattle.linker_laws.proofs.AArch64Steps.{set}
+use Rattle.linker_output.proofs.Imports.{AArch64, Bool, GoesTo, IsInstructionOf, IsSomeAnd, List, None, Option, RelativeAddresses, Some, StubCode, WritesPair, [], aarch64_name, aarch64_output, aarch64_row, add_after, adds_pair, adrp_after, ap, arith, cond, cond-true, drop, eight, eq-eqb, eqb, false, field, field_of, jumped, ldr_after, loads, of_registers, operands_of, refl, run_landing, run_stub, subst, sum_64, sum_zero, sym, symbol_address, then_jumped, true, word_of, ℕ, ◌++◌, ◌||◌, ◌∙◌, ◌∷◌, ◌≡◌}
+use Rattle.linker_laws.specs.AArch64Machine.{load_64, adrp_address, added, add, ldr, go_to, State, step, run, loaded, go_on}
+use Rattle.linker_laws.proofs.AArch64Steps.{run_pair, set}
 use Rattle.linker_utils.specs.AArch64Rewrites.{rd_of, rn_of, IsLdr64}
 use Rattle.linker_elf.specs.declared.aarch64.relocations.AArch64Relocation.TheVariants as r
-use Rattle.linker_laws.specs.AArch64Machine.{State, step, run, loaded, go_on}
 use Rattle.linker_output.proofs.StubWords.{front_word, first_is, second_is, third_is, applies, no_addend, are_addresses}
 use Rattle.linker_output.specs.AArch64Stubs as stubs
 

@@ -1,6 +1,6 @@
 -- What holds after a stub is added, or a branch goes by another stub.
-use Rattle.linker_output.proofs.Imports.{◌≡◌, ◌≢◌, ◌+◌, ◌<◌, ◌≤◌, ◌∙◌, ℕ, arith, List, [], ◌∷◌, ◌++◌, length, set, refl, ap, sym, subst, inl, inr, ⊎_elim, get_or-set_other, get_or-set_same, ◌⊎◌, true, sum_by, cases_lt, cases_order, get_or_push, Vec, length_push, sum_by-set, Branch, Code, Group, Part, Front, Middle, Back, State, StubAt, Way, Direct, Far, Near, at, group_at, branch_at, stub_at, stubs_in, AreOfTwo, HasNoFar, HasPart, HasSpare, AreTwo, IsCode, IsFar, IsFarFrom, IsFirst, part_of, AreLists, HasNoneAt, HasOwner, IsState, StaysUnshared, IsNew, IsWay, IsNear, level, level_of, list_at, list_of, way_at, with_one, new_way}
-use Rattle.std.proofs.Math.ListN.{get_or-append, length-set}
+use Rattle.linker_output.proofs.Imports.{AreLists, AreOfTwo, AreTwo, Back, Branch, Code, Direct, Far, Front, Group, HasNoFar, HasNoneAt, HasOwner, HasPart, HasSpare, IsCode, IsFar, IsFarFrom, IsFirst, IsNear, IsNew, IsState, IsWay, List, Middle, Near, Part, State, StaysUnshared, StubAt, Vec, Way, [], ap, arith, at, branch_at, cases_lt, cases_order, get_or-set_other, get_or-set_same, get_or_push, group_at, inl, inr, length, length-set, length_push, level, level_of, list_at, list_of, new_way, part_of, refl, set, stub_at, stubs_in, subst, sum_by, sum_by-set, sym, true, way_at, with_one, ℕ, ⊎_elim, ◌++◌, ◌+◌, ◌<◌, ◌∙◌, ◌∷◌, ◌≡◌, ◌≢◌, ◌≤◌, ◌⊎◌}
+use Rattle.std.proofs.Math.ListN.{get_or-append}
 use Rattle.linker_output.proofs.Bounds.{level_most}
 
 part_grows : (p part : Part) (g : Group) → part_of p g ≤ part_of p (with_one part g)

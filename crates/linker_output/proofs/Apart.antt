@@ -1,5 +1,5 @@
 -- Stubs don't overlap, and are at their boundaries.
-use Rattle.linker_output.proofs.Imports.{◌≡◌, ◌≢◌, ◌+◌, ◌-◌, ◌*◌, ◌<◌, ◌≤◌, ◌∙◌, ℕ, zero, suc, arith, List, length, refl, ap, sym, subst, inl, inr, ⊎_elim, add-one, ◌⊎◌, sum_by, mul-le-mul_left, cases_lt, cases_order, Code, Group, Layout, Part, Front, Middle, Back, State, StubAt, StubShape, at, group_at, stub_at, stubs_in, place_in, place_of, start_of, end_of, HasPart, AreTwo, part_of, IsCode, IsLaidOut, IsLayout, IsState, ArePlaces}
+use Rattle.linker_output.proofs.Imports.{ArePlaces, AreTwo, Back, Code, Front, Group, HasPart, IsCode, IsLaidOut, IsLayout, IsState, Layout, List, Middle, Part, State, StubAt, StubShape, add-one, ap, arith, at, cases_lt, cases_order, end_of, group_at, inl, inr, length, mul-le-mul_left, part_of, place_in, place_of, refl, start_of, stub_at, stubs_in, subst, suc, sum_by, sym, zero, ℕ, ⊎_elim, ◌*◌, ◌+◌, ◌-◌, ◌<◌, ◌∙◌, ◌≡◌, ◌≢◌, ◌≤◌, ◌⊎◌}
 use Rattle.linker_output.proofs.Groups.{size_least}
 
 -- before and after a stub of a part are its boundary's ends

@@ -1,5 +1,5 @@
 -- How many stubs there can be.
-use Rattle.linker_output.proofs.Imports.{◌+◌, ◌*◌, ◌<◌, ◌≤◌, ◌^◌, ℕ, arith, List, [], ◌∷◌, length, sum_by, mul-le-mul_left, get_or-le-sum_by, sum_by-cons, Code, Group, Part, Front, State, Way, Direct, group_at, stub_at, stubs_in, part_of, IsCode, most_bytes, IsState, level}
+use Rattle.linker_output.proofs.Imports.{Code, Direct, Front, Group, IsCode, IsState, List, Part, State, Way, [], arith, get_or-le-sum_by, group_at, length, level, most_bytes, mul-le-mul_left, part_of, stub_at, stubs_in, sum_by, sum_by-cons, ℕ, ◌*◌, ◌+◌, ◌<◌, ◌^◌, ◌∷◌, ◌≤◌}
 
 pub level_most : (w : Way) → level w ≤ 2
 level_most Direct = omega arith

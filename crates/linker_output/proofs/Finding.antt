@@ -1,5 +1,5 @@
 -- Stubs that are found by boundary, part and target.
-use Rattle.linker_output.proofs.Imports.{◌≡◌, ◌+◌, ◌<◌, ◌∙◌, ℕ, arith, List, length, ap, refl, sym, subst, ⊎_elim, ◌⊎◌, cases_order, nat_le, prefix_len_passes, prefix_len_stops, Branch, Code, Part, Front, Middle, Back, State, StubAt, at, group_at, part_of, passed, stub_at, IsCode, AreLists, IsAt, IsNear, IsNearIn, IsNew, IsNewNear, IsOutAhead, IsOutAfter, IsOutThere, IsState, level_of, list_at, list_of, new_stub}
+use Rattle.linker_output.proofs.Imports.{AreLists, Back, Branch, Code, Front, IsAt, IsCode, IsNear, IsNearIn, IsNew, IsNewNear, IsOutAfter, IsOutAhead, IsOutThere, IsState, List, Middle, Part, State, StubAt, ap, arith, at, cases_order, group_at, length, level_of, list_at, list_of, nat_le, new_stub, part_of, passed, prefix_len_passes, prefix_len_stops, refl, stub_at, subst, sym, ℕ, ⊎_elim, ◌+◌, ◌<◌, ◌∙◌, ◌≡◌, ◌⊎◌}
 use Rattle.linker_output.proofs.Near.{nearer}
 use Rattle.linker_output.proofs.Passed.{true_le, false_lt}
 

@@ -1,5 +1,5 @@
 -- The stubs by which branches go.
-use Rattle.linker_output.proofs.Imports.{◌≡◌, ◌<◌, ◌≤◌, ◌∙◌, ℕ, arith, List, length, refl, ap, inl, inr, sym, subst, ⊎_elim, ◌⊎◌, Option, None, Some, slice_index_or, true, false, false≢true, Branch, Code, Layout, Part, Front, Middle, Back, Placement, State, StubAt, Way, Direct, Far, Near, at, branch_at, most_bytes, passed, stub_at, AllGo, AreUsed, HasNoFar, HasSpare, IsFarFrom, IsFirst, IsLaidOut, IsNextTo, IsShared, ReachesAt, target_place, Goes, AreServed, AreStubsOf, ArePlaces, IsNearIn, IsServedBy, IsState, IsStubOf, IsWay, way_at}
+use Rattle.linker_output.proofs.Imports.{AllGo, ArePlaces, AreServed, AreStubsOf, AreUsed, Back, Branch, Code, Direct, Far, Front, Goes, HasNoFar, HasSpare, IsFarFrom, IsFirst, IsLaidOut, IsNearIn, IsNextTo, IsServedBy, IsShared, IsState, IsStubOf, IsWay, Layout, List, Middle, Near, None, Option, Part, Placement, ReachesAt, Some, State, StubAt, Way, ap, arith, at, branch_at, false, false≢true, inl, inr, length, most_bytes, passed, refl, slice_index_or, stub_at, subst, sym, target_place, true, way_at, ℕ, ⊎_elim, ◌<◌, ◌∙◌, ◌≡◌, ◌≤◌, ◌⊎◌}
 use Rattle.linker_output.proofs.Near.{near_reached}
 
 -- a branch with bytes to spare reaches its target

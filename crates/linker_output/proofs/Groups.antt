@@ -1,7 +1,6 @@
 -- Bytes of the stubs at boundaries.
-use Rattle.linker_output.proofs.Imports.{◌≡◌, ◌+◌, ◌*◌, ◌<◌, ◌≤◌, ◌∙◌, ℕ, zero, suc, arith, List, length, get_or, take, refl, ap, sym, add-one, ⊎_elim, cases_lt, get_or_past, sum_by, mul-le-mul_left, sum_by_more, sum_by-take-le, Group, StubShape, group_at, stubs_in, IsLaidOut}
+use Rattle.linker_output.proofs.Imports.{Group, IsLaidOut, List, StubShape, add-one, ap, arith, bytes_before, cases_lt, get_or, get_or_past, group_at, length, mul-le-mul_left, refl, stubs_in, suc, sum_by, sum_by-take-le, sum_by_more, sym, take, zero, ℕ, ⊎_elim, ◌*◌, ◌+◌, ◌<◌, ◌∙◌, ◌≡◌, ◌≤◌}
 use Rattle.linker_output.specs.Placement.{padded, size_of}
-use Rattle.linker_output.specs.Inner.Placement.{bytes_before}
 
 pub padded_least : (unit n : ℕ) → n ≤ padded unit n
 padded_least unit n = omega arith

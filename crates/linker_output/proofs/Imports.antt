@@ -1,5 +1,7 @@
 -- The names of definitions and of other crates that several files of proofs here use.
 pub use Rattle.linker_base.specs.Bits.{field, signed}
+pub use Rattle.linker_base.specs.Form.{bits_to}
+unfoldable pub use Rattle.linker_base.specs.Form.{place_sum}
 pub use Rattle.linker_elf.specs.AArch64Relocations.{aarch64_name, aarch64_row}
 pub use Rattle.linker_elf.specs.Architectures.{IsNamedValue, IsRow}
 pub use Rattle.linker_elf.specs.LoongArchRelocations.{loongarch_name, loongarch_row}
@@ -13,36 +15,28 @@ pub use Rattle.linker_elf.specs.X86Relocations.{x86_64_name, x86_64_row}
 pub use Rattle.linker_elf.specs.declared.elf.RelocationKind.TheVariants.{Relative, RelativeRiscVLow12}
 pub use Rattle.linker_elf.specs.declared.elf.RowInfo.{RowInfo}
 pub use Rattle.linker_elf.specs.declared.elf.architecture.Architecture.{Architecture}
-pub use Rattle.linker_elf.specs.declared.elf.architecture.Architecture.TheVariants.{AArch64, LoongArch64, Ppc64, RiscV, X86_64}
+pub use Rattle.linker_elf.specs.declared.elf.architecture.Architecture.TheVariants.{AArch64, LoongArch64, RiscV, X86_64}
 pub use Rattle.linker_elf.specs.declared.elf.relocate.RelocateError.{RelocateError}
-pub use Rattle.linker_elf.specs.declared.elf.relocate.RelocateError.TheVariants.{Misaligned, OutOfReach, Unsupported}
 pub use Rattle.linker_elf.specs.declared.elf.value.Operands.{Operands}
 pub use Rattle.linker_elf.specs.declared.ppc64.forms.Ppc64Form.TheVariants.{Branch24, D, Ds, Prefixed}
 pub use Rattle.linker_elf.specs.declared.riscv64.forms.RiscVInstruction.TheVariants.{IType, UType}
 pub use Rattle.linker_laws.proofs.AArch64Pairs.{adds_pair, adds_up, loads}
-pub use Rattle.linker_laws.proofs.AArch64Steps.{in_two_steps, run_pair, step_add}
 pub use Rattle.linker_laws.proofs.AArch64Words.{IsAdrOf, IsInstructionOf, add_after, adrp_after, field_kept, ldr_after, of_registers}
-pub use Rattle.linker_laws.proofs.LoongArchSteps.{loaded_of, step_load, step_sum, written}
 pub use Rattle.linker_laws.proofs.LoongArchWords.{IsHigh, IsLow, decodes_load, decodes_sum, high_after, low_after}
 pub use Rattle.linker_laws.proofs.Ppc64Addresses.{reads_ds, same_parts}
-pub use Rattle.linker_laws.proofs.Ppc64Words.{HasParts, d_after, ds_after, step_addi, step_addis, step_ld, sum_leads}
 pub use Rattle.linker_laws.proofs.RiscVDescriptors.{load_word, low_long, sum_word, upper_long, upper_word, whole_number}
 pub use Rattle.linker_laws.proofs.RiscVMachine.{address_is, at_second, at_start, fetched_word, moved_twice, other, steps, times_one, unwritten, wrapped_is}
 pub use Rattle.linker_laws.proofs.Sums.{eight, sum_zero, three_words}
 pub use Rattle.linker_laws.proofs.X86Fields.{place_field, signed_field}
-pub use Rattle.linker_laws.specs.AArch64Machine.{add, added, adr_address, adrp_address, go_to, in_64_bits, ldr, load_64, write_x}
 pub use Rattle.linker_laws.specs.AArch64RelocationLaws.{Fields, RelativeAddresses, page_and_offset}
-pub use Rattle.linker_laws.specs.AArch64RewriteLaws.{word_of}
-pub use Rattle.linker_laws.specs.LoongArchMachine.{execute, far_address, next_pc, page_address, read, register_target, sum_of}
 pub use Rattle.linker_laws.specs.Machine.{AreBytes, Memory, Relocated, loaded, moved, stored, wrapped}
-pub use Rattle.linker_laws.specs.Ppc64Machine.{Formats, go_on, step_prefixed, store, with_number, write, write_float}
 pub use Rattle.linker_laws.specs.Ppc64RelocationLaws.{Branches, Prefixes, TocAddresses}
-pub use Rattle.linker_laws.specs.RiscVMachine.{Hart, Instruction, Runs, adds, auipc, executed, fetched, goes_on, jumps, load_number, of_word, register, rs1_of, sums, with_integer}
+pub use Rattle.linker_laws.specs.Ppc64RewriteLaws.{prefixed_of, word_of}
 pub use Rattle.linker_laws.specs.Schemes.{AreAddresses, IsAddress, entry_and_addend, symbol_address}
-pub use Rattle.linker_laws.specs.X86Machine.{extended, load, store_8, with_register}
 pub use Rattle.linker_output.specs.AArch64Output.{aarch64_output}
 pub use Rattle.linker_output.specs.AArch64Stubs.{GoesTo, jumped, literal, registers_added, run_far, run_landing, run_stub, then_jumped}
-pub use Rattle.linker_output.specs.Inner.Placement.{AreLists, ArePlaces, AreServed, AreStubsOf, HasNoneAt, HasOwner, IsAt, IsLostBy, IsNear, IsNearIn, IsNew, IsNewNear, IsOutAfter, IsOutAhead, IsOutThere, IsServedBy, IsState, IsStubAt, IsStubOf, IsStuckIn, IsWay, SameStubs, StaysUnshared, Visited, bytes_before, level, level_of, list_at, list_of, new_stub, new_way, way_at, with_one}
+pub use Rattle.linker_output.specs.Inner.Placement.{AreLists, ArePlaces, AreServed, AreStubsOf, HasNoneAt, HasOwner, IsAt, IsLostBy, IsNear, IsNearIn, IsNew, IsNewNear, IsOutAfter, IsOutAhead, IsOutThere, IsServedBy, IsState, IsStubAt, IsStubOf, IsStuckIn, IsWay, SameStubs, StaysUnshared, Visited, level, level_of, list_at, new_stub, new_way, way_at, with_one}
+unfoldable pub use Rattle.linker_output.specs.Inner.Placement.{bytes_before, list_of}
 pub use Rattle.linker_output.specs.Inner.Properties.{AreSlim, IsSlim, IsWritable, Puts, put_all}
 pub use Rattle.linker_output.specs.Inner.Relr.{Leaves, capped, is_past, words_from, words_of}
 pub use Rattle.linker_output.specs.Layout.{Run, own_word, path_in, run_word, spacing_with}
@@ -51,10 +45,11 @@ pub use Rattle.linker_output.specs.LazyPlts.{aarch64_entry, aarch64_header, aarc
 pub use Rattle.linker_output.specs.LazyRuns.{continue_by, or_else, run_by, words}
 pub use Rattle.linker_output.specs.Placement.{AllGo, AreOfTwo, AreTwo, AreUsed, Goes, HasNoFar, HasPart, HasSpare, HasTarget, IsCode, IsFar, IsFarFrom, IsFirst, IsLaidOut, IsLayout, IsNextTo, IsShared, IsStuck, Reaches, ReachesAt, StubReaches, at, branch_at, end_of, group_at, most_bytes, part_of, passed, place_in, place_of, start_of, stub_at, stubs_in, target_place}
 pub use Rattle.linker_output.specs.Ppc64Output.{blr, by_prefixed, by_toc, jump_to_r12, load_link, mtlr_0, of_vectors, ppc64_output, save_link}
-pub use Rattle.linker_output.specs.Ppc64Saves.{Restores, RestoresFloats, RestoresIntegers, Returned, Returns, Saves, code_for, floats, integers, is_from, nothing_more, restored, return_address, returned, saved, slot, word_or_0}
 pub use Rattle.linker_output.specs.Ppc64Stubs.{Counted, at_count, continue, entered, four_words, is_mflr, is_mtctr, is_mtlr, lifted, linked, moved_from_link, moved_to_link, run, run_prefixed, step_counted, stepped, with_state}
-pub use Rattle.linker_output.specs.Properties.{Merges, MergesAlike, WritesMerged, WritesNote, WritesRead, are_ascending, before, bytes_of, fits, followed, is_header, list_words, merged, merged_by, merged_kind, merged_to, merged_with, note_words, of_kind, of_value, properties_of, property_at, property_words, rule_of, same_value, size_of, start, unless_zero, value_words, visit, visit_by, visit_note, visit_property, with_words, word_at, words_by}
+pub use Rattle.linker_output.specs.Properties.{Merges, MergesAlike, WritesMerged, WritesNote, WritesRead, are_ascending, before, fits, followed, is_header, list_words, merged, merged_by, merged_kind, merged_to, merged_with, note_words, of_kind, of_value, properties_of, property_at, property_words, rule_of, same_value, size_of, start, unless_zero, value_words, visit, visit_by, visit_note, visit_property, with_words, word_at, words_by}
+unfoldable pub use Rattle.linker_output.specs.Properties.{bytes_of, read}
 pub use Rattle.linker_output.specs.Relr.{Packs, RejectsAddresses, RejectsWords, Unpacks, WritesPacked, address_fault, are_addresses, relocated, relr_fault, word_fault}
+unfoldable pub use Rattle.linker_output.specs.Relr.{marked}
 pub use Rattle.linker_output.specs.Routes.{IsObstacle, by_jump, by_reach, has_no_toc, has_toc, loses_toc, stub_target}
 pub use Rattle.linker_output.specs.Stubs.{AppliesAt, IsValueCause, RejectsField, StubCode, WritesField, WritesPair, WritesStub, offset_in, operands_of}
 pub use Rattle.linker_output.specs.Tables.{code_of_words, field_of, field_of_32}
@@ -92,7 +87,7 @@ pub use Rattle.std.proofs.Math.Seq.{drop-append-add, take-append_seam}
 pub use Rattle.std.proofs.lemmas.Bool.{both_ways, cases_Bool, cases_lt, cases_order, cond-false, cond-true, eq-eqb, eqb-true, false≢true, le-leb, le-ltb, lt-leb, lt-ltb, ne_eqb, or_parts}
 pub use Rattle.std.proofs.lemmas.Bool.Decides.{nat_tests}
 pub use Rattle.std.proofs.lemmas.Int.{ints}
-pub use Rattle.std.proofs.lemmas.List.{append-nil, at_drop_all, at_drop_more, drop-drop, drop-set-lt, drop_all, drop_at, drop_more, get_or_append_left, get_or_past, get_or_push, get_or_read, length-append, length-drop, length-take, length-take-le, length_push, take-append-drop, take-take, take_all, take_at, take_more_set, take_rest, with_items_is}
+pub use Rattle.std.proofs.lemmas.List.{append-nil, at_drop_all, at_drop_more, drop-drop, drop-set-lt, drop_all, drop_at, drop_more, get_or_append_left, get_or_past, get_or_push, get_or_read, length-append, length-drop, length-set, length-take, length-take-le, length_push, take-append-drop, take-append-le, take-take, take_all, take_at, take_more_set, take_rest, with_items_is}
 pub use Rattle.std.proofs.lemmas.List.Sums.{get_or-le-sum_by, prefix_len-le-length, prefix_len_is, prefix_len_passes, prefix_len_stops, sum_by-cons, sum_by-set, sum_by-take-le, sum_by_more}
 pub use Rattle.std.proofs.lemmas.Nat.{and_assoc, and_comm, from_le_bytes-to_le_bytes_8, or_comm}
 pub use Rattle.std.proofs.lemmas.Nat.Bits.{bit_at-zero, bit_at_above, bit_at_and, bit_at_lowest, bit_at_or, bit_at_set_other, bit_at_set_same, same_from_bits, shr_and_one}

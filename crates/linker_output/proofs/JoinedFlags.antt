@@ -1,5 +1,5 @@
 -- `e_flags` that are joined: the order of objects doesn't matter.
-use Rattle.linker_output.proofs.Imports.{ℕ, ◌≡◌, ◌∙◌, sym, ap, subst, refl, arith, true, false, Some, None, ◌⊎◌, inl, inr, bit_and, bit_or, IfSome, if◌then◌else◌, bit_at, or_comm, cond-true, bit_at_or, bit_at_and, same_from_bits, bit_at-zero}
+use Rattle.linker_output.proofs.Imports.{IfSome, None, Some, ap, arith, bit_and, bit_at, bit_at-zero, bit_at_and, bit_at_or, bit_or, cond-true, false, if◌then◌else◌, inl, inr, or_comm, refl, same_from_bits, subst, sym, true, ℕ, ◌∙◌, ◌≡◌, ◌⊎◌}
 use Rattle.std.specs.Int.Bits.{or_self}
 use Rattle.linker_output.specs.Flags.{go_together, undefined, joined_flags, JoinsAlike, KeepsItself, joined_to, joined_with}
 use Rattle.linker_output.specs.declared.flags.FlagRules.{FlagRules}

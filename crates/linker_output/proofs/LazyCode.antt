@@ -1,6 +1,5 @@
 -- Pieces of a lazy PLT's code that are written one after the other.
-use Rattle.std.proofs.Common.{ℕ, ◌≡◌, ◌≤◌, ◌+◌, ◌++◌, ◌∙◌, List, sym, ap, arith, length, take, drop}
-use Rattle.std.proofs.lemmas.List.{take-append-le, take-append-drop, length-take-le, drop_at, append_assoc}
+use Rattle.linker_output.proofs.Imports.{List, ap, append_assoc, arith, drop, drop_at, length, length-take-le, sym, take, take-append-drop, take-append-le, ℕ, ◌++◌, ◌+◌, ◌∙◌, ◌≡◌, ◌≤◌}
 
 -- the bytes before a place, of those before a later one
 fewer : (out : List ℕ) (at n : ℕ) → at + n ≤ length out → take at (take (at + n) out) ≡ take at out

@@ -1,5 +1,5 @@
 -- Runs of words, and the words of a lazy PLT's code.
-use Rattle.linker_output.proofs.Imports.{◌≡◌, ℕ, ◌+◌, ◌*◌, ◌/◌, ◌^◌, ◌<◌, ◌≤◌, suc, pos, negsuc, ◌+ℤ◌, Bool, false, sym, ◌∙◌, ap, arith, List, ◌∷◌, ◌++◌, eqb, Some, None, Option, take, drop, length, ◌||◌, eq-eqb, cond-true, or_parts, drop_at, take_at, length-take, ints, sum_64, difference_64, moved, wrapped_is, AreAddresses, operands_at, target_at, words, run_by, continue_by, LazyEntry, LazyField}
+use Rattle.linker_output.proofs.Imports.{AreAddresses, Bool, LazyEntry, LazyField, List, None, Option, Some, ap, arith, cond-true, continue_by, difference_64, drop, drop_at, eq-eqb, eqb, false, ints, length, length-take, moved, negsuc, operands_at, or_parts, pos, run_by, suc, sum_64, sym, take, take_at, target_at, words, wrapped_is, ℕ, ◌*◌, ◌++◌, ◌+ℤ◌, ◌+◌, ◌/◌, ◌<◌, ◌^◌, ◌||◌, ◌∙◌, ◌∷◌, ◌≡◌, ◌≤◌}
 use Rattle.linker_output.proofs.StubWords.{word, front_word}
 
 pub run_more : {S : Type 0} (pc : S → ℕ) (step : ℕ → S → Option S) (x y : ℕ) (rest : List ℕ)

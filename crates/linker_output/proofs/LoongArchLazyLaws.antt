@@ -1,12 +1,11 @@
 -- LoongArch's lazy PLT.
-use Rattle.linker_output.proofs.Imports.{◌≡◌, ◌≢◌, ℕ, ◌/◌, ◌^◌, ◌<◌, ◌≤◌, false, refl, sym, ◌∙◌, ap, subst, arith, List, [], ◌∷◌, ◌++◌, take, eqb, cond, Some, pos, negsuc, ◌+ℤ◌, ◌*ℤ◌, ◌||◌, ◌==◌, IsSomeAnd, ne_eqb, cond-true, cond-false, or_parts, field, loongarch_name, loongarch_row, sum_64, difference_64, Operands, next_pc, register_target, rd_of, rj_of, wrapped, loaded, IsAddress, symbol_address, loaded_of, IsHigh, IsLow, high_after, low_after, LoongArch64, three_words, sum_zero, signed, read, sum_of, in_two_steps, step_load, step_sum, written, decodes_load, decodes_sum, operands_at, header_places, loongarch_entry, padded, words, or_else, field_of, field_of_32, code_of_words, LazyEntry, Word}
+use Rattle.linker_output.proofs.Imports.{IsAddress, IsHigh, IsLow, IsSomeAnd, LazyEntry, List, LoongArch64, Operands, Some, Word, [], ap, arith, code_of_words, cond, cond-false, cond-true, decodes_load, decodes_sum, difference_64, eqb, false, field, field_of, field_of_32, header_places, high_after, loaded, loongarch_entry, loongarch_name, loongarch_row, low_after, ne_eqb, negsuc, operands_at, or_else, or_parts, padded, pos, rd_of, refl, rj_of, signed, subst, sum_64, sum_zero, sym, symbol_address, take, three_words, word_of, words, wrapped, ℕ, ◌*ℤ◌, ◌++◌, ◌+ℤ◌, ◌/◌, ◌<◌, ◌==◌, ◌^◌, ◌||◌, ◌∙◌, ◌∷◌, ◌≡◌, ◌≢◌, ◌≤◌}
+use Rattle.linker_laws.specs.LoongArchMachine.{next_pc, register_target, read, sum_of, State, write, go_to}
+use Rattle.linker_laws.proofs.LoongArchSteps.{loaded_of, step_load, step_sum, written, set}
+use Rattle.linker_laws.proofs.AArch64Steps.{in_two_steps, address_is}
 use Rattle.linker_elf.specs.declared.loongarch64.relocations.LoongArch64Relocation.TheVariants as r
 use Rattle.linker_laws.specs.LoongArchMachine as machine
-use Rattle.linker_laws.specs.LoongArchMachine.{State, write, go_to}
 use Rattle.linker_laws.specs.LoongArchRelocationLaws as relocation_laws
-use Rattle.linker_laws.specs.LoongArchRewriteLaws.{word_of}
-use Rattle.linker_laws.proofs.AArch64Steps.{address_is}
-use Rattle.linker_laws.proofs.LoongArchSteps.{set}
 use Rattle.linker_output.proofs.LazyRuns.{run_more, second_and_last, one_word, are_addresses_at, eight_on, offset_is}
 use Rattle.linker_output.proofs.LoongArchStubLaws.{stays}
 use Rattle.linker_output.proofs.StubWords.{applies, no_addend}

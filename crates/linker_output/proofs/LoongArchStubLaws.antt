@@ -1,13 +1,12 @@
 -- LoongArch's stubs go to their targets.
-use Rattle.linker_output.proofs.Imports.{◌≡◌, ℕ, ◌/◌, ◌^◌, ◌<◌, Bool, true, false, refl, sym, ◌∙◌, ap, subst, arith, [], ◌∷◌, eqb, cond, Some, None, Option, drop, length, pos, ◌+ℤ◌, ◌*ℤ◌, IsSomeAnd, eq-eqb, cond-true, ints, append-nil, loongarch_name, loongarch_row, rd_of, rj_of, next_pc, register_target, wrapped, loaded, loaded_of, IsLow, high_after, low_after, sum_zero, IsCall, execute, page_address, far_address, AreBytes, Relocated, entry_and_addend, StubCode, operands_of, field_of}
+use Rattle.linker_output.proofs.Imports.{AreBytes, Bool, IsCall, IsLow, IsSomeAnd, None, Option, Relocated, Some, StubCode, [], ap, append-nil, arith, cond, cond-true, drop, entry_and_addend, eq-eqb, eqb, false, field_of, high_after, ints, length, loaded, loongarch_name, loongarch_row, low_after, operands_of, pos, rd_of, refl, rj_of, subst, sum_zero, sym, true, word_of, wrapped, ℕ, ◌*ℤ◌, ◌+ℤ◌, ◌/◌, ◌<◌, ◌^◌, ◌∙◌, ◌∷◌, ◌≡◌}
+use Rattle.linker_laws.specs.LoongArchMachine.{next_pc, register_target, execute, page_address, far_address, State, step, run, write, continue, go_to, go_on}
+use Rattle.linker_laws.proofs.LoongArchSteps.{loaded_of, set, run_pair}
 use Rattle.std.proofs.lemmas.List.Elements.{All-cons, All-nil}
 use Rattle.linker_elf.specs.declared.loongarch64.relocations.LoongArch64Relocation.TheVariants as r
-use Rattle.linker_laws.specs.LoongArchMachine.{State, step, run, write, continue, go_to, go_on}
 use Rattle.linker_laws.specs.LoongArchRelocationLaws as relocation_laws
-use Rattle.linker_laws.specs.LoongArchRewriteLaws.{word_of}
 use Rattle.linker_laws.proofs.LoongArchCalls.{call_is, decodes_far, decodes_jirl, new_first, new_second, target_is}
 use Rattle.linker_laws.proofs.LoongArchPairs.{loads}
-use Rattle.linker_laws.proofs.LoongArchSteps.{set, run_pair}
 use Rattle.linker_output.proofs.StubWords.{front_word, first_is, second_is, third_is, applies, no_addend, are_addresses}
 use Rattle.linker_output.specs.LoongArchOutput.{loongarch_output}
 use Rattle.linker_output.specs.LoongArchStubs.{GoesTo}

@@ -1,5 +1,5 @@
 -- Properties that are merged type by type.
-use Rattle.linker_output.proofs.Imports.{◌≡◌, ◌≢◌, ℕ, ◌+◌, ◌<◌, ◌≤◌, ◌^◌, true, List, [], ◌∷◌, ◌++◌, length, set, drop, refl, sym, ◌∙◌, ap, subst, arith, Option, Some, None, Ok, inl, inr, nat_tests, cases_lt, Architecture, X86_64, rule_of, merged, merged_by, merged_kind, of_kind, are_ascending, Merges, put_all, Property, PropertyRule, All, Any, AnyOfAll, Largest, Present, Same}
+use Rattle.linker_output.proofs.Imports.{All, Any, AnyOfAll, Architecture, Largest, List, Merges, None, Ok, Option, Present, Property, PropertyRule, Same, Some, X86_64, [], ap, are_ascending, arith, cases_lt, drop, inl, inr, length, merged, merged_by, merged_kind, nat_tests, of_kind, put_all, refl, rule_of, set, subst, sym, true, ℕ, ◌++◌, ◌+◌, ◌<◌, ◌^◌, ◌∙◌, ◌∷◌, ◌≡◌, ◌≢◌, ◌≤◌}
 
 -- ---- lists
 

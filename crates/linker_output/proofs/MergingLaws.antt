@@ -1,5 +1,5 @@
 -- The order in which properties are merged doesn't matter.
-use Rattle.linker_output.proofs.Imports.{◌≡◌, ℕ, refl, sym, ◌∙◌, ap, arith, Option, Some, None, Ok, bit_and, bit_or, max, List, nat_tests, or_comm, Architecture, and_comm, and_assoc, rule_of, of_kind, merged_kind, MergesAlike, merged_by, merged_to, merged_with, unless_zero, of_value, same_value, Property, PropertyRule, All, Any, AnyOfAll, Largest, Present, Same}
+use Rattle.linker_output.proofs.Imports.{All, Any, AnyOfAll, Architecture, Largest, List, MergesAlike, None, Ok, Option, Present, Property, PropertyRule, Same, Some, and_assoc, and_comm, ap, arith, bit_and, bit_or, max, merged_by, merged_kind, merged_to, merged_with, nat_tests, of_kind, of_value, or_comm, refl, rule_of, same_value, sym, unless_zero, ℕ, ◌∙◌, ◌≡◌}
 use Rattle.linker_output.specs.Properties.{value_of}
 use Rattle.linker_output.proofs.JoinedFlags.{or_assoc}
 

@@ -1,5 +1,5 @@
 -- Stubs at the boundary next to a branch stay in its reach.
-use Rattle.linker_output.proofs.Imports.{◌≡◌, ◌+◌, ◌*◌, ◌<◌, ◌≤◌, ◌∙◌, ℕ, arith, List, length, ap, sym, subst, inl, mul-le-mul_left, Branch, Code, Group, Part, Front, Middle, Back, State, StubAt, Near, passed, at, group_at, branch_at, stub_at, stubs_in, place_in, place_of, start_of, end_of, HasPart, ReachesAt, IsLaidOut, IsState, IsWay, IsNear, IsNearIn, ArePlaces, IsServedBy, SameStubs, way_at}
+use Rattle.linker_output.proofs.Imports.{ArePlaces, Back, Branch, Code, Front, Group, HasPart, IsLaidOut, IsNear, IsNearIn, IsServedBy, IsState, IsWay, List, Middle, Near, Part, ReachesAt, SameStubs, State, StubAt, ap, arith, at, branch_at, end_of, group_at, inl, length, mul-le-mul_left, passed, place_in, place_of, start_of, stub_at, stubs_in, subst, sym, way_at, ℕ, ◌*◌, ◌+◌, ◌<◌, ◌∙◌, ◌≡◌, ◌≤◌}
 use Rattle.linker_output.proofs.Bounds.{part_most}
 use Rattle.linker_output.proofs.Groups.{size_least}
 

@@ -1,5 +1,5 @@
 -- The boundaries at or below an offset.
-use Rattle.linker_output.proofs.Imports.{◌≡◌, ◌<◌, ◌≤◌, ℕ, true, false, rules, tests, nat_le}
+use Rattle.linker_output.proofs.Imports.{false, nat_le, rules, tests, true, ℕ, ◌<◌, ◌≡◌, ◌≤◌}
 
 pub le_true : (a b : ℕ) → a ≤ b → nat_le a b ≡ true
 le_true a b h = search (rules, tests)

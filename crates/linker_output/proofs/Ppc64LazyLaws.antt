@@ -1,12 +1,10 @@
 -- PowerPC64's lazy PLT.
-use Rattle.linker_output.proofs.Imports.{◌≡◌, ℕ, ℤ, ◌+◌, ◌-◌, ◌*◌, ◌%◌, ◌^◌, ◌<◌, Bool, true, false, refl, sym, ◌∙◌, ap, subst, arith, List, [], ◌∷◌, ◌++◌, take, drop, length, eqb, cond, Some, pos, negsuc, ◌+ℤ◌, ◌*ℤ◌, ◌==◌, ◌&&◌, ◌||◌, IsSomeAnd, w64, from_le_bytes, cast_unsigned, cond-true, ints, drop-drop, take_at, length-take, field, ppc64_form, ppc64_name, ppc64_row, number_of_bytes, sum_64, difference_64, loaded, moved, wrapped, Formats, write, go_on, address_is, times_one, wrapped_is, opcode_of, sum_zero, replicate, InstructionWritten, Branch24, Branches, field_kept, operands_at, header_places, padded, words, or_else, Counted, lifted, step_counted, with_state, moved_from_link, moved_to_link, linked, at_count, field_of, code_of_words, LazyField, Word, Header}
-use Rattle.linker_base.specs.Form.{bits_to, place_sum}
+use Rattle.linker_output.proofs.Imports.{Bool, Branch24, Branches, Counted, Header, InstructionWritten, IsSomeAnd, LazyField, List, Some, Word, [], address_is, ap, arith, at_count, bits_to, cast_unsigned, code_of_words, cond, cond-true, difference_64, drop, drop-drop, eqb, false, field, field_kept, field_of, from_le_bytes, header_places, ints, length, length-take, lifted, linked, loaded, moved, moved_from_link, moved_to_link, negsuc, number_of_bytes, opcode_of, operands_at, or_else, padded, place_sum, pos, ppc64_form, ppc64_name, ppc64_row, refl, replicate, step_counted, subst, sum_64, sum_zero, sym, take, take_at, times_one, true, w64, with_state, word_of, words, wrapped, wrapped_is, ℕ, ℤ, ◌%◌, ◌&&◌, ◌*ℤ◌, ◌*◌, ◌++◌, ◌+ℤ◌, ◌+◌, ◌-◌, ◌<◌, ◌==◌, ◌^◌, ◌||◌, ◌∙◌, ◌∷◌, ◌≡◌}
+use Rattle.linker_laws.specs.Ppc64Machine.{Formats, write, go_on, go_to}
 use Rattle.linker_base.specs.declared.bit_misc.BitRange.{BitRange}
 use Rattle.linker_elf.specs.declared.elf.AnyForm.TheVariants.{Ppc64}
 use Rattle.linker_elf.specs.declared.ppc64.relocations.Ppc64Relocation.TheVariants as r
-use Rattle.linker_laws.specs.Ppc64Machine.{go_to}
 use Rattle.linker_laws.specs.Ppc64RelocationLaws.{Fields}
-use Rattle.linker_laws.specs.Ppc64RewriteLaws.{word_of}
 use Rattle.linker_output.proofs.LazyRuns.{run_more, one_word, following, are_addresses_at, eight_on, no_move}
 use Rattle.linker_output.proofs.StubWords.{applies, no_addend}
 use Rattle.linker_output.specs.Ppc64LazyPlt.{step, run, is_b, rotated, Asks}

@@ -1,11 +1,10 @@
 -- PowerPC64's functions that save and restore registers.
-use Rattle.linker_output.proofs.Imports.{◌≡◌, ◌≢◌, ℕ, zero, suc, ◌+◌, ◌-◌, ◌*◌, ◌/◌, ◌%◌, ◌^◌, ◌<◌, ◌≤◌, Bool, true, false, refl, sym, ◌∙◌, ap, subst, arith, List, [], ◌∷◌, length, eqb, Some, None, Option, pos, negsuc, ◌+ℤ◌, inl, inr, ◌&&◌, codes, IsSomeAnd, nat_lt, nat_le, if◌then◌else◌, eq-eqb, ne_eqb, cond-true, cond-false, false≢true, le-ltb, cases_lt, ints, field, sum_64, difference_64, Memory, moved, loaded, stored, Formats, write, store, go_on, with_number, wrapped_is, eqb-true, lt-ltb, le-leb, lt-leb, write_float, Run, spacing_with, own_word, run_word, save_link, load_link, mtlr_0, blr, returned, word_or_0, code_for, slot, is_from, saved, restored, Saves, Returns, Returned, Restores, RestoresIntegers, RestoresFloats, integers, floats, nothing_more, return_address, Counted, with_state, moved_to_link}
+use Rattle.linker_output.proofs.Imports.{Bool, Counted, IsSomeAnd, List, Memory, None, Option, Run, Some, [], ap, arith, blr, cases_lt, codes, cond-false, cond-true, difference_64, eq-eqb, eqb, eqb-true, false, false≢true, field, if◌then◌else◌, inl, inr, ints, le-leb, le-ltb, length, load_link, loaded, lt-leb, lt-ltb, moved, moved_to_link, mtlr_0, nat_le, nat_lt, ne_eqb, negsuc, own_word, place_sum, pos, refl, run_word, save_link, spacing_with, stored, subst, suc, sum_64, sym, true, with_state, wrapped_is, zero, ℕ, ◌%◌, ◌&&◌, ◌*◌, ◌+ℤ◌, ◌+◌, ◌-◌, ◌/◌, ◌<◌, ◌^◌, ◌∙◌, ◌∷◌, ◌≡◌, ◌≢◌, ◌≤◌}
+use Rattle.linker_laws.specs.Ppc64Machine.{Formats, write, store, go_on, with_number, write_float, State}
+use Rattle.linker_output.specs.Ppc64Saves.{returned, word_or_0, code_for, slot, is_from, saved, restored, Saves, Returns, Returned, Restores, RestoresIntegers, RestoresFloats, integers, floats, nothing_more, return_address, step, run, words_from}
 use Rattle.std.specs.Prelude.{⊤}
-use Rattle.linker_base.specs.Form.{place_sum}
-use Rattle.linker_laws.specs.Ppc64Machine.{State}
 use Rattle.linker_output.proofs.LazyRuns.{run_more}
 use Rattle.linker_output.specs.Ppc64Output.{of_registers}
-use Rattle.linker_output.specs.Ppc64Saves.{step, run, words_from}
 use Rattle.linker_output.specs.Ppc64Saves as laws
 
 -- ---- what holds of each number below another

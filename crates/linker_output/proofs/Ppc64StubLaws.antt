@@ -1,10 +1,8 @@
 -- PowerPC64's stubs go to their targets.
-use Rattle.linker_output.proofs.Imports.{◌≡◌, ℕ, ◌-◌, ◌%◌, ◌^◌, Bool, true, false, refl, sym, ◌∙◌, ap, subst, arith, List, [], ◌∷◌, ◌++◌, eqb, cond, Some, None, Option, drop, length, pos, ◌+ℤ◌, ◌*ℤ◌, IsSomeAnd, ◌||◌, ◌&&◌, ◌==◌, if◌then◌else◌, eq-eqb, cond-true, drop-drop, field, ppc64_form, ppc64_name, ppc64_row, sum_64, D, Ds, loaded, moved, Formats, go_on, TocAddresses, IsAddress, symbol_address, reads_ds, same_parts, HasParts, d_after, ds_after, sum_leads, step_addis, step_ld, opcode_of, rt_of, ra_of, three_words, step_addi, ppc64_output, Counted, step_counted, stepped, lifted, with_state, run, continue, entered, moved_from_link, moved_to_link, linked, at_count, is_mflr, is_mtlr, is_mtctr, StubCode, operands_of, field_of}
-use Rattle.linker_base.specs.Form.{place_sum}
+use Rattle.linker_output.proofs.Imports.{Bool, Counted, D, Ds, IsAddress, IsSomeAnd, List, None, Option, Some, StubCode, TocAddresses, [], ap, arith, at_count, cond, cond-true, continue, drop, drop-drop, entered, eq-eqb, eqb, false, field, field_of, if◌then◌else◌, is_mflr, is_mtctr, is_mtlr, length, lifted, linked, loaded, moved, moved_from_link, moved_to_link, opcode_of, operands_of, place_sum, pos, ppc64_form, ppc64_name, ppc64_output, ppc64_row, ra_of, reads_ds, refl, rt_of, run, same_parts, step_counted, stepped, subst, sum_64, sym, symbol_address, three_words, true, with_state, word_of, ℕ, ◌%◌, ◌&&◌, ◌*ℤ◌, ◌++◌, ◌+ℤ◌, ◌-◌, ◌==◌, ◌^◌, ◌||◌, ◌∙◌, ◌∷◌, ◌≡◌}
+use Rattle.linker_laws.specs.Ppc64Machine.{Formats, go_on, State, step, next_pc}
+use Rattle.linker_laws.proofs.Ppc64Words.{HasParts, d_after, ds_after, sum_leads, step_addis, step_ld, step_addi, set}
 use Rattle.linker_elf.specs.declared.ppc64.relocations.Ppc64Relocation.TheVariants as r
-use Rattle.linker_laws.specs.Ppc64Machine.{State, step, next_pc}
-use Rattle.linker_laws.specs.Ppc64RewriteLaws.{word_of}
-use Rattle.linker_laws.proofs.Ppc64Words.{set}
 use Rattle.linker_output.proofs.StubWords.{front_word, first_is, second_is, third_is, applies, no_addend, are_addresses}
 use Rattle.linker_output.specs.Ppc64Stubs.{at, GoesTo}
 use Rattle.linker_output.specs.Ppc64Stubs as stubs

@@ -1,10 +1,10 @@
 -- PowerPC64's stubs by the TOC pointer and by prefixed instructions go to their targets.
-use Rattle.linker_output.proofs.Imports.{◌≡◌, ℕ, ◌-◌, ◌%◌, ◌^◌, ◌<◌, Bool, true, false, refl, sym, ◌∙◌, ap, subst, arith, List, [], ◌∷◌, ◌++◌, eqb, cond, Some, None, take, drop, length, pos, ◌+ℤ◌, ◌*ℤ◌, IsSomeAnd, ◌||◌, eq-eqb, cond-true, drop-drop, field, ppc64_form, ppc64_name, ppc64_row, sum_64, Ppc64, D, Ds, loaded, moved, Formats, go_on, TocAddresses, IsAddress, symbol_address, reads_ds, same_parts, HasParts, d_after, ds_after, sum_leads, step_addis, step_ld, times_one, address_is, opcode_of, rt_of, ra_of, sum_zero, take-append_seam, Prefixed, step_prefixed, Prefixes, by_toc, by_prefixed, jump_to_r12, Counted, with_state, lifted, run, continue, at_count, four_words, run_prefixed, operands_of, WritesPair, field_of, code_of_words}
+use Rattle.linker_output.proofs.Imports.{Bool, Counted, D, Ds, IsAddress, IsSomeAnd, List, None, Prefixed, Prefixes, Some, TocAddresses, WritesPair, [], address_is, ap, arith, at_count, by_prefixed, by_toc, code_of_words, cond, cond-true, continue, drop, drop-drop, eq-eqb, eqb, false, field, field_of, four_words, jump_to_r12, length, lifted, loaded, moved, opcode_of, operands_of, pos, ppc64_form, ppc64_name, ppc64_row, prefixed_of, ra_of, reads_ds, refl, rt_of, run, run_prefixed, same_parts, subst, sum_64, sum_zero, sym, symbol_address, take, take-append_seam, times_one, true, with_state, word_of, ℕ, ◌%◌, ◌*ℤ◌, ◌++◌, ◌+ℤ◌, ◌-◌, ◌<◌, ◌^◌, ◌||◌, ◌∙◌, ◌∷◌, ◌≡◌}
+use Rattle.linker_elf.specs.declared.elf.architecture.Architecture.TheVariants.{Ppc64}
+use Rattle.linker_laws.specs.Ppc64Machine.{Formats, go_on, step_prefixed, State}
+use Rattle.linker_laws.proofs.Ppc64Words.{HasParts, d_after, ds_after, sum_leads, step_addis, step_ld, set}
 use Rattle.linker_elf.specs.declared.ppc64.relocations.Ppc64Relocation.TheVariants as r
-use Rattle.linker_laws.specs.Ppc64Machine.{State}
-use Rattle.linker_laws.specs.Ppc64RewriteLaws.{word_of, prefixed_of}
 use Rattle.linker_laws.proofs.Ppc64Prefixed.{HasPrefixedParts, prefixed_after, set_8, step_pld, step_paddi}
-use Rattle.linker_laws.proofs.Ppc64Words.{set}
 use Rattle.linker_output.proofs.Ppc64StubLaws.{run_more, of_machine}
 use Rattle.linker_output.proofs.StubWords.{front_word, first_is, second_is, third_is, applies, no_addend, are_addresses}
 use Rattle.linker_output.specs.Ppc64Stubs.{at, GoesTo}

@@ -1,6 +1,7 @@
 -- PowerPC64's functions that save and restore vector registers.
-use Rattle.linker_output.proofs.Imports.{◌≡◌, ℕ, zero, suc, ◌+◌, ◌-◌, ◌*◌, ◌/◌, ◌%◌, ◌^◌, ◌<◌, ◌≤◌, refl, sym, ◌∙◌, ap, subst, arith, List, [], ◌∷◌, eqb, Some, Option, pos, negsuc, ◌+ℤ◌, codes, IsSomeAnd, nat_lt, if◌then◌else◌, cond-false, le-ltb, ints, field, sum_64, difference_64, Memory, moved, loaded, stored, Formats, write, store, go_on, with_number, wrapped_is, of_vectors, blr, returned, is_from, with_state}
-use Rattle.linker_base.specs.Form.{place_sum}
+use Rattle.linker_output.proofs.Imports.{IsSomeAnd, List, Memory, Option, Some, [], ap, arith, blr, codes, cond-false, difference_64, eqb, field, if◌then◌else◌, ints, le-ltb, loaded, moved, nat_lt, negsuc, of_vectors, place_sum, pos, refl, stored, subst, suc, sum_64, sym, with_state, wrapped_is, zero, ℕ, ◌%◌, ◌*◌, ◌+ℤ◌, ◌+◌, ◌-◌, ◌/◌, ◌<◌, ◌^◌, ◌∙◌, ◌∷◌, ◌≡◌, ◌≤◌}
+use Rattle.linker_laws.specs.Ppc64Machine.{Formats, write, store, go_on, with_number}
+use Rattle.linker_output.specs.Ppc64Saves.{returned, is_from}
 use Rattle.linker_output.proofs.LazyRuns.{run_more}
 use Rattle.linker_output.proofs.Ppc64SaveLaws.{after, below_at, joined, kept, one_restored, none_from}
 use Rattle.linker_output.specs.Ppc64Vectors.{Vectored, step_vectored, run_vectored, vector_code, quadword, vector_slot, vectors_saved, vectors_restored, ReturnsVectored, SavesVectors, RestoresVectors}

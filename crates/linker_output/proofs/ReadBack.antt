@@ -1,6 +1,6 @@
 -- A note that was written is read as the properties that were written.
-use Rattle.linker_output.proofs.Imports.{◌≡◌, ℕ, ◌+◌, ◌-◌, ◌*◌, ◌/◌, ◌%◌, ◌<◌, ◌≤◌, ◌^◌, true, false, List, [], ◌∷◌, ◌++◌, length, take, drop, refl, sym, ◌∙◌, ap, subst, arith, suc, Option, Some, None, Result, Ok, Err, append_assoc, nat_lt, ◌&&◌, ◌==◌, if◌then◌else◌, w64, to_le_bytes, from_le_bytes, drop_at, length-append, take_at, nat_tests, Architecture, from_le_bytes-to_le_bytes_8, words_by, with_words, property_words, value_words, rule_of, fits, note_words, word_at, size_of, property_at, visit, visit_note, start, properties_of, before, is_header, WritesNote, Property, Reading, PropertyRule, All, Any, AnyOfAll, Largest, Present, Same, PropertyError, IsSlim, AreSlim}
-use Rattle.linker_output.specs.Properties.{bytes_of, words_from, padded, read}
+use Rattle.linker_output.proofs.Imports.{All, Any, AnyOfAll, Architecture, AreSlim, Err, IsSlim, Largest, List, None, Ok, Option, Present, Property, PropertyError, PropertyRule, Reading, Result, Same, Some, WritesNote, [], ap, append_assoc, arith, before, bytes_of, drop, drop_at, false, fits, from_le_bytes, from_le_bytes-to_le_bytes_8, if◌then◌else◌, is_header, length, length-append, nat_lt, nat_tests, note_words, properties_of, property_at, property_words, read, refl, rule_of, size_of, start, subst, suc, sym, take, take_at, to_le_bytes, true, value_words, visit, visit_note, w64, with_words, word_at, words_by, ℕ, ◌%◌, ◌&&◌, ◌*◌, ◌++◌, ◌+◌, ◌-◌, ◌/◌, ◌<◌, ◌==◌, ◌^◌, ◌∙◌, ◌∷◌, ◌≡◌, ◌≤◌}
+use Rattle.linker_output.specs.Properties.{words_from, padded}
 use Rattle.linker_output.specs.declared.properties.PropertyError.TheVariants.{TooLarge, NotAscending}
 use Rattle.linker_output.proofs.WrittenProperties.{length_bytes, bytes_append, word_count, with_header}
 use Rattle.linker_output.proofs.ReadProperties.{on_step, at_end}

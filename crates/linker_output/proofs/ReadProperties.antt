@@ -1,6 +1,6 @@
 -- Properties that are read step by step.
-use Rattle.linker_output.proofs.Imports.{◌≡◌, ℕ, ◌+◌, ◌-◌, ◌/◌, ◌%◌, ◌<◌, ◌≤◌, ◌^◌, true, false, List, [], ◌∷◌, ◌++◌, length, refl, sym, ◌∙◌, ap, arith, zero, suc, Option, Some, None, Result, Ok, Err, nat_lt, append_assoc, ◌==◌, if◌then◌else◌, nat_tests, append-nil, Architecture, rule_of, visit, visit_by, visit_note, visit_property, before, followed, start, properties_of, word_at, Property, Reading, PropertyRule, PropertyError}
-use Rattle.linker_output.specs.Properties.{read, padded}
+use Rattle.linker_output.proofs.Imports.{Architecture, Err, List, None, Ok, Option, Property, PropertyError, PropertyRule, Reading, Result, Some, [], ap, append-nil, append_assoc, arith, before, false, followed, if◌then◌else◌, length, nat_lt, nat_tests, properties_of, read, refl, rule_of, start, suc, sym, true, visit, visit_by, visit_note, visit_property, word_at, zero, ℕ, ◌%◌, ◌++◌, ◌+◌, ◌-◌, ◌/◌, ◌<◌, ◌==◌, ◌^◌, ◌∙◌, ◌∷◌, ◌≡◌, ◌≤◌}
+use Rattle.linker_output.specs.Properties.{padded}
 
 -- ---- a step goes on, and stays in the section
 

@@ -1,6 +1,5 @@
 -- No fewer words relocate the addresses.
-use Rattle.linker_output.proofs.Imports.{◌≡◌, ℕ, ◌+◌, ◌*◌, ◌<◌, ◌≤◌, Bool, true, false, List, [], ◌∷◌, ◌++◌, length, refl, arith, nat_lt, nat_le, cond, zero, suc, nat_tests, relocated}
-use Rattle.linker_output.specs.Relr.{marked}
+use Rattle.linker_output.proofs.Imports.{Bool, List, [], arith, cond, false, length, marked, nat_le, nat_lt, nat_tests, refl, relocated, suc, true, zero, ℕ, ◌*◌, ◌++◌, ◌+◌, ◌<◌, ◌∷◌, ◌≡◌, ◌≤◌}
 
 -- how many words more are needed for addresses where those below an end are in words already
 unfoldable pub cost_next : ℕ → ℕ → (ℕ → ℕ) → ℕ

@@ -1,8 +1,6 @@
 -- Lists of numbers that are written one after the other, and words without a fault.
-use Rattle.linker_output.proofs.Imports.{◌≡◌, ◌≢◌, ℕ, ◌+◌, ◌-◌, ◌*◌, ◌%◌, ◌^◌, ◌<◌, ◌≤◌, Bool, true, false, List, [], ◌∷◌, ◌++◌, length, take, drop, set, refl, sym, ◌∙◌, ap, subst, arith, nat_lt, nat_eq, cond, zero, suc, Option, Some, None, append_assoc, ◌||◌, ◌&&◌, ◌==◌, if◌then◌else◌, get_or, nat_tests, append-nil, take-append-drop, length-append, bit_at, list_all, take_more_set, drop-set-lt, relocated, word_fault, relr_fault, are_addresses, RejectsWords, RelrError, TooShort, capped, Leaves}
-use Rattle.std.proofs.lemmas.List.{length-set}
+use Rattle.linker_output.proofs.Imports.{Bool, Leaves, List, None, Option, RejectsWords, RelrError, Some, TooShort, [], ap, append-nil, append_assoc, are_addresses, arith, bit_at, capped, cond, drop, drop-set-lt, false, get_or, if◌then◌else◌, length, length-append, length-set, list_all, marked, nat_eq, nat_lt, nat_tests, refl, relocated, relr_fault, set, subst, suc, sym, take, take-append-drop, take_more_set, true, word_fault, zero, ℕ, ◌%◌, ◌&&◌, ◌*◌, ◌++◌, ◌+◌, ◌-◌, ◌<◌, ◌==◌, ◌^◌, ◌||◌, ◌∙◌, ◌∷◌, ◌≡◌, ◌≢◌, ◌≤◌}
 use Rattle.std.proofs.lemmas.List.Folds.{list_all-append}
-use Rattle.linker_output.specs.Relr.{marked}
 use Rattle.linker_output.proofs.RelrWords.{leaves_more}
 use Rattle.linker_output.specs.Inner.Relr.{put_all}
 use Rattle.linker_elf.proofs.Terms.{and_false}

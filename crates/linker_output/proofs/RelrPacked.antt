@@ -1,6 +1,5 @@
 -- The words that the code makes relocate the addresses.
-use Rattle.linker_output.proofs.Imports.{◌≡◌, ◌≢◌, ℕ, ◌+◌, ◌-◌, ◌*◌, ◌/◌, ◌%◌, ◌^◌, ◌<◌, ◌≤◌, Bool, true, false, List, [], ◌∷◌, ◌++◌, length, refl, sym, ◌∙◌, ap, subst, arith, nat_eq, cond, zero, suc, Option, Some, None, bit_or, append_assoc, ◌⊎◌, inl, inr, nat_tests, append-nil, bit_at, w64, list_all, bit_at_above, bit_at_set_same, bit_at_set_other, bit_at_lowest, cases_Bool, relocated, address_fault, are_addresses, relr_fault, word_fault, Packs, RejectsAddresses, words_from, words_of, is_past, RelrError, TooShort}
-use Rattle.linker_output.specs.Relr.{marked}
+use Rattle.linker_output.proofs.Imports.{Bool, List, None, Option, Packs, RejectsAddresses, RelrError, Some, TooShort, [], address_fault, ap, append-nil, append_assoc, are_addresses, arith, bit_at, bit_at_above, bit_at_lowest, bit_at_set_other, bit_at_set_same, bit_or, cases_Bool, cond, false, inl, inr, is_past, length, list_all, marked, nat_eq, nat_tests, refl, relocated, relr_fault, subst, suc, sym, true, w64, word_fault, words_from, words_of, zero, ℕ, ◌%◌, ◌*◌, ◌++◌, ◌+◌, ◌-◌, ◌/◌, ◌<◌, ◌^◌, ◌∙◌, ◌∷◌, ◌≡◌, ◌≢◌, ◌≤◌, ◌⊎◌}
 use Rattle.linker_output.proofs.RelrLists.{is_sound, no_fault}
 use Rattle.linker_output.proofs.RelrFewest.{cost, cost_next, cost_words}
 use Rattle.linker_output.proofs.RelrWords.{past_words, near_words, far_words, clean}

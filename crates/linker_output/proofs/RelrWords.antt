@@ -1,5 +1,5 @@
 -- Words of packed relative relocations.
-use Rattle.linker_output.proofs.Imports.{◌≡◌, ◌≢◌, ℕ, ◌+◌, ◌-◌, ◌*◌, ◌/◌, ◌%◌, ◌^◌, ◌<◌, ◌≤◌, false, List, ◌∷◌, set, refl, subst, arith, bit_or, nat_tests, words_from, capped, Leaves, is_past}
+use Rattle.linker_output.proofs.Imports.{Leaves, List, arith, bit_or, capped, false, is_past, nat_tests, refl, set, subst, words_from, ℕ, ◌%◌, ◌*◌, ◌+◌, ◌-◌, ◌/◌, ◌<◌, ◌^◌, ◌∷◌, ◌≡◌, ◌≢◌, ◌≤◌}
 
 -- one number is written
 pub leaves_more : (index n : ℕ) (left numbers : List ℕ) (len : ℕ) (whole : List ℕ) → Leaves index (n ∷ left) numbers len whole → Leaves (capped (index + 1)) left (set numbers index n) len whole

@@ -1,12 +1,10 @@
 -- RISC-V's lazy PLT.
-use Rattle.linker_output.proofs.Imports.{◌≡◌, ℕ, ◌-◌, ◌/◌, ◌%◌, ◌^◌, ◌<◌, refl, sym, ◌∙◌, ap, subst, arith, ℤ, Some, false, ◌==◌, List, [], ◌∷◌, ◌++◌, take, Option, pos, negsuc, ◌+ℤ◌, ◌||◌, IsSomeAnd, or_parts, riscv_form, riscv_name, riscv_relocation, sum_64, difference_64, Relative, RelativeRiscVLow12, Operands, UType, IType, RowInfo, wrapped, moved, loaded, Hart, register, auipc, sums, jumps, executed, of_word, load_number, upper_word, load_word, whole_number, moved_twice, address_is, other, unwritten, RiscV, three_words, sum_zero, Instruction, with_integer, goes_on, adds, sum_word, operands_at, header_places, riscv_entry, padded, words, or_else, LazyEntry, Word, field_of, code_of_words}
-use Rattle.linker_base.specs.Form.{place_sum}
+use Rattle.linker_output.proofs.Imports.{IType, IsSomeAnd, LazyEntry, List, Operands, Option, Relative, RelativeRiscVLow12, RiscV, RowInfo, Some, UType, Word, [], address_is, ap, arith, code_of_words, difference_64, false, field_of, header_places, load_word, loaded, moved, moved_twice, negsuc, operands_at, or_else, or_parts, other, padded, place_sum, pos, refl, riscv_entry, riscv_form, riscv_name, riscv_relocation, subst, sum_64, sum_word, sum_zero, sym, take, three_words, unwritten, upper_word, whole_number, word_of, words, wrapped, ℕ, ℤ, ◌%◌, ◌++◌, ◌+ℤ◌, ◌-◌, ◌/◌, ◌<◌, ◌==◌, ◌^◌, ◌||◌, ◌∙◌, ◌∷◌, ◌≡◌}
+use Rattle.linker_laws.specs.RiscVMachine.{Hart, register, auipc, sums, jumps, executed, of_word, load_number, Instruction, with_integer, goes_on, adds, loads}
 use Rattle.linker_elf.specs.Applied.{IsApplied}
 use Rattle.linker_elf.specs.declared.riscv64.relocations.RiscVRelocation.TheVariants as r
 use Rattle.linker_elf.specs.declared.riscv64.relocations.RiscVRelocation.{RiscVRelocation}
-use Rattle.linker_laws.specs.RiscVMachine.{loads}
 use Rattle.linker_laws.specs.RiscVRelocationLaws.{RelativeAddresses}
-use Rattle.linker_laws.specs.RiscVRewriteLaws.{word_of}
 use Rattle.linker_output.proofs.LazyRuns.{run_more, second_and_last, one_word, are_addresses_at, eight_on, no_move, offset_is}
 use Rattle.linker_output.proofs.RiscVStubLaws.{jr_is}
 use Rattle.linker_output.proofs.StubWords.{applies, no_addend}

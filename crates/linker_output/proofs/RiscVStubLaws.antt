@@ -1,10 +1,8 @@
 -- RISC-V's stub goes to the address in its word.
-use Rattle.linker_output.proofs.Imports.{◌≡◌, ℕ, ◌-◌, ◌%◌, ◌^◌, ◌<◌, refl, sym, ◌∙◌, ap, subst, arith, ℤ, Some, false, List, length, drop, pos, ◌+ℤ◌, ◌==◌, length-drop, length-append, field, riscv_form, sum_64, difference_64, Relative, RelativeRiscVLow12, UType, IType, wrapped, moved, loaded, Hart, register, auipc, sums, jumps, executed, of_word, load_number, upper_word, load_word, whole_number, moved_twice, address_is, other, unwritten, riscv_name, riscv_relocation, sum_zero, Runs, fetched, rs1_of, upper_long, low_long, at_start, at_second, fetched_word, steps, operands_of, field_of}
-use Rattle.linker_base.specs.Form.{place_sum}
+use Rattle.linker_output.proofs.Imports.{IType, List, Relative, RelativeRiscVLow12, Some, UType, address_is, ap, arith, at_second, at_start, difference_64, drop, false, fetched_word, field, field_of, length, length-append, length-drop, load_word, loaded, low_long, moved, moved_twice, operands_of, other, place_sum, pos, refl, riscv_form, riscv_name, riscv_relocation, steps, subst, sum_64, sum_zero, sym, unwritten, upper_long, upper_word, whole_number, word_of, wrapped, ℕ, ℤ, ◌%◌, ◌+ℤ◌, ◌-◌, ◌<◌, ◌==◌, ◌^◌, ◌∙◌, ◌≡◌}
+use Rattle.linker_laws.specs.RiscVMachine.{Hart, register, auipc, sums, jumps, executed, of_word, load_number, Runs, fetched, rs1_of, loads}
 use Rattle.linker_riscv64.specs.RiscVFields.{opcode_of, funct3_of, rd_of}
-use Rattle.linker_laws.specs.RiscVMachine.{loads}
 use Rattle.linker_laws.specs.RiscVRelocationLaws.{RelativeAddresses}
-use Rattle.linker_laws.specs.RiscVRewriteLaws.{word_of}
 use Rattle.linker_elf.specs.declared.riscv64.relocations.RiscVRelocation.TheVariants as r
 use Rattle.linker_output.specs.RiscVOutput.{riscv_output}
 use Rattle.linker_output.specs.RiscVStubs.{GoesTo}

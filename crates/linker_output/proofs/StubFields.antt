@@ -1,6 +1,6 @@
 -- What the code of stubs is made of, as it is written.
-use Rattle.linker_output.proofs.Imports.{ℕ, ℤ, ◌≡◌, ◌+◌, ◌-◌, ◌++◌, ◌∙◌, List, [], Option, Some, refl, sym, ap, subst, arith, inl, inr, length, take, drop, Result, Ok, Err, OnOk, IfErr, take_at, drop_at, drop-drop, append-nil, length-take, length-drop, length-append, IsCause, value_of, RowInfo, RelocateError, OutOfReach, Operands, IsRow, Architecture, take_all, drop_all, WritesRow, RejectsValue, IsValueCause, WritesField, RejectsField, AppliesAt, offset_in, StubField}
-use Rattle.std.proofs.lemmas.List.{append_assoc}
+use Rattle.linker_output.proofs.Imports.{AppliesAt, Architecture, Err, IfErr, IsCause, IsRow, IsValueCause, List, Ok, OnOk, Operands, Option, RejectsField, RejectsValue, RelocateError, Result, RowInfo, Some, StubField, WritesField, WritesRow, [], ap, append-nil, append_assoc, arith, drop, drop-drop, drop_all, drop_at, inl, inr, length, length-append, length-drop, length-take, offset_in, refl, subst, sym, take, take_all, take_at, value_of, ℕ, ℤ, ◌++◌, ◌+◌, ◌-◌, ◌∙◌, ◌≡◌}
+use Rattle.linker_elf.specs.declared.elf.relocate.RelocateError.TheVariants.{OutOfReach}
 use Rattle.linker_elf.specs.Elf.{IsAllowed}
 use Rattle.linker_elf.specs.declared.elf.AllowedRange.{AllowedRange}
 

@@ -1,5 +1,5 @@
 -- The words of a stub's code, and the relocations of its fields.
-use Rattle.linker_output.proofs.Imports.{◌≡◌, ℕ, ◌^◌, ◌<◌, ◌≤◌, refl, ◌∙◌, ap, subst, arith, List, ◌∷◌, ◌++◌, length, take, drop, Option, Some, pos, IsSomeAnd, w64, from_le_bytes, cast_unsigned, drop_at, sum_64, RowInfo, Operands, AreAddresses, w32, AppliesAt, StubCode, operands_of, StubField, IsNamedValue}
+use Rattle.linker_output.proofs.Imports.{AppliesAt, AreAddresses, IsNamedValue, IsSomeAnd, List, Operands, Option, RowInfo, Some, StubCode, StubField, ap, arith, cast_unsigned, drop, drop_at, from_le_bytes, length, operands_of, pos, refl, subst, sum_64, take, w32, w64, ℕ, ◌++◌, ◌<◌, ◌^◌, ◌∙◌, ◌∷◌, ◌≡◌, ◌≤◌}
 use Rattle.linker_elf.specs.ElfNames.{ElfName, IsNamed, r_type_of}
 
 abbrev pub word : List ℕ → ℕ

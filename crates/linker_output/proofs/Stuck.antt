@@ -1,5 +1,5 @@
 -- A branch that reaches no boundary next to it reaches no boundary.
-use Rattle.linker_output.proofs.Imports.{◌≡◌, ◌+◌, ◌-◌, ◌*◌, ◌<◌, ◌≤◌, ℕ, arith, List, length, refl, ap, sym, subst, ⊎_elim, ◌⊎◌, nat_le, mul-le-mul_left, cases_lt, cases_order, prefix_len_passes, prefix_len_stops, prefix_len-le-length, Branch, Code, Group, Layout, Part, Front, Middle, Back, State, StubAt, Reaches, at, branch_at, group_at, stub_at, stubs_in, passed, place_in, place_of, start_of, end_of, HasPart, part_of, ReachesAt, IsCode, IsLaidOut, IsLayout, IsStuck, IsState, IsNear, IsNearIn, IsStuckIn}
+use Rattle.linker_output.proofs.Imports.{Back, Branch, Code, Front, Group, HasPart, IsCode, IsLaidOut, IsLayout, IsNear, IsNearIn, IsState, IsStuck, IsStuckIn, Layout, List, Middle, Part, Reaches, ReachesAt, State, StubAt, ap, arith, at, branch_at, cases_lt, cases_order, end_of, group_at, length, mul-le-mul_left, nat_le, part_of, passed, place_in, place_of, prefix_len-le-length, prefix_len_passes, prefix_len_stops, refl, start_of, stub_at, stubs_in, subst, sym, ℕ, ⊎_elim, ◌*◌, ◌+◌, ◌-◌, ◌<◌, ◌≡◌, ◌≤◌, ◌⊎◌}
 use Rattle.linker_output.specs.Placement.{moved}
 use Rattle.linker_output.proofs.Apart.{fits_at, ends_before, inside_in}
 use Rattle.linker_output.proofs.Finding.{no_near}

@@ -1,6 +1,6 @@
 -- What can be written over the first 8 bytes can be written over all, and else for the same cause.
-use Rattle.linker_output.proofs.Imports.{◌≡◌, ℕ, ℤ, ◌≤◌, List, length, take, true, sym, arith, length-take-le, IsAccepted, IsCause, RowInfo, RelocateError, OutOfReach, take-take, min, size_len, window_len, is_supported, Unsupported, Misaligned}
-use Rattle.linker_elf.specs.declared.elf.relocate.RelocateError.TheVariants.{TooShort}
+use Rattle.linker_output.proofs.Imports.{IsAccepted, IsCause, List, RelocateError, RowInfo, arith, is_supported, length, length-take-le, min, size_len, sym, take, take-take, true, window_len, ℕ, ℤ, ◌≡◌, ◌≤◌}
+use Rattle.linker_elf.specs.declared.elf.relocate.RelocateError.TheVariants.{OutOfReach, Unsupported, Misaligned, TooShort}
 use Rattle.linker_section.proofs.Fronts.{HaveSameWindow, same_window, accepted_same, multiple_same, reached_same}
 use Rattle.linker_section.proofs.Local.{small_size}
 use Rattle.linker_elf.proofs.Relocated.{supported_size}

@@ -1,6 +1,6 @@
 -- Notes that are written word by word.
-use Rattle.linker_output.proofs.Imports.{◌≡◌, ◌≢◌, ℕ, ◌+◌, ◌*◌, ◌≤◌, ◌^◌, false, List, [], ◌∷◌, ◌++◌, length, take, drop, refl, sym, ◌∙◌, ap, subst, arith, Option, Some, None, Result, Ok, Err, append_assoc, nat_lt, w64, to_le_bytes, take-append-drop, take_at, drop_at, drop-drop, length-append, length-take-le, nat_tests, Architecture, drop-append-add, words_by, with_words, list_words, property_words, rule_of, note_words, size_of, WritesNote, Puts, IsWritable, AreSlim, Property, PropertyRule, PropertyError, All, Present, Same}
-use Rattle.linker_output.specs.Properties.{bytes_of, words_from}
+use Rattle.linker_output.proofs.Imports.{All, Architecture, AreSlim, Err, IsWritable, List, None, Ok, Option, Present, Property, PropertyError, PropertyRule, Puts, Result, Same, Some, WritesNote, [], ap, append_assoc, arith, bytes_of, drop, drop-append-add, drop-drop, drop_at, false, length, length-append, length-take-le, list_words, nat_lt, nat_tests, note_words, property_words, refl, rule_of, size_of, subst, sym, take, take-append-drop, take_at, to_le_bytes, w64, with_words, words_by, ℕ, ◌*◌, ◌++◌, ◌+◌, ◌^◌, ◌∙◌, ◌∷◌, ◌≡◌, ◌≢◌, ◌≤◌}
+use Rattle.linker_output.specs.Properties.{words_from}
 
 -- ---- bytes
 

@@ -1,7 +1,7 @@
 -- x86-64's lazy PLT.
-use Rattle.linker_output.proofs.Imports.{◌≡◌, ℕ, ℤ, zero, suc, ◌+◌, ◌*◌, ◌%◌, ◌^◌, ◌<◌, ◌≤◌, Bool, true, false, refl, sym, ◌∙◌, ap, subst, arith, List, [], ◌∷◌, ◌++◌, take, drop, length, eqb, cond, Some, Option, pos, negsuc, ◌==◌, IsSomeAnd, nat_lt, if◌then◌else◌, w64, cast_unsigned, cond-true, cond-false, drop-drop, number_of_bytes, sum_64, difference_64, x86_64_name, x86_64_row, Operands, load, extended, place_field, X86_64, byte_at, store_8, with_register, signed_field, operands_at, header_places, x86_64_entry, x86_64_landing_entry, padded, fixed, with_field, field_of, LazyEntry, LazyField, LazyPiece, Word, Header, Index}
+use Rattle.linker_output.proofs.Imports.{Bool, Header, Index, IsSomeAnd, LazyEntry, LazyField, LazyPiece, List, Operands, Option, Some, Word, X86_64, [], ap, arith, byte_at, cast_unsigned, cond, cond-false, cond-true, difference_64, drop, drop-drop, eqb, false, field_of, fixed, header_places, if◌then◌else◌, length, nat_lt, negsuc, number_of_bytes, operands_at, padded, place_field, pos, refl, signed_field, subst, suc, sum_64, sym, take, true, w64, with_field, x86_64_entry, x86_64_landing_entry, x86_64_name, x86_64_row, zero, ℕ, ℤ, ◌%◌, ◌*◌, ◌++◌, ◌+◌, ◌<◌, ◌==◌, ◌^◌, ◌∙◌, ◌∷◌, ◌≡◌, ◌≤◌}
+use Rattle.linker_laws.specs.X86Machine.{load, extended, store_8, with_register, State}
 use Rattle.linker_elf.specs.declared.x86_64.relocations.X86_64Relocation.TheVariants as r
-use Rattle.linker_laws.specs.X86Machine.{State}
 use Rattle.linker_output.proofs.LazyRuns.{following, are_addresses_at}
 use Rattle.linker_output.proofs.StubWords.{applies}
 use Rattle.linker_output.specs.LazyPlt.{IsCode}

@@ -2,21 +2,17 @@
 -- resolver (Arm Architecture Reference Manual for A-profile, DDI 0487, C6.2).
 use Rattle.std.specs.Prelude.{◌==◌, ◌||◌, List, Bool, false, Option, Some, IsSomeAnd, if◌then◌else◌}
 use Rattle.std.specs.Prelude.{◌≡◌, ◌≤◌, ◌/◌, ◌^◌, ◌<◌, ℕ, ◌+ℤ◌, ◌*ℤ◌, pos}
-use Rattle.linker_base.specs.Bits.{field, signed}
+use Rattle.linker_output.specs.Imports.{AArch64, LazyEntry, LazyPiece, difference_64, field, signed}
+use Rattle.linker_output.specs.Imports.{stored, sum_64}
 use Rattle.linker_utils.specs.AArch64Rewrites.{rd_of, rn_of}
-use Rattle.linker_elf.specs.Value.{sum_64, difference_64}
 use Rattle.linker_laws.specs.AArch64Machine as machine
 use Rattle.linker_laws.specs.AArch64Machine.{State, read_x, write_x_or_sp, go_on, load_64}
 use Rattle.linker_laws.specs.AArch64Machine.{in_64_bits}
-use Rattle.linker_laws.specs.Machine.{stored}
 use Rattle.linker_output.specs.AArch64Stubs.{jumped, is_bti_c}
 use Rattle.linker_output.specs.LazyPlt.{IsCode, header_places}
 use Rattle.linker_output.specs.LazyPlts.{aarch64_landing_header, aarch64_landing_entry}
 use Rattle.linker_output.specs.LazyPlts.{aarch64_entry, aarch64_header, aarch64_wide_entry}
 use Rattle.linker_output.specs.LazyRuns.{words, or_else, run_by}
-use Rattle.linker_output.specs.declared.lazy_plt.LazyEntry.{LazyEntry}
-use Rattle.linker_output.specs.declared.lazy_plt.LazyPiece.{LazyPiece}
-use Rattle.linker_elf.specs.declared.elf.architecture.Architecture.TheVariants.{AArch64}
 
 -- ---- "STP", pre-indexed, of 64 bits
 

@@ -8,10 +8,7 @@ use Rattle.linker_output.specs.Stubs.{StubCode}
 use Rattle.linker_output.specs.Tables.{field_of, kind, kind_of, units_of, no_flags, only, tag}
 use Rattle.linker_output.specs.Tables.{four, plain_stub, data_stub, code_of_words}
 use Rattle.linker_output.specs.View.{Description}
-use Rattle.linker_output.specs.declared.tags.TagRule.TheVariants.{LandingPlt, SignedPlt}
-use Rattle.linker_output.specs.declared.tags.TagRule.TheVariants.{VariantCalls}
-use Rattle.linker_output.specs.declared.got.ThreadPointer.TheVariants.{BelowImage}
-use Rattle.linker_elf.specs.declared.elf.architecture.Architecture.TheVariants.{AArch64}
+use Rattle.linker_output.specs.Imports.{AArch64, BelowImage, LandingPlt, SignedPlt, VariantCalls}
 
 -- `adrp x16`, `ldr x17, [x16]`, `br x17`
 abbrev pub by_word : StubCode

@@ -3,17 +3,12 @@
 use Rattle.std.specs.Prelude.{◌≡◌, ◌==◌, ◌&&◌, ◌||◌, ◌/◌, ◌^◌, ◌<◌, ◌∷◌, [], ℕ, List, Bool, false}
 use Rattle.std.specs.Prelude.{Option, Some, None, IsSomeAnd, if◌then◌else◌, drop, pos, ◌+ℤ◌, ◌*ℤ◌}
 use Rattle.linker_utils.specs.AArch64Rewrites.{rd_of, rn_of}
-use Rattle.linker_elf.specs.Value.{sum_64}
-use Rattle.linker_base.specs.Bits.{field}
+use Rattle.linker_output.specs.Imports.{AArch64, Ldr, field, number_of_bytes, sum_64, word_of}
 use Rattle.linker_elf.specs.AArch64.{aarch64_form}
-use Rattle.linker_elf.specs.Relocate.{number_of_bytes}
-use Rattle.linker_elf.specs.declared.aarch64.forms.AArch64Instruction.TheVariants.{Ldr}
 use Rattle.linker_laws.specs.AArch64Machine.{State, read_x, write_x, go_to, go_on, next_pc, load_64}
 use Rattle.linker_laws.specs.AArch64Machine.{in_64_bits, step, run, continue}
-use Rattle.linker_laws.specs.AArch64RewriteLaws.{word_of}
 use Rattle.linker_output.specs.AArch64Output.{aarch64_output}
 use Rattle.linker_output.specs.Stubs.{IsStub}
-use Rattle.linker_elf.specs.declared.elf.architecture.Architecture.TheVariants.{AArch64}
 
 -- ---- "BR"
 

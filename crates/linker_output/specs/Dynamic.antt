@@ -2,8 +2,7 @@
 -- psABIs' tables of relocations).
 use Rattle.std.specs.Prelude.{ℕ, Bool, ◌&&◌, ◌==◌, if◌then◌else◌, List, [], ◌∷◌, Option, Some, None}
 use Rattle.linker_section.specs.declared.needed.EntryClass.{EntryClass}
-use Rattle.linker_section.specs.declared.needed.EntryClass.TheVariants.{ThreadOffset, ModuleOffset}
-use Rattle.linker_section.specs.declared.needed.EntryClass.TheVariants.{Address, Module, Descriptor}
+use Rattle.linker_output.specs.Imports.{Address, Descriptor, Module, ModuleOffset, ThreadOffset}
 
 -- a type of dynamic relocations: its `r_type` in ELF files, and its name
 pub record DynamicKind : Type 0 where

@@ -2,16 +2,13 @@
 -- Thread-Local Storage).
 use Rattle.std.specs.Prelude.{◌≡◌, ℕ, ◌-◌, ◌%◌, ◌==◌, slice_index, if◌then◌else◌, List, [], ◌∷◌}
 use Rattle.std.specs.Prelude.{Option, Some, None}
-use Rattle.linker_elf.specs.Value.{sum_64, difference_64}
+use Rattle.linker_output.specs.Imports.{AboveImage, Address, Base, BelowImage, Descriptor, Dynamic}
+use Rattle.linker_output.specs.Imports.{Module, ModuleOffset, ThreadOffset, difference_64, sum_64}
 use Rattle.linker_output.specs.declared.got.GotHeader.{GotHeader}
-use Rattle.linker_output.specs.declared.got.GotHeader.TheVariants.{Dynamic, Base}
 use Rattle.linker_output.specs.declared.got.GotLayout.{GotLayout}
 use Rattle.linker_output.specs.declared.got.Origins.{Origins}
 use Rattle.linker_output.specs.declared.got.ThreadPointer.{ThreadPointer}
-use Rattle.linker_output.specs.declared.got.ThreadPointer.TheVariants.{AboveImage, BelowImage}
 use Rattle.linker_section.specs.declared.needed.EntryClass.{EntryClass}
-use Rattle.linker_section.specs.declared.needed.EntryClass.TheVariants.{ThreadOffset, ModuleOffset}
-use Rattle.linker_section.specs.declared.needed.EntryClass.TheVariants.{Address, Module, Descriptor}
 
 -- ---- thread-local storage
 

@@ -1,7 +1,7 @@
 -- Code's shortest instruction, and the path of the dynamic linker.
 use Rattle.std.specs.Prelude.{ℕ, ◌+◌, ◌-◌, ◌*◌, ◌/◌, ◌%◌, ◌^◌, nat_lt, length, slice_get, ◌==◌}
 use Rattle.std.specs.Prelude.{bit_and, if◌then◌else◌, List, [], ◌∷◌, Option, Some, None}
-use Rattle.linker_output.specs.declared.layout.CodeUnit.{CodeUnit}
+use Rattle.linker_output.specs.Imports.{CodeUnit}
 use Rattle.linker_output.specs.declared.layout.RunWord.{RunWord}
 
 abbrev pub unit_by : CodeUnit → ℕ → ℕ

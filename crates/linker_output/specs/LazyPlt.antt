@@ -1,21 +1,14 @@
 -- A lazy PLT: pieces of code, whose fields have the values of relocations, and what its words hold.
 use Rattle.std.specs.Prelude.{◌++◌, List, length, take, drop, Option, Some, None, slice_get, false}
 use Rattle.std.specs.Prelude.{◌≡◌, ◌≤◌, ◌<◌, ◌+◌, ◌-◌, ◌⊎◌, ◌^◌, ℕ, [], ◌∷◌, min, true}
-use Rattle.linker_elf.specs.Value.{sum_64}
-use Rattle.linker_elf.specs.declared.elf.relocate.RelocateError.{RelocateError}
-use Rattle.linker_elf.specs.declared.elf.value.Operands.{Operands}
+use Rattle.linker_output.specs.Imports.{Architecture, Header, Index, LazyEntry, LazyPiece, LazyWord}
+use Rattle.linker_output.specs.Imports.{Operands, RelocateError, StubError, Word, sum_64}
 use Rattle.linker_output.specs.Stubs.{WritesField, RejectsField}
-use Rattle.linker_output.specs.declared.lazy_plt.LazyEntry.{LazyEntry}
 use Rattle.linker_output.specs.declared.lazy_plt.LazyField.{LazyField}
-use Rattle.linker_output.specs.declared.lazy_plt.LazyPiece.{LazyPiece}
 use Rattle.linker_output.specs.declared.lazy_plt.LazyPlt.{LazyPlt}
 use Rattle.linker_output.specs.declared.lazy_plt.LazyTarget.{LazyTarget}
-use Rattle.linker_output.specs.declared.lazy_plt.LazyTarget.TheVariants.{Word, Header, Index}
-use Rattle.linker_output.specs.declared.lazy_plt.LazyWord.{LazyWord}
 use Rattle.linker_output.specs.declared.lazy_plt.LazyWord.TheVariants as words
-use Rattle.linker_output.specs.declared.stubs.StubError.{StubError}
 use Rattle.linker_output.specs.declared.stubs.StubError.TheVariants as errors
-use Rattle.linker_elf.specs.declared.elf.architecture.Architecture.{Architecture}
 
 -- the code of a lazy PLT, and the words that belong to it
 pub record PltCode : Type 0 where

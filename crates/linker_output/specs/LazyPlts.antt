@@ -3,10 +3,10 @@
 use Rattle.std.specs.Prelude.{ℕ, ℤ, pos, negsuc, List, [], ◌∷◌, ◌++◌, ◌-◌, length, replicate, Some}
 use Rattle.std.specs.Prelude.{Option, None}
 use Rattle.linker_elf.specs.AArch64Relocations.{aarch64_name}
-use Rattle.linker_elf.specs.LoongArchRelocations.{loongarch_name}
-use Rattle.linker_elf.specs.Ppc64Relocations.{ppc64_name}
+use Rattle.linker_output.specs.Imports.{AArch64, Architecture, Header, Index, LazyPiece, LazyWord}
+use Rattle.linker_output.specs.Imports.{LoongArch64, Ppc64, RiscV, StubField, Word, X86_64}
+use Rattle.linker_output.specs.Imports.{loongarch_name, ppc64_name, x86_64_name}
 use Rattle.linker_elf.specs.RiscVRelocations.{riscv_name}
-use Rattle.linker_elf.specs.X86Relocations.{x86_64_name}
 use Rattle.linker_elf.specs.declared.aarch64.relocations.AArch64Relocation.TheVariants as aarch64
 use Rattle.linker_elf.specs.declared.loongarch64.relocations.LoongArch64Relocation.TheVariants as loongarch
 use Rattle.linker_elf.specs.declared.ppc64.relocations.Ppc64Relocation.TheVariants as ppc64
@@ -16,16 +16,8 @@ use Rattle.linker_output.specs.LazyPlt.{PltCode}
 use Rattle.linker_output.specs.Tables.{field_of, field_of_32, code_of_words}
 use Rattle.linker_output.specs.declared.lazy_plt.LazyForm.{LazyForm}
 use Rattle.linker_output.specs.declared.lazy_plt.LazyForm.TheVariants as form
-use Rattle.linker_output.specs.declared.lazy_plt.LazyPiece.{LazyPiece}
 use Rattle.linker_output.specs.declared.lazy_plt.LazyTarget.{LazyTarget}
-use Rattle.linker_output.specs.declared.lazy_plt.LazyTarget.TheVariants.{Word, Header, Index}
-use Rattle.linker_output.specs.declared.lazy_plt.LazyWord.{LazyWord}
 use Rattle.linker_output.specs.declared.lazy_plt.LazyWord.TheVariants as word
-use Rattle.linker_output.specs.declared.stubs.StubField.{StubField}
-use Rattle.linker_elf.specs.declared.elf.architecture.Architecture.{Architecture}
-use Rattle.linker_elf.specs.declared.elf.architecture.Architecture.TheVariants.{AArch64, RiscV}
-use Rattle.linker_elf.specs.declared.elf.architecture.Architecture.TheVariants.{LoongArch64}
-use Rattle.linker_elf.specs.declared.elf.architecture.Architecture.TheVariants.{Ppc64, X86_64}
 
 -- at most 8 bytes, and zeros after them
 abbrev pub padded : List ℕ → List ℕ

@@ -1,8 +1,7 @@
 -- Runs of words, and of the code of lazy PLTs.
 use Rattle.std.specs.Prelude.{◌==◌, ℕ, zero, suc, List, [], ◌∷◌, drop, Option, Some, None}
 use Rattle.std.specs.Prelude.{if◌then◌else◌}
-use Rattle.std.specs.Int.{w32, from_le_bytes}
-use Rattle.linker_elf.specs.Value.{sum_64}
+use Rattle.linker_output.specs.Imports.{from_le_bytes, sum_64, w32}
 
 -- the first words of code
 abbrev pub words : ℕ → List ℕ → List ℕ

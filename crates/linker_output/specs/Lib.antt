@@ -5,6 +5,7 @@ pub mod Addresses
 pub mod Dynamic
 pub mod Flags
 pub mod Got
+pub mod Imports
 pub mod Inner
 pub mod Layout
 pub mod LazyPlt

@@ -2,17 +2,14 @@
 -- linker's resolver (LoongArch Reference Manual, volume 1).
 use Rattle.std.specs.Prelude.{◌==◌, ◌||◌, List, false, Option, Some, None, IsSomeAnd, if◌then◌else◌}
 use Rattle.std.specs.Prelude.{◌≡◌, ◌+◌, ◌*◌, ◌/◌, ◌^◌, ◌<◌, ℕ, pos, ◌+ℤ◌, ◌*ℤ◌}
-use Rattle.linker_base.specs.Bits.{field, signed}
-use Rattle.linker_elf.specs.Value.{sum_64, difference_64}
+use Rattle.linker_output.specs.Imports.{LazyEntry, LoongArch64, difference_64, field, loaded}
+use Rattle.linker_output.specs.Imports.{signed, sum_64, wrapped}
 use Rattle.linker_laws.specs.LoongArchMachine as machine
 use Rattle.linker_laws.specs.LoongArchMachine.{State, read, write, go_on}
-use Rattle.linker_laws.specs.Machine.{loaded, wrapped}
 use Rattle.linker_utils.specs.LoongArchRewrites.{rd_of, rj_of}
 use Rattle.linker_output.specs.LazyPlt.{IsCode, header_places}
 use Rattle.linker_output.specs.LazyPlts.{loongarch_entry, loongarch_header}
 use Rattle.linker_output.specs.LazyRuns.{words, or_else, run_by}
-use Rattle.linker_output.specs.declared.lazy_plt.LazyEntry.{LazyEntry}
-use Rattle.linker_elf.specs.declared.elf.architecture.Architecture.TheVariants.{LoongArch64}
 
 -- ---- "PCADDU12I", "SUB.D" and "SRLI.D"
 

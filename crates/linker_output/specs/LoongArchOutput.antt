@@ -1,13 +1,11 @@
 -- LoongArch, 64 bits: what a linker adds to an output (LoongArch ELF psABI, "Relocation Types";
 -- paths as glibc has them).
 use Rattle.std.specs.Prelude.{codes, [], ◌∷◌, None, Some, ℕ, ◌+◌}
-use Rattle.linker_elf.specs.LoongArchRelocations.{loongarch_name}
+use Rattle.linker_output.specs.Imports.{BelowImage, LoongArch64, loongarch_name}
 use Rattle.linker_elf.specs.declared.loongarch64.relocations.LoongArch64Relocation.TheVariants as r
 use Rattle.linker_output.specs.Tables.{field_of, field_of_32, kind, kind_of, units_of, path}
 use Rattle.linker_output.specs.Tables.{four, plain_stub}
 use Rattle.linker_output.specs.View.{Description}
-use Rattle.linker_output.specs.declared.got.ThreadPointer.TheVariants.{BelowImage}
-use Rattle.linker_elf.specs.declared.elf.architecture.Architecture.TheVariants.{LoongArch64}
 
 -- `e_flags`: the base ABI, of three bits, and the version of the object file ABI, of two
 abbrev pub base_abi : ℕ

@@ -1,11 +1,9 @@
 -- LoongArch: stubs go to their targets (LoongArch Reference Manual, volume 1).
 use Rattle.std.specs.Prelude.{◌≡◌, ◌==◌, ◌^◌, ◌<◌, ◌∷◌, [], ℕ, List, false, drop, IsSomeAnd}
 use Rattle.linker_laws.specs.LoongArchMachine.{State, read, run}
-use Rattle.linker_laws.specs.LoongArchRewriteLaws.{word_of}
-use Rattle.linker_laws.specs.Machine.{loaded, AreBytes}
+use Rattle.linker_output.specs.Imports.{AreBytes, LoongArch64, loaded, word_of}
 use Rattle.linker_output.specs.LoongArchOutput.{loongarch_output}
 use Rattle.linker_output.specs.Stubs.{IsStub}
-use Rattle.linker_elf.specs.declared.elf.architecture.Architecture.TheVariants.{LoongArch64}
 
 -- It goes to the target, and changes only $t3, which a call may change on its way.
 pub record GoesTo (target : ℕ) (s t : State) : Type 0 where

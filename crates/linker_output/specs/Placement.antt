@@ -1,18 +1,13 @@
 -- Places of stubs between sections.
 use Rattle.std.specs.Prelude.{◌≡◌, ◌≢◌, ℕ, List, length, nat_le, Option, Some, None, slice_index_or}
 use Rattle.std.specs.Prelude.{◌≤◌, ◌<◌, ◌+◌, ◌-◌, ◌*◌, ◌/◌, ◌%◌, ◌^◌, ◌⊎◌}
-use Rattle.std.specs.List.{prefix_len, sum_by}
-use Rattle.linker_output.specs.declared.placement.Branch.{Branch}
-use Rattle.linker_output.specs.declared.placement.Code.{Code}
-use Rattle.linker_output.specs.declared.placement.Group.{Group}
+use Rattle.linker_output.specs.Imports.{Branch, Code, Group, Part, StubShape, prefix_len, sum_by}
 use Rattle.linker_output.specs.declared.placement.Layout.{Layout}
-use Rattle.linker_output.specs.declared.placement.Part.{Part}
 use Rattle.linker_output.specs.declared.placement.Part.TheVariants.{Front, Middle, Back}
 use Rattle.linker_output.specs.declared.placement.PlaceError.{PlaceError}
 use Rattle.linker_output.specs.declared.placement.PlaceError.TheVariants as errors
 use Rattle.linker_output.specs.declared.placement.Placement.{Placement}
 use Rattle.linker_output.specs.declared.placement.StubAt.{StubAt}
-use Rattle.linker_output.specs.declared.placement.StubShape.{StubShape}
 
 -- What lies at most so far below, and less than so far above, is in reach.
 pub record Reaches (max_backward max_forward from to : ℕ) : Type 0 where

@@ -3,20 +3,14 @@
 -- Linkage Table").
 use Rattle.std.specs.Prelude.{◌==◌, ◌&&◌, ◌||◌, List, Bool, false, Option, IsSomeAnd, if◌then◌else◌}
 use Rattle.std.specs.Prelude.{◌≡◌, ◌+◌, ◌*◌, ◌/◌, ◌%◌, ◌-◌, ◌^◌, ◌<◌, ℕ, Some, None, drop}
-use Rattle.linker_base.specs.Bits.{field}
+use Rattle.linker_output.specs.Imports.{Branch24, Formats, LazyEntry, Ppc64, State, difference_64}
+use Rattle.linker_output.specs.Imports.{field, go_on, go_to, loaded, moved, number_of_bytes}
+use Rattle.linker_output.specs.Imports.{opcode_of, ra_of, rb_of, rt_of, sum_64, write}
 use Rattle.linker_elf.specs.Ppc64.{ppc64_form}
-use Rattle.linker_elf.specs.Relocate.{number_of_bytes}
-use Rattle.linker_elf.specs.Value.{sum_64, difference_64}
-use Rattle.linker_elf.specs.declared.ppc64.forms.Ppc64Form.TheVariants.{Branch24}
-use Rattle.linker_laws.specs.Machine.{loaded, moved}
-use Rattle.linker_laws.specs.Ppc64Machine.{State, Formats, write, go_on, go_to}
 use Rattle.linker_output.specs.LazyPlt.{IsCode, header_places}
 use Rattle.linker_output.specs.LazyPlts.{ppc64_entry, ppc64_header}
 use Rattle.linker_output.specs.LazyRuns.{words, or_else, run_by}
 use Rattle.linker_output.specs.Ppc64Stubs.{Counted, lifted, step_counted}
-use Rattle.linker_output.specs.declared.lazy_plt.LazyEntry.{LazyEntry}
-use Rattle.linker_utils.specs.Ppc64Rewrites.{opcode_of, rt_of, ra_of, rb_of}
-use Rattle.linker_elf.specs.declared.elf.architecture.Architecture.TheVariants.{Ppc64}
 
 -- ---- "Branch" (`b`), "Subtract From" (`subf`), "Rotate Left Doubleword Immediate then Clear Left"
 -- (`rldicl`)

@@ -1,19 +1,14 @@
 -- PowerPC64: what a linker adds to an output (64-bit ELF V2 ABI for Power, "Relocation Types";
 -- paths as glibc has them).
 use Rattle.std.specs.Prelude.{◌+◌, ◌^◌, codes, [], ◌∷◌, None, Some, ℕ, pos, List}
-use Rattle.linker_elf.specs.ElfNames.{ElfName}
-use Rattle.linker_elf.specs.Ppc64Relocations.{ppc64_name}
+use Rattle.linker_output.specs.Imports.{Base, BelowImage, ElfName, Got, LazyPlt, Options, Ppc64}
+use Rattle.linker_output.specs.Imports.{ppc64_name}
 use Rattle.linker_elf.specs.declared.ppc64.relocations.Ppc64Relocation.TheVariants as r
 use Rattle.linker_output.specs.Layout.{Run}
 use Rattle.linker_output.specs.Stubs.{StubCode}
 use Rattle.linker_output.specs.Tables.{field_of, code_of_words, kind, kind_of, units_of, plain_stub}
 use Rattle.linker_output.specs.Tables.{symbol, only, tag, four, load_of}
 use Rattle.linker_output.specs.View.{Description}
-use Rattle.linker_output.specs.declared.tags.TagRule.TheVariants.{LazyPlt, Options}
-use Rattle.linker_output.specs.declared.got.ThreadPointer.TheVariants.{BelowImage}
-use Rattle.linker_output.specs.declared.got.GotHeader.TheVariants.{Base}
-use Rattle.linker_output.specs.declared.layout.SymbolPlace.TheVariants.{Got}
-use Rattle.linker_elf.specs.declared.elf.architecture.Architecture.TheVariants.{Ppc64}
 
 -- `e_flags`: the version of the ABI
 abbrev pub version_2 : ℕ

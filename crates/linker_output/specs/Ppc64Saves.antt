@@ -3,10 +3,8 @@
 use Rattle.std.specs.Prelude.{Option, IsSomeAnd, nat_lt, nat_le, if◌then◌else◌, length, slice_get}
 use Rattle.std.specs.Prelude.{◌≡◌, ◌==◌, ◌&&◌, Bool, ◌+◌, zero, List, [], false, Some, None, negsuc}
 use Rattle.std.specs.Prelude.{◌-◌, ◌*◌, ◌/◌, ◌%◌, ◌<◌, ◌≤◌, ℕ, suc, ◌∷◌, pos}
-use Rattle.linker_base.specs.Bits.{field}
-use Rattle.linker_elf.specs.Value.{difference_64}
-use Rattle.linker_laws.specs.Machine.{Memory, moved, loaded, stored}
-use Rattle.linker_laws.specs.Ppc64Machine.{State, Formats, go_to}
+use Rattle.linker_output.specs.Imports.{Formats, Memory, State, difference_64, field, go_to, loaded}
+use Rattle.linker_output.specs.Imports.{moved, stored}
 use Rattle.linker_output.specs.LazyRuns.{run_by}
 use Rattle.linker_output.specs.Layout.{Run, run_word}
 use Rattle.linker_output.specs.Ppc64Output.{ppc64_output}

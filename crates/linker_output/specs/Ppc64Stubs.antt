@@ -3,15 +3,12 @@
 use Rattle.std.specs.Prelude.{◌≡◌, ◌==◌, ◌&&◌, ◌||◌, ◌+◌, ◌-◌, ◌*◌, ◌%◌, ◌^◌, ◌<◌, ◌∷◌, [], ℕ, List}
 use Rattle.std.specs.Prelude.{false, Bool, Option, Some, None, IsSomeAnd, if◌then◌else◌, drop, pos}
 use Rattle.std.specs.Prelude.{take}
-use Rattle.linker_elf.specs.Value.{sum_64}
-use Rattle.linker_laws.specs.Machine.{loaded, moved}
-use Rattle.linker_laws.specs.Ppc64Machine.{State, Formats, step, write, go_on, go_to, next_pc}
-use Rattle.linker_laws.specs.Ppc64Machine.{store, base, step_prefixed}
-use Rattle.linker_laws.specs.Ppc64RewriteLaws.{word_of, prefixed_of}
+use Rattle.linker_output.specs.Imports.{Formats, Ppc64, State, base, go_on, go_to, loaded, moved}
+use Rattle.linker_output.specs.Imports.{opcode_of, prefixed_of, rt_of, step_prefixed, store, sum_64}
+use Rattle.linker_output.specs.Imports.{word_of, write}
+use Rattle.linker_laws.specs.Ppc64Machine.{step, next_pc}
 use Rattle.linker_output.specs.Ppc64Output.{ppc64_output}
 use Rattle.linker_output.specs.Stubs.{IsStub, StubCode}
-use Rattle.linker_utils.specs.Ppc64Rewrites.{opcode_of, rt_of}
-use Rattle.linker_elf.specs.declared.elf.architecture.Architecture.TheVariants.{Ppc64}
 
 -- ---- instructions of the link and the count register
 

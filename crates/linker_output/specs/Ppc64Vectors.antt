@@ -3,17 +3,14 @@
 use Rattle.std.specs.Prelude.{Option, IsSomeAnd, nat_lt, if◌then◌else◌, length, slice_get, negsuc}
 use Rattle.std.specs.Prelude.{◌≡◌, ◌==◌, ◌&&◌, Bool, ◌+◌, ◌-◌, ◌*◌, ◌/◌, ℕ, List, false, Some, None}
 use Rattle.std.specs.Prelude.{◌%◌, ◌<◌, ◌≤◌}
-use Rattle.linker_base.specs.Bits.{field}
-use Rattle.linker_elf.specs.Value.{difference_64}
-use Rattle.linker_laws.specs.Machine.{Memory, moved, loaded}
-use Rattle.linker_laws.specs.Ppc64Machine.{State, Formats, go_on, store, indexed_address}
-use Rattle.linker_laws.specs.Ppc64Machine.{with_number}
+use Rattle.linker_output.specs.Imports.{Formats, Memory, State, difference_64, field, go_on}
+use Rattle.linker_output.specs.Imports.{indexed_address, loaded, moved, opcode_of, rt_of, store}
+use Rattle.linker_output.specs.Imports.{with_number}
 use Rattle.linker_output.specs.LazyRuns.{run_by}
 use Rattle.linker_output.specs.Layout.{Run}
 use Rattle.linker_output.specs.Ppc64Output.{ppc64_output}
 use Rattle.linker_output.specs.Ppc64Saves.{Returns, step, words_from, is_from}
 use Rattle.linker_output.specs.Ppc64Stubs.{Counted, with_state}
-use Rattle.linker_utils.specs.Ppc64Rewrites.{opcode_of, rt_of}
 
 -- ---- the vector registers
 

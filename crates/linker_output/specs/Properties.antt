@@ -4,21 +4,13 @@ use Rattle.std.specs.Prelude.{◌==◌, if◌then◌else◌, nat_le, nat_lt, len
 use Rattle.std.specs.Prelude.{ℕ, ◌&&◌, ◌||◌, ◌++◌, Bool, true, List, drop, zero, Some, None, bit_or}
 use Rattle.std.specs.Prelude.{◌≡◌, ◌+◌, ◌-◌, ◌*◌, ◌/◌, ◌^◌, ◌%◌, ◌<◌, ◌≤◌, ◌⊎◌, not, ◌∷◌, max, suc}
 use Rattle.std.specs.Prelude.{[], Ok, Err}
-use Rattle.std.specs.Int.{w64, from_le_bytes, to_le_bytes}
-use Rattle.linker_elf.specs.declared.elf.architecture.Architecture.{Architecture}
-use Rattle.linker_elf.specs.declared.elf.architecture.Architecture.TheVariants.{AArch64, RiscV}
-use Rattle.linker_elf.specs.declared.elf.architecture.Architecture.TheVariants.{X86_64}
-use Rattle.linker_output.specs.declared.properties.Property.{Property}
+use Rattle.linker_output.specs.Imports.{AArch64, Architecture, CutOff, Differs, NotAscending}
+use Rattle.linker_output.specs.Imports.{NotProperties, Property, PropertyError, PropertyRule, RiscV}
+use Rattle.linker_output.specs.Imports.{TooLarge, TooMany, TooShort, Unknown, WrongSize, X86_64}
+use Rattle.linker_output.specs.Imports.{from_le_bytes, to_le_bytes, w64}
 use Rattle.linker_output.specs.declared.properties.Reading.{Reading}
-use Rattle.linker_output.specs.declared.properties.PropertyRule.{PropertyRule}
 use Rattle.linker_output.specs.declared.properties.PropertyRule.TheVariants.{All, Any, AnyOfAll}
 use Rattle.linker_output.specs.declared.properties.PropertyRule.TheVariants.{Largest, Present, Same}
-use Rattle.linker_output.specs.declared.properties.PropertyError.{PropertyError}
-use Rattle.linker_output.specs.declared.properties.PropertyError.TheVariants.{NotProperties, CutOff}
-use Rattle.linker_output.specs.declared.properties.PropertyError.TheVariants.{NotAscending, Differs}
-use Rattle.linker_output.specs.declared.properties.PropertyError.TheVariants.{WrongSize, TooLarge}
-use Rattle.linker_output.specs.declared.properties.PropertyError.TheVariants.{Unknown, TooShort}
-use Rattle.linker_output.specs.declared.properties.PropertyError.TheVariants.{TooMany}
 
 -- ---- which rule a type has
 

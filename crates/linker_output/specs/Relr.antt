@@ -2,8 +2,7 @@
 use Rattle.std.specs.Prelude.{◌≡◌, ℕ, ◌+◌, ◌*◌, ◌^◌, ◌%◌, ◌==◌, ◌<◌, ◌≤◌, ◌++◌, if◌then◌else◌}
 use Rattle.std.specs.Prelude.{nat_lt, Bool, List, [], ◌∷◌, length, drop, min, suc, zero}
 use Rattle.std.specs.Prelude.{Option, Some, None, ◌-◌}
-use Rattle.std.specs.Int.{bit_at}
-use Rattle.std.specs.List.{list_all}
+use Rattle.linker_output.specs.Imports.{bit_at, list_all}
 use Rattle.linker_output.specs.declared.relr.RelrError.{RelrError}
 use Rattle.linker_output.specs.declared.relr.RelrError.TheVariants.{Unaligned, NotAscending}
 use Rattle.linker_output.specs.declared.relr.RelrError.TheVariants.{NoAddress, Wraps, TooShort}

@@ -2,17 +2,13 @@
 -- resolver (RISC-V unprivileged ISA; RISC-V psABI, "Procedure Linkage Table").
 use Rattle.std.specs.Prelude.{◌==◌, ◌&&◌, ◌||◌, List, Bool, false, Option, IsSomeAnd, if◌then◌else◌}
 use Rattle.std.specs.Prelude.{◌≡◌, ◌+◌, ◌*◌, ◌/◌, ◌%◌, ◌^◌, ◌<◌, ℕ, Some, None}
-use Rattle.linker_base.specs.Bits.{field}
-use Rattle.linker_elf.specs.Value.{sum_64, difference_64}
-use Rattle.linker_laws.specs.Machine.{loaded}
+use Rattle.linker_output.specs.Imports.{LazyEntry, RiscV, difference_64, field, loaded, sum_64}
 use Rattle.linker_laws.specs.RiscVMachine.{Hart, Instruction, register, with_integer, goes_on}
 use Rattle.linker_laws.specs.RiscVMachine.{of_word, executed, rs1_of, rs2_of}
 use Rattle.linker_output.specs.LazyPlt.{IsCode, header_places}
 use Rattle.linker_output.specs.LazyPlts.{riscv_entry, riscv_header}
 use Rattle.linker_output.specs.LazyRuns.{words, or_else, run_by}
-use Rattle.linker_output.specs.declared.lazy_plt.LazyEntry.{LazyEntry}
 use Rattle.linker_riscv64.specs.RiscVFields.{opcode_of, funct3_of, rd_of}
-use Rattle.linker_elf.specs.declared.elf.architecture.Architecture.TheVariants.{RiscV}
 
 -- ---- "SUB" and "SRLI"
 

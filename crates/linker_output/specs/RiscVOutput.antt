@@ -5,11 +5,7 @@ use Rattle.linker_elf.specs.RiscVRelocations.{riscv_name}
 use Rattle.linker_elf.specs.declared.riscv64.relocations.RiscVRelocation.TheVariants as r
 use Rattle.linker_output.specs.Tables.{field_of, kind, kind_of, symbol, path, four, plain_stub, tag}
 use Rattle.linker_output.specs.View.{Description}
-use Rattle.linker_output.specs.declared.tags.TagRule.TheVariants.{VariantCalls}
-use Rattle.linker_output.specs.declared.got.ThreadPointer.TheVariants.{BelowImage}
-use Rattle.linker_output.specs.declared.got.GotHeader.TheVariants.{Dynamic}
-use Rattle.linker_output.specs.declared.layout.SymbolPlace.TheVariants.{SmallData}
-use Rattle.linker_elf.specs.declared.elf.architecture.Architecture.TheVariants.{RiscV}
+use Rattle.linker_output.specs.Imports.{BelowImage, Dynamic, RiscV, SmallData, VariantCalls}
 
 -- `e_flags`: the C extension; the float ABI, of two bits; the E extension; RVTSO
 abbrev pub has_c : ℕ

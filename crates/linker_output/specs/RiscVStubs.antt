@@ -1,10 +1,9 @@
 -- RISC-V: the stub goes to the address that its word has (RISC-V unprivileged ISA).
 use Rattle.std.specs.Prelude.{◌≡◌, ◌==◌, ◌%◌, ◌^◌, ◌<◌, ℕ, List, false}
-use Rattle.linker_laws.specs.Machine.{loaded}
+use Rattle.linker_output.specs.Imports.{RiscV, loaded}
 use Rattle.linker_laws.specs.RiscVMachine.{Hart, register, Runs}
 use Rattle.linker_output.specs.RiscVOutput.{riscv_output}
 use Rattle.linker_output.specs.Stubs.{IsStub}
-use Rattle.linker_elf.specs.declared.elf.architecture.Architecture.TheVariants.{RiscV}
 
 -- It goes to the target, and changes only t3, which a call may change on its way.
 pub record GoesTo (target : ℕ) (h t : Hart) : Type 0 where

@@ -2,20 +2,13 @@
 use Rattle.std.specs.Prelude.{◌==◌, ℕ, false, nat_lt, length, if◌then◌else◌, IsTrue, Option, Result}
 use Rattle.std.specs.Prelude.{◌≡◌, ◌≢◌, ◌↔◌, ◌&&◌, ◌||◌, ◌/◌, ℤ, List, Bool, true, drop, Some, None}
 use Rattle.std.specs.Prelude.{◌%◌, ◌^◌, ◌≤◌, [], ◌∷◌, not, Ok, Err}
-use Rattle.std.specs.Int.{w64, cast_unsigned}
-use Rattle.linker_elf.specs.ElfNames.{r_type_of}
-use Rattle.linker_elf.specs.Ppc64Relocations.{ppc64_name}
-use Rattle.linker_elf.specs.Relocate.{IsAccepted}
-use Rattle.linker_elf.specs.Value.{sum_64}
-use Rattle.linker_elf.specs.declared.aarch64.forms.AArch64Instruction.TheVariants.{JumpCall}
+use Rattle.linker_output.specs.Imports.{Architecture, Branch24, HasTwo, IsAccepted, IsRow, JumpCall}
+use Rattle.linker_output.specs.Imports.{OutOfReach, RelocateError, RowInfo, StubKind, cast_unsigned}
+use Rattle.linker_output.specs.Imports.{may_use_stub, ppc64_name, r_type_of, sum_64, w64}
 use Rattle.linker_elf.specs.declared.elf.AnyForm.TheVariants.{AArch64, LoongArch64, Ppc64}
-use Rattle.linker_elf.specs.declared.elf.RowInfo.{RowInfo}
 use Rattle.linker_elf.specs.declared.elf.RowSize.{RowSize}
 use Rattle.linker_elf.specs.declared.elf.RowSize.TheVariants.{BitMasking}
-use Rattle.linker_elf.specs.declared.elf.relocate.RelocateError.{RelocateError}
-use Rattle.linker_elf.specs.declared.elf.relocate.RelocateError.TheVariants.{OutOfReach}
 use Rattle.linker_elf.specs.declared.loongarch64.forms.LoongArch64Instruction.TheVariants.{Branch26}
-use Rattle.linker_elf.specs.declared.ppc64.forms.Ppc64Form.TheVariants.{Branch24}
 use Rattle.linker_elf.specs.declared.ppc64.relocations.Ppc64Relocation.TheVariants as ppc64
 use Rattle.linker_output.specs.Stubs.{StubCode}
 use Rattle.linker_output.specs.View.{Description}
@@ -23,19 +16,14 @@ use Rattle.linker_output.specs.declared.routes.Route.{Route}
 use Rattle.linker_output.specs.declared.routes.Route.TheVariants.{Direct, Stub as ByStub}
 use Rattle.linker_output.specs.declared.routes.RouteError.{RouteError}
 use Rattle.linker_output.specs.declared.routes.RouteError.TheVariants as errors
-use Rattle.linker_output.specs.declared.stubs.StubKind.{StubKind}
 use Rattle.linker_output.specs.declared.stubs.StubKind.TheVariants.{Load, Jump}
-use Rattle.linker_utils.specs.Ppc64Rewrites.{HasTwo}
 use Rattle.linker_section.specs.Conditions.{changes_toc}
-use Rattle.linker_section.specs.Needed.{may_use_stub}
 use Rattle.linker_section.specs.Sections.{IsRejected}
 use Rattle.linker_section.specs.Values.{IsValue, is_relative, local_entry}
 use Rattle.linker_section.specs.declared.facts.Addresses.{Addresses}
 use Rattle.linker_section.specs.declared.facts.Symbol.{Symbol}
 use Rattle.linker_section.specs.declared.relocations.Rela.{Rela}
 use Rattle.linker_section.specs.declared.values.ValueError.{ValueError}
-use Rattle.linker_elf.specs.Architectures.{IsRow}
-use Rattle.linker_elf.specs.declared.elf.architecture.Architecture.{Architecture}
 use Rattle.linker_elf.specs.declared.elf.architecture.Architecture.TheVariants as architectures
 
 -- ---- branches

@@ -2,20 +2,11 @@
 use Rattle.std.specs.Prelude.{◌≡◌, ◌++◌, List, length, take, drop, Option, Some, None, true, false}
 use Rattle.std.specs.Prelude.{◌≤◌, ◌<◌, ◌+◌, ◌⊎◌, ℕ, ℤ, min, ◌^◌, ◌-◌}
 use Rattle.linker_elf.specs.Applied.{IsApplied}
-use Rattle.linker_elf.specs.Relocate.{IsCause}
-use Rattle.linker_elf.specs.Value.{sum_64, value_of}
-use Rattle.linker_elf.specs.declared.elf.RowInfo.{RowInfo}
-use Rattle.linker_elf.specs.declared.elf.relocate.RelocateError.{RelocateError}
-use Rattle.linker_elf.specs.declared.elf.relocate.RelocateError.TheVariants.{Unsupported}
-use Rattle.linker_elf.specs.declared.elf.relocate.RelocateError.TheVariants.{OutOfReach}
+use Rattle.linker_output.specs.Imports.{Architecture, IsAllowed, IsCause, IsRow, Operands}
+use Rattle.linker_output.specs.Imports.{OutOfReach, RelocateError, RowInfo, StubError, StubField}
+use Rattle.linker_output.specs.Imports.{Unsupported, sum_64, value_of}
 use Rattle.linker_elf.specs.declared.elf.AllowedRange.{AllowedRange}
-use Rattle.linker_elf.specs.Elf.{IsAllowed}
-use Rattle.linker_elf.specs.declared.elf.value.Operands.{Operands}
-use Rattle.linker_output.specs.declared.stubs.StubError.{StubError}
 use Rattle.linker_output.specs.declared.stubs.StubError.TheVariants as errors
-use Rattle.linker_output.specs.declared.stubs.StubField.{StubField}
-use Rattle.linker_elf.specs.Architectures.{IsRow}
-use Rattle.linker_elf.specs.declared.elf.architecture.Architecture.{Architecture}
 
 -- A stub's code: 8 bytes that have the fields, and what stands before and after them.
 pub record StubCode : Type 0 where

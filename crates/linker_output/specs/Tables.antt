@@ -1,8 +1,7 @@
 -- The vocabulary of the architectures' tables.
 use Rattle.std.specs.Prelude.{ℕ, ℤ, List, [], ◌∷◌, ◌++◌, Option, Some, None, pos}
-use Rattle.std.specs.Int.{w32, to_le_bytes}
-use Rattle.linker_elf.specs.Elf.{bit_bounds}
-use Rattle.linker_elf.specs.ElfNames.{ElfName, r_type_of, text_of}
+use Rattle.linker_output.specs.Imports.{CodeUnit, DynamicTag, ElfName, StubField, SymbolPlace}
+use Rattle.linker_output.specs.Imports.{TagRule, bit_bounds, r_type_of, text_of, to_le_bytes, w32}
 use Rattle.linker_elf.specs.declared.elf.Sign.TheVariants.{Signed}
 use Rattle.linker_output.specs.Dynamic.{DynamicKind}
 use Rattle.linker_output.specs.Layout.{Path}
@@ -10,11 +9,6 @@ use Rattle.linker_output.specs.Stubs.{StubCode}
 use Rattle.linker_output.specs.View.{Symbol}
 use Rattle.linker_output.specs.declared.addresses.WordLoad.{WordLoad}
 use Rattle.linker_output.specs.declared.flags.FlagRules.{FlagRules}
-use Rattle.linker_output.specs.declared.layout.CodeUnit.{CodeUnit}
-use Rattle.linker_output.specs.declared.layout.SymbolPlace.{SymbolPlace}
-use Rattle.linker_output.specs.declared.stubs.StubField.{StubField}
-use Rattle.linker_output.specs.declared.tags.DynamicTag.{DynamicTag}
-use Rattle.linker_output.specs.declared.tags.TagRule.{TagRule}
 
 abbrev pub kind : ℕ → List ℕ → DynamicKind
 kind r_type name = record { r_type = r_type; name = name }

@@ -3,10 +3,8 @@
 use Rattle.std.specs.Prelude.{ℕ, ◌+◌, ◌-◌, ◌%◌, ◌^◌, Bool, true, if◌then◌else◌, List, [], ◌∷◌}
 use Rattle.linker_output.specs.declared.tags.DynamicEntry.{DynamicEntry}
 use Rattle.linker_output.specs.declared.tags.DynamicFacts.{DynamicFacts}
-use Rattle.linker_output.specs.declared.tags.DynamicTag.{DynamicTag}
-use Rattle.linker_output.specs.declared.tags.TagRule.{TagRule}
-use Rattle.linker_output.specs.declared.tags.TagRule.TheVariants.{LandingPlt, SignedPlt}
-use Rattle.linker_output.specs.declared.tags.TagRule.TheVariants.{VariantCalls, LazyPlt, Options}
+use Rattle.linker_output.specs.Imports.{DynamicTag, LandingPlt, LazyPlt, Options, SignedPlt}
+use Rattle.linker_output.specs.Imports.{TagRule, VariantCalls}
 
 -- whether an output has a tag
 abbrev pub has_tag : TagRule → DynamicFacts → Bool

@@ -5,10 +5,7 @@ use Rattle.linker_output.specs.Ppc64Output.{ppc64_output}
 use Rattle.linker_output.specs.RiscVOutput.{riscv_output}
 use Rattle.linker_output.specs.View.{Description}
 use Rattle.linker_output.specs.X86Output.{x86_64_output}
-use Rattle.linker_elf.specs.declared.elf.architecture.Architecture.{Architecture}
-use Rattle.linker_elf.specs.declared.elf.architecture.Architecture.TheVariants.{AArch64, RiscV}
-use Rattle.linker_elf.specs.declared.elf.architecture.Architecture.TheVariants.{LoongArch64}
-use Rattle.linker_elf.specs.declared.elf.architecture.Architecture.TheVariants.{Ppc64, X86_64}
+use Rattle.linker_output.specs.Imports.{AArch64, Architecture, LoongArch64, Ppc64, RiscV, X86_64}
 
 abbrev pub target_of : Architecture → Description
 target_of AArch64 = aarch64_output

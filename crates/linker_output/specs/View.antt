@@ -10,20 +10,16 @@ use Rattle.linker_output.specs.declared.dynamic.DynamicTypes.{DynamicTypes}
 use Rattle.linker_output.specs.declared.flags.FlagRules.{FlagRules}
 use Rattle.linker_output.specs.declared.got.GotLayout.{GotLayout}
 use Rattle.linker_output.specs.declared.got.ThreadPointer.{ThreadPointer}
-use Rattle.linker_output.specs.declared.layout.CodeUnit.{CodeUnit}
+use Rattle.linker_output.specs.Imports.{Architecture, CodeUnit, DynamicTag, StubKind, SymbolPlace}
 use Rattle.linker_output.specs.declared.layout.Interpreter.{Interpreter}
 use Rattle.linker_output.specs.declared.layout.SaveRestoreRoutines.{SaveRestoreRoutines}
 use Rattle.linker_output.specs.declared.layout.ProvidedSymbol.{ProvidedSymbol}
-use Rattle.linker_output.specs.declared.layout.SymbolPlace.{SymbolPlace}
 use Rattle.linker_output.specs.declared.properties.LandingProperty.{LandingProperty}
 use Rattle.linker_output.specs.declared.stubs.Stub.{Stub}
-use Rattle.linker_output.specs.declared.stubs.StubKind.{StubKind}
 use Rattle.linker_output.specs.declared.stubs.StubKind.TheVariants.{Far, PrefixedLoad, PrefixedJump}
 use Rattle.linker_output.specs.declared.stubs.StubKind.TheVariants.{Load, FarRelative, LandingLoad}
 use Rattle.linker_output.specs.declared.stubs.StubKind.TheVariants.{Jump, TocLoad, TocFar}
-use Rattle.linker_output.specs.declared.tags.DynamicTag.{DynamicTag}
 use Rattle.linker_output.specs.declared.description.Target.{Target}
-use Rattle.linker_elf.specs.declared.elf.architecture.Architecture.{Architecture}
 
 -- a symbol that a linker defines: its name, and how far it is above a place
 pub record Symbol : Type 0 where

@@ -3,17 +3,14 @@
 -- x86-64 psABI, "Procedure Linkage Table").
 use Rattle.std.specs.Prelude.{◌==◌, ◌&&◌, zero, List, false, drop, Option, IsSomeAnd, if◌then◌else◌}
 use Rattle.std.specs.Prelude.{◌≡◌, ◌≤◌, ◌^◌, ◌<◌, ℕ, suc, ◌∷◌, Some, None}
-use Rattle.linker_elf.specs.Relocate.{number_of_bytes}
-use Rattle.linker_elf.specs.Value.{sum_64, difference_64}
+use Rattle.linker_output.specs.Imports.{LazyEntry, LazyPiece, X86_64, difference_64}
+use Rattle.linker_output.specs.Imports.{number_of_bytes, sum_64}
 use Rattle.linker_laws.specs.X86Machine as machine
 use Rattle.linker_laws.specs.X86Machine.{State, load, store_8, with_register, extended, is_relative}
 use Rattle.linker_laws.specs.X86Machine.{reg_of}
 use Rattle.linker_output.specs.LazyPlt.{IsCode, header_places}
 use Rattle.linker_output.specs.LazyPlts.{x86_64_entry, x86_64_header, x86_64_landing_entry}
 use Rattle.linker_output.specs.LazyRuns.{or_else}
-use Rattle.linker_output.specs.declared.lazy_plt.LazyEntry.{LazyEntry}
-use Rattle.linker_output.specs.declared.lazy_plt.LazyPiece.{LazyPiece}
-use Rattle.linker_elf.specs.declared.elf.architecture.Architecture.TheVariants.{X86_64}
 
 -- ---- "ENDBR64"
 

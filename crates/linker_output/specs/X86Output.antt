@@ -1,14 +1,11 @@
 -- x86-64: what a linker adds to an output (x86-64 psABI, "Relocation Types"; ELF Handling For
 -- Thread-Local Storage; paths as glibc has them).
 use Rattle.std.specs.Prelude.{codes, [], ◌∷◌, None, Some, negsuc}
-use Rattle.linker_elf.specs.X86Relocations.{x86_64_name}
+use Rattle.linker_output.specs.Imports.{AboveImage, ThreadLocal, X86_64, x86_64_name}
 use Rattle.linker_elf.specs.declared.x86_64.relocations.X86_64Relocation.TheVariants as r
 use Rattle.linker_output.specs.Tables.{field_of, kind, kind_of, units_of, no_flags, symbol, only}
 use Rattle.linker_output.specs.Tables.{four}
 use Rattle.linker_output.specs.View.{Description}
-use Rattle.linker_output.specs.declared.got.ThreadPointer.TheVariants.{AboveImage}
-use Rattle.linker_output.specs.declared.layout.SymbolPlace.TheVariants.{ThreadLocal}
-use Rattle.linker_elf.specs.declared.elf.architecture.Architecture.TheVariants.{X86_64}
 
 abbrev pub x86_64_output : Description
 x86_64_output =

@@ -5,7 +5,7 @@ use Rattle.linker_laws.specs.X86Machine.{State, step, load}
 use Rattle.linker_output.specs.Stubs.{IsStub}
 use Rattle.linker_output.specs.X86LazyPlt.{run}
 use Rattle.linker_output.specs.X86Output.{x86_64_output}
-use Rattle.linker_elf.specs.declared.elf.architecture.Architecture.TheVariants.{X86_64}
+use Rattle.linker_output.specs.Imports.{X86_64}
 
 -- Nothing but the instruction pointer changes.
 abbrev pub Loads : Type 0

@@ -1,10 +1,6 @@
 -- The masks of fields of AArch64 have the bits that a write of a row may change.
-use Rattle.std.proofs.Common.{◌≡◌, ℕ, ◌<◌, true, refl}
-use Rattle.linker_reading.proofs.Imports.{◌==◌, bit_at, agree_below, agree_below_at, is_placed, BitRange, access_scale, instruction_mask, AArch64, AArch64Instruction}
-use Rattle.linker_elf.specs.AArch64.{low12_places}
-use Rattle.linker_elf.specs.Inner.FormLaws.{scale_small}
+use Rattle.linker_reading.proofs.Imports.{AArch64, AArch64Instruction, BitRange, access_scale, agree_below, agree_below_at, bit_at, instruction_mask, is_instruction_bit, is_placed, low12_places, refl, scale_small, true, ℕ, ◌<◌, ◌==◌, ◌≡◌}
 use Rattle.linker_elf.specs.declared.aarch64.forms.AArch64Instruction.TheVariants as aarch64
-use Rattle.linker_reading.specs.FieldsOfBytes.{is_instruction_bit}
 use Rattle.linker_reading.proofs.Masks.{agrees}
 
 -- the 12 bits are at the same place for each scale

@@ -1,8 +1,5 @@
 -- What an instruction of AArch64 holds: without the sign that a read gives; and what a move moves.
-use Rattle.std.proofs.Common.{◌≡◌, ℕ, suc, ◌-◌, ◌*◌, ◌%◌, ◌^◌, ◌<◌, refl, ◌∙◌, ap, arith, negsuc, Bool, true, false, zero, if◌then◌else◌}
-use Rattle.linker_reading.proofs.Imports.{w64, cast_unsigned, mod-eq_of_lt, field, place_sum, signed_bits, place_sum_below, aarch64_form, moved_value, shift_of, Movkz, AArch64}
-use Rattle.linker_elf.specs.declared.aarch64.forms.AArch64Instruction.TheVariants.{LdSt}
-use Rattle.linker_reading.specs.Reading.{number_held}
+use Rattle.linker_reading.proofs.Imports.{AArch64, Bool, LdSt, Movkz, aarch64_form, ap, arith, cast_unsigned, false, field, if◌then◌else◌, mod-eq_of_lt, moved_value, negsuc, number_held, place_sum, place_sum_below, refl, shift_of, signed_bits, suc, true, w64, zero, ℕ, ◌%◌, ◌*◌, ◌-◌, ◌<◌, ◌^◌, ◌∙◌, ◌≡◌}
 
 pub movkz_held : (x number result : ℕ) → number ≡ cast_unsigned w64 ((aarch64_form Movkz).reading x)
     → result ≡ number % 2 ^ 16 → result ≡ cast_unsigned w64 (number_held (AArch64 Movkz) x)

@@ -1,20 +1,8 @@
 -- What is read of an instruction of AArch64 after a write; and what a write keeps of it.
-use Rattle.std.proofs.Common.{FitsSigned, ◌≡◌, ℕ, ◌+◌, ◌-◌, ◌*◌, ◌/◌, ◌%◌, ◌^◌, ◌<◌, ◌≤◌, refl, sym, ◌∙◌, ap, subst, arith, Bool, true, false, ◌&&◌, ltb, List, ℤ, pos, negsuc, int_lt, eqb, unsigned_abs, Some, None, if◌then◌else◌, ◌≤ℤ◌, ◌<ℤ◌, neg_ℤ, [], zero, suc, not, ◌||◌, ⊎_elim}
-use Rattle.linker_reading.proofs.Imports.{w64, cast_unsigned, int_rem_euclid, bit_at, and_parts, ltb-true, eqb-true, cases_lt, lt-ltb, le-ltb, ints, mod_below, pow_pos, field, Written, IsClear, window_of, place_sum, replaced, BitRange, is_sound_layout, always_clear, consecutive_bits_sum, aarch64_form, moved_value, bits_from, IsWithin, InstructionWritten, bits_taken, Bounds, sum_64, AArch64Instruction, Movkz, Movnz, AArch64, clear_after, taken_is_field, ored_cleared, places_cleared, high_kept, nat_lt, if◌then◌else◌, bit_at_cat_low, bit_at_cat_high, bit_at-lt, BitsWritten, is_placed, access_scale, same_window, int_lt, unsigned_abs, byte_len, or_first, or_second}
+use Rattle.linker_reading.proofs.Imports.{AArch64, AArch64Instruction, BitRange, BitsWritten, Bool, Bounds, FitsSigned, InstructionWritten, IsClear, IsOfValue, IsWithin, List, MachOLow12, Movkz, Movnz, None, Some, Written, [], aarch64_form, aarch64_keeps, aarch64_layout, access_scale, always_clear, and_parts, ap, are_signed, arith, bit_at, bit_at-lt, bit_at_cat_high, bit_at_cat_low, bit_bounds, bits_from, bits_held, bits_read, bits_taken, byte_len, cases_lt, cast_unsigned, clear_after, consecutive_bits_sum, eqb, eqb-true, false, field, high_kept, holds_bits, if◌then◌else◌, imm16_places, int_lt, int_rem_euclid, ints, is_32_bit_move, is_instruction_bit, is_movk, is_placed, is_sound_layout, le-ltb, le_yes, lt-ltb, ltb, ltb-true, mod_below, move_opcode, moved_bits, moved_value, movnz, nat_lt, neg_ℤ, negsuc, none_ored, not, or_first, or_second, ored_cleared, place_sum, place_sum_laid, places_cleared, pos, pow_pos, quotient_high, quotient_low, refl, replaced, same_window, subst, suc, sum_64, sym, taken_is_field, true, unsigned_abs, w64, window_of, with_bit_31_if, zero, ℕ, ℤ, ⊎_elim, ◌%◌, ◌&&◌, ◌*◌, ◌+◌, ◌-◌, ◌/◌, ◌<ℤ◌, ◌<◌, ◌^◌, ◌||◌, ◌∙◌, ◌≡◌, ◌≤ℤ◌, ◌≤◌}
 use Rattle.std.specs.Int.Signed.{le_z}
-use Rattle.linker_base.proofs.Immediates.{place_sum_laid}
-use Rattle.linker_elf.specs.AArch64.{aarch64_layout, movnz, moved_bits, move_opcode, imm16_places}
-use Rattle.linker_elf.specs.Elf.{bit_bounds}
-use Rattle.linker_elf.specs.Relocate.{with_bit_31_if, is_movk, is_32_bit_move}
-use Rattle.linker_elf.specs.declared.aarch64.forms.AArch64Instruction.TheVariants.{MachOLow12}
 use Rattle.linker_elf.specs.declared.elf.Sign.TheVariants.{Signed}
-use Rattle.linker_elf.proofs.Agreement.{quotient_low, quotient_high, le_yes}
 use Rattle.linker_reading.proofs.Aligned.{cast_below}
-use Rattle.linker_reading.specs.Fields.{IsOfValue}
-use Rattle.linker_reading.specs.Reading.{bits_held, bits_read, holds_bits, are_signed}
-use Rattle.linker_elf.specs.Inner.FormLaws.{aarch64_keeps}
-use Rattle.linker_elf.proofs.Clearing.{none_ored}
-use Rattle.linker_reading.specs.FieldsOfBytes.{is_instruction_bit}
 use Rattle.linker_reading.proofs.WrittenImmediates.{unrounded, plain_read}
 use Rattle.linker_reading.proofs.WrittenBits.{not_cleared, outside}
 use Rattle.linker_elf.proofs.RowsAgree.{sign_of_quotient}

@@ -1,10 +1,6 @@
 -- The bits below the known ones, of multiples.
-use Rattle.std.proofs.Common.{FitsSigned, ◌≡◌, ℕ, suc, ◌+◌, ◌-◌, ◌*◌, ◌/◌, ◌%◌, ◌^◌, ◌<◌, ◌≤◌, sym, ◌∙◌, ap, arith, ℤ, pos, negsuc, unsigned_abs}
-use Rattle.linker_reading.proofs.Imports.{w64, cast_unsigned, mod_below, pow-add, div-add-mod', field, aligned_rem, IsAligned, sum_64}
+use Rattle.linker_reading.proofs.Imports.{FieldValue, FitsSigned, IsAligned, IsOfValue, IsProper, aligned_rem, ap, arith, cast_unsigned, div-add-mod', dvd-sub, field, mod-mod_of_dvd, mod_below, mul-mod_left, negsuc, pos, pow-add, suc, sum_64, sym, unsigned_abs, w64, zero-mod, ℕ, ℤ, ◌%◌, ◌*◌, ◌+◌, ◌-◌, ◌/◌, ◌<◌, ◌^◌, ◌∙◌, ◌≡◌, ◌≤◌}
 use Rattle.std.proofs.lemmas.Nat.Gcd.{dvd_of_mod-eq-zero, mod-eq-zero_of_dvd}
-use Rattle.std.proofs.Math.Nat.{mod-mod_of_dvd, dvd-sub, mul-mod_left, zero-mod}
-use Rattle.linker_reading.specs.Fields.{IsProper, IsOfValue}
-use Rattle.linker_reading.specs.declared.fields.FieldValue.{FieldValue}
 
 -- a multiple of a multiple
 multiple : (n a d : ℕ) → a % d ≡ 0 → n % a ≡ 0 → n % d ≡ 0

@@ -1,11 +1,5 @@
 -- Fields of bits of the number that an instruction holds, and of the value.
-use Rattle.std.proofs.Common.{◌≡◌, ℕ, ◌+◌, ◌-◌, ◌*◌, ◌/◌, ◌%◌, ◌^◌, ◌<◌, ◌≤◌, refl, sym, ◌∙◌, ap, subst, arith, inl, inr, Bool, true}
-use Rattle.linker_reading.proofs.Imports.{w64, cast_unsigned, bit_at, cases_lt, lt-ltb, le-ltb, mod_below, pow_pos, same_from_bits, field, signed, twos_complement, one_field, Written, IsClear, place_sum, BitRange, bit_at_mod, bit_at_mod_above, bit_at_shr, bit_at_shl, mod_mod, same_fields, signed_bits, is_sound_layout, low_of, high_of}
-use Rattle.std.proofs.lemmas.Nat.{shr_split}
-use Rattle.linker_base.specs.Form.{Sign, unsigned, number_of, Layout, own_form, form_of}
-use Rattle.linker_base.proofs.Fields.{bit_at_run}
-use Rattle.linker_base.proofs.Immediates.{layout_laid}
-use Rattle.linker_reading.specs.Reading.{bits_within}
+use Rattle.linker_reading.proofs.Imports.{BitRange, Bool, IsClear, Layout, Sign, Written, ap, arith, bit_at, bit_at_mod, bit_at_mod_above, bit_at_run, bit_at_shl, bit_at_shr, bits_within, cases_lt, cast_unsigned, field, form_of, high_of, inl, inr, is_sound_layout, layout_laid, le-ltb, low_of, lt-ltb, mod_below, mod_mod, number_of, one_field, own_form, place_sum, pow_pos, refl, same_fields, same_from_bits, shr_split, signed, signed_bits, subst, sym, true, twos_complement, unsigned, w64, ℕ, ◌%◌, ◌*◌, ◌+◌, ◌-◌, ◌/◌, ◌<◌, ◌^◌, ◌∙◌, ◌≡◌, ◌≤◌}
 
 -- fields below bit m of numbers that are the same there
 pub low_bits_same : (x y a m : ℕ) → x % 2 ^ m ≡ y % 2 ^ m → field x a m ≡ field y a m

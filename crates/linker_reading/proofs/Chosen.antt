@@ -1,9 +1,5 @@
 -- What is chosen is one of the table's choices, and nothing else is chosen by the same facts.
-use Rattle.std.proofs.Common.{◌≡◌, ◌↔◌, List, [], ◌∷◌, Option, Some, sym, ◌∙◌, inl, inr, subst}
-use Rattle.linker_elf.specs.Choices.{Entry, IsFirst}
-use Rattle.linker_elf.specs.declared.elf.choice.Choice.{Choice}
-use Rattle.linker_reading.specs.Recognised.{IsOneOf, choices_of}
-use Rattle.linker_reading.specs.declared.recognise.engine.Recognised.{Recognised}
+use Rattle.linker_reading.proofs.Imports.{Choice, Entry, IsFirst, IsOneOf, List, Option, Recognised, Some, [], choices_of, inl, inr, subst, sym, ◌↔◌, ◌∙◌, ◌∷◌, ◌≡◌}
 
 pub first_is_listed : {K R : Type 0} (Applies : Entry K R → Type 0) (es : List (Entry K R)) (otherwise c : Choice K R)
     → IsFirst Applies es otherwise c → IsOneOf c (choices_of es otherwise)

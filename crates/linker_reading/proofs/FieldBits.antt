@@ -1,9 +1,5 @@
 -- The masks of fields have the bits that a write of a row may change.
-use Rattle.std.proofs.Common.{◌≡◌, ℕ, ◌-◌, ◌*◌, ◌^◌, ◌<◌, ◌≤◌, Bool, true, ◌&&◌, List, refl, sym, ap, ◌∙◌, arith, min, ⊎_elim}
-use Rattle.linker_reading.proofs.Imports.{◌==◌, nat_lt, bit_at, agree_below, agree_below_at, cases_lt, lt-ltb, window_of, BitRange, relocation_form, instruction_mask, insn_at, bits_at, AnyForm, AArch64, LoongArch64, Ppc64, RiscV, RelocationKind, AbsoluteSetWord6, AbsoluteAdditionWord6, AbsoluteSubtractionWord6, RowInfo, RowSize, ByteSize, BitMasking}
-use Rattle.std.specs.Prelude.{bit_and}
-use Rattle.linker_reading.specs.FieldsOfBytes.{is_instruction_bit, is_size_bit, is_field_bit, is_value_bit}
-use Rattle.linker_reading.specs.Inner.Masks.{bytes_mask, number_mask, size_mask, field_mask}
+use Rattle.linker_reading.proofs.Imports.{AArch64, AbsoluteAdditionWord6, AbsoluteSetWord6, AbsoluteSubtractionWord6, AnyForm, BitMasking, BitRange, Bool, ByteSize, List, LoongArch64, Ppc64, RelocationKind, RiscV, RowInfo, RowSize, agree_below, agree_below_at, ap, arith, bit_and, bit_at, bits_at, bytes_mask, cases_lt, field_mask, insn_at, instruction_mask, is_field_bit, is_instruction_bit, is_size_bit, is_value_bit, lt-ltb, min, nat_lt, number_mask, refl, relocation_form, size_mask, sym, true, window_of, ℕ, ⊎_elim, ◌&&◌, ◌*◌, ◌-◌, ◌<◌, ◌==◌, ◌^◌, ◌∙◌, ◌≡◌, ◌≤◌}
 use Rattle.linker_reading.proofs.AArch64FieldBits.{aarch64_agrees}
 use Rattle.linker_reading.proofs.RiscVFieldBits.{riscv_agrees}
 use Rattle.linker_reading.proofs.Ppc64FieldBits.{ppc64_agrees}

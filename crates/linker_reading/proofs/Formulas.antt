@@ -1,15 +1,8 @@
 -- The value of a relocation is its address, biased and cut to its page, less its base.
-use Rattle.std.proofs.Common.{◌≡◌, ℕ, ◌+◌, ◌-◌, ◌%◌, ◌^◌, ◌<◌, ◌≤◌, refl, sym, ◌∙◌, ap, arith, Bool, true, false, Option, Some, None, ℤ, ◌↔◌, if◌then◌else◌, eqb}
-use Rattle.linker_reading.proofs.Imports.{w64, cast_unsigned, mod_below, le-ltb, not, ◌&&◌, nat_lt, field, sum_64, difference_64, page_if, bias_number, RelocationKind, RowInfo, RowSize, ByteSize, BitMasking}
-use Rattle.std.specs.Int.{cast_signed}
-use Rattle.std.proofs.lemmas.Int.{of_z-to_z}
-use Rattle.linker_elf.specs.Value.{formula, value_of, read_signed, masks_place, masks_got}
+use Rattle.linker_reading.proofs.Imports.{BitMasking, Bool, ByteSize, FieldHolds, FieldValue, HaveSameBase, None, Option, RelocationKind, RowInfo, RowSize, Solves, Some, address, ap, arith, base, bias_number, cast_signed, cast_unsigned, difference_64, eqb, false, field, formula, if◌then◌else◌, is_paged, le-ltb, masks_got, masks_place, mod_below, nat_lt, not, of_z-to_z, page_if, read_signed, refl, sum_64, sym, terms_of, terms_of_kind, true, value_of, w64, ℕ, ℤ, ◌%◌, ◌&&◌, ◌+◌, ◌-◌, ◌<◌, ◌^◌, ◌↔◌, ◌∙◌, ◌≡◌, ◌≤◌}
 use Rattle.linker_elf.specs.declared.elf.RelocationKind.TheVariants as kinds
 use Rattle.linker_elf.specs.declared.elf.value.Operands.{Operands}
 use Rattle.linker_reading.proofs.Shifts.{page_bits}
-use Rattle.linker_reading.specs.Fields.{FieldHolds}
-use Rattle.linker_reading.specs.Solving.{terms_of_kind, terms_of, address, is_paged, base, HaveSameBase, Solves}
-use Rattle.linker_reading.specs.declared.fields.FieldValue.{FieldValue}
 use Rattle.linker_reading.specs.declared.solving.Origin.{Origin}
 use Rattle.linker_reading.specs.declared.solving.Origin.TheVariants.{Zero, Place, Got, Tls}
 use Rattle.linker_reading.specs.declared.solving.Reference.TheVariants.{Symbol, GotEntry, PltEntry}

@@ -1,16 +1,9 @@
 -- What was found of the choices of a table.
-use Rattle.std.proofs.Common.{◌≡◌, ◌≢◌, ◌↔◌, ◌<◌, ◌≤◌, ◌+◌, ℕ, zero, suc, List, [], ◌∷◌, length, get_or, replicate, set, slice_get, Option, Some, None, refl, sym, ap, ◌∙◌, inl, inr, ⊎_elim, arith}
-use Rattle.linker_reading.proofs.Imports.{cases_lt, choice, Choice, same_Some}
-use Rattle.std.proofs.lemmas.Bool.{cases_eq}
-use Rattle.std.proofs.lemmas.List.{get_or-set_same, get_or-set_other, length-set}
+use Rattle.linker_reading.proofs.Imports.{AreDistinct, AreExactly, AreFoundOfFirst, ArePlaced, Choice, FieldBits, IsChosen, IsFirstPlace, IsFound, IsMade, IsMeant, IsOneOf, IsRepeated, List, None, Option, Recognised, Recogniser, Some, [], ap, arith, cases_eq, cases_lt, choice, choices_at, get_or, get_or-set_other, get_or-set_same, inl, inr, length, length-set, refl, replicate, same_Some, set, slice_get, suc, sym, zero, ℕ, ⊎_elim, ◌+◌, ◌<◌, ◌↔◌, ◌∙◌, ◌∷◌, ◌≡◌, ◌≢◌, ◌≤◌}
 use Rattle.linker_reading.proofs.Tables.{following}
-use Rattle.linker_reading.specs.Inner.Found.{IsMeant, AreFoundOfFirst, IsRepeated}
-use Rattle.linker_reading.specs.Recognised.{Recogniser, choices_at, IsChosen, IsMade, IsFound, IsOneOf, AreExactly, ArePlaced, IsFirstPlace, AreDistinct}
 use Rattle.linker_elf.specs.declared.elf.choice.LinkFacts.{LinkFacts}
 use Rattle.linker_reading.proofs.Chosen.{first_is_listed}
 use Rattle.linker_reading.specs.Inner.Laws.{ChosenMatches}
-use Rattle.linker_reading.specs.declared.recognise.fields.FieldBits.{FieldBits}
-use Rattle.linker_reading.specs.declared.recognise.engine.Recognised.{Recognised}
 
 -- ---- places in lists
 

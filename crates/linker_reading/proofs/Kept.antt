@@ -1,9 +1,6 @@
 -- Those of a list that are so, kept at its front.
-use Rattle.std.proofs.Common.{◌≡◌, ◌↔◌, ◌≤◌, ◌<◌, ◌+◌, ◌++◌, ◌⊎◌, ℕ, zero, suc, List, [], ◌∷◌, Some, length, get_or, slice_get, set, take, inl, inr, ⊎_elim, refl, sym, ap, subst, ◌∙◌, arith}
-use Rattle.std.proofs.lemmas.List.{take_all, take_more, take_more_set, length-take}
+use Rattle.linker_reading.proofs.Imports.{IsOneOf, List, Some, [], ap, arith, get_or, inl, inr, length, length-take, refl, same_Some, set, slice_get, slice_get-get_or, subst, suc, sym, take, take_all, take_more, take_more_set, zero, ℕ, ⊎_elim, ◌++◌, ◌+◌, ◌<◌, ◌↔◌, ◌∙◌, ◌∷◌, ◌≡◌, ◌≤◌, ◌⊎◌}
 use Rattle.linker_reading.proofs.Tables.{following, taken_at}
-use Rattle.linker_reading.specs.Recognised.{IsOneOf}
-use Rattle.std.proofs.lemmas.Option.{same_Some, slice_get-get_or}
 
 -- ---- one more at the end
 

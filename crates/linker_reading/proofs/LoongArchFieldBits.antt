@@ -1,8 +1,6 @@
 -- The masks of fields of LoongArch have the bits that a write of a row may change.
-use Rattle.std.proofs.Common.{◌≡◌, ℕ, ◌-◌, ◌<◌, Bool, true, false, refl}
-use Rattle.linker_reading.proofs.Imports.{◌==◌, nat_lt, if◌then◌else◌, bit_at, is_placed, BitRange, instruction_mask, loongarch_form, shift10_low, LoongArch64, LoongArch64Instruction}
+use Rattle.linker_reading.proofs.Imports.{BitRange, Bool, LoongArch64, LoongArch64Instruction, bit_at, false, if◌then◌else◌, instruction_mask, is_instruction_bit, is_placed, loongarch_form, nat_lt, refl, shift10_low, true, ℕ, ◌-◌, ◌<◌, ◌==◌, ◌≡◌}
 use Rattle.linker_elf.specs.declared.loongarch64.forms.LoongArch64Instruction.TheVariants as loongarch
-use Rattle.linker_reading.specs.FieldsOfBytes.{is_instruction_bit}
 use Rattle.linker_reading.proofs.Masks.{agrees}
 
 shift10_agrees : (b : Bool) (x w : ℕ) → w < 64

@@ -1,7 +1,5 @@
 -- What an instruction of LoongArch holds, and both of a call.
-use Rattle.std.proofs.Common.{◌≡◌, ℕ, suc, ◌+◌, ◌-◌, ◌*◌, ◌/◌, ◌%◌, ◌^◌, ◌<◌, refl, sym, ◌∙◌, ap, subst, arith, inl, inr, ℤ, pos, negsuc, ◌+ℤ◌, ◌*ℤ◌}
-use Rattle.linker_reading.proofs.Imports.{w64, cast_unsigned, cases_lt, ints, mod_below, pow_pos, mod-eq_of_lt, field, signed, place_sum, replaced, ored, or_bits_to, consecutive_bits_sum, place_sum_below, sums, loongarch_form, shift10_low, pcaddu18i_imm, jirl_imm, LoongArch64, Shift5, Shift10, Call36}
-use Rattle.linker_reading.specs.Reading.{number_held}
+use Rattle.linker_reading.proofs.Imports.{Call36, LoongArch64, Shift10, Shift5, ap, arith, cases_lt, cast_unsigned, consecutive_bits_sum, field, inl, inr, ints, jirl_imm, loongarch_form, mod-eq_of_lt, mod_below, negsuc, number_held, or_bits_to, ored, pcaddu18i_imm, place_sum, place_sum_below, pos, pow_pos, refl, replaced, shift10_low, signed, subst, suc, sums, sym, w64, ℕ, ℤ, ◌%◌, ◌*ℤ◌, ◌*◌, ◌+ℤ◌, ◌+◌, ◌-◌, ◌/◌, ◌<◌, ◌^◌, ◌∙◌, ◌≡◌}
 use Rattle.linker_reading.proofs.Numbers.{IsShort, short, signed_low}
 
 pub shift5_held : (x number result : ℕ)

@@ -1,21 +1,11 @@
 -- What is read of an instruction of LoongArch after a write; and what a write keeps of it.
-use Rattle.std.proofs.Common.{FitsSigned, ◌≡◌, ℕ, ◌+◌, ◌-◌, ◌*◌, ◌/◌, ◌%◌, ◌^◌, ◌<◌, ◌≤◌, refl, sym, ◌∙◌, ap, subst, arith, inl, inr, Bool, true, false, ltb, List, ℤ, pos, int_lt, eqb, unsigned_abs, if◌then◌else◌, ◌≤ℤ◌, ◌<ℤ◌, neg_ℤ, [], ◌||◌, ⊎_elim, max}
-use Rattle.linker_reading.proofs.Imports.{w64, cast_unsigned, bit_at, eqb-true, cases_lt, lt-ltb, ints, field, signed, Written, IsClear, window_of, place_sum, twos_complement, one_field, replaced, ored, or_bits_to, BitRange, mod_mod, always_clear, place_sum_below, consecutive_bits_sum, signed_cases, sums, immediate_of, loongarch_form, shift10_low, pcaddu18i_imm, jirl_imm, InstructionWritten, bits_taken, IsAligned, is_low_jump, low_part, HoldsBits, Bounds, LoongArch64, RelocationKind, BitMasking, LoongArch64Instruction, Shift10, Call36, clear_after, taken_below, ored_cleared, places_cleared, high_kept, nat_lt, if◌then◌else◌, ImmediateBit, BitsWritten, is_placed, bit_at_mod_above, same_window, int_lt, unsigned_abs, byte_len, Shift5}
-use Rattle.linker_elf.specs.LoongArch.{shift10_imm16}
+use Rattle.linker_reading.proofs.Imports.{BitMasking, BitRange, BitsWritten, Bool, Bounds, Call30, Call36, FitsSigned, HoldsBits, ImmediateBit, InstructionWritten, IsAligned, IsClear, IsOfValue, List, LoongArch64, LoongArch64Instruction, RelocationKind, Shift10, Shift5, Written, [], always_clear, ap, arith, bit_at, bit_at_mod_above, bits_held, bits_read, bits_taken, bits_within, byte_len, cases_lt, cast_unsigned, clear_after, consecutive_bits_sum, eqb, eqb-true, false, field, high_kept, holds_bits, if◌then◌else◌, immediate_of, inl, inr, int_lt, ints, is_instruction_bit, is_jirl, is_low_jump, is_placed, jirl_imm, jump_read, list_any-append, loongarch_form, loongarch_keeps, low_part, lt-ltb, ltb, max, mod_mod, nat_lt, neg_ℤ, one_field, or_bits_to, or_cases, ored, ored_cleared, pcaddu18i_imm, place_sum, place_sum_below, places_cleared, pos, refl, replaced, same_window, shift10_imm16, shift10_low, signed, signed_cases, subst, sums, sym, taken_below, true, twos_complement, unsigned_abs, w64, window_of, ℕ, ℤ, ⊎_elim, ◌%◌, ◌*◌, ◌+◌, ◌-◌, ◌/◌, ◌<ℤ◌, ◌<◌, ◌^◌, ◌||◌, ◌∙◌, ◌≡◌, ◌≤ℤ◌, ◌≤◌}
 use Rattle.linker_elf.specs.declared.elf.RelocationKind.TheVariants as kinds
-use Rattle.linker_elf.specs.declared.loongarch64.forms.LoongArch64Instruction.TheVariants.{Call30}
 use Rattle.linker_elf.proofs.LoongArch.{loongarch_machine, shift10_low_sum, shift10_low_field}
 use Rattle.linker_reading.proofs.Aligned.{cast_below}
 use Rattle.linker_reading.proofs.BitFields.{layout_bits, part_of_part, own_bits, low_bits_same, number_bits}
 use Rattle.linker_reading.proofs.Numbers.{short}
-use Rattle.linker_reading.specs.Fields.{IsOfValue}
-use Rattle.linker_reading.specs.Reading.{bits_within, bits_held, bits_read, holds_bits, jump_read}
 use Rattle.linker_elf.specs.Inner.Runs.{words_below}
-use Rattle.linker_elf.specs.Relocate.{is_jirl}
-use Rattle.std.proofs.lemmas.Bool.{or_cases}
-use Rattle.std.proofs.lemmas.List.Folds.{list_any-append}
-use Rattle.linker_elf.specs.Inner.FormLaws.{loongarch_keeps}
-use Rattle.linker_reading.specs.FieldsOfBytes.{is_instruction_bit}
 use Rattle.linker_reading.proofs.WrittenImmediates.{unrounded, plain_read, moved_sum_fits, modulo_read, rest_is}
 use Rattle.linker_reading.proofs.WrittenBits.{not_cleared, outside}
 

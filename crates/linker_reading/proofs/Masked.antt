@@ -1,14 +1,5 @@
 -- Words that are the same but for the bits of a mask.
-use Rattle.std.proofs.Common.{◌≡◌, ◌<◌, ◌≤◌, ◌+◌, ◌-◌, ◌*◌, ◌/◌, ◌%◌, ◌^◌, ◌&&◌, ◌||◌, ℕ, zero, suc, Bool, true, false, List, length, take, get_or, refl, sym, ap, ◌∙◌, ⊎_elim, arith, bit_and, bit_or}
-use Rattle.std.specs.Prelude.{◌==◌, nat_lt, min, max, bit_xor}
-use Rattle.std.specs.Int.{bit_at, bit_not, w64}
-use Rattle.std.proofs.lemmas.Bool.{cases_lt, lt-ltb, le-ltb, le-leb, lt-leb, false≢true, eqb-true}
-use Rattle.std.proofs.lemmas.List.Folds.{list_any_more}
-use Rattle.std.proofs.lemmas.Nat.{shr-shr}
-use Rattle.std.proofs.lemmas.Nat.Bits.{bit_at_and, bit_at_or, bit_at_xor, bit_at_not, bit_at-lt, bit_at_above, bit_at-zero, bit_at_cat_low, same_from_bits}
-use Rattle.linker_reading.specs.FieldsOfBytes.{is_in, is_in_one}
-use Rattle.linker_reading.specs.declared.recognise.fields.FieldBits.{FieldBits}
-use Rattle.linker_base.proofs.Fields.{bit_at_shl_below, bit_at_shl}
+use Rattle.linker_reading.proofs.Imports.{Bool, FieldBits, List, ap, arith, bit_and, bit_at, bit_at-lt, bit_at-zero, bit_at_above, bit_at_and, bit_at_cat_low, bit_at_not, bit_at_or, bit_at_shl, bit_at_shl_below, bit_at_xor, bit_not, bit_or, bit_xor, cases_lt, eqb-true, false, false≢true, get_or, is_in, is_in_one, le-leb, le-ltb, length, list_any_more, lt-leb, lt-ltb, max, min, nat_lt, refl, same_from_bits, shr-shr, suc, sym, take, true, w64, zero, ℕ, ⊎_elim, ◌%◌, ◌&&◌, ◌*◌, ◌+◌, ◌-◌, ◌/◌, ◌<◌, ◌==◌, ◌^◌, ◌||◌, ◌∙◌, ◌≡◌, ◌≤◌}
 
 -- ---- the bits of a field from a byte on
 

@@ -1,6 +1,5 @@
 -- A mask has the bits of a test.
-use Rattle.std.proofs.Common.{◌≡◌, ℕ, ◌<◌, Bool, true}
-use Rattle.linker_reading.proofs.Imports.{◌==◌, bit_at, agree_below, agree_below_at}
+use Rattle.linker_reading.proofs.Imports.{Bool, agree_below, agree_below_at, bit_at, true, ℕ, ◌<◌, ◌==◌, ◌≡◌}
 
 -- a mask has the bits of a test, by computation
 pub agrees : (mask : ℕ) (P : ℕ → Bool) → agree_below (λ w. bit_at mask w == 1) P 64 ≡ true → (w : ℕ) → w < 64 → (bit_at mask w == 1) ≡ P w

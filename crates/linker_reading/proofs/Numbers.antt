@@ -1,6 +1,5 @@
 -- Numbers in two's complement.
-use Rattle.std.proofs.Common.{◌≡◌, ℕ, ◌+◌, ◌-◌, ◌%◌, ◌^◌, ◌<◌, ◌≤◌, sym, ◌∙◌, ap, subst, arith, inl, inr, ℤ, pos, negsuc, ◌-ℤ◌, neg_ℤ, ◌≤ℤ◌, ◌<ℤ◌}
-use Rattle.linker_reading.proofs.Imports.{w64, cast_unsigned, cases_lt, ints, mod-eq_of_lt, signed, signed_cases}
+use Rattle.linker_reading.proofs.Imports.{ap, arith, cases_lt, cast_unsigned, inl, inr, ints, mod-eq_of_lt, neg_ℤ, negsuc, pos, signed, signed_cases, subst, sym, w64, ℕ, ℤ, ◌%◌, ◌+◌, ◌-ℤ◌, ◌-◌, ◌<ℤ◌, ◌<◌, ◌^◌, ◌∙◌, ◌≡◌, ◌≤ℤ◌, ◌≤◌}
 
 -- from -2 ^ 32 up, below 2 ^ 32
 abbrev pub IsShort : ℤ → Type 0

@@ -1,8 +1,5 @@
 -- Choices that are there in a part of a window's bytes.
-use Rattle.std.proofs.Common.{◌≡◌, ℕ, ◌+◌, ◌-◌, ◌<◌, ◌≤◌, List, [], length, take, drop, min, max, sym, ap, subst, ◌∙◌, ⊎_elim, arith}
-use Rattle.linker_reading.proofs.Imports.{cases_lt, take_all, drop_all, length-drop}
-use Rattle.linker_reading.specs.Recognised.{Recogniser}
-use Rattle.linker_reading.specs.Windows.{IsRecognisable, HasEach, IsLeastWindow}
+use Rattle.linker_reading.proofs.Imports.{HasEach, IsLeastWindow, IsRecognisable, List, Recogniser, [], ap, arith, cases_lt, drop, drop_all, length, length-drop, max, min, subst, sym, take, take_all, ℕ, ⊎_elim, ◌+◌, ◌-◌, ◌<◌, ◌∙◌, ◌≡◌, ◌≤◌}
 
 none_taken : (n : ℕ) (l : List ℕ) → l ≡ [] → take n l ≡ []
 none_taken n l e = take_all n l (let none : length l ≡ 0 = ap length e in omega (arith, none)) ∙ e

@@ -1,8 +1,6 @@
 -- The masks of fields of PowerPC64 have the bits that a write of a row may change.
-use Rattle.std.proofs.Common.{◌≡◌, ℕ, ◌<◌, Bool, true, false, not, ◌&&◌, refl}
-use Rattle.linker_reading.proofs.Imports.{◌==◌, nat_lt, if◌then◌else◌, bit_at, is_placed, BitRange, relocation_form, instruction_mask, is_dq_form, Ppc64, Ppc64Form}
+use Rattle.linker_reading.proofs.Imports.{BitRange, Bool, Ppc64, Ppc64Form, bit_at, false, if◌then◌else◌, instruction_mask, is_dq_form, is_instruction_bit, is_placed, nat_lt, not, refl, relocation_form, true, ℕ, ◌&&◌, ◌<◌, ◌==◌, ◌≡◌}
 use Rattle.linker_elf.specs.declared.ppc64.forms.Ppc64Form.TheVariants as ppc64
-use Rattle.linker_reading.specs.FieldsOfBytes.{is_instruction_bit}
 use Rattle.linker_reading.proofs.Masks.{agrees}
 
 ds_agrees : (b : Bool) (x w : ℕ) → w < 64

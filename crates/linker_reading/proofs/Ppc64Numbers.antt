@@ -1,7 +1,5 @@
 -- What an instruction of PowerPC64 holds: in two's complement.
-use Rattle.std.proofs.Common.{◌≡◌, ℕ, ◌-◌, ◌*◌, ◌/◌, ◌%◌, ◌^◌, refl, arith, true, false}
-use Rattle.linker_reading.proofs.Imports.{w64, cast_unsigned, signed, place_sum, replaced, consecutive_bits_sum, place_sum_below, ppc64_form, ppc64_reads, is_dq_form, D, Ds}
-use Rattle.linker_elf.specs.declared.ppc64.forms.Ppc64Form.TheVariants.{Branch14, Branch24, Prefixed}
+use Rattle.linker_reading.proofs.Imports.{Branch14, Branch24, D, Ds, Prefixed, arith, cast_unsigned, consecutive_bits_sum, false, is_dq_form, place_sum, place_sum_below, ppc64_form, ppc64_reads, refl, replaced, signed, true, w64, ℕ, ◌%◌, ◌*◌, ◌-◌, ◌/◌, ◌^◌, ◌≡◌}
 use Rattle.linker_reading.proofs.Numbers.{signed_low}
 
 pub d_held : (x number result : ℕ) → number ≡ cast_unsigned w64 ((ppc64_form D).reading x)

@@ -1,13 +1,6 @@
 -- What is read of an instruction of PowerPC64 after a write; and what a write keeps of it.
-use Rattle.std.proofs.Common.{FitsSigned, ◌≡◌, ℕ, ◌+◌, ◌%◌, ◌^◌, ◌<◌, ◌≤◌, refl, sym, ◌∙◌, ap, arith, Bool, true, false, ◌&&◌, List, ℤ, pos, int_lt, if◌then◌else◌, zero, suc, not, [], ⊎_elim}
-use Rattle.linker_reading.proofs.Imports.{w64, cast_unsigned, bit_at, eqb-true, cases_lt, le-ltb, Written, window_of, replaced, BitRange, always_clear, ppc64_form, InstructionWritten, bits_taken, ppc64_reads, IsInUnits, Bounds, Ppc64, BitMasking, Ppc64Form, D, Ds, taken_below, nat_lt, if◌then◌else◌, BitsWritten, is_placed, bit_at_mod, is_dq_form, int_lt, byte_len}
+use Rattle.linker_reading.proofs.Imports.{BitMasking, BitRange, BitsWritten, Bool, Bounds, D, Ds, FitsSigned, InstructionWritten, IsInUnits, IsOfValue, List, Ppc64, Ppc64Form, Written, [], always_clear, ap, arith, bit_at, bit_at_mod, bits_held, bits_read, bits_taken, byte_len, cases_lt, cast_unsigned, eqb-true, false, holds_bits, if◌then◌else◌, int_lt, is_dq_form, is_instruction_bit, is_placed, le-ltb, nat_lt, not, number_placed, pos, ppc64_form, ppc64_keeps, ppc64_reads, refl, replaced, suc, sym, taken_below, taken_in_units, true, w64, window_of, with_low_4, zero, ℕ, ℤ, ⊎_elim, ◌%◌, ◌&&◌, ◌+◌, ◌<◌, ◌^◌, ◌∙◌, ◌≡◌, ◌≤◌}
 use Rattle.linker_elf.proofs.Placed.{reads_as}
-use Rattle.linker_elf.proofs.Taken.{taken_in_units}
-use Rattle.linker_reading.specs.Fields.{IsOfValue}
-use Rattle.linker_reading.specs.Reading.{bits_held, bits_read, holds_bits}
-use Rattle.linker_elf.specs.Inner.FormLaws.{ppc64_keeps}
-use Rattle.linker_elf.specs.Relocate.{number_placed, with_low_4}
-use Rattle.linker_reading.specs.FieldsOfBytes.{is_instruction_bit}
 use Rattle.linker_reading.proofs.WrittenImmediates.{plain_read}
 use Rattle.linker_reading.proofs.WrittenBits.{outside}
 

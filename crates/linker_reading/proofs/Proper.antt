@@ -1,11 +1,7 @@
 -- What is read has some bits of 64, and no others.
-use Rattle.std.proofs.Common.{◌≡◌, ℕ, ◌+◌, ◌-◌, ◌*◌, ◌/◌, ◌%◌, ◌^◌, ◌<◌, ◌≤◌, refl, subst, arith, Bool, true, false, ltb, ◌&&◌, ℤ, Some, None, List, if◌then◌else◌, eqb, not, inl, inr}
-use Rattle.linker_reading.proofs.Imports.{and_from, and_parts, ltb-true, lt-ltb, le-ltb, cases_lt, mod_below, pow_pos, w64, cast_unsigned, window_of, BitRange, relocation_form, immediate_of, number_of_bytes, stays_movk, insn_at, is_low_jump, Bounds, sum_64, difference_64, AArch64Instruction, Movkz, Movnz, AnyForm, RiscV, Ppc64, LoongArch64, AArch64, RelocationKind, RowSize, ByteSize, BitMasking}
+use Rattle.linker_reading.proofs.Imports.{AArch64, AArch64Instruction, AnyForm, BitMasking, BitRange, Bool, Bounds, ByteSize, FieldValue, IsProper, List, LoongArch64, Movkz, Movnz, None, Ppc64, RelocationKind, RiscV, RowSize, Some, and_from, and_parts, are_signed, arith, bits_held, bits_of_bytes, bits_read, bits_within, bytes_read, cases_lt, cast_unsigned, difference_64, eqb, false, field_read, holds_bits, holds_field, holds_some, holds_value, if◌then◌else◌, immediate_of, inl, inr, insn_at, is_low_jump, jump_read, le-ltb, least_sum, leaves_one, lt-ltb, ltb, ltb-true, mod_below, not, number_held, number_of_bytes, pow_pos, refl, relocation_form, stays_movk, steps_above, subst, sum_64, true, up_to_sign, w64, window_of, with_alignment, with_reach, ℕ, ℤ, ◌%◌, ◌&&◌, ◌*◌, ◌+◌, ◌-◌, ◌/◌, ◌<◌, ◌^◌, ◌≡◌, ◌≤◌}
 use Rattle.linker_elf.specs.declared.elf.RelocationKind.TheVariants as kinds
 use Rattle.linker_reading.proofs.Ranges.{upper_below, moved_below}
-use Rattle.linker_reading.specs.Fields.{IsProper}
-use Rattle.linker_reading.specs.Reading.{holds_value, holds_bits, holds_field, are_signed, bits_held, bits_within, holds_some, number_held, with_alignment, bits_read, bits_of_bytes, bytes_read, field_read, jump_read, leaves_one, up_to_sign, with_reach, least_sum, steps_above}
-use Rattle.linker_reading.specs.declared.fields.FieldValue.{FieldValue}
 
 -- ---- instructions
 

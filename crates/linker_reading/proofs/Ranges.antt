@@ -1,7 +1,5 @@
 -- Ranges of bits, and numbers in units of a power of two.
-use Rattle.std.proofs.Common.{◌≡◌, ℕ, ◌+◌, ◌-◌, ◌*◌, ◌/◌, ◌%◌, ◌^◌, ◌<◌, ◌≤◌, sym, ◌∙◌, ap, subst, arith}
-use Rattle.linker_reading.proofs.Imports.{pow_pos, pow-add, shr_below, mod-eq_of_lt, field, subst_below}
-use Rattle.std.proofs.Math.Nat.{div-eq_of_lt}
+use Rattle.linker_reading.proofs.Imports.{ap, arith, div-eq_of_lt, field, mod-eq_of_lt, pow-add, pow_pos, shr_below, subst, subst_below, sym, ℕ, ◌%◌, ◌*◌, ◌+◌, ◌-◌, ◌/◌, ◌<◌, ◌^◌, ◌∙◌, ◌≡◌, ◌≤◌}
 
 -- a number below bit m has none of the bits above
 above_none : (n m s : ℕ) → n < 2 ^ m → m ≤ s → n / 2 ^ s ≡ 0

@@ -1,11 +1,5 @@
 -- The bits above the known ones, of values within bounds.
-use Rattle.std.proofs.Common.{FitsSigned, ◌≡◌, ℕ, suc, ◌+◌, ◌-◌, ◌*◌, ◌/◌, ◌%◌, ◌^◌, ◌<◌, ◌≤◌, sym, ◌∙◌, ap, subst, arith, ℤ, pos, negsuc, ◌≤ℤ◌, ◌<ℤ◌, true, not, ◌&&◌, ltb, eqb, Some}
-use Rattle.linker_reading.proofs.Imports.{w64, cast_unsigned, and_parts, ltb-true, eqb-true, ints, mod_below, pow_pos, pow-add, div-add-mod', div-mul-add, mod-pow-add, shr_below, mod_low, mod-add-mod, field, mod_mod, IsWithin, sum_64, difference_64}
-use Rattle.std.proofs.lemmas.Bool.{ltb-false, not-true}
-use Rattle.std.proofs.Math.Nat.{div-le_self}
-use Rattle.linker_reading.specs.Fields.{IsOfValue}
-use Rattle.linker_reading.specs.Reading.{leaves_one, least_sum, up_to_sign}
-use Rattle.linker_reading.specs.declared.fields.FieldValue.{FieldValue}
+use Rattle.linker_reading.proofs.Imports.{FieldValue, FitsSigned, IsOfValue, IsWithin, Some, and_parts, ap, arith, cast_unsigned, difference_64, div-add-mod', div-le_self, div-mul-add, eqb, eqb-true, field, ints, least_sum, leaves_one, ltb, ltb-false, ltb-true, mod-add-mod, mod-pow-add, mod_below, mod_low, mod_mod, negsuc, not, not-true, pos, pow-add, pow_pos, shr_below, subst, suc, sum_64, sym, true, up_to_sign, w64, ℕ, ℤ, ◌%◌, ◌&&◌, ◌*◌, ◌+◌, ◌-◌, ◌/◌, ◌<ℤ◌, ◌<◌, ◌^◌, ◌∙◌, ◌≡◌, ◌≤ℤ◌, ◌≤◌}
 
 -- ---- how far a value is from the least
 

@@ -1,6 +1,5 @@
 -- What is read of linked bytes at an offset that may be after them.
-use Rattle.std.proofs.Common.{◌≡◌, ◌-◌, ℕ, List, length, take, drop, min, sym, ap, ◌∙◌, ⊎_elim, arith}
-use Rattle.linker_reading.proofs.Imports.{cases_lt, drop_all, take_rest}
+use Rattle.linker_reading.proofs.Imports.{List, ap, arith, cases_lt, drop, drop_all, length, min, sym, take, take_rest, ℕ, ⊎_elim, ◌-◌, ◌∙◌, ◌≡◌}
 
 pub read_from : (at start : ℕ) (bytes : List ℕ) → start ≡ min at (length bytes) → take (length bytes - start) (drop start bytes) ≡ drop at bytes
 read_from at start bytes e =

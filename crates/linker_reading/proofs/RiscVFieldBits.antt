@@ -1,8 +1,6 @@
 -- The masks of fields of RISC-V have the bits that a write of a row may change.
-use Rattle.std.proofs.Common.{◌≡◌, ℕ, ◌<◌, refl}
-use Rattle.linker_reading.proofs.Imports.{◌==◌, bit_at, BitRange, instruction_mask, RiscV, RiscVInstruction}
+use Rattle.linker_reading.proofs.Imports.{BitRange, RiscV, RiscVInstruction, bit_at, instruction_mask, is_instruction_bit, refl, ℕ, ◌<◌, ◌==◌, ◌≡◌}
 use Rattle.linker_elf.specs.declared.riscv64.forms.RiscVInstruction.TheVariants as riscv
-use Rattle.linker_reading.specs.FieldsOfBytes.{is_instruction_bit}
 use Rattle.linker_reading.proofs.Masks.{agrees}
 
 pub riscv_agrees : (f : RiscVInstruction) (bits : BitRange) (x w : ℕ) → w < 64

@@ -1,7 +1,5 @@
 -- What an instruction of RISC-V holds: with the rounding that a read takes off.
-use Rattle.std.proofs.Common.{◌≡◌, ℕ, ◌+◌, ◌%◌, ◌^◌, refl, ◌∙◌, ap, arith}
-use Rattle.linker_reading.proofs.Imports.{w64, cast_unsigned, signed, place_sum, place_sum_below, riscv_form, RiscV, UType, CluiType}
-use Rattle.linker_reading.specs.Reading.{number_held}
+use Rattle.linker_reading.proofs.Imports.{CluiType, RiscV, UType, ap, arith, cast_unsigned, number_held, place_sum, place_sum_below, refl, riscv_form, signed, w64, ℕ, ◌%◌, ◌+◌, ◌^◌, ◌∙◌, ◌≡◌}
 use Rattle.linker_reading.proofs.Numbers.{short, rounded_again}
 
 pub utype_held : (x number : ℕ) → number ≡ cast_unsigned w64 ((riscv_form UType).reading x)

@@ -1,15 +1,8 @@
 -- What is read of an instruction of RISC-V after a write; and what a write keeps of it.
-use Rattle.std.proofs.Common.{FitsSigned, ◌≡◌, ℕ, ◌+◌, ◌-◌, ◌*◌, ◌/◌, ◌%◌, ◌^◌, ◌<◌, ◌≤◌, refl, sym, ◌∙◌, ap, arith, Bool, true, false, List, ℤ, pos, int_lt, []}
-use Rattle.linker_reading.proofs.Imports.{w64, cast_unsigned, bit_at, eqb-true, mod-add-mod, field, signed, Written, window_of, place_sum, twos_complement, BitRange, mod_mod, aligned_rem, always_clear, place_sum_below, InstructionWritten, bits_taken, riscv_form, Bounds, sum_64, RiscV, RiscVInstruction, UType, CluiType, taken_below, BitsWritten, int_lt, byte_len}
-use Rattle.linker_elf.specs.RiscV.{riscv_places, ui_high, ui_low}
-use Rattle.linker_elf.specs.declared.riscv64.forms.RiscVInstruction.TheVariants.{UiType}
+use Rattle.linker_reading.proofs.Imports.{BitRange, BitsWritten, Bool, Bounds, CluiType, FitsSigned, InstructionWritten, IsOfValue, List, RiscV, RiscVInstruction, UType, UiType, Written, [], aligned_rem, always_clear, ap, arith, bit_at, bits_held, bits_read, bits_taken, bits_within, byte_len, cast_unsigned, eqb-true, false, field, holds_bits, int_lt, is_instruction_bit, mod-add-mod, mod_mod, place_sum, place_sum_below, pos, refl, riscv_form, riscv_keeps, riscv_places, signed, sum_64, sym, taken_below, true, twos_complement, ui_high, ui_low, w64, window_of, ℕ, ℤ, ◌%◌, ◌*◌, ◌+◌, ◌-◌, ◌/◌, ◌<◌, ◌^◌, ◌∙◌, ◌≡◌, ◌≤◌}
 use Rattle.linker_elf.proofs.RiscV.{u_laid, clui_laid, riscv_machine}
 use Rattle.linker_reading.proofs.BitFields.{sum_bits, own_bits, low_bits_same, number_bits}
 use Rattle.linker_reading.proofs.Numbers.{short}
-use Rattle.linker_reading.specs.Fields.{IsOfValue}
-use Rattle.linker_reading.specs.Reading.{bits_within, bits_held, bits_read, holds_bits}
-use Rattle.linker_elf.specs.Inner.FormLaws.{riscv_keeps}
-use Rattle.linker_reading.specs.FieldsOfBytes.{is_instruction_bit}
 use Rattle.linker_reading.proofs.WrittenImmediates.{plain_read, sum_fits, modulo_read}
 use Rattle.linker_reading.proofs.WrittenBits.{outside}
 

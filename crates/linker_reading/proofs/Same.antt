@@ -1,9 +1,5 @@
 -- Windows that differ in a field only, by its mask and by its row.
-use Rattle.std.proofs.Common.{◌≡◌, ◌↔◌, ℕ, ◌+◌, ◌-◌, ◌*◌, ◌<◌, ◌≤◌, Bool, true, false, ◌&&◌, ◌||◌, List, [], length, drop, refl, sym, ap, ◌∙◌, ⊎_elim, arith}
-use Rattle.linker_reading.proofs.Imports.{◌==◌, nat_lt, nat_le, slice_index, bit_at, cases_lt, lt-ltb, le-ltb, RowInfo, bit_at-zero}
-use Rattle.linker_elf.specs.Relocate.{window_len}
-use Rattle.linker_reading.specs.FieldsOfBytes.{is_field_bit, is_size_bit, is_in, is_in_one, is_in_row, kept_index, IsSameBut, AreSameBut, AreSameButFor}
-use Rattle.linker_reading.specs.declared.recognise.fields.FieldBits.{FieldBits}
+use Rattle.linker_reading.proofs.Imports.{AreSameBut, AreSameButFor, Bool, FieldBits, IsSameBut, List, RowInfo, [], ap, arith, bit_at, bit_at-zero, cases_lt, drop, false, is_field_bit, is_in, is_in_one, is_in_row, is_size_bit, kept_index, le-ltb, length, lt-ltb, nat_le, nat_lt, refl, slice_index, sym, true, window_len, ℕ, ⊎_elim, ◌&&◌, ◌*◌, ◌+◌, ◌-◌, ◌<◌, ◌==◌, ◌||◌, ◌↔◌, ◌∙◌, ◌≡◌, ◌≤◌}
 use Rattle.linker_reading.proofs.X86WrittenChoices.{no_gap}
 
 -- a mask has a row's bits, of bytes that begin with its window

@@ -1,9 +1,5 @@
 -- Known bits of a number, and of one that is moved by a rounding.
-use Rattle.std.proofs.Common.{◌≡◌, ℕ, ◌+◌, ◌-◌, ◌*◌, ◌/◌, ◌%◌, ◌^◌, ◌<◌, ◌≤◌, sym, ◌∙◌, ap, subst, arith}
-use Rattle.linker_reading.proofs.Imports.{mod_below, pow_pos, pow-add, mod-pow-add, div-mul-add, mod_low, mod-add-mod, mod-eq_of_lt, field, mod_mod, bit_at_shr, same_fields, bit_at, sum_64}
-use Rattle.std.proofs.Math.Nat.{mul-add-mod_self_right}
-use Rattle.linker_reading.specs.Fields.{IsProper, FieldHolds}
-use Rattle.linker_reading.specs.declared.fields.FieldValue.{FieldValue}
+use Rattle.linker_reading.proofs.Imports.{FieldHolds, FieldValue, IsProper, ap, arith, bit_at, bit_at_shr, div-mul-add, field, mod-add-mod, mod-eq_of_lt, mod-pow-add, mod_below, mod_low, mod_mod, mul-add-mod_self_right, pow-add, pow_pos, same_fields, subst, sum_64, sym, ℕ, ◌%◌, ◌*◌, ◌+◌, ◌-◌, ◌/◌, ◌<◌, ◌^◌, ◌∙◌, ◌≡◌, ◌≤◌}
 
 whole : (k : ℕ) → k ≤ 64 → 2 ^ 64 ≡ 2 ^ (64 - k) * 2 ^ k
 whole k most =

@@ -1,13 +1,9 @@
 -- The choices of the code's entries are those of the definition's.
-use Rattle.std.proofs.Common.{◌≡◌, ◌↔◌, ◌≤◌, ◌<◌, ◌++◌, ◌&&◌, ℕ, Bool, true, false, zero, suc, List, [], ◌∷◌, Option, Some, None, length, get_or, slice_get, set, map, take, replicate, refl, sym, ap, subst, ◌∙◌, arith}
+use Rattle.linker_reading.proofs.Imports.{Bool, Choice, Entry, IsRepeated, List, None, Option, Some, [], and_parts, ap, arith, choice, choices_in, choices_of, false, false≢true, get_or, length, length-take, map, none-some, refl, replicate, set, slice_get, slice_get-get_or, subst, suc, sym, take, true, zero, ℕ, ◌&&◌, ◌++◌, ◌<◌, ◌↔◌, ◌∙◌, ◌∷◌, ◌≡◌, ◌≤◌}
 use Rattle.std.specs.Option.{is_some}
-use Rattle.linker_reading.proofs.Imports.{and_parts, false≢true, length-take, slice_get-get_or, Entry, choice, Choice}
-use Rattle.std.proofs.lemmas.Option.{none-some}
 use Rattle.linker_elf.specs.Inner.ChoiceTables.{IsTableOf}
 use Rattle.linker_elf.specs.declared.elf.choice_table.ChoiceEntry.{ChoiceEntry}
 use Rattle.linker_reading.specs.Inner.Equality.{IsEquality}
-use Rattle.linker_reading.specs.Inner.Found.{choices_in, IsRepeated}
-use Rattle.linker_reading.specs.Recognised.{choices_of}
 
 pub same_choices : {O K R : Type 0} → (are_at : O → K → List ℕ → ℕ → Type 0) (Asked : K → List ℕ → ℕ → Type 0)
     → (es : List (ChoiceEntry O K R)) (ds : List (Entry K R)) (otherwise : Choice K R) → IsTableOf are_at Asked es ds

@@ -1,8 +1,5 @@
 -- The bits of a little-endian number are those of its bytes.
-use Rattle.std.proofs.Common.{◌≡◌, ◌≤◌, ◌<◌, ℕ, zero, suc, ◌+◌, ◌-◌, ◌*◌, ◌^◌, List, refl, sym, ap, subst, ◌∙◌, ⊎_elim, arith}
-use Rattle.linker_reading.proofs.Imports.{slice_index, byte_len, bit_at, from_le_bytes, cases_lt, pow-add, bit_at_cat_low, bit_at_cat_high}
-use Rattle.std.specs.Int.{Width, sum_through, byte_worth}
-use Rattle.std.proofs.lemmas.Nat.{mul-add-lt}
+use Rattle.linker_reading.proofs.Imports.{List, Width, ap, arith, bit_at, bit_at_cat_high, bit_at_cat_low, byte_len, byte_worth, cases_lt, from_le_bytes, mul-add-lt, pow-add, refl, slice_index, subst, suc, sum_through, sym, zero, ℕ, ⊎_elim, ◌*◌, ◌+◌, ◌-◌, ◌<◌, ◌^◌, ◌∙◌, ◌≡◌, ◌≤◌}
 
 AreSmall : (ℕ → ℕ) → Type 0
 AreSmall f = (i : ℕ) → f i < 2 ^ 8

@@ -1,10 +1,5 @@
 -- Bytes that differ in some bits only, by words.
-use Rattle.std.proofs.Common.{◌≡◌, ℕ, ◌+◌, ◌-◌, ◌*◌, ◌^◌, ◌<◌, ◌≤◌, ◌||◌, Bool, List, length, take, drop, sym, ap, subst, ◌∙◌, ⊎_elim, arith}
-use Rattle.linker_reading.proofs.Imports.{slice_index, if◌then◌else◌, bit_at, from_le_bytes, cases_lt, lt-ltb, le-ltb, get_or-drop, get_or-take, take_rest, length-take-le, length-drop, bit_at_above}
-use Rattle.std.specs.Int.{w32}
-use Rattle.linker_reading.specs.FieldsOfBytes.{is_in, is_in_one, kept_index, IsSameBut, AreSameBut}
-use Rattle.linker_reading.specs.Inner.Words.{IsSameWordBut, AreSameFrom}
-use Rattle.linker_reading.specs.declared.recognise.fields.FieldBits.{FieldBits}
+use Rattle.linker_reading.proofs.Imports.{AreSameBut, AreSameFrom, Bool, FieldBits, IsSameBut, IsSameWordBut, List, ap, arith, bit_at, bit_at_above, cases_lt, drop, from_le_bytes, get_or-drop, get_or-take, if◌then◌else◌, is_in, is_in_one, kept_index, le-ltb, length, length-drop, length-take-le, lt-ltb, slice_index, subst, sym, take, take_rest, w32, ℕ, ⊎_elim, ◌*◌, ◌+◌, ◌-◌, ◌<◌, ◌^◌, ◌||◌, ◌∙◌, ◌≡◌, ◌≤◌}
 use Rattle.linker_reading.proofs.WindowBits.{window_bit}
 
 abbrev pub AreSmall : List ℕ → Type 0

@@ -1,12 +1,8 @@
 -- What is read after a write has the bits of the value that was written.
-use Rattle.std.proofs.Common.{FitsSigned, ◌≡◌, ℕ, ◌+◌, ◌-◌, ◌*◌, ◌/◌, ◌%◌, ◌^◌, ◌<◌, ◌≤◌, refl, sym, ◌∙◌, ap, subst, arith, Bool, true, false, ◌&&◌, ltb, List, ℤ, pos, unsigned_abs, if◌then◌else◌, ◌+ℤ◌}
-use Rattle.linker_reading.proofs.Imports.{w64, cast_unsigned, int_rem_euclid, and_parts, ltb-true, window_of, BitRange, mod_mod, aarch64_form, IsWithin, relocation_form, loongarch_form, InstructionWritten, IsAligned, stays_movk, is_low_jump, insn_at, low_part, IsInUnits, HoldsBits, IsWritten, SizeNumber, number_of_bytes, takes_size, Bounds, Movkz, Movnz, AnyForm, RiscV, Ppc64, LoongArch64, AArch64, RelocationKind, RowInfo, RowSize, ByteSize, BitMasking, Shift10}
-use Rattle.linker_elf.specs.Relocate.{IsInWords, whole_number, is_supported}
+use Rattle.linker_reading.proofs.Imports.{AArch64, AnyForm, BitMasking, BitRange, Bool, Bounds, ByteSize, FitsSigned, HoldsBits, InstructionWritten, IsAligned, IsInUnits, IsInWords, IsOfValue, IsWithin, IsWritten, List, LoongArch64, Movkz, Movnz, Ppc64, RelocationKind, RiscV, RowInfo, RowSize, Shift10, SizeNumber, aarch64_form, and_parts, ap, arith, bits_held, bits_of_bytes, bits_read, bytes_read, cast_unsigned, false, field_read, holds_bits, holds_field, holds_value, if◌then◌else◌, insn_at, int_rem_euclid, is_low_jump, is_supported, jump_read, loongarch_form, low_part, ltb, ltb-true, mod_mod, number_of_bytes, pos, refl, relocation_form, stays_movk, subst, sym, takes_size, true, unsigned_abs, w64, whole_number, window_of, ℕ, ℤ, ◌%◌, ◌&&◌, ◌*◌, ◌+ℤ◌, ◌+◌, ◌-◌, ◌/◌, ◌<◌, ◌^◌, ◌∙◌, ◌≡◌, ◌≤◌}
 use Rattle.linker_elf.proofs.Relocated.{plain_written, movk_written, jump_written}
 use Rattle.linker_elf.specs.declared.elf.RelocationKind.TheVariants as kinds
 use Rattle.linker_reading.proofs.Aligned.{cast_below}
-use Rattle.linker_reading.specs.Fields.{IsOfValue}
-use Rattle.linker_reading.specs.Reading.{bits_held, bits_read, holds_bits, holds_value, holds_field, field_read, bytes_read, bits_of_bytes, jump_read}
 use Rattle.linker_reading.proofs.Proper.{some_of_bytes}
 use Rattle.linker_reading.proofs.WrittenImmediates.{unrounded, rest_is}
 use Rattle.linker_reading.proofs.AArch64Written.{aarch64_read, movk_kept, no_movk_after}

@@ -1,8 +1,5 @@
 -- A write of a row's value to an instruction keeps the bits that aren't of the row's field.
-use Rattle.std.proofs.Common.{◌≡◌, ◌<◌, ℕ, ◌-◌, ◌/◌, ◌^◌, Bool, false, ◌||◌, List, [], ◌∷◌, ap, ◌∙◌, ℤ, eqb}
-use Rattle.linker_reading.proofs.Imports.{bit_at, w64, cast_unsigned, mod_below, pow_pos, ImmediateBit, replaced, ored, BitsWritten, Written, is_placed, BitRange, ored_cleared, bits_taken, or_first, or_second}
-use Rattle.linker_base.specs.Form.{Mark, cleared, Form, WriteKeepsOtherBits}
-use Rattle.linker_elf.specs.Relocate.{clearing}
+use Rattle.linker_reading.proofs.Imports.{BitRange, BitsWritten, Bool, Form, ImmediateBit, List, Mark, WriteKeepsOtherBits, Written, [], ap, bit_at, bits_taken, cast_unsigned, cleared, clearing, eqb, false, is_placed, mod_below, or_first, or_second, ored, ored_cleared, pow_pos, replaced, w64, ℕ, ℤ, ◌-◌, ◌/◌, ◌<◌, ◌^◌, ◌||◌, ◌∙◌, ◌∷◌, ◌≡◌}
 
 -- ---- the places that are cleared
 

@@ -1,14 +1,8 @@
 -- What is read of an immediate after a write has the bits of the value that was written.
-use Rattle.std.proofs.Common.{FitsSigned, ◌≡◌, ℕ, ◌+◌, ◌-◌, ◌/◌, ◌%◌, ◌^◌, ◌<◌, ◌≤◌, sym, ◌∙◌, ap, arith, Bool, true, ◌&&◌, leb, ℤ, pos, negsuc, unsigned_abs, ◌+ℤ◌, ◌*ℤ◌, ◌≤ℤ◌, ◌<ℤ◌, neg_ℤ}
-use Rattle.linker_reading.proofs.Imports.{w64, cast_unsigned, int_rem_euclid, and_parts, ints, field, Written, IsClear, BitRange, mod_mod, is_sound_layout, low_of, high_of, bits_from, relocation_form, immediate_of, bits_taken, sum_64, AnyForm, taken_below, taken_is_field}
-use Rattle.std.proofs.lemmas.Bool.{leb-true}
-use Rattle.linker_base.specs.Form.{IsSameModulo}
-use Rattle.linker_elf.specs.Elf.{relocation_layout}
-use Rattle.linker_elf.proofs.Agreement.{from_zero}
+use Rattle.linker_reading.proofs.Imports.{AnyForm, BitRange, Bool, FitsSigned, IsClear, IsSameModulo, Written, and_parts, ap, arith, bits_from, bits_taken, bits_within, cast_unsigned, field, from_zero, high_of, immediate_of, int_rem_euclid, ints, is_sound_layout, leb, leb-true, low_of, mod_mod, neg_ℤ, negsuc, pos, relocation_form, relocation_layout, sum_64, sym, taken_below, taken_is_field, true, unsigned_abs, w64, ℕ, ℤ, ◌%◌, ◌&&◌, ◌*ℤ◌, ◌+ℤ◌, ◌+◌, ◌-◌, ◌/◌, ◌<ℤ◌, ◌<◌, ◌^◌, ◌∙◌, ◌≡◌, ◌≤ℤ◌, ◌≤◌}
 use Rattle.linker_reading.proofs.Aligned.{cast_below}
 use Rattle.linker_reading.proofs.BitFields.{layout_bits, part_of_part, own_bits, low_bits_same}
 use Rattle.linker_reading.proofs.Numbers.{IsShort, short}
-use Rattle.linker_reading.specs.Reading.{bits_within}
 
 -- ---- forms of one field
 

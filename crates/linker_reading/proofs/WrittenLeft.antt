@@ -1,11 +1,5 @@
 -- What a write leaves is what is recognised, without the deleted bytes.
-use Rattle.std.proofs.Common.{◌≡◌, ◌≤◌, ◌<◌, ℕ, ◌+◌, ◌-◌, Bool, ◌||◌, List, ◌++◌, length, take, drop, Option, Some, None, sym, ap, subst, ◌∙◌, ⊎_elim, arith, length-append, length-drop}
-use Rattle.linker_reading.proofs.Imports.{slice_index, if◌then◌else◌, bit_at, cases_lt, lt-ltb, le-ltb, get_or_append_left, get_or-append_right, get_or-take, get_or-drop, length-take-le, rewritten, offset_after, RowInfo}
-use Rattle.linker_utils.specs.Relaxations.{relaxation_rewrite, relaxation_deleted}
-use Rattle.linker_reading.specs.FieldsOfBytes.{is_in_field, is_in_one, kept_index, AreSameBut}
-use Rattle.linker_reading.specs.Recognised.{Recogniser, DifferOnlyInFields, deleted_start, deleted_count}
-use Rattle.linker_reading.specs.WrittenRows.{WrittenIsLeft, without_deleted}
-use Rattle.linker_reading.specs.declared.recognise.fields.FieldBits.{FieldBits}
+use Rattle.linker_reading.proofs.Imports.{AreSameBut, Bool, DifferOnlyInFields, FieldBits, List, None, Option, Recogniser, RowInfo, Some, WrittenIsLeft, ap, arith, bit_at, cases_lt, deleted_count, deleted_start, drop, get_or-append_right, get_or-drop, get_or-take, get_or_append_left, if◌then◌else◌, is_in_field, is_in_one, kept_index, le-ltb, length, length-append, length-drop, length-take-le, lt-ltb, offset_after, relaxation_deleted, relaxation_rewrite, rewritten, slice_index, subst, sym, take, without_deleted, ℕ, ⊎_elim, ◌++◌, ◌+◌, ◌-◌, ◌<◌, ◌||◌, ◌∙◌, ◌≡◌, ◌≤◌}
 use Rattle.linker_reading.proofs.X86WrittenChoices.{written_is_left, no_gap}
 use Rattle.linker_reading.proofs.WrittenRows.{row_changes_field}
 use Rattle.linker_base.specs.declared.rewrite.DeletedBytes.{DeletedBytes}

@@ -1,11 +1,5 @@
 -- A write of a row's value to bytes changes bits of its field only.
-use Rattle.std.proofs.Common.{◌≡◌, ◌≤◌, ◌<◌, ℕ, zero, suc, ◌+◌, ◌-◌, ◌*◌, ◌/◌, ◌%◌, ◌^◌, Bool, true, false, ◌&&◌, List, ◌++◌, length, take, drop, replicate, get_or, refl, sym, ap, subst, ◌∙◌, ⊎_elim, arith, ℤ, pos, negsuc}
-use Rattle.linker_reading.proofs.Imports.{nat_lt, nat_le, slice_index, if◌then◌else◌, int_lt, unsigned_abs, bit_at, byte_len, w64, to_le_bytes, int_rem_euclid, cases_lt, lt-ltb, le-leb, and_parts, ltb-true, both_ways, and_from, get_or-drop, get_or_append_left, get_or-append_right, get_or-take, length-take-le, bit_at_cat_high, window_of, BitRange, bit_at_mod, bit_at_shr, aarch64_form, relocation_form, loongarch_form, ppc64_form, riscv_form, insn_at, bits_at, is_low_jump, IsWritten, InstructionWritten, size_len, bits_taken, takes_size, SizeNumber, number_of_bytes, number_written, low_bytes, AnyForm, AArch64, RiscV, Ppc64, LoongArch64, RelocationKind, AbsoluteSetWord6, AbsoluteAdditionWord6, AbsoluteSubtractionWord6, RowInfo, RowSize, ByteSize, BitMasking, subst_below}
-use Rattle.std.specs.Prelude.{◌+ℤ◌, ◌-ℤ◌}
-use Rattle.std.proofs.lemmas.List.{drop_at}
-use Rattle.linker_elf.specs.Relocate.{value_at, WritesRow}
-use Rattle.linker_reading.specs.FieldsOfBytes.{is_size_bit, is_instruction_bit, is_value_bit, IsSameBut, AreSameButFor}
-use Rattle.linker_reading.specs.WrittenRows.{AreBytes, ChangesField}
+use Rattle.linker_reading.proofs.Imports.{AArch64, AbsoluteAdditionWord6, AbsoluteSetWord6, AbsoluteSubtractionWord6, AnyForm, AreBytes, AreSameButFor, BitMasking, BitRange, Bool, ByteSize, ChangesField, InstructionWritten, IsSameBut, IsWritten, List, LoongArch64, Ppc64, RelocationKind, RiscV, RowInfo, RowSize, SizeNumber, WritesRow, aarch64_form, and_from, and_parts, ap, arith, bit_at, bit_at_cat_high, bit_at_mod, bit_at_shr, bits_at, bits_taken, both_ways, byte_len, cases_lt, drop, drop_at, false, get_or, get_or-append_right, get_or-drop, get_or-take, get_or_append_left, if◌then◌else◌, insn_at, int_lt, int_rem_euclid, is_instruction_bit, is_low_jump, is_size_bit, is_value_bit, le-leb, length, length-take-le, loongarch_form, low_bytes, lt-ltb, ltb-true, nat_le, nat_lt, negsuc, number_of_bytes, number_written, pos, ppc64_form, refl, relocation_form, replicate, riscv_form, size_len, slice_index, subst, subst_below, suc, sym, take, takes_size, to_le_bytes, true, unsigned_abs, value_at, w64, window_of, zero, ℕ, ℤ, ⊎_elim, ◌%◌, ◌&&◌, ◌*◌, ◌++◌, ◌+ℤ◌, ◌+◌, ◌-ℤ◌, ◌-◌, ◌/◌, ◌<◌, ◌^◌, ◌∙◌, ◌≡◌, ◌≤◌}
 use Rattle.linker_reading.proofs.WindowBits.{window_bit}
 use Rattle.linker_reading.proofs.X86WrittenChoices.{IsWhole, whole_writes_field, first_part}
 use Rattle.linker_reading.proofs.AArch64Written.{aarch64_outside, aarch64_word}

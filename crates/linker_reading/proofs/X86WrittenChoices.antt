@@ -1,15 +1,10 @@
 -- A write of whole bytes leaves all others, and what it leaves is what is recognised.
-use Rattle.std.proofs.Common.{◌≡◌, ◌≤◌, ◌<◌, ℕ, ◌+◌, ◌-◌, ◌*◌, ◌^◌, Bool, true, false, ◌&&◌, List, ◌++◌, length, take, drop, get_or, Option, Some, None, refl, sym, ap, subst, ◌∙◌, ⊎_elim, arith, length-append, length-drop}
-use Rattle.linker_reading.proofs.Imports.{nat_lt, nat_le, slice_index, if◌then◌else◌, bit_at, w64, to_le_bytes, cases_lt, lt-ltb, le-ltb, le-leb, ltb-true, and_from, and_parts, both_ways, false≢true, get_or_append_left, get_or-append_right, get_or-take, get_or-drop, length-take-le, IsWritten, takes_size, size_len, low_bytes, number_written, number_of_bytes, RelocationKind, RowInfo, RowSize, ByteSize, BitMasking, rewritten, offset_after, AbsoluteSetWord6, AbsoluteAdditionWord6, AbsoluteSubtractionWord6}
-use Rattle.std.proofs.lemmas.Bool.{or_parts}
+use Rattle.linker_reading.proofs.Imports.{AbsoluteAdditionWord6, AbsoluteSetWord6, AbsoluteSubtractionWord6, AreSameBut, AreSameButFor, BitMasking, Bool, ByteSize, DifferOnlyInFields, FieldBits, IsSameBut, IsWritten, List, None, Option, RelocationKind, RowInfo, RowSize, Some, and_from, and_parts, ap, arith, bit_at, both_ways, cases_lt, drop, false, false≢true, get_or, get_or-append_right, get_or-drop, get_or-take, get_or_append_left, if◌then◌else◌, is_field_bit, is_in_one, is_in_row, is_size_bit, is_value_bit, kept_index, le-leb, le-ltb, length, length-append, length-drop, length-take-le, low_bytes, lt-ltb, ltb-true, nat_le, nat_lt, number_of_bytes, number_written, offset_after, or_parts, refl, rewritten, size_len, slice_index, subst, sym, take, takes_size, to_le_bytes, true, w64, ℕ, ⊎_elim, ◌&&◌, ◌*◌, ◌++◌, ◌+◌, ◌-◌, ◌<◌, ◌^◌, ◌∙◌, ◌≡◌, ◌≤◌}
 use Rattle.linker_elf.specs.X86Relocations.{x86_64_row}
 use Rattle.linker_elf.specs.declared.x86_64.relocations.X86_64Relocation.{X86_64Relocation}
 use Rattle.linker_elf.specs.declared.x86_64.relocations.X86_64Relocation.TheVariants as r
-use Rattle.linker_reading.specs.FieldsOfBytes.{is_field_bit, is_size_bit, is_value_bit, is_in_row, is_in_one, kept_index, IsSameBut, AreSameBut, AreSameButFor}
-use Rattle.linker_reading.specs.Recognised.{DifferOnlyInFields}
 use Rattle.linker_reading.specs.X86WrittenFields.{WritesField, X86WrittenIsLeft}
 use Rattle.linker_utils.specs.X86Rewrites.{x86_64_rewrite}
-use Rattle.linker_reading.specs.declared.recognise.fields.FieldBits.{FieldBits}
 
 -- ---- whole bytes
 

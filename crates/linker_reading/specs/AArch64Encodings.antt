@@ -1,14 +1,11 @@
 -- Which forms the immediate of an instruction of AArch64 has, by the bits of its opcode,
 -- and the number that the machine makes of it (Arm Architecture Reference Manual for
 -- A-profile, DDI 0487, C4.1).
-use Rattle.std.specs.Prelude.{ℕ, ◌*◌, ◌==◌, List, [], ◌∷◌, ℤ}
-use Rattle.std.specs.Int.{bit_at}
-use Rattle.linker_base.specs.Bits.{field}
+use Rattle.linker_reading.specs.Imports.{AArch64, AnyForm, List, [], bit_at, field, ℕ, ℤ}
+use Rattle.std.specs.Prelude.{◌*◌, ◌==◌, ◌∷◌}
 use Rattle.linker_elf.specs.AArch64.{access_scale, moved_value, shift_of}
 use Rattle.linker_elf.specs.declared.aarch64.forms.AArch64Instruction.{AArch64Instruction}
 use Rattle.linker_elf.specs.declared.aarch64.forms.AArch64Instruction.TheVariants as aarch64
-use Rattle.linker_elf.specs.declared.elf.AnyForm.{AnyForm}
-use Rattle.linker_elf.specs.declared.elf.AnyForm.TheVariants.{AArch64}
 use Rattle.linker_reading.specs.Opcodes.{Encoding, of_len}
 use Rattle.linker_reading.specs.Reading.{number_held}
 

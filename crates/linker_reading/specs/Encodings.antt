@@ -1,14 +1,10 @@
 -- Which forms the immediate of an instruction has, by the bits of its opcode in the manuals; and
 -- the number that the machine makes of the immediate.
-use Rattle.std.specs.Prelude.{ℕ, ◌*◌, ◌%◌, ◌^◌, List, [], length, ◌≤◌, min}
-use Rattle.std.specs.Prelude.{Option, Some, None, ℤ, ◌≡◌}
-use Rattle.std.specs.Int.{w64, byte_len, cast_unsigned, cast_signed}
-use Rattle.linker_base.specs.Form.{window_of}
-use Rattle.linker_elf.specs.Elf.{relocation_form}
-use Rattle.linker_elf.specs.Relocate.{number_of_bytes}
-use Rattle.linker_elf.specs.declared.elf.AnyForm.{AnyForm}
-use Rattle.linker_elf.specs.declared.elf.AnyForm.TheVariants.{RiscV, Ppc64}
-use Rattle.linker_elf.specs.declared.elf.AnyForm.TheVariants.{LoongArch64, AArch64}
+use Rattle.linker_reading.specs.Imports.{AArch64, AnyForm, Architecture, List, LoongArch64, None}
+use Rattle.linker_reading.specs.Imports.{Option, Ppc64, RiscV, Some, [], byte_len, cast_signed}
+use Rattle.linker_reading.specs.Imports.{cast_unsigned, length, min, number_of_bytes}
+use Rattle.linker_reading.specs.Imports.{relocation_form, w64, window_of, ℕ, ℤ}
+use Rattle.std.specs.Prelude.{◌*◌, ◌%◌, ◌^◌, ◌≤◌, ◌≡◌}
 use Rattle.linker_reading.specs.AArch64Encodings.{aarch64_encodings, aarch64_number, aarch64_scale}
 use Rattle.linker_reading.specs.LoongArchEncodings.{loongarch_encodings}
 use Rattle.linker_reading.specs.LoongArchEncodings.{loongarch_number, loongarch_scale}
@@ -17,7 +13,6 @@ use Rattle.linker_reading.specs.Ppc64Encodings.{ppc64_encodings, ppc64_scale}
 use Rattle.linker_reading.specs.Reading.{number_held}
 use Rattle.linker_reading.specs.Recognised.{IsOneOf}
 use Rattle.linker_reading.specs.RiscVEncodings.{riscv_encodings}
-use Rattle.linker_elf.specs.declared.elf.architecture.Architecture.{Architecture}
 use Rattle.linker_elf.specs.declared.elf.architecture.Architecture.TheVariants as architectures
 
 -- ---- the forms of an instruction

@@ -1,10 +1,7 @@
 -- Known bits of numbers.
-use Rattle.std.specs.Prelude.{◌≡◌, ℕ, ◌-◌, ◌^◌, ◌<◌, ◌≤◌, ◌==◌, ◌&&◌, if◌then◌else◌, ℤ}
-use Rattle.std.specs.Prelude.{Option, Some, None}
-use Rattle.std.specs.Int.{w64, cast_unsigned}
-use Rattle.linker_base.specs.Bits.{field}
-use Rattle.linker_elf.specs.Value.{sum_64, difference_64}
-use Rattle.linker_reading.specs.declared.fields.FieldValue.{FieldValue}
+use Rattle.linker_reading.specs.Imports.{FieldValue, None, Option, Some, cast_unsigned}
+use Rattle.linker_reading.specs.Imports.{difference_64, field, sum_64, w64, ℕ, ℤ}
+use Rattle.std.specs.Prelude.{◌≡◌, ◌-◌, ◌^◌, ◌<◌, ◌≤◌, ◌==◌, ◌&&◌, if◌then◌else◌}
 
 -- The number has the known bits.
 abbrev pub FieldHolds : FieldValue → ℕ → Type 0

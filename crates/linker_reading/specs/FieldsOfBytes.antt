@@ -1,29 +1,16 @@
 -- The bits of a relocation's field, and bytes that differ in no other bits. Bits are counted from
 -- the lowest of the first byte of a window.
-use Rattle.std.specs.Prelude.{◌≡◌, ℕ, ◌+◌, ◌-◌, ◌*◌, ◌<◌, ◌≤◌, ◌==◌, Bool, true, false, not, ◌&&◌}
-use Rattle.std.specs.Prelude.{◌||◌, nat_lt, nat_le, if◌then◌else◌, Option, Some, None}
-use Rattle.std.specs.Prelude.{List, length, drop, slice_index}
+use Rattle.linker_reading.specs.Imports.{AArch64, AbsoluteAdditionWord6, AbsoluteSetWord6}
+use Rattle.linker_reading.specs.Imports.{AbsoluteSubtractionWord6, AnyForm, BitMasking, Bool}
+use Rattle.linker_reading.specs.Imports.{ByteSize, Ds, FieldBits, List, LoongArch64, Movnz, None}
+use Rattle.linker_reading.specs.Imports.{Option, Ppc64, RelocationKind, RowInfo, RowSize, Shift10}
+use Rattle.linker_reading.specs.Imports.{Some, bit_at, bits_at, drop, false, insn_at, is_dq_form}
+use Rattle.linker_reading.specs.Imports.{is_placed, length, nat_le, nat_lt, not, relocation_form}
+use Rattle.linker_reading.specs.Imports.{slice_index, true, window_len, window_of, ℕ}
+use Rattle.std.specs.Prelude.{◌≡◌, ◌+◌, ◌-◌, ◌*◌, ◌<◌, ◌≤◌, ◌==◌, ◌&&◌, ◌||◌, if◌then◌else◌}
 use Rattle.std.specs.List.{list_any}
-use Rattle.std.specs.Int.{bit_at}
-use Rattle.linker_base.specs.Form.{is_placed, window_of}
 use Rattle.linker_base.specs.declared.bit_misc.BitRange.{BitRange}
-use Rattle.linker_elf.specs.Elf.{relocation_form}
 use Rattle.linker_elf.specs.LoongArch.{shift10_low}
-use Rattle.linker_elf.specs.Relocate.{is_dq_form, window_len, insn_at, bits_at}
-use Rattle.linker_elf.specs.declared.aarch64.forms.AArch64Instruction.TheVariants.{Movnz}
-use Rattle.linker_elf.specs.declared.loongarch64.forms.LoongArch64Instruction.TheVariants.{Shift10}
-use Rattle.linker_elf.specs.declared.ppc64.forms.Ppc64Form.TheVariants.{Ds}
-use Rattle.linker_elf.specs.declared.elf.AnyForm.{AnyForm}
-use Rattle.linker_elf.specs.declared.elf.AnyForm.TheVariants.{AArch64, LoongArch64}
-use Rattle.linker_elf.specs.declared.elf.AnyForm.TheVariants.{Ppc64}
-use Rattle.linker_elf.specs.declared.elf.RelocationKind.{RelocationKind}
-use Rattle.linker_elf.specs.declared.elf.RelocationKind.TheVariants.{AbsoluteSetWord6}
-use Rattle.linker_elf.specs.declared.elf.RelocationKind.TheVariants.{AbsoluteAdditionWord6}
-use Rattle.linker_elf.specs.declared.elf.RelocationKind.TheVariants.{AbsoluteSubtractionWord6}
-use Rattle.linker_elf.specs.declared.elf.RowInfo.{RowInfo}
-use Rattle.linker_elf.specs.declared.elf.RowSize.{RowSize}
-use Rattle.linker_elf.specs.declared.elf.RowSize.TheVariants.{ByteSize, BitMasking}
-use Rattle.linker_reading.specs.declared.recognise.fields.FieldBits.{FieldBits}
 
 -- ---- the bits that a write of a row may change
 

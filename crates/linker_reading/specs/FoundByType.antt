@@ -1,7 +1,7 @@
 -- What a linker made of a relocation, by its architecture and its `r_type`.
-use Rattle.std.specs.Prelude.{◌≡◌, ◌↔◌, ℕ, List, map, Option, Some}
-use Rattle.linker_elf.specs.Choices.{choice}
-use Rattle.linker_elf.specs.ElfNames.{IsNameOf, r_type_of}
+use Rattle.linker_reading.specs.Imports.{Architecture, FieldBits, IsNameOf, List, Option}
+use Rattle.linker_reading.specs.Imports.{Recognised, Relaxation, Some, choice, map, r_type_of, ℕ}
+use Rattle.std.specs.Prelude.{◌≡◌, ◌↔◌}
 use Rattle.linker_elf.specs.declared.elf.choice.LinkFacts.{LinkFacts}
 use Rattle.linker_reading.specs.Recognised.{Recogniser, IsChosen, IsMade, IsFound}
 use Rattle.linker_reading.specs.Recognised.{AreExactly, ArePlaced, choices_at}
@@ -10,14 +10,10 @@ use Rattle.linker_reading.specs.RiscVRecogniser.{riscv}
 use Rattle.linker_reading.specs.LoongArchRecogniser.{loongarch}
 use Rattle.linker_reading.specs.Ppc64Recogniser.{ppc64}
 use Rattle.linker_reading.specs.X86Recogniser.{x86_64}
-use Rattle.linker_reading.specs.declared.recognise.engine.Recognised.{Recognised}
-use Rattle.linker_reading.specs.declared.recognise.fields.FieldBits.{FieldBits}
 use Rattle.linker_elf.specs.Architectures.{of_some}
-use Rattle.linker_utils.specs.declared.architecture.Relaxation.{Relaxation}
 use Rattle.linker_elf.specs.declared.elf.architecture.Architecture.TheVariants.{AArch64, RiscV}
 use Rattle.linker_elf.specs.declared.elf.architecture.Architecture.TheVariants.{LoongArch64}
 use Rattle.linker_elf.specs.declared.elf.architecture.Architecture.TheVariants.{Ppc64, X86_64}
-use Rattle.linker_elf.specs.declared.elf.architecture.Architecture.{Architecture}
 
 -- the same with the rewrite as one of all architectures', and the relocation's `r_type`
 abbrev pub by_type : {K R : Type 0} → Recogniser K R → Recognised K R → Recognised Relaxation ℕ

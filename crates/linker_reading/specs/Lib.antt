@@ -4,6 +4,7 @@ pub mod Encodings
 pub mod Fields
 pub mod FieldsOfBytes
 pub mod FoundByType
+pub mod Imports
 pub mod Inner
 pub mod LoongArchEncodings
 pub mod LoongArchRecogniser

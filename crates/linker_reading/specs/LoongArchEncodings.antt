@@ -1,11 +1,9 @@
 -- Which forms the immediate of an instruction of LoongArch has, by the bits of its opcode, and the
 -- number that the machine makes of it (LoongArch Reference Manual, volume 1, "Table of Instruction
 -- Encoding"; volume 2, for VLD, VST, XVLD and XVST).
-use Rattle.std.specs.Prelude.{ℕ, ◌==◌, Bool, ◌&&◌, ◌||◌, nat_lt}
-use Rattle.std.specs.Prelude.{if◌then◌else◌, List, [], ◌∷◌, ℤ, pos}
-use Rattle.linker_base.specs.Bits.{field, signed}
-use Rattle.linker_elf.specs.declared.elf.AnyForm.{AnyForm}
-use Rattle.linker_elf.specs.declared.elf.AnyForm.TheVariants.{LoongArch64}
+use Rattle.linker_reading.specs.Imports.{AnyForm, Bool, List, LoongArch64, [], field, nat_lt, pos}
+use Rattle.linker_reading.specs.Imports.{signed, ℕ, ℤ}
+use Rattle.std.specs.Prelude.{◌==◌, ◌&&◌, ◌||◌, if◌then◌else◌, ◌∷◌}
 use Rattle.linker_elf.specs.declared.loongarch64.forms.LoongArch64Instruction.{LoongArch64Instruction}
 use Rattle.linker_elf.specs.declared.loongarch64.forms.LoongArch64Instruction.TheVariants as loongarch
 use Rattle.linker_reading.specs.Opcodes.{Encoding, of_len, pair_of}

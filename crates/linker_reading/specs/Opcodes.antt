@@ -1,8 +1,7 @@
 -- The bits of an instruction's opcode, by which its forms are found.
-use Rattle.std.specs.Prelude.{ℕ, ◌+◌, ◌*◌, ◌^◌, ◌==◌, Bool, true, ◌&&◌, nat_le}
-use Rattle.std.specs.Prelude.{if◌then◌else◌, List, [], ◌∷◌, bit_and, Option, Some, None}
-use Rattle.linker_base.specs.Bits.{field}
-use Rattle.linker_elf.specs.declared.elf.AnyForm.{AnyForm}
+use Rattle.linker_reading.specs.Imports.{AnyForm, Bool, List, None, Option, Some, [], bit_and}
+use Rattle.linker_reading.specs.Imports.{field, nat_le, true, ℕ}
+use Rattle.std.specs.Prelude.{◌+◌, ◌*◌, ◌^◌, ◌==◌, ◌&&◌, if◌then◌else◌, ◌∷◌}
 
 -- An instruction, or two that make one value, of `len` bytes: under the mask, the bits of its
 -- opcode; where two fields of registers begin that have to be the same; and the forms of its

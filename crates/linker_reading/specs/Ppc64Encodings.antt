@@ -1,11 +1,8 @@
 -- Which forms the immediate of an instruction of PowerPC64 has, by the bits of its opcode,
 -- and what the number there counts (Power ISA 3.1, Book I, "Instruction Formats" and the
 -- pages of the instructions).
-use Rattle.std.specs.Prelude.{ℕ, ◌+◌, ◌*◌, ◌^◌, ◌==◌, if◌then◌else◌, List, [], ◌∷◌}
-use Rattle.std.specs.Int.{bit_at}
-use Rattle.linker_base.specs.Bits.{field}
-use Rattle.linker_elf.specs.declared.elf.AnyForm.{AnyForm}
-use Rattle.linker_elf.specs.declared.elf.AnyForm.TheVariants.{Ppc64}
+use Rattle.linker_reading.specs.Imports.{AnyForm, List, Ppc64, [], bit_at, field, ℕ}
+use Rattle.std.specs.Prelude.{◌+◌, ◌*◌, ◌^◌, ◌==◌, if◌then◌else◌, ◌∷◌}
 use Rattle.linker_elf.specs.declared.ppc64.forms.Ppc64Form.{Ppc64Form}
 use Rattle.linker_elf.specs.declared.ppc64.forms.Ppc64Form.TheVariants as ppc64
 use Rattle.linker_reading.specs.Opcodes.{Encoding, of_len}

@@ -1,37 +1,23 @@
 -- What stands in the field of a relocation: which bits of its value, with what was added to it.
-use Rattle.std.specs.Prelude.{ℕ, ◌+◌, ◌-◌, ◌*◌, ◌/◌, ◌%◌, ◌^◌, ◌==◌, Bool, true, false, not, nat_lt}
-use Rattle.std.specs.Prelude.{◌&&◌, if◌then◌else◌, List, length, Option, Some, None, IfSome, ℤ}
-use Rattle.std.specs.Int.{w64, cast_unsigned}
+use Rattle.linker_reading.specs.Imports.{AArch64, AnyForm, BitMasking, Bool, ByteSize, Call30, Ds}
+use Rattle.linker_reading.specs.Imports.{FieldValue, IfSome, List, LoongArch64, MachOLow12, Movnz}
+use Rattle.linker_reading.specs.Imports.{None, Option, Ppc64, RelocationKind, RiscV, RowInfo}
+use Rattle.linker_reading.specs.Imports.{RowSize, Some, WritesRow, bit_bounds, cast_unsigned}
+use Rattle.linker_reading.specs.Imports.{difference_64, false, field, insn_at, is_low_jump, length}
+use Rattle.linker_reading.specs.Imports.{nat_lt, not, number_of_bytes, ppc64_reads, relocation_form}
+use Rattle.linker_reading.specs.Imports.{sum_64, true, w64, window_len, window_of, ℕ, ℤ}
+use Rattle.linker_elf.specs.declared.riscv64.forms.RiscVInstruction.TheVariants.{CluiType, UType}
+use Rattle.std.specs.Prelude.{◌+◌, ◌-◌, ◌*◌, ◌/◌, ◌%◌, ◌^◌, ◌==◌, ◌&&◌, if◌then◌else◌}
 use Rattle.std.specs.Int.RustNames.{FitsSigned}
 use Rattle.std.specs.Int.Signed.{le_z}
-use Rattle.linker_base.specs.Bits.{field}
-use Rattle.linker_base.specs.Form.{window_of}
 use Rattle.linker_base.specs.declared.bit_misc.BitRange.{BitRange}
 use Rattle.linker_elf.specs.AArch64.{movnz}
-use Rattle.linker_elf.specs.Elf.{relocation_form, bit_bounds}
 use Rattle.linker_elf.specs.Forms.{immediate_of}
 use Rattle.linker_elf.specs.Reach.{reach_of}
-use Rattle.linker_elf.specs.Relocate.{number_of_bytes, ppc64_reads, window_len, WritesRow}
-use Rattle.linker_elf.specs.Relocate.{is_low_jump, insn_at}
 use Rattle.linker_elf.specs.Rows.{Bounds}
-use Rattle.linker_elf.specs.Value.{sum_64, difference_64}
-use Rattle.linker_elf.specs.declared.aarch64.forms.AArch64Instruction.TheVariants.{Movnz}
-use Rattle.linker_elf.specs.declared.aarch64.forms.AArch64Instruction.TheVariants.{MachOLow12}
-use Rattle.linker_elf.specs.declared.elf.AnyForm.{AnyForm}
-use Rattle.linker_elf.specs.declared.elf.AnyForm.TheVariants.{RiscV, Ppc64}
-use Rattle.linker_elf.specs.declared.elf.AnyForm.TheVariants.{LoongArch64, AArch64}
-use Rattle.linker_elf.specs.declared.elf.RelocationKind.{RelocationKind}
 use Rattle.linker_elf.specs.declared.elf.RelocationKind.TheVariants as kinds
-use Rattle.linker_elf.specs.declared.elf.RowInfo.{RowInfo}
-use Rattle.linker_elf.specs.declared.elf.RowSize.{RowSize}
-use Rattle.linker_elf.specs.declared.elf.RowSize.TheVariants.{ByteSize, BitMasking}
-use Rattle.linker_elf.specs.declared.loongarch64.forms.LoongArch64Instruction.TheVariants.{Call30}
-use Rattle.linker_elf.specs.declared.ppc64.forms.Ppc64Form.TheVariants.{Ds}
 use Rattle.linker_elf.specs.declared.elf.Sign.TheVariants.{Signed}
-use Rattle.linker_elf.specs.declared.riscv64.forms.RiscVInstruction.TheVariants.{UType}
-use Rattle.linker_elf.specs.declared.riscv64.forms.RiscVInstruction.TheVariants.{CluiType}
 use Rattle.linker_reading.specs.Fields.{IsOfValue}
-use Rattle.linker_reading.specs.declared.fields.FieldValue.{FieldValue}
 
 -- ---- what a field holds
 

@@ -1,21 +1,13 @@
 -- What a linker made of a relocation: the choices of a rewrite that leave the linked bytes.
-use Rattle.std.specs.Prelude.{◌≡◌, ◌≢◌, ◌⊎◌, ◌≤◌, ◌<◌, ◌+◌, ◌-◌, ℕ, List, [], ◌∷◌, length}
-use Rattle.std.specs.Prelude.{Option, Some, None, ⊤, drop, min, slice_get, slice_index_or}
-use Rattle.linker_base.specs.Rewrite.{CanRewrite, rewritten, offset_after}
-use Rattle.linker_elf.specs.Relocate.{window_len}
-use Rattle.linker_elf.specs.declared.elf.RowInfo.{RowInfo}
+use Rattle.linker_reading.specs.Imports.{CanRewrite, Choice, ElfName, Entry, FieldBits, FieldValue}
+use Rattle.linker_reading.specs.Imports.{IsFirst, List, None, Option, Recognised, Relaxation}
+use Rattle.linker_reading.specs.Imports.{RowInfo, Some, [], choice, drop, length, min, offset_after}
+use Rattle.linker_reading.specs.Imports.{relaxation_deleted, relaxation_matches, relaxation_rewrite}
+use Rattle.linker_reading.specs.Imports.{rewritten, slice_get, slice_index_or, window_len, ℕ, ⊤}
+use Rattle.std.specs.Prelude.{◌≡◌, ◌≢◌, ◌⊎◌, ◌≤◌, ◌<◌, ◌+◌, ◌-◌, ◌∷◌}
 use Rattle.linker_reading.specs.Reading.{value_read}
-use Rattle.linker_reading.specs.declared.fields.FieldValue.{FieldValue}
 use Rattle.linker_reading.specs.FieldsOfBytes.{is_in_field, AreSameBut}
-use Rattle.linker_reading.specs.declared.recognise.engine.Recognised.{Recognised}
-use Rattle.linker_reading.specs.declared.recognise.fields.FieldBits.{FieldBits}
-use Rattle.linker_elf.specs.Choices.{Entry, IsFirst, choice}
-use Rattle.linker_elf.specs.ElfNames.{ElfName}
-use Rattle.linker_elf.specs.declared.elf.choice.Choice.{Choice}
 use Rattle.linker_elf.specs.declared.elf.choice.LinkFacts.{LinkFacts}
-use Rattle.linker_utils.specs.Relaxations.{relaxation_rewrite, relaxation_deleted}
-use Rattle.linker_utils.specs.Relaxations.{relaxation_matches}
-use Rattle.linker_utils.specs.declared.architecture.Relaxation.{Relaxation}
 use Rattle.linker_base.specs.declared.rewrite.DeletedBytes.{DeletedBytes}
 
 -- ---- what a rewrite leaves

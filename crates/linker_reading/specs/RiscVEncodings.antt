@@ -1,8 +1,7 @@
 -- Which forms the immediate of an instruction of RISC-V has, by the bits of its opcode (RISC-V
 -- unprivileged ISA, "RV32/64G Instruction Set Listings" and "RVC Instruction Set Listings").
-use Rattle.std.specs.Prelude.{ℕ, List, [], ◌∷◌}
-use Rattle.linker_elf.specs.declared.elf.AnyForm.{AnyForm}
-use Rattle.linker_elf.specs.declared.elf.AnyForm.TheVariants.{RiscV}
+use Rattle.linker_reading.specs.Imports.{AnyForm, List, RiscV, [], ℕ}
+use Rattle.std.specs.Prelude.{◌∷◌}
 use Rattle.linker_elf.specs.declared.riscv64.forms.RiscVInstruction.TheVariants as riscv
 use Rattle.linker_reading.specs.Opcodes.{Encoding, of_len, pair_of}
 

@@ -1,22 +1,16 @@
 -- The address that a relocation's value comes from: the inverse of the formulas of values.
-use Rattle.std.specs.Prelude.{◌≡◌, ◌↔◌, ℕ, ◌==◌, Bool, true, false, not, ◌&&◌, nat_lt}
-use Rattle.std.specs.Prelude.{if◌then◌else◌}
-use Rattle.std.specs.Prelude.{Option, Some, None, ℤ}
-use Rattle.std.specs.Int.{w64, cast_unsigned}
-use Rattle.linker_elf.specs.Value.{sum_64, difference_64, entry_addend, bias_number, page_if}
-use Rattle.linker_elf.specs.Value.{masks_symbol, masks_entry, place_term, got_term, value_of}
+use Rattle.linker_reading.specs.Imports.{BitMasking, Bool, ByteSize, FieldValue, None, Option}
+use Rattle.linker_reading.specs.Imports.{Reference, RelocationKind, RowInfo, RowSize, Some}
+use Rattle.linker_reading.specs.Imports.{bias_number, cast_unsigned, difference_64, entry_addend}
+use Rattle.linker_reading.specs.Imports.{false, got_term, masks_entry, masks_symbol, nat_lt, not}
+use Rattle.linker_reading.specs.Imports.{page_if, place_term, sum_64, true, value_of, w64, ℕ, ℤ}
+use Rattle.std.specs.Prelude.{◌≡◌, ◌↔◌, ◌==◌, ◌&&◌, if◌then◌else◌}
 use Rattle.linker_elf.specs.declared.elf.PageMask.{PageMask}
-use Rattle.linker_elf.specs.declared.elf.RelocationKind.{RelocationKind}
 use Rattle.linker_elf.specs.declared.elf.RelocationKind.TheVariants as kinds
-use Rattle.linker_elf.specs.declared.elf.RowInfo.{RowInfo}
-use Rattle.linker_elf.specs.declared.elf.RowSize.{RowSize}
-use Rattle.linker_elf.specs.declared.elf.RowSize.TheVariants.{ByteSize, BitMasking}
 use Rattle.linker_elf.specs.declared.elf.value.Operands.{Operands}
 use Rattle.linker_reading.specs.Fields.{FieldHolds, IsOfValue}
-use Rattle.linker_reading.specs.declared.fields.FieldValue.{FieldValue}
 use Rattle.linker_reading.specs.declared.solving.Origin.{Origin}
 use Rattle.linker_reading.specs.declared.solving.Origin.TheVariants.{Zero, Place, Got, Tls}
-use Rattle.linker_reading.specs.declared.solving.Reference.{Reference}
 use Rattle.linker_reading.specs.declared.solving.Reference.TheVariants.{Symbol, GotEntry, PltEntry}
 use Rattle.linker_reading.specs.declared.solving.Terms.{Terms}
 

@@ -1,19 +1,14 @@
 -- Which bytes of a window recognising a relocation compares, and where a recognised one leads.
-use Rattle.std.specs.Prelude.{◌≡◌, ◌≤◌, ◌<◌, ◌+◌, ◌-◌, ◌/◌, ◌^◌, ◌&&◌, ℕ, List, length, take, drop}
-use Rattle.std.specs.Prelude.{Option, Some, None, IfSome, IfNone, Bool, true, false, nat_lt}
-use Rattle.std.specs.Prelude.{if◌then◌else◌}
-use Rattle.std.specs.Int.{w64, cast_unsigned}
-use Rattle.linker_base.specs.Rewrite.{CanRewrite, offset_after, addend_after}
+use Rattle.linker_reading.specs.Imports.{Architecture, BitMasking, Bool, CanRewrite, Choice}
+use Rattle.linker_reading.specs.Imports.{FieldValue, IfNone, IfSome, IsNameOf, List, None, Option}
+use Rattle.linker_reading.specs.Imports.{Ppc64, Reference, Relaxation, RowInfo, RowSize, Some}
+use Rattle.linker_reading.specs.Imports.{addend_after, cast_unsigned, difference_64, drop, false}
+use Rattle.linker_reading.specs.Imports.{length, nat_lt, offset_after, relaxation_deleted}
+use Rattle.linker_reading.specs.Imports.{relaxation_matches, relaxation_rewrite, take, true, w64, ℕ}
+use Rattle.std.specs.Prelude.{◌≡◌, ◌≤◌, ◌<◌, ◌+◌, ◌-◌, ◌/◌, ◌^◌, ◌&&◌, if◌then◌else◌}
 use Rattle.linker_base.specs.declared.rewrite.RewriteWindow.{RewriteWindow}
-use Rattle.linker_elf.specs.ElfNames.{IsNameOf}
 use Rattle.linker_elf.specs.Entries.{is_ppc64_branch}
-use Rattle.linker_elf.specs.declared.elf.AnyForm.TheVariants.{Ppc64}
-use Rattle.linker_elf.specs.declared.elf.RowInfo.{RowInfo}
-use Rattle.linker_elf.specs.declared.elf.RowSize.{RowSize}
-use Rattle.linker_elf.specs.declared.elf.RowSize.TheVariants.{BitMasking}
-use Rattle.linker_elf.specs.Value.{difference_64}
 use Rattle.linker_elf.specs.declared.elf.Operands.{Operands}
-use Rattle.linker_elf.specs.declared.elf.choice.Choice.{Choice}
 use Rattle.linker_reading.specs.Fields.{IsProper, whole_number}
 use Rattle.linker_reading.specs.Recognised.{Recogniser, IsOneOf, HasField, choices_at}
 use Rattle.linker_reading.specs.Recognised.{deleted_start, deleted_count}
@@ -23,16 +18,10 @@ use Rattle.linker_reading.specs.LoongArchRecogniser.{loongarch}
 use Rattle.linker_reading.specs.Ppc64Recogniser.{ppc64}
 use Rattle.linker_reading.specs.X86Recogniser.{x86_64}
 use Rattle.linker_reading.specs.Solving.{IsSolved, terms_of}
-use Rattle.linker_reading.specs.declared.fields.FieldValue.{FieldValue}
 use Rattle.linker_reading.specs.declared.solving.Reference.TheVariants as references
-use Rattle.linker_reading.specs.declared.solving.Reference.{Reference}
 use Rattle.linker_reading.specs.declared.windows.Destination.{Destination}
 use Rattle.linker_elf.specs.Architectures.{of_some}
-use Rattle.linker_utils.specs.Relaxations.{relaxation_matches, relaxation_rewrite}
-use Rattle.linker_utils.specs.Relaxations.{relaxation_deleted}
-use Rattle.linker_utils.specs.declared.architecture.Relaxation.{Relaxation}
 use Rattle.linker_elf.specs.declared.elf.architecture.Architecture.TheVariants as architectures
-use Rattle.linker_elf.specs.declared.elf.architecture.Architecture.{Architecture}
 
 -- ---- the window of all choices
 

@@ -1,15 +1,11 @@
 -- What a write of a row's value changes, and that what it leaves is what is recognised.
-use Rattle.std.specs.Prelude.{◌≡◌, ◌<◌, ◌≤◌, ◌+◌, ◌^◌, ℕ, List, ◌++◌, length, slice_index, take}
-use Rattle.std.specs.Prelude.{drop, ℤ, Option, Some}
-use Rattle.linker_base.specs.Rewrite.{CanRewrite, rewritten, offset_after}
-use Rattle.linker_elf.specs.Relocate.{WritesRow}
-use Rattle.linker_elf.specs.declared.elf.RowInfo.{RowInfo}
+use Rattle.linker_reading.specs.Imports.{CanRewrite, Choice, FieldBits, List, Option, RowInfo, Some}
+use Rattle.linker_reading.specs.Imports.{WritesRow, drop, length, offset_after, relaxation_deleted}
+use Rattle.linker_reading.specs.Imports.{relaxation_rewrite, rewritten, slice_index, take, ℕ, ℤ}
+use Rattle.std.specs.Prelude.{◌≡◌, ◌<◌, ◌≤◌, ◌+◌, ◌^◌, ◌++◌}
 use Rattle.linker_reading.specs.FieldsOfBytes.{AreSameButFor}
 use Rattle.linker_reading.specs.Recognised.{Recogniser, DiffersOnlyInFields, deleted_start}
 use Rattle.linker_reading.specs.Recognised.{deleted_count}
-use Rattle.linker_reading.specs.declared.recognise.fields.FieldBits.{FieldBits}
-use Rattle.linker_elf.specs.declared.elf.choice.Choice.{Choice}
-use Rattle.linker_utils.specs.Relaxations.{relaxation_rewrite, relaxation_deleted}
 use Rattle.linker_base.specs.declared.rewrite.DeletedBytes.{DeletedBytes}
 
 -- both are bytes, and as many

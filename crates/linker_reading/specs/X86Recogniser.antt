@@ -1,14 +1,11 @@
 -- What is recognised of x86-64.
-use Rattle.std.specs.Prelude.{ℕ, List}
-use Rattle.linker_elf.specs.Choices.{Applies}
+use Rattle.linker_reading.specs.Imports.{Applies, List, RewriteKind as X86Kind, X86_64Relocation, ℕ}
 use Rattle.linker_elf.specs.X86Relocations.{x86_64_name, x86_64_row}
-use Rattle.linker_elf.specs.declared.x86_64.relocations.X86_64Relocation.{X86_64Relocation}
 use Rattle.linker_reading.specs.Recognised.{Recogniser}
 use Rattle.linker_utils.specs.declared.architecture.Relaxation.TheVariants as relaxations
 use Rattle.linker_utils.specs.X86Rewrites.{Table, HasPattern as IsAskedForByX86}
 use Rattle.linker_utils.specs.X86Rewrites.{opcode_at, x86_64_after, x86_64_table}
 use Rattle.linker_utils.specs.declared.x86_64.rewrites.RewriteKind.TheVariants as of_x86_64
-use Rattle.linker_utils.specs.declared.x86_64.rewrites.RewriteKind.{RewriteKind as X86Kind}
 
 -- by the opcode before the offset
 abbrev pub x86_64_table_at : X86_64Relocation → List ℕ → ℕ → Table

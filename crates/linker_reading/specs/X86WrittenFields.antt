@@ -1,17 +1,13 @@
 -- What a write of the value of a relocation of x86-64 leaves is what is recognised.
-use Rattle.std.specs.Prelude.{◌≡◌, ◌≤◌, ℕ, List, ◌++◌, length, take, drop, ℤ, Some}
-use Rattle.linker_base.specs.Rewrite.{CanRewrite, rewritten, offset_after}
-use Rattle.linker_elf.specs.Relocate.{WritesRow}
+use Rattle.linker_reading.specs.Imports.{CanRewrite, Choice, FieldBits, List, RewriteKind, RowInfo}
+use Rattle.linker_reading.specs.Imports.{Some, WritesRow, X86_64Relocation, drop, length}
+use Rattle.linker_reading.specs.Imports.{offset_after, rewritten, take, ℕ, ℤ}
+use Rattle.std.specs.Prelude.{◌≡◌, ◌≤◌, ◌++◌}
 use Rattle.linker_elf.specs.X86Relocations.{x86_64_row}
-use Rattle.linker_elf.specs.declared.elf.RowInfo.{RowInfo}
-use Rattle.linker_elf.specs.declared.elf.choice.Choice.{Choice}
-use Rattle.linker_elf.specs.declared.x86_64.relocations.X86_64Relocation.{X86_64Relocation}
 use Rattle.linker_reading.specs.FieldsOfBytes.{AreSameButFor}
 use Rattle.linker_reading.specs.Recognised.{DiffersOnlyInFields}
-use Rattle.linker_reading.specs.declared.recognise.fields.FieldBits.{FieldBits}
 use Rattle.linker_utils.specs.declared.architecture.Relaxation.TheVariants.{X86_64}
 use Rattle.linker_utils.specs.X86Rewrites.{x86_64_rewrite}
-use Rattle.linker_utils.specs.declared.x86_64.rewrites.RewriteKind.{RewriteKind}
 
 -- a write changes bits of the row's field only
 abbrev pub WritesField : RowInfo → Type 0

@@ -1,8 +1,5 @@
 -- Of a sequence of AArch64 all relocations are rewritten, or none is.
-use Rattle.std.proofs.Common.{◌≡◌, ◌≢◌, ℕ, zero, suc, ◌+◌, ◌-◌, ◌/◌, ◌<◌, ◌≤◌, ltb, ◌⊎◌, inl, inr, List, length, ap, sym, subst, ◌∙◌, arith, refl, Bool, true, false, Option, Some, None, slice_get}
-use Rattle.linker_rewriting.proofs.Imports.{AArch64, AArch64Relocation, Addresses, Choice, Consumed, Decision, FirstOfPair, Group, Grouped, Independent, IsAArch64Choice, IsArchitectureChoice, IsChosenBy, IsFirst, IsNameOf, IsNamed, Kept, Labelled, LinkFacts, Member, NotRelaxable, OutputFacts, Phase, Ppc64, Rela, Relaxation, Rewritten, RewrittenWithSymbol, Scope, Symbol, SymbolFacts, Tie, UnrelaxableGroups, aarch64_name, cases_Bool, choice, r_type_of, cond-false, cond-true, relaxation_no_op, relaxation_skipped, relocation_at, relocation_in, ◌&&◌}
-use Rattle.std.specs.Prelude.{is_some, ⊤}
-use Rattle.linker_elf.specs.Choices.{IsBound}
+use Rattle.linker_rewriting.proofs.Imports.{AArch64, AArch64Applies, AArch64Choice, AArch64Relocation, Addresses, AreDecidedIn, Bool, Choice, Consumed, Decision, FirstOfPair, Group, Grouped, Independent, IsAArch64Choice, IsAddressRewritten, IsArchitectureChoice, IsBound, IsCandidate, IsCandidateWith, IsChosenBy, IsDecidedAfter, IsDecidedAlone, IsDescriptorRewritten, IsDescriptorWhole, IsFirst, IsGroupDecision, IsLoadRewritten, IsNameOf, IsNamed, IsPartAt, IsRewrittenAlone, IsRewrittenAt, IsRewrittenBy, IsScopeDecision, IsScopeIn, IsWhole, IsWholeBy, Kept, Labelled, LinkFacts, List, Member, None, NotRelaxable, Option, OutputFacts, Phase, Ppc64, Rela, RelaxContext, Relaxation, Rewritten, RewrittenWithSymbol, Scope, SequencesAreWhole, Some, Symbol, SymbolFacts, Tie, UnrelaxableGroups, aarch64_entries, aarch64_matches, aarch64_name, aarch64_scope_in, ap, are_members, arith, cases_Bool, choice, cond-false, cond-true, decision_ahead, decision_at, decision_of, descriptor, descriptor_entries, erased, facts_by, facts_of, false, got_load, group_stays, inl, inr, is_among, is_labelled, is_some, is_taken, is_typed, is_whole, length, ltb, member, page_and_offset, r_type_of, refl, relaxation_no_op, relaxation_skipped, relocation_at, relocation_in, slice_get, subst, suc, sym, takes_next, true, zero, ℕ, ⊤, ◌&&◌, ◌+◌, ◌-◌, ◌/◌, ◌<◌, ◌∙◌, ◌≡◌, ◌≢◌, ◌≤◌, ◌⊎◌}
 use Rattle.linker_elf.specs.declared.aarch64.relocations.AArch64Relocation.TheVariants as names
 use Rattle.linker_rewriting.proofs.Chosen.{IsChosen, chosen_at, chosen_or_labelled}
 use Rattle.linker_rewriting.proofs.Entries.{IsOfOne, of_one}
@@ -10,17 +7,9 @@ use Rattle.linker_rewriting.proofs.LabelGroups.{aarch64_none}
 use Rattle.linker_rewriting.proofs.SequenceMembers.{IsThere, among, are_there, at_first, there}
 use Rattle.linker_rewriting.proofs.PreLayout.{are_early}
 use Rattle.linker_rewriting.proofs.Unique.{one_candidate, one_scope}
-use Rattle.linker_rewriting.specs.Candidates.{IsCandidate, IsCandidateWith}
-use Rattle.linker_rewriting.specs.Decisions.{AreDecidedIn, IsDecidedAfter, IsDecidedAlone, IsScopeDecision, IsGroupDecision, IsRewrittenAlone, IsRewrittenAt, decision_ahead, decision_at, decision_of, is_taken, takes_next}
-use Rattle.linker_rewriting.specs.Facts.{RelaxContext, facts_by, facts_of}
-use Rattle.linker_rewriting.specs.Groups.{IsScopeIn, aarch64_scope_in, group_stays}
-use Rattle.linker_rewriting.specs.Rewritten.{IsAddressRewritten, IsDescriptorRewritten, IsDescriptorWhole, IsLoadRewritten, IsPartAt, IsRewrittenBy, IsWholeBy, SequencesAreWhole}
-use Rattle.linker_rewriting.specs.RiscVPcrelGroups.{is_labelled}
-use Rattle.linker_rewriting.specs.Sequences.{IsWhole, are_members, descriptor, got_load, is_among, is_typed, is_whole, member, page_and_offset}
 use Rattle.linker_rewriting.specs.declared.groups.Group.TheVariants as groups
 use Rattle.linker_rewriting.specs.declared.phases.Phase.TheVariants as phases
 use Rattle.linker_rewriting.specs.declared.sequences.Tie.TheVariants as ties
-use Rattle.linker_utils.specs.AArch64Rewrites.{AArch64Applies, AArch64Choice, aarch64_entries, aarch64_matches, descriptor_entries, erased}
 use Rattle.linker_utils.specs.declared.aarch64.rewrites.RewriteKind.TheVariants as kinds
 use Rattle.linker_utils.specs.declared.architecture.Relaxation.TheVariants as relaxations
 

@@ -1,8 +1,5 @@
 -- What a number of bytes tells of them.
-use Rattle.linker_rewriting.proofs.Imports.{cases_lt, get_or}
-use Rattle.std.specs.Prelude.{◌%◌, ◌^◌}
-use Rattle.std.proofs.Common.{◌≡◌, ℕ, zero, suc, ◌+◌, ◌*◌, ◌/◌, ◌≤◌, ◌<◌, inl, inr, List, sym, ap, subst, ◌∙◌, arith, refl}
-use Rattle.linker_rewriting.specs.Decisions.{AreBytes, bytes_number, turned, OneByteTells, WordsTell}
+use Rattle.linker_rewriting.proofs.Imports.{AreBytes, List, OneByteTells, WordsTell, ap, arith, bytes_number, cases_lt, get_or, inl, inr, refl, subst, suc, sym, turned, zero, ℕ, ◌%◌, ◌*◌, ◌+◌, ◌/◌, ◌<◌, ◌^◌, ◌∙◌, ◌≡◌, ◌≤◌}
 
 -- ---- one step
 

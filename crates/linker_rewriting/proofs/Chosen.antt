@@ -1,11 +1,5 @@
 -- The rewrite of a decision is one that was chosen for its relocation.
-use Rattle.std.proofs.Common.{◌≡◌, ℕ, ℤ, ◌<◌, List, Bool, true, false, refl, sym, ap, subst, ◌∙◌, ◌⊎◌, inl, inr, Option, Some, None}
-use Rattle.linker_rewriting.proofs.Imports.{AArch64, Addresses, Architecture, Choice, Consumed, Decision, FirstOfPair, Grouped, IfGroupMatches, Independent, IsArchitectureChoice, IsUnchanged, Kept, Labelled, LinkFacts, LoongArch64, NotRelaxable, OutputFacts, Phase, Ppc64, PreLayout, Rela, Relaxation, Rewritten, RewrittenWithSymbol, RiscV, Scope, Symbol, SymbolFacts, UnrelaxableGroups, X86_64, relocation_in, slice_get}
-use Rattle.linker_rewriting.specs.Candidates.{IsCandidate, IsCandidateWith}
-use Rattle.linker_rewriting.specs.Decisions.{AreDecidedIn, IsDecidedAfter, IsDecidedAlone, IsScopeDecision, IsGroupDecision, IsLabelDecision, IsMatchedDecision, decision_at, decision_ahead, decision_of, is_taken}
-use Rattle.linker_rewriting.specs.Facts.{RelaxContext, link_facts, facts_by, facts_at, facts_with}
-use Rattle.linker_rewriting.specs.Groups.{IsScopeIn, group_stays}
-use Rattle.linker_rewriting.specs.Sequences.{is_marked_in}
+use Rattle.linker_rewriting.proofs.Imports.{AArch64, Addresses, Architecture, AreDecidedIn, Bool, Choice, Consumed, Decision, FirstOfPair, Grouped, IfGroupMatches, Independent, IsArchitectureChoice, IsCandidate, IsCandidateWith, IsDecidedAfter, IsDecidedAlone, IsGroupDecision, IsLabelDecision, IsMatchedDecision, IsScopeDecision, IsScopeIn, IsUnchanged, Kept, Labelled, LinkFacts, List, LoongArch64, None, NotRelaxable, Option, OutputFacts, Phase, Ppc64, PreLayout, Rela, RelaxContext, Relaxation, Rewritten, RewrittenWithSymbol, RiscV, Scope, Some, Symbol, SymbolFacts, UnrelaxableGroups, X86_64, ap, decision_ahead, decision_at, decision_of, facts_at, facts_by, facts_with, false, group_stays, inl, inr, is_marked_in, is_taken, link_facts, refl, relocation_in, slice_get, subst, sym, true, ℕ, ℤ, ◌<◌, ◌∙◌, ◌≡◌, ◌⊎◌}
 
 -- a relocation's rewrite, by facts with its addend
 pub record IsChosen (s : RelaxContext) (section : List ℕ) (r : Rela) (chosen : Choice Relaxation ℕ)

@@ -1,10 +1,5 @@
 -- Decisions, relocation by relocation.
-use Rattle.linker_rewriting.proofs.Imports.{Architecture, CanRewrite, Consumed, Decision, DeletedBytes, IfNone, IfSome, Kept, Rela, Rewrite, Rewritten, RewrittenWithSymbol, get_or-set_other, get_or-set_same, leb-true, relaxation_deleted, relaxation_rewrite, relocation_in, window_of_rewrite}
-use Rattle.std.specs.Prelude.{max, Option}
-use Rattle.std.proofs.Common.{◌≡◌, ℕ, zero, suc, ◌+◌, ◌-◌, ◌≤◌, ◌<◌, ◌/◌, ◌⊎◌, inl, inr, ◌∙◌, List, length, ap, sym, subst, arith, refl, Bool, true, false, None, Some, slice_set}
-use Rattle.linker_rewriting.specs.Candidates.{deletes_within}
-use Rattle.linker_rewriting.specs.Decisions.{deleted_end, CanBeMade, AreApart, AreApartBy, AreClear, AreAllDecided, AreDecidedBy, Bound, IsMadeBy, IsOverlapping, IsSome, IsThere, IsWithin, Matches, bound_at, decision_at, is_taken, takes_next, start_at, end_at, start_by, end_by, IsEndAfter}
-use borrow.Author.Count.{below_more}
+use Rattle.linker_rewriting.proofs.Imports.{Architecture, AreAllDecided, AreApart, AreApartBy, AreClear, AreDecidedBy, Bool, Bound, CanBeMade, CanRewrite, Consumed, Decision, DeletedBytes, IfNone, IfSome, IsEndAfter, IsMadeBy, IsOverlapping, IsSome, IsThere, IsWithin, Kept, List, Matches, None, Option, Rela, Rewrite, Rewritten, RewrittenWithSymbol, Some, ap, arith, below_more, bound_at, decision_at, deleted_end, deletes_within, end_at, end_by, false, get_or-set_other, get_or-set_same, inl, inr, is_taken, leb-true, length, max, refl, relaxation_deleted, relaxation_rewrite, relocation_in, slice_set, start_at, start_by, subst, suc, sym, takes_next, true, window_of_rewrite, zero, ℕ, ◌+◌, ◌-◌, ◌/◌, ◌<◌, ◌∙◌, ◌≡◌, ◌≤◌, ◌⊎◌}
 
 -- one of the windows ends there
 abbrev pub IsReached : Bound → Bound → List ℕ → List Decision → ℕ → ℕ → Type 0

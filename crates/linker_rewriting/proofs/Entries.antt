@@ -1,6 +1,5 @@
 -- The rewrite that is chosen for a relocation is that of an entry of its table.
-use Rattle.std.proofs.Common.{◌≡◌, ℕ, List, [], ◌∷◌, sym, ap, subst, ◌∙◌, inl, inr, ◌⊎◌}
-use Rattle.linker_rewriting.proofs.Imports.{Choice, ElfName, Entry, IsChosenBy, IsFirst, IsNameOf, IsNamed, IsUnchanged, Relaxation, choice, r_type_of, relaxation_no_op}
+use Rattle.linker_rewriting.proofs.Imports.{Choice, ElfName, Entry, IsChosenBy, IsFirst, IsNameOf, IsNamed, IsUnchanged, List, Relaxation, [], ap, choice, inl, inr, r_type_of, relaxation_no_op, subst, sym, ℕ, ◌∙◌, ◌∷◌, ◌≡◌, ◌⊎◌}
 
 -- It is that of an entry that is meant for what is there.
 pub record IsOfEntry {K N : Type 0} (elf : N → ElfName) (relaxation : K → Relaxation)

@@ -1,19 +1,10 @@
 -- Parts of addresses near the global pointer: what is noted, decided and turned, relocation by
 -- relocation, and that all parts of a symbol are rewritten, or none is.
-use Rattle.std.proofs.Common.{◌≡◌, ◌≢◌, ℕ, suc, nat_le, not, is_some, IsTrue, ◌↔◌, ◌+◌, ◌<◌, ◌≤◌, ◌∙◌, ◌&&◌, List, length, ap, sym, subst, arith, refl, Bool, true, false, true≢false, Option, None, Some, slice_get, if◌then◌else◌}
+use Rattle.linker_rewriting.proofs.Imports.{Addresses, ArePartsDecided, ArePartsRejected, ArePartsWhole, ArePartsWholeAcross, Bool, CanBeMade, Contradiction, Decision, IsAscending, IsLabelled, IsMember, IsMemberBy, IsPartDecided, IsRewritten, IsSubject, IsTrue, IsWithin, Kept, List, Matches, MeansSymbolsUnsurveyed, None, NotSurveyed, Option, Overlaps, Rela, RelaxContext, RewritingError, Some, Symbol, TooShort, WordUnchangedBy, ap, arith, base_of, based_section, below_more, decided_by, decision_at, false, fits, if◌then◌else◌, is_beyond, is_expected, is_marked_at, is_placed, is_placed_by, is_reached, is_some, kept_by, leb-true, length, low_r_type, nat_le, not, offset_of_label, part_decision, part_end, part_of, part_start, refl, relative_high, relocation_in, section_based, slice_get, subst, suc, sym, true, true≢false, word_stays, ℕ, ◌&&◌, ◌+◌, ◌<◌, ◌↔◌, ◌∙◌, ◌≡◌, ◌≢◌, ◌≤◌}
 use Rattle.linker_base.proofs.Tests.{and_first, and_second}
 use Rattle.linker_rewriting.proofs.LabelGroups.{one_high_from, some_one}
-use Rattle.linker_rewriting.proofs.Imports.{Addresses, Contradiction, Decision, IsAscending, Kept, NotSurveyed, Overlaps, Rela, RewritingError, Symbol, TooShort, leb-true, relocation_in}
-use Rattle.linker_rewriting.specs.Decisions.{CanBeMade, IsWithin, Matches, decision_at}
-use Rattle.linker_rewriting.specs.Facts.{RelaxContext}
-use Rattle.linker_rewriting.specs.GlobalPointer.{relative_high, IsLabelled, IsSubject, IsMemberBy, IsMember, part_of, is_reached, is_expected, fits, kept_by, part_decision, decided_by, IsPartDecided, ArePartsDecided, part_start, part_end, ArePartsRejected, MeansSymbolsUnsurveyed, ArePartsWhole, ArePartsWholeAcross, low_r_type, base_of, is_placed_by, is_placed, based_section, section_based}
-use Rattle.linker_rewriting.specs.RiscVPcrelGroups.{offset_of_label, is_beyond}
-use Rattle.linker_rewriting.specs.Rewritten.{IsRewritten}
-use Rattle.linker_rewriting.specs.Sequences.{is_marked_at}
-use Rattle.linker_rewriting.specs.TocIndirection.{WordUnchangedBy, word_stays}
 use Rattle.linker_rewriting.specs.declared.global_pointer.Part.{Part}
 use Rattle.linker_rewriting.specs.declared.global_pointer.Part.TheVariants.{High, Low, Labelled}
-use borrow.Author.Count.{below_more}
 
 -- ---- one member
 

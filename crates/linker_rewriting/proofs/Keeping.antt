@@ -1,9 +1,7 @@
 -- Groups that stay, noted in a table.
-use Rattle.std.proofs.Common.{◌≡◌, ◌≢◌, ℕ, zero, suc, ◌≤◌, ◌<◌, ◌⊎◌, inl, inr, ◌∙◌, ◌↔◌, List, [], ◌∷◌, length, ap, sym, subst, arith, refl, IsTrue, Some, get_or, rules, slice_get, slice_set}
+use Rattle.linker_rewriting.proofs.Imports.{AreKeptToo, Group, IsGroup, IsTrue, List, Some, UnrelaxableGroups, [], ap, arith, get_or, inl, inr, keeps, length, refl, rules, slice_get, slice_set, subst, suc, sym, with_kept, zero, ℕ, ◌<◌, ◌↔◌, ◌∙◌, ◌∷◌, ◌≡◌, ◌≢◌, ◌≤◌, ◌⊎◌}
 use Rattle.std.proofs.lemmas.Option.{slice_get-get_or, slice_get_past}
-use Rattle.linker_rewriting.specs.Groups.{keeps, with_kept, kept_by}
-use Rattle.linker_rewriting.specs.Surveys.{AreKeptToo, IsGroup}
-use Rattle.linker_rewriting.proofs.Imports.{Group, UnrelaxableGroups}
+use Rattle.linker_rewriting.specs.Groups.{kept_by}
 use Rattle.linker_rewriting.specs.declared.groups.Group.TheVariants.{InitialExec, GeneralDynamic, LocalDynamic, Descriptor, GotLoad}
 
 get_set_same : {X : Type 0} (xs : List X) (i : ℕ) (a : X) → i < length xs

@@ -1,8 +1,5 @@
 -- The bits of kept facts tell the facts.
-use Rattle.std.proofs.Common.{◌≡◌, ℕ, ℤ, ◌+◌, ◌*◌, ◌/◌, ◌^◌, ◌<◌, Bool, true, false, refl, sym, ap, ◌∙◌, arith}
-use Rattle.linker_rewriting.specs.Facts.{facts_of, placed_facts}
-use Rattle.linker_rewriting.specs.Kept.{bit_if, kept_bits, KeptFactsTell}
-use Rattle.linker_rewriting.proofs.Imports.{Addresses, OutputFacts, Phase, Symbol, SymbolFacts, TlsLocalExec}
+use Rattle.linker_rewriting.proofs.Imports.{Addresses, Bool, KeptFactsTell, OutputFacts, Phase, Symbol, SymbolFacts, TlsLocalExec, ap, arith, bit_if, facts_of, false, kept_bits, placed_facts, refl, sym, true, ℕ, ℤ, ◌*◌, ◌+◌, ◌/◌, ◌<◌, ◌^◌, ◌∙◌, ◌≡◌}
 use Rattle.linker_rewriting.specs.declared.kept.FactsSnapshot.{FactsSnapshot}
 
 -- a bit's number

@@ -1,12 +1,7 @@
 -- Numbers of bytes, kept one by one.
-use Rattle.linker_rewriting.proofs.Imports.{All, Choice, Consumed, Decision, Kept, Relaxation, Rewritten, RewrittenWithSymbol, drop-set-lt, drop_more_same, get_or, get_or-map, get_or-set_other, get_or-set_same, length-map, length-take-le, map-set, relocation_in, written_more}
-use Rattle.std.specs.Prelude.{take, drop}
-use Rattle.std.proofs.Common.{◌≡◌, ℕ, ◌+◌, ◌<◌, ◌≤◌, List, length, map, slice_set, sym, ap, subst, ◌∙◌, arith, refl}
+use Rattle.linker_rewriting.proofs.Imports.{All, AllKeepBytes, Choice, Consumed, Decision, KeepsBytes, Kept, List, Relaxation, Rewritten, RewrittenWithSymbol, ap, arith, below_more, decision_at, drop, drop-set-lt, drop_more_same, get_or, get_or-drop, get_or-map, get_or-set_other, get_or-set_same, get_or-take, length, length-map, length-take-le, map, map-set, refl, relocation_in, set-get_or, slice_set, subst, sym, take, written_more, ℕ, ◌+◌, ◌<◌, ◌∙◌, ◌≡◌, ◌≤◌}
 use Rattle.std.proofs.Math.Seq.{map-set_same}
-use Rattle.std.proofs.lemmas.List.{set-get_or, get_or-take, get_or-drop}
 use Rattle.std.proofs.lemmas.List.Elements.{All-get_or}
-use Rattle.linker_rewriting.specs.Decisions.{AllKeepBytes, KeepsBytes, decision_at}
-use borrow.Author.Count.{below_more}
 
 -- one that rewrites nothing keeps no number
 pub keeps_none : (d : Decision) (number : ℕ) (section : List ℕ) (offset : ℕ)

@@ -1,16 +1,9 @@
 -- Relocations that stay as they are by their `r_type`, or as calls by their symbol.
-use Rattle.std.proofs.Common.{◌≡◌, ℕ, ◌∙◌, ◌⊎◌, inl, inr, ◌||◌, eqb, not, List, sym, subst, refl, Bool, true, false, true≢false, Option, Some, None}
-use Rattle.linker_rewriting.proofs.Imports.{AArch64, AArch64Relocation, Addresses, Architecture, Choice, Independent, IsAArch64Choice, IsNameOf, IsPpc64Choice, Kept, LinkFacts, NotRelaxable, OutputFacts, Phase, Ppc64, Ppc64Relocation, PreLayout, Rela, Relaxation, Scope, Symbol, SymbolFacts, UnrelaxableGroups, aarch64_name, and_parts, cases_Bool, choice, r_type_of, eqb-true, ppc64_name, slice_get}
+use Rattle.linker_rewriting.proofs.Imports.{AArch64, AArch64Relocation, Addresses, Architecture, Bool, Choice, Independent, IsAArch64Choice, IsCandidateWith, IsDecidedAlone, IsLeft, IsNameOf, IsPpc64Choice, IsScopeIn, Kept, LinkFacts, List, None, NotRelaxable, Option, OutputFacts, Phase, Ppc64, Ppc64Relocation, PreLayout, Rela, RelaxContext, Relaxation, Scope, Some, Symbol, SymbolFacts, UnrelaxableGroups, aarch64_keeps, aarch64_name, and_parts, cases_Bool, changes_toc, choice, context, eqb, eqb-true, facts_by, facts_of, false, inl, inr, is_marked_in, is_weak_zero, not, ppc64_keeps, ppc64_name, r_type_of, refl, slice_get, subst, sym, true, true≢false, ℕ, ◌||◌, ◌∙◌, ◌≡◌, ◌⊎◌}
 use Rattle.linker_utils.specs.declared.aarch64.rewrites.RewriteKind.TheVariants as aarch64_kinds
 use Rattle.linker_elf.specs.declared.aarch64.relocations.AArch64Relocation.TheVariants as aarch64
 use Rattle.linker_elf.specs.declared.ppc64.relocations.Ppc64Relocation.TheVariants as ppc64
 use Rattle.linker_utils.specs.declared.ppc64.rewrites.RewriteKind.TheVariants as ppc64_kinds
-use Rattle.linker_rewriting.specs.Candidates.{IsCandidateWith}
-use Rattle.linker_rewriting.specs.Decisions.{IsDecidedAlone}
-use Rattle.linker_rewriting.specs.Facts.{RelaxContext, context, facts_of, facts_by}
-use Rattle.linker_rewriting.specs.Groups.{IsScopeIn}
-use Rattle.linker_rewriting.specs.Inner.Calls.{is_weak_zero, changes_toc, aarch64_keeps, ppc64_keeps, IsLeft}
-use Rattle.linker_rewriting.specs.Sequences.{is_marked_in}
 use Rattle.linker_utils.specs.declared.architecture.Relaxation.TheVariants as relaxations
 
 not_both : (x : Bool) → x ≡ true → x ≡ false → ⊥

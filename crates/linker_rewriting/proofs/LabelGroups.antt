@@ -1,20 +1,11 @@
 -- Groups of one label: each relocation has one high part, and what is noted is right.
-use Rattle.std.proofs.Common.{◌≡◌, ℕ, ◌∙◌, ◌+◌, ◌≤◌, ◌<◌, ◌/◌, inl, inr, List, length, ap, sym, subst, arith, refl, Bool, true, false, true≢false, Option, Some, None, slice_get, slice_set, eq-eqb}
-use Rattle.linker_rewriting.proofs.Imports.{AArch64, AArch64Relocation, Architecture, Choice, Consumed, Decision, FirstOfPair, GotToPcRel, Grouped, IfGroupMatches, Independent, IsAscending, Kept, Labelled, LoongArch64, LoongArch64Relocation, NotRelaxable, Phase, Ppc64, Ppc64Relocation, PreLayout, Rela, Relaxation, RiscV, Scope, ShortPcRel, TlsLocalExec, X86_64, X86_64Relocation, and_parts, cases_Bool, cases_lt, cond-true, eqb-true, get_or-set_other, get_or-set_same, le-leb, leb-true, nat_le, offset_at, relocation_in, ◌&&◌, ◌==◌}
-use Rattle.std.specs.Prelude.{◌⊎◌, ◌-◌, not}
+use Rattle.linker_rewriting.proofs.Imports.{AArch64, AArch64Relocation, Architecture, AreHighsNoted, AreLabelsNoted, Bool, Choice, Consumed, Decision, FirstOfPair, GotToPcRel, Grouped, HasLacking, IfGroupMatches, Independent, IsAscending, IsHighAt, IsHighFrom, IsHighIn, IsInLabel, IsLabelCandidate, IsLabelDecision, IsLabelNote, IsLacking, IsNoteAt, IsNoteOf, Kept, LabelFits, LabelStays, Labelled, Lacks, List, LoongArch64, LoongArch64Relocation, None, NotRelaxable, Option, Phase, Ppc64, Ppc64Relocation, PreLayout, Rela, RelaxContext, Relaxation, RiscV, Scope, ShortPcRel, Some, TlsLocalExec, X86_64, X86_64Relocation, aarch64_scope_in, and_parts, ap, arith, cases_Bool, cases_eq, cases_lt, cond-true, decision_at, eq-eqb, eqb-true, false, get_or-set_other, get_or-set_same, has_labels, high_r_type, inl, inr, is_beyond, is_high, is_high_in, is_labelled, is_note, label_decision, label_facts, label_offset, le-leb, leb-true, length, length-set, loongarch_scope_in, nat_le, not, offset_at, offset_of_label, ppc64_scope_in, refl, relocation_in, rewritten_by, searched, slice_get, slice_set, subst, sym, takes_symbol, true, true≢false, x86_64_scope_in, ℕ, ◌&&◌, ◌+◌, ◌-◌, ◌/◌, ◌<◌, ◌==◌, ◌∙◌, ◌≡◌, ◌≤◌, ◌⊎◌}
 use Rattle.std.proofs.Math.Bool.{and-false}
-use Rattle.std.proofs.lemmas.Bool.{cases_eq}
-use Rattle.std.proofs.lemmas.List.{length-set}
 use Rattle.linker_elf.specs.declared.aarch64.relocations.AArch64Relocation.TheVariants as aarch64
 use Rattle.linker_elf.specs.declared.loongarch64.relocations.LoongArch64Relocation.TheVariants as loongarch64
 use Rattle.linker_elf.specs.declared.ppc64.relocations.Ppc64Relocation.TheVariants as ppc64
 use Rattle.linker_elf.specs.declared.x86_64.relocations.X86_64Relocation.TheVariants as x86_64
 use Rattle.linker_rewriting.proofs.Unique.{one_scope, one_candidate_with}
-use Rattle.linker_rewriting.specs.Decisions.{decision_at, label_decision, IsLabelDecision, rewritten_by, takes_symbol}
-use Rattle.linker_rewriting.specs.Facts.{RelaxContext}
-use Rattle.linker_rewriting.specs.Groups.{aarch64_scope_in, loongarch_scope_in, ppc64_scope_in, x86_64_scope_in}
-use Rattle.linker_rewriting.specs.RiscVPcrelGroups.{high_r_type, is_high, searched, is_beyond, is_high_in, IsHighAt, offset_of_label, label_offset, IsHighFrom, IsHighIn, is_labelled, has_labels, IsInLabel, label_facts, IsLabelCandidate, Lacks, IsLacking, HasLacking, LabelFits, LabelStays, IsLabelNote}
-use Rattle.linker_rewriting.specs.Notes.{is_note, AreHighsNoted, IsNoteAt, IsNoteOf, AreLabelsNoted}
 
 -- ---- one high part
 

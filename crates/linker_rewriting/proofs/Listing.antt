@@ -1,9 +1,5 @@
 -- What decisions delete, listed one after the other.
-use Rattle.std.proofs.Common.{◌≡◌, ℕ, zero, suc, ◌+◌, ◌≤◌, ◌<◌, ◌⊎◌, inl, inr, ◌∙◌, List, [], ◌∷◌, ◌++◌, length, take, ap, sym, subst, arith, refl, true, Option, None, Some, slice_set, append-nil}
-use Rattle.linker_rewriting.proofs.Imports.{Consumed, Decision, DeletedBytes, Kept, Rewritten, RewrittenWithSymbol, leb-true, length-take-le, relaxation_deleted, relocation_in}
-use Rattle.std.proofs.lemmas.List.{length-append, length-set, take_more_set}
-use Rattle.linker_rewriting.specs.Candidates.{deletes_within}
-use Rattle.linker_rewriting.specs.Decisions.{CanBeMade, AllCanBeMade, decision_at, deleted_of, deleted_end, deletion_by, deletions_by}
+use Rattle.linker_rewriting.proofs.Imports.{AllCanBeMade, CanBeMade, Consumed, Decision, DeletedBytes, Kept, List, None, Option, Rewritten, RewrittenWithSymbol, Some, [], ap, append-nil, arith, decision_at, deleted_end, deleted_of, deletes_within, deletion_by, deletions_by, inl, inr, leb-true, length, length-append, length-set, length-take-le, refl, relaxation_deleted, relocation_in, slice_set, subst, suc, sym, take, take_more_set, true, zero, ℕ, ◌++◌, ◌+◌, ◌<◌, ◌∙◌, ◌∷◌, ◌≡◌, ◌≤◌, ◌⊎◌}
 
 pub record AreListed (bytes : List ℕ) (decisions : List Decision) (old now : List (ℕ × ℕ))
     (len k : ℕ) : Type 0 where

@@ -1,17 +1,9 @@
 -- Of a marked load from LoongArch's GOT both instructions are rewritten, or neither is.
-use Rattle.std.proofs.Common.{◌≡◌, ℕ, ℤ, ◌∙◌, ◌+◌, ◌-◌, ◌≤◌, ◌⊎◌, ◌↔◌, inl, inr, List, [], ap, sym, subst, arith, refl, Bool, true, false, true≢false, Option, Some, None, slice_get}
-use Rattle.linker_rewriting.proofs.Imports.{Choice, Decision, Independent, IsArchitectureChoice, IsLoongArchChoice, IsNameOf, IsNamed, IsUnchanged, LinkFacts, LoongArch64, LoongArch64Relocation, OutputFacts, PreLayout, Rela, Relaxation, Subject, SymbolFacts, UnrelaxableGroups, choice, r_type_of, loongarch_name, relaxation_deleted, relaxation_no_op, relaxation_skipped, relocation_in, ◌&&◌}
+use Rattle.linker_rewriting.proofs.Imports.{Bool, Choice, Decision, Independent, IsArchitectureChoice, IsCandidate, IsCandidateBy, IsCandidateWith, IsDecidedAfter, IsDecidedAlone, IsLd, IsLoongArchChoice, IsNameOf, IsNamed, IsPair, IsRewritten, IsScopeDecision, IsTaken, IsUnchanged, IsWhole, LinkFacts, List, LoadsAreWhole, LoongArch64, LoongArch64Relocation, LoongArchChoice, None, Option, OutputFacts, PreLayout, Rela, RelaxContext, Relaxation, RewriteKind as LoongArchKind, Some, SymbolFacts, UnrelaxableGroups, [], ap, are_members, arith, choice, decision_at, decision_of, deletes_within, facts_by, facts_of, false, inl, inr, is_among, is_whole, loongarch_deleted, loongarch_name, loongarch_scope_in, marked_load, member, no_addresses, pre_layout, r_type_of, refl, relaxation_deleted, relaxation_no_op, relaxation_skipped, relocation_in, slice_get, subst, sym, true, true≢false, ℕ, ℤ, ◌&&◌, ◌+◌, ◌-◌, ◌↔◌, ◌∙◌, ◌≡◌, ◌≤◌, ◌⊎◌}
+use Rattle.linker_rewriting.specs.declared.sequences.Tie.TheVariants.{Subject}
 use Rattle.linker_elf.specs.declared.loongarch64.relocations.LoongArch64Relocation.TheVariants as r
-use Rattle.linker_utils.specs.LoongArchRewrites.{IsPair, IsLd, LoongArchChoice, loongarch_deleted}
-use Rattle.linker_utils.specs.declared.loongarch64.rewrites.RewriteKind.{RewriteKind as LoongArchKind}
 use Rattle.linker_utils.specs.declared.loongarch64.rewrites.RewriteKind.TheVariants as kinds
 use Rattle.linker_rewriting.proofs.SequenceMembers.{IsOf, among_is, are_there, at_first}
-use Rattle.linker_rewriting.specs.Candidates.{IsCandidate, IsCandidateWith, IsCandidateBy, IsTaken, deletes_within}
-use Rattle.linker_rewriting.specs.Decisions.{IsDecidedAfter, IsDecidedAlone, IsScopeDecision, decision_at, decision_of}
-use Rattle.linker_rewriting.specs.Facts.{RelaxContext, pre_layout, facts_of, facts_by, no_addresses}
-use Rattle.linker_rewriting.specs.Groups.{loongarch_scope_in}
-use Rattle.linker_rewriting.specs.Rewritten.{IsRewritten, LoadsAreWhole}
-use Rattle.linker_rewriting.specs.Sequences.{IsWhole, are_members, is_among, is_whole, marked_load, member}
 use Rattle.linker_utils.specs.declared.architecture.Relaxation.TheVariants as relaxations
 
 -- ---- the choices of both

@@ -1,10 +1,7 @@
 -- Decisions tested one by one.
-use Rattle.linker_rewriting.proofs.Imports.{Decision, Kept, get_or, relocation_in}
-use Rattle.std.proofs.Common.{◌≡◌, ℕ, ◌+◌, ◌≤◌, ◌<◌, ◌/◌, inl, inr, List, length, sym, subst, arith, refl, None}
+use Rattle.linker_rewriting.proofs.Imports.{AllStillFit, AreApart, Decision, DecisionsAreMade, IsEndAfter, IsUnmade, Kept, List, None, StillFits, arith, below_more, bound_at, decision_at, end_at, end_by, get_or, inl, inr, length, refl, relocation_in, start_at, start_by, subst, sym, ℕ, ◌+◌, ◌/◌, ◌<◌, ◌≡◌, ◌≤◌}
 use Rattle.linker_rewriting.proofs.Deciding.{EndsAt, IsGrown, IsReached, apart_more, ends_more}
-use Rattle.linker_rewriting.specs.Decisions.{AllStillFit, StillFits, AreApart, IsEndAfter, bound_at, decision_at, start_by, end_by, start_at, end_at, IsUnmade, DecisionsAreMade}
 use Rattle.linker_rewriting.specs.declared.decisions.DecisionError.TheVariants.{TooShort, Changed, Overlaps}
-use borrow.Author.Count.{below_more}
 
 pub record AreChecked (bytes section : List ℕ) (decisions : List Decision) (numbers : List ℕ) (end k : ℕ) : Type 0 where
   pub fit : AllStillFit bytes section decisions numbers k

@@ -1,12 +1,6 @@
 -- What has been made of a section and of its relocations, one decision after the other.
-use Rattle.std.proofs.Common.{◌≡◌, ◌≢◌, ℕ, ◌+◌, ◌-◌, ◌≤◌, ◌<◌, inl, inr, ◌∙◌, List, length, take, drop, ap, sym, subst, arith, refl, IsTrue, Option, None, Some, true, nat_le}
-use Rattle.linker_rewriting.proofs.Imports.{CanRewrite, Consumed, Decision, DeletedBytes, Kept, Rela, Rewrite, Rewritten, RewrittenWithSymbol, relaxation_deleted, relaxation_rewrite, relocation_in, window_of_rewrite}
-use Rattle.linker_base.specs.Rewrite.{IsRewritable, rewritten, rewrite_window}
-use Rattle.linker_rewriting.specs.Candidates.{deletes_within}
-use Rattle.linker_rewriting.specs.Decisions.{window_of, CanBeMade, AllCanBeMade, AreApart, decision_at, start_at, written_end_at, end_at}
-use Rattle.linker_rewriting.specs.Rewritten.{section_after, relocation_after, IsMade, IsDone, AreDone, AreRelocationsAfter, OthersStay}
+use Rattle.linker_rewriting.proofs.Imports.{AllCanBeMade, AreApart, AreDone, AreRelocationsAfter, CanBeMade, CanRewrite, Consumed, Decision, DeletedBytes, IsDone, IsMade, IsRewritable, IsTrue, Kept, List, None, Option, OthersStay, Rela, Rewrite, Rewritten, RewrittenWithSymbol, Some, ap, arith, below_more, decision_at, deletes_within, drop, end_at, inl, inr, length, nat_le, refl, relaxation_deleted, relaxation_rewrite, relocation_after, relocation_in, rewrite_window, rewritten, section_after, start_at, subst, sym, take, true, window_of, window_of_rewrite, written_end_at, ℕ, ◌+◌, ◌-◌, ◌<◌, ◌∙◌, ◌≡◌, ◌≢◌, ◌≤◌}
 use Rattle.linker_section.proofs.Windows.{IsReplaced, in_window, IsStep, step_of, step_below, step_above, step_outside, zero_or_more}
-use borrow.Author.Count.{below_more}
 
 -- ---- one rewrite
 

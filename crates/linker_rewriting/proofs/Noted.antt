@@ -1,13 +1,7 @@
 -- What a survey notes: the section is then rewritten, also after other surveys.
-use Rattle.std.proofs.Common.{◌≡◌, ℕ, ◌||◌, List, ap, subst, IsTrue, Option, Some, None, Bool, true, false, inl, inr}
+use Rattle.linker_rewriting.proofs.Imports.{Bool, Contradiction, Decision, Group, Grouped, HasRewrite, IfGroupMatches, IsCandidate, IsKeeping, IsNotSurveyed, IsNoted, IsRejectedIn, IsScopeIn, IsTrue, List, MeansUnsurveyed, None, NotSurveyed, NotesStay, Option, Overlaps, Rela, RelaxContext, RewritingError, Scope, Some, StaysBy, TooShort, UnrelaxableGroups, ap, false, group_stays, inl, inr, relocation_in, stays_at, subst, symbol_of_group, true, ℕ, ◌||◌, ◌≡◌}
 use Rattle.linker_rewriting.proofs.Surveying.{all_stay_on, stays_on}
 use Rattle.linker_rewriting.proofs.Unique.{one_scope, no_other}
-use Rattle.linker_rewriting.specs.Candidates.{IsCandidate}
-use Rattle.linker_rewriting.specs.Decisions.{IsNotSurveyed, IsRejectedIn}
-use Rattle.linker_rewriting.specs.Facts.{RelaxContext}
-use Rattle.linker_rewriting.specs.Groups.{IsScopeIn, stays_at, symbol_of_group, group_stays}
-use Rattle.linker_rewriting.specs.Surveys.{IsKeeping, HasRewrite, StaysBy, IsNoted, NotesStay, MeansUnsurveyed}
-use Rattle.linker_rewriting.proofs.Imports.{Contradiction, Decision, Group, Grouped, IfGroupMatches, NotSurveyed, Overlaps, Rela, RewritingError, Scope, TooShort, UnrelaxableGroups, relocation_in}
 
 pub notes_stay : NotesStay
 notes_stay s other bytes section others_bytes others_section mid after limit others_limit noted surveyed n less =

@@ -1,14 +1,7 @@
 -- Decisions in numbers.
-use Rattle.std.proofs.Common.{◌≡◌, ◌∙◌, ℕ, refl, ap, Option, Some}
-use Rattle.linker_elf.specs.declared.elf.choice.Choice.{Choice}
+use Rattle.linker_rewriting.proofs.Imports.{AArch64, Architecture, Choice, DecisionNumbers, LoongArch64, Option, Ppc64, Relaxation, RiscV, Some, X86_64, ap, choice_in, choice_of, decision_by, decision_in, refl, relaxation_architecture, rewrite_in, rewrite_of_number, subject_in, ℕ, ◌∙◌, ◌≡◌}
 use Rattle.linker_rewriting.specs.declared.decisions.Subject.{Subject}
-use Rattle.linker_utils.specs.Relaxations.{rewrite_of_number, relaxation_architecture}
 use Rattle.linker_elf.specs.Machines.{architecture_of, machine_of}
-use Rattle.linker_utils.specs.declared.architecture.Relaxation.{Relaxation}
-use Rattle.linker_elf.specs.declared.elf.architecture.Architecture.{Architecture}
-use Rattle.linker_elf.specs.declared.elf.architecture.Architecture.TheVariants.{AArch64, RiscV, LoongArch64, Ppc64, X86_64}
-use Rattle.linker_rewriting.specs.Numbers.{choice_in, choice_of, rewrite_in, subject_in, decision_in, decision_by}
-use Rattle.linker_rewriting.specs.declared.decisions.numbers.DecisionNumbers.{DecisionNumbers}
 
 own_architecture : (a : Architecture) → architecture_of (machine_of a) ≡ Some a
 own_architecture AArch64 = refl

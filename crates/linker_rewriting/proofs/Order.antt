@@ -1,13 +1,8 @@
 -- The order of surveys doesn't matter, and decisions follow from which groups stay.
-use Rattle.std.proofs.Common.{◌≡◌, ℕ, zero, suc, ◌+◌, is_some, ◌<◌, ◌∙◌, ◌||◌, ◌↔◌, List, ap, sym, subst, arith, refl, IsTrue, Option, Some, None, Bool, true, false, inl, inr}
+use Rattle.linker_rewriting.proofs.Imports.{AllStayIf, Bool, Decision, DecisionsFollow, FirstOfPair, Group, Grouped, HasRewrite, IfGroupMatches, Independent, IsCause, IsDecidedAfter, IsGroupDecision, IsKeeping, IsMatchedDecision, IsRewrittenAlone, IsRewrittenAt, IsScopeDecision, IsScopeIn, IsSurveyedIn, IsTrue, Labelled, List, None, NotRelaxable, Option, Rela, RelaxContext, Scope, Some, StaysBy, SurveysCommute, UnrelaxableGroups, ap, arith, decision_ahead, decision_at, decision_of, false, group_stays, inl, inr, is_some, is_taken, refl, relocation_at, relocation_in, stays_at, subst, suc, sym, symbol_of_group, takes_next, true, zero, ℕ, ◌+◌, ◌<◌, ◌||◌, ◌↔◌, ◌∙◌, ◌≡◌}
 use Rattle.linker_rewriting.proofs.LabelGroups.{one_label_decision}
 use Rattle.linker_rewriting.proofs.Noted.{one_group}
 use Rattle.linker_rewriting.proofs.Unique.{one_scope, no_other, one_candidate, one_matched}
-use Rattle.linker_rewriting.specs.Decisions.{decision_of, decision_ahead, decision_at, is_taken, takes_next, IsGroupDecision, IsMatchedDecision, IsScopeDecision, IsDecidedAfter, IsRewrittenAlone, IsRewrittenAt, DecisionsFollow}
-use Rattle.linker_rewriting.specs.Facts.{RelaxContext}
-use Rattle.linker_rewriting.specs.Groups.{IsScopeIn, stays_at, symbol_of_group, group_stays}
-use Rattle.linker_rewriting.specs.Surveys.{IsKeeping, HasRewrite, StaysBy, AllStayIf, IsCause, IsSurveyedIn, SurveysCommute}
-use Rattle.linker_rewriting.proofs.Imports.{Decision, FirstOfPair, Group, Grouped, IfGroupMatches, Independent, Labelled, NotRelaxable, Rela, Scope, UnrelaxableGroups, relocation_at, relocation_in}
 
 -- ---- surveys
 

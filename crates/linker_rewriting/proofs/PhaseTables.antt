@@ -1,7 +1,5 @@
 -- In a phase without rewrites no relocation has a scope.
-use Rattle.std.proofs.Common.{◌≡◌, Bool, subst, sym}
-use Rattle.linker_rewriting.specs.Groups.{has_rewrites, IsNotRelaxableUnless}
-use Rattle.linker_rewriting.proofs.Imports.{AArch64, Architecture, GotToPcRel, LoongArch64, Phase, Ppc64, PreLayout, RiscV, ShortPcRel, TlsLocalExec, X86_64}
+use Rattle.linker_rewriting.proofs.Imports.{AArch64, Architecture, Bool, GotToPcRel, IsNotRelaxableUnless, LoongArch64, Phase, Ppc64, PreLayout, RiscV, ShortPcRel, TlsLocalExec, X86_64, has_rewrites, subst, sym, ◌≡◌}
 
 by_table : (architecture : Architecture) (phase : Phase)
     → IsNotRelaxableUnless architecture phase (has_rewrites architecture phase)

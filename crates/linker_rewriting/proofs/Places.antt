@@ -1,13 +1,8 @@
 -- Places among the bytes that decisions write or delete.
-use Rattle.std.proofs.Common.{◌≡◌, ◌≢◌, ℕ, ◌+◌, ◌-◌, ◌<◌, ◌≤◌, inl, inr, List, length, subst, arith}
-use Rattle.linker_rewriting.proofs.Imports.{Architecture, Consumed, Decision, Kept, cases_lt, offset_at}
+use Rattle.linker_rewriting.proofs.Imports.{AllCanBeMade, Architecture, AreAbove, AreApart, AreBelow, AreBounded, Consumed, Decision, IsCovered, IsField, IsPlaceBeside, IsWindow, Kept, List, arith, below_more, cases_lt, decision_at, end_at, end_by, field_end, inl, inr, length, offset_at, start_at, start_by, subst, ℕ, ◌+◌, ◌-◌, ◌<◌, ◌≡◌, ◌≢◌, ◌≤◌}
 use Rattle.linker_elf.specs.declared.elf.RowInfo.{RowInfo}
 use Rattle.linker_rewriting.proofs.Deciding.{ends_within}
-use Rattle.linker_rewriting.specs.Decisions.{AllCanBeMade, AreApart, IsCovered, decision_at, start_by, end_by, start_at, end_at}
-use Rattle.linker_rewriting.specs.Inner.Places.{IsWindow, AreBounded, AreBelow, AreAbove, IsPlaceBeside}
 use Rattle.linker_rewriting.specs.declared.covered.Place.{Place}
-use Rattle.linker_section.specs.Fields.{IsField, field_end}
-use borrow.Author.Count.{below_more}
 
 pub no_more : (n : ℕ) → n ≤ n
 no_more n = omega arith

@@ -1,11 +1,7 @@
 -- What rewrites are chosen by before addresses are known, and in which phase a relocation is
 -- rewritten.
-use Rattle.std.proofs.Common.{◌≡◌, ℕ, ◌<◌, List, Bool, true, false, sym, ap, subst, ◌∙◌, Option, Some, None}
-use Rattle.linker_rewriting.proofs.Imports.{Addresses, Choice, Consumed, Decision, Kept, LinkFacts, NotRelaxable, OutputFacts, Ppc64, PreLayout, Rela, Relaxation, Rewritten, Scope, Symbol, SymbolFacts, UnrelaxableGroups, relocation_in, slice_get}
+use Rattle.linker_rewriting.proofs.Imports.{Addresses, AreDecidedIn, Bool, Choice, Consumed, Decision, IsDecidedAfter, IsDecidedAlone, IsScopeDecision, IsScopeIn, Kept, LinkFacts, List, None, NotRelaxable, Option, OutputFacts, Ppc64, PreLayout, Rela, RelaxContext, Relaxation, Rewritten, Scope, Some, Symbol, SymbolFacts, UnrelaxableGroups, ap, decision_at, facts_by, false, is_taken, relocation_in, slice_get, subst, sym, true, ℕ, ◌<◌, ◌∙◌, ◌≡◌}
 use Rattle.linker_rewriting.proofs.Chosen.{IsChosen}
-use Rattle.linker_rewriting.specs.Decisions.{AreDecidedIn, IsDecidedAfter, IsDecidedAlone, IsScopeDecision, decision_at, is_taken}
-use Rattle.linker_rewriting.specs.Facts.{RelaxContext, facts_by}
-use Rattle.linker_rewriting.specs.Groups.{IsScopeIn}
 
 -- ---- scopes
 

@@ -1,8 +1,5 @@
 -- Which error is the first.
-use Rattle.std.proofs.Common.{ℕ, List, inl, Bool}
-use Rattle.linker_rewriting.specs.Agreement.{Agree}
-use Rattle.linker_rewriting.specs.Decisions.{IsRejectedFirst, IsRejectedWith}
-use Rattle.linker_rewriting.proofs.Imports.{Contradiction, Decision, NotSurveyed, Overlaps, RewritingError, Symbol, SymbolFacts, TooShort}
+use Rattle.linker_rewriting.proofs.Imports.{Agree, Bool, Contradiction, Decision, IsRejectedFirst, IsRejectedWith, List, NotSurveyed, Overlaps, RewritingError, Symbol, SymbolFacts, TooShort, inl, ℕ}
 
 -- where the tables agree another error is
 pub rejected_first : (facts : List SymbolFacts) (symbols : List Symbol) (bytes : List ℕ)

@@ -1,12 +1,8 @@
 -- Members of sequences, one by one.
-use Rattle.std.proofs.Common.{◌≡◌, ℕ, ◌+◌, ◌-◌, ◌/◌, ◌<◌, ◌≤◌, ◌∙◌, ltb, inl, inr, List, [], ◌∷◌, length, drop, get_or, ap, sym, subst, arith, refl, Bool, true, false, Option, Some, None, add-one, drop-cons}
-use Rattle.linker_rewriting.proofs.Imports.{AArch64, Architecture, LoongArch64, Member, Ppc64, Rela, RiscV, Subject, Tie, X86_64, and_parts, cases_lt, cond-false, cond-true, eqb-true, le-leb, leb-true, nat_le, relocation_at, relocation_in, ◌&&◌, ◌==◌}
-use Rattle.std.specs.Prelude.{cond, pos}
+use Rattle.linker_rewriting.proofs.Imports.{AArch64, Architecture, Bool, IsWhole, List, LoongArch64, Member, None, Option, Ppc64, Rela, RiscV, Some, Tie, X86_64, [], add-one, and_parts, ap, are_members, arith, cases_lt, cond, cond-false, cond-true, drop, drop-cons, eqb-true, false, get_or, inl, inr, is_among, is_member, is_place, is_tied, is_typed, is_whole, is_whole_in, le-leb, le-ltb, leb-true, length, lt-ltb, ltb, nat_le, pos, refl, relocation_at, relocation_in, subst, sym, true, ℕ, ◌&&◌, ◌+◌, ◌-◌, ◌/◌, ◌<◌, ◌==◌, ◌∙◌, ◌∷◌, ◌≡◌, ◌≤◌}
+use Rattle.linker_rewriting.specs.declared.sequences.Tie.TheVariants.{Subject, Symbol, Mark}
 use Rattle.std.specs.Ordering.{int_eq}
-use Rattle.std.proofs.lemmas.Bool.{le-ltb, lt-ltb}
 use Rattle.std.proofs.lemmas.Bool.Decides.{Decides-int_eq}
-use Rattle.linker_rewriting.specs.Sequences.{IsWhole, are_members, is_among, is_member, is_place, is_tied, is_typed, is_whole, is_whole_in}
-use Rattle.linker_rewriting.specs.declared.sequences.Tie.TheVariants.{Symbol, Mark}
 
 -- ---- a loop's index
 

@@ -1,11 +1,5 @@
 -- The groups that stay, noted relocation by relocation.
-use Rattle.std.proofs.Common.{◌≡◌, ℕ, ◌+◌, inl, inr, ◌∙◌, List, ap, sym, subst, arith, refl, IsTrue, Option, None, Some, Bool, true, false, ◌&&◌, not}
-use Rattle.linker_rewriting.proofs.Imports.{Group, Grouped, IfGroupMatches, Rela, Scope, UnrelaxableGroups, relocation_in}
-use Rattle.linker_rewriting.specs.Facts.{RelaxContext}
-use Rattle.linker_rewriting.specs.Groups.{stays_at, symbol_of_group}
-use Rattle.linker_rewriting.specs.Inner.RelocationTypes.{is_of_group, KeepsNone}
-use Rattle.linker_rewriting.specs.Surveys.{AreKeptToo, IsGroupOf, IsOfThreads, IsKeeping, IsUnmarked, is_marked, HasRewrite, StaysBy, AllStayIf, IsNoted, IsCause, IsSurveyedIn}
-use borrow.Author.Count.{below_more}
+use Rattle.linker_rewriting.proofs.Imports.{AllStayIf, AreKeptToo, Bool, Group, Grouped, HasRewrite, IfGroupMatches, IsCause, IsGroupOf, IsKeeping, IsNoted, IsOfThreads, IsSurveyedIn, IsTrue, IsUnmarked, KeepsNone, List, None, Option, Rela, RelaxContext, Scope, Some, StaysBy, UnrelaxableGroups, ap, arith, below_more, false, inl, inr, is_marked, is_of_group, not, refl, relocation_in, stays_at, subst, sym, symbol_of_group, true, ℕ, ◌&&◌, ◌+◌, ◌∙◌, ◌≡◌}
 
 abbrev pub AreKept : List UnrelaxableGroups → List UnrelaxableGroups → Type 0
 AreKept before after =

@@ -1,7 +1,5 @@
 -- What an `r_type`, a choice and a candidate are is one thing.
-use Rattle.std.proofs.Common.{◌≡◌, ℕ, refl, sym, ap, subst, ◌∙◌, List, [], ◌∷◌, Option, Some, None, Bool, true, false, true≢false, ◌⊎◌, inl, inr, slice_get, ◌&&◌, ◌==◌, ◌+◌, is_some}
-use Rattle.linker_rewriting.proofs.Imports.{AArch64, AArch64Relocation, Architecture, Choice, ElfName, Entry, IsAArch64Choice, IsArchitectureChoice, IsChosenBy, IsFirst, IsLoongArchChoice, IsNameOf, IsNamed, IsPpc64Choice, IsUnchanged, LinkFacts, LoongArch64, LoongArch64Relocation, NotRelaxable, Phase, Ppc64, Ppc64Relocation, Rela, Relaxation, RiscV, Scope, SymbolFacts, X86_64, X86_64Relocation, aarch64_name, choice, r_type_of, loongarch_name, ppc64_name, relaxation_deleted, relaxation_skipped, relocation_at}
-use Rattle.linker_elf.specs.ElfNames.{named, unnamed}
+use Rattle.linker_rewriting.proofs.Imports.{AArch64, AArch64Relocation, Architecture, Bool, Choice, ElfName, Entry, IsAArch64Choice, IsArchitectureChoice, IsCallIn, IsCandidate, IsCandidateBy, IsCandidateWith, IsChosenBy, IsFirst, IsLoongArchChoice, IsMatched, IsNameOf, IsNamed, IsPpc64Choice, IsScopeIn, IsSkippable, IsTaken, IsUnchanged, IsWhole, LinkFacts, List, LoongArch64, LoongArch64Relocation, None, NotRelaxable, Option, Phase, Ppc64, Ppc64Relocation, Rela, RelaxContext, Relaxation, RewriteKind as LoongArchKind, RiscV, Scope, Some, SymbolFacts, X86_64, X86_64Relocation, [], aarch64_name, aarch64_scope_in, ap, at_base, calls_tls_get_addr, choice, deletes_within, false, inl, inr, is_some, loongarch_name, loongarch_scope_in, named, own_facts, ppc64_may_be_skipped, ppc64_name, ppc64_scope_in, r_type_of, refl, relaxation_deleted, relaxation_skipped, relocation_at, riscv_scope_in, slice_get, subst, sym, true, true≢false, unnamed, x86_64_scope_in, ℕ, ◌&&◌, ◌+◌, ◌==◌, ◌∙◌, ◌∷◌, ◌≡◌, ◌⊎◌}
 use Rattle.linker_elf.specs.RiscVRelocations.{riscv_name}
 use Rattle.linker_elf.specs.X86Relocations.{x86_64_name}
 use Rattle.linker_elf.specs.declared.aarch64.relocations.AArch64Relocation.TheVariants as aarch64_names
@@ -12,9 +10,7 @@ use Rattle.linker_elf.specs.declared.riscv64.relocations.RiscVRelocation.TheVari
 use Rattle.linker_elf.specs.declared.x86_64.relocations.X86_64Relocation.TheVariants as x86_64_names
 use Rattle.linker_utils.specs.declared.aarch64.rewrites.RewriteKind.{RewriteKind as AArch64Kind}
 use Rattle.linker_utils.specs.declared.aarch64.rewrites.RewriteKind.TheVariants as aarch64_kinds
-use Rattle.linker_utils.specs.declared.loongarch64.rewrites.RewriteKind.{RewriteKind as LoongArchKind}
 use Rattle.linker_utils.specs.declared.loongarch64.rewrites.RewriteKind.TheVariants as loongarch64_kinds
-use Rattle.linker_utils.specs.Ppc64Rewrites.{ppc64_may_be_skipped}
 use Rattle.linker_utils.specs.declared.ppc64.rewrites.RewriteKind.{RewriteKind as Ppc64Kind}
 use Rattle.linker_utils.specs.declared.ppc64.rewrites.RewriteKind.TheVariants as ppc64_kinds
 use Rattle.linker_utils.specs.RiscVRewrites.{IsRiscVChoice, riscv_may_be_skipped}
@@ -23,12 +19,7 @@ use Rattle.linker_utils.specs.declared.riscv64.rewrites.RewriteKind.TheVariants 
 use Rattle.linker_utils.specs.X86Rewrites.{IsX86Choice, x86_64_may_be_skipped}
 use Rattle.linker_utils.specs.declared.x86_64.rewrites.RewriteKind.{RewriteKind as X86Kind}
 use Rattle.linker_utils.specs.declared.x86_64.rewrites.RewriteKind.TheVariants as x86_64_kinds
-use Rattle.linker_utils.specs.Relaxations.{IsSkippable}
 use Rattle.linker_utils.specs.declared.architecture.Relaxation.TheVariants as relaxations
-use Rattle.linker_rewriting.specs.Candidates.{IsCallIn, IsTaken, IsCandidate, IsCandidateBy, IsCandidateWith, IsMatched, at_base, calls_tls_get_addr, deletes_within, own_facts}
-use Rattle.linker_rewriting.specs.Facts.{RelaxContext}
-use Rattle.linker_rewriting.specs.Sequences.{IsWhole}
-use Rattle.linker_rewriting.specs.Groups.{aarch64_scope_in, riscv_scope_in, loongarch_scope_in, ppc64_scope_in, x86_64_scope_in, IsScopeIn}
 use Rattle.linker_rewriting.specs.declared.phases.Phase.TheVariants as phases
 use Rattle.linker_elf.specs.Architectures.{IsNamedValue}
 

@@ -1,12 +1,7 @@
 -- Sections that stay as they are in a phase, and runs of relocations that keep no group.
-use Rattle.std.proofs.Common.{◌≡◌, ℕ, zero, suc, ◌+◌, ◌-◌, ◌≤◌, ◌<◌, ◌∙◌, List, [], ◌++◌, ap, subst, arith, refl}
+use Rattle.linker_rewriting.proofs.Imports.{Decision, IsSurveyedIn, KeepsNone, List, RelaxContext, UnrelaxableGroups, [], ap, arith, deleted_of, deletion_by, deletions_by, refl, relocation_in, subst, suc, zero, ℕ, ◌++◌, ◌+◌, ◌-◌, ◌<◌, ◌∙◌, ◌≡◌, ◌≤◌}
 use Rattle.linker_rewriting.proofs.Surveying.{one_left}
-use Rattle.linker_rewriting.specs.Decisions.{deleted_of, deletion_by, deletions_by}
-use Rattle.linker_rewriting.specs.Facts.{RelaxContext}
-use Rattle.linker_rewriting.specs.Inner.RelocationTypes.{KeepsNone}
 use Rattle.linker_rewriting.specs.Inner.Left.{AreKept}
-use Rattle.linker_rewriting.specs.Surveys.{IsSurveyedIn}
-use Rattle.linker_rewriting.proofs.Imports.{Decision, UnrelaxableGroups, relocation_in}
 
 -- ---- what is made
 

@@ -1,13 +1,7 @@
 -- Of a group all relocations are rewritten, or none is.
-use Rattle.std.proofs.Common.{◌≡◌, ℕ, ◌∙◌, ◌||◌, inl, inr, Some, List, ap, sym, subst, refl, Bool, true, false}
+use Rattle.linker_rewriting.proofs.Imports.{AreDecidedIn, Bool, Choice, Decision, Group, Grouped, GroupsAreWholeAcross, GroupsAreWholeIn, IsDecidedAfter, IsDecidedAlone, IsGroupDecision, IsHighIn, IsInGroupIn, IsInLabel, IsLabelDecision, IsRewritten, IsScopeDecision, LabelFits, LabelsAreWhole, List, Phase, Rela, RelaxContext, Relaxation, Some, UnrelaxableGroups, ap, decision_at, false, group_stays, inl, inr, label_decision, refl, relocation_in, rewritten_by, stays_at, subst, sym, takes_symbol, true, ℕ, ◌||◌, ◌∙◌, ◌≡◌}
 use Rattle.linker_rewriting.proofs.LabelGroups.{labelled, one_index, stays_or_fits}
 use Rattle.linker_rewriting.proofs.Unique.{one_scope}
-use Rattle.linker_rewriting.specs.Decisions.{AreDecidedIn, IsDecidedAfter, IsDecidedAlone, IsScopeDecision, IsGroupDecision, IsLabelDecision, label_decision, decision_at, rewritten_by, takes_symbol}
-use Rattle.linker_rewriting.specs.Facts.{RelaxContext}
-use Rattle.linker_rewriting.specs.Groups.{IsInGroupIn, group_stays, stays_at}
-use Rattle.linker_rewriting.specs.RiscVPcrelGroups.{IsInLabel, IsHighIn, LabelFits}
-use Rattle.linker_rewriting.specs.Rewritten.{GroupsAreWholeIn, GroupsAreWholeAcross, LabelsAreWhole, IsRewritten}
-use Rattle.linker_rewriting.proofs.Imports.{Choice, Decision, Group, Grouped, Phase, Rela, Relaxation, UnrelaxableGroups, relocation_in}
 
 -- what a relocation of a group becomes
 of_group : (s : RelaxContext) (kept : List UnrelaxableGroups) (bytes section : List ℕ) (n : ℕ) (r : Rela)

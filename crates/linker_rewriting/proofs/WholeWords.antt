@@ -1,11 +1,7 @@
 -- Of a word all loads are rewritten, or none is.
-use Rattle.std.proofs.Common.{◌≡◌, ℕ, ◌∙◌, inl, inr, None, Some, Option, List, ap, sym, subst, refl, Bool, true, false, true≢false}
+use Rattle.linker_rewriting.proofs.Imports.{AreLoadsDecided, AreLoadsRejected, Bool, Contradiction, Decision, HasLoadRewrite, IsAscending, IsDecisionBy, IsKeepingWord, IsLoad, IsLoadCandidate, IsLoadDecision, IsRewritten, IsWordDecision, List, MeansWordsUnsurveyed, None, NotSurveyed, Option, Overlaps, Rela, RelaxContext, RewritingError, Some, TooShort, WordUnchangedBy, WordsAreWhole, WordsAreWholeAcross, ap, false, inl, inr, link_facts, refl, relocation_in, subst, sym, true, true≢false, word_offset, word_r_type, word_stays, ℕ, ◌∙◌, ◌≡◌}
 use Rattle.linker_rewriting.proofs.LabelGroups.{one_high_from, some_one}
 use Rattle.linker_rewriting.proofs.Unique.{one_candidate_with}
-use Rattle.linker_rewriting.specs.Facts.{RelaxContext, link_facts}
-use Rattle.linker_rewriting.specs.Rewritten.{IsRewritten}
-use Rattle.linker_rewriting.specs.TocIndirection.{IsLoad, IsLoadCandidate, IsLoadDecision, IsDecisionBy, IsWordDecision, IsKeepingWord, HasLoadRewrite, WordUnchangedBy, AreLoadsDecided, AreLoadsRejected, MeansWordsUnsurveyed, WordsAreWhole, WordsAreWholeAcross, word_r_type, word_offset, word_stays}
-use Rattle.linker_rewriting.proofs.Imports.{Contradiction, Decision, IsAscending, NotSurveyed, Overlaps, Rela, RewritingError, TooShort, relocation_in}
 
 -- ---- one load
 

@@ -1,8 +1,6 @@
 -- The words that stay, noted relocation by relocation.
-use Rattle.std.proofs.Common.{◌≡◌, ℕ, ◌+◌, ◌⊎◌, ◌↔◌, inl, inr, List, Bool, Option, None, Some, true, sym, subst, arith, refl}
+use Rattle.linker_rewriting.proofs.Imports.{AreSurveyedBy, Bool, IsNotedBy, List, None, Option, Some, WordUnchangedBy, arith, below_more, inl, inr, refl, subst, sym, true, word_stays, ℕ, ◌+◌, ◌↔◌, ◌≡◌, ◌⊎◌}
 use Rattle.linker_rewriting.specs.Inner.TocIndirection.{IsThatWord}
-use Rattle.linker_rewriting.specs.TocIndirection.{AreSurveyedBy, IsNotedBy, WordUnchangedBy, word_stays}
-use borrow.Author.Count.{below_more}
 
 -- what is noted of one relocation
 abbrev pub AreWordsKeptToo : List Bool → List Bool → Option ℕ → Type 0

@@ -1,12 +1,13 @@
 -- The rewrite of a relocation's instruction, if each other one of its group is rewritten.
 use Rattle.std.specs.Prelude.{◌≡◌, ℕ, ◌+◌, ◌⊎◌, Bool, true, false, ◌&&◌, ◌==◌, nat_le, List, length}
 use Rattle.std.specs.Prelude.{Option, Some, None, slice_get, is_some, pos}
-use Rattle.linker_rewriting.specs.Imports.{Architecture, Choice, DeletedBytes, LinkFacts, Rela}
-use Rattle.linker_rewriting.specs.Imports.{Relaxation, SymbolFacts, relaxation_deleted}
-use Rattle.linker_rewriting.specs.Imports.{relaxation_skipped, relocation_at}
+use Rattle.linker_rewriting.specs.Imports.{Architecture, Choice, IsArchitectureChoice, IsSkippable}
+use Rattle.linker_rewriting.specs.Imports.{IsUnchanged, Rela, Relaxation, SymbolFacts}
+use Rattle.linker_rewriting.specs.Imports.{relaxation_deleted, relaxation_skipped, relocation_at}
+use Rattle.linker_base.specs.declared.rewrite.DeletedBytes.{DeletedBytes}
+use Rattle.linker_elf.specs.declared.elf.choice.LinkFacts.{LinkFacts}
 use Rattle.linker_rewriting.specs.Facts.{RelaxContext, link_facts}
 use Rattle.linker_rewriting.specs.Sequences.{IsWhole, is_marked_in}
-use Rattle.linker_utils.specs.Relaxations.{IsArchitectureChoice, IsSkippable, IsUnchanged}
 
 abbrev pub calls_tls_get_addr : Option SymbolFacts → Bool
 calls_tls_get_addr None = false

@@ -2,16 +2,17 @@
 use Rattle.std.specs.Prelude.{◌≡◌, ℕ, zero, suc, ◌+◌, ◌-◌, ◌*◌, ◌^◌, ◌%◌, ◌<◌, ◌≤◌, ◌/◌, ◌⊎◌, ◌++◌}
 use Rattle.std.specs.Prelude.{max, Bool, true, false, IsTrue, ◌↔◌, List, [], ◌∷◌, length, get_or}
 use Rattle.std.specs.Prelude.{map, Option, Some, None, is_some, ◌≢◌, ◌==◌, All, take, drop}
-use Rattle.linker_rewriting.specs.Imports.{Architecture, Choice, Consumed, Decision, DeletedBytes}
-use Rattle.linker_rewriting.specs.Imports.{FirstOfPair, Group, Grouped, IfGroupMatches, Independent}
-use Rattle.linker_rewriting.specs.Imports.{Kept, Labelled, NotRelaxable, NotSurveyed, OutputFacts}
-use Rattle.linker_rewriting.specs.Imports.{Phase, Rela, Relaxation, RewritingError, Rewritten}
+use Rattle.linker_rewriting.specs.Imports.{Architecture, CanRewrite, Choice, Consumed}
+use Rattle.linker_rewriting.specs.Imports.{Contradiction, Decision, FirstOfPair, Group, Grouped}
+use Rattle.linker_rewriting.specs.Imports.{IfGroupMatches, Independent, Kept, Labelled}
+use Rattle.linker_rewriting.specs.Imports.{NotRelaxable, NotSurveyed, OutputFacts, Overlaps, Phase}
+use Rattle.linker_rewriting.specs.Imports.{Rela, Relaxation, RewritingError, Rewritten}
 use Rattle.linker_rewriting.specs.Imports.{RewrittenWithSymbol, Scope, Symbol, SymbolFacts}
-use Rattle.linker_rewriting.specs.Imports.{TlsLocalExec, UnrelaxableGroups, r_type_of, offset_at}
-use Rattle.linker_rewriting.specs.Imports.{relaxation_deleted, relaxation_rewrite}
-use Rattle.linker_rewriting.specs.Imports.{relaxation_skipped, relocation_at, relocation_in}
-use Rattle.linker_rewriting.specs.Imports.{riscv_name}
-use Rattle.linker_base.specs.Rewrite.{CanRewrite}
+use Rattle.linker_rewriting.specs.Imports.{TlsLocalExec, TooShort, UnrelaxableGroups, offset_at}
+use Rattle.linker_rewriting.specs.Imports.{r_type_of, relaxation_deleted, relaxation_matches}
+use Rattle.linker_rewriting.specs.Imports.{relaxation_rewrite, relaxation_skipped, relocation_at}
+use Rattle.linker_rewriting.specs.Imports.{relocation_in, riscv_name}
+use Rattle.linker_base.specs.declared.rewrite.DeletedBytes.{DeletedBytes}
 use Rattle.linker_base.specs.RewriteWindow.{window_of_rewrite}
 use Rattle.linker_base.specs.declared.rewrite.RewriteWindow.{RewriteWindow}
 use Rattle.linker_elf.specs.declared.elf.RowInfo.{RowInfo}
@@ -24,10 +25,7 @@ use Rattle.linker_rewriting.specs.RiscVPcrelGroups.{LabelFits}
 use Rattle.linker_rewriting.specs.declared.decisions.DecisionError.{DecisionError}
 use Rattle.linker_rewriting.specs.declared.decisions.Deletion.{Deletion}
 use Rattle.linker_rewriting.specs.declared.decisions.DecisionError.TheVariants as errors
-use Rattle.linker_rewriting.specs.declared.decisions.RewritingError.TheVariants.{TooShort, Overlaps}
-use Rattle.linker_rewriting.specs.declared.decisions.RewritingError.TheVariants.{Contradiction}
 use Rattle.linker_section.specs.Fields.{IsField, field_end}
-use Rattle.linker_utils.specs.Relaxations.{relaxation_matches}
 use Rattle.linker_elf.specs.declared.riscv64.relocations.RiscVRelocation.TheVariants as riscv64
 
 -- ---- one decision

@@ -4,12 +4,11 @@
 use Rattle.std.specs.Prelude.{◌≡◌, ◌↔◌, ℕ, zero, suc, ◌+◌, ◌<◌, ◌/◌, ◌==◌, ◌&&◌, ◌||◌, nat_le}
 use Rattle.std.specs.Prelude.{nat_lt, not, if◌then◌else◌, Bool, true, false, IsTrue, List, length}
 use Rattle.std.specs.Prelude.{Option, None, Some, slice_get, is_some}
-use Rattle.std.specs.Int.{cast_signed}
 use Rattle.linker_rewriting.specs.Imports.{Addresses, Architecture, Consumed, Decision, IsAscending}
 use Rattle.linker_rewriting.specs.Imports.{Kept, NotSurveyed, Rela, RewritingError, Rewritten}
 use Rattle.linker_rewriting.specs.Imports.{RewrittenWithSymbol, RiscV, Symbol, SymbolFacts}
-use Rattle.linker_rewriting.specs.Imports.{cast_unsigned, r_type_of, difference_64, relocation_in}
-use Rattle.linker_rewriting.specs.Imports.{rewritten, riscv_name, sum_64, w64}
+use Rattle.linker_rewriting.specs.Imports.{cast_signed, cast_unsigned, difference_64, r_type_of}
+use Rattle.linker_rewriting.specs.Imports.{relocation_in, rewritten, riscv_name, sum_64, w64}
 use Rattle.linker_elf.specs.Choices.{choice}
 use Rattle.linker_elf.specs.declared.riscv64.relocations.RiscVRelocation.TheVariants as riscv64
 use Rattle.linker_riscv64.specs.RiscVCalls.{word_at}

@@ -2,12 +2,15 @@
 -- are rewritten all or not at all (ELF Handling For Thread-Local Storage; the psABIs' sections on
 -- relaxation, "TOC Optimizations" and "TLS Linkage Optimizations" of the 64-Bit ELF V2 ABI).
 use Rattle.std.specs.Prelude.{◌≡◌, ℕ, Bool, true, false, ◌||◌, List, Option, Some, None, slice_get}
-use Rattle.linker_rewriting.specs.Imports.{AArch64, AArch64Relocation, Architecture, FirstOfPair}
-use Rattle.linker_rewriting.specs.Imports.{GeneralDynamic, GotToPcRel, Group, Grouped}
+use Rattle.linker_rewriting.specs.Imports.{AArch64, Architecture, Descriptor, FirstOfPair}
+use Rattle.linker_rewriting.specs.Imports.{GeneralDynamic, GotLoad, GotToPcRel, Group, Grouped}
 use Rattle.linker_rewriting.specs.Imports.{IfGroupMatches, Independent, InitialExec, Labelled}
 use Rattle.linker_rewriting.specs.Imports.{LocalDynamic, LoongArch64, NotRelaxable, Phase, Ppc64}
-use Rattle.linker_rewriting.specs.Imports.{PreLayout, RiscV, Scope, TlsLocalExec, UnrelaxableGroups}
-use Rattle.linker_rewriting.specs.Imports.{aarch64_name, loongarch_name, ppc64_name, riscv_name}
+use Rattle.linker_rewriting.specs.Imports.{PreLayout, RiscV, Scope, ShortPcRel, TlsLocalExec}
+use Rattle.linker_rewriting.specs.Imports.{UnrelaxableGroups, X86_64, aarch64_name, ppc64_name}
+use Rattle.linker_rewriting.specs.Imports.{riscv_name}
+use Rattle.linker_elf.specs.declared.aarch64.relocations.AArch64Relocation.{AArch64Relocation}
+use Rattle.linker_elf.specs.LoongArchRelocations.{loongarch_name}
 use Rattle.linker_elf.specs.X86Relocations.{x86_64_name}
 use Rattle.linker_elf.specs.declared.aarch64.relocations.AArch64Relocation.TheVariants as aarch64
 use Rattle.linker_elf.specs.declared.loongarch64.relocations.LoongArch64Relocation.{LoongArch64Relocation}
@@ -18,10 +21,7 @@ use Rattle.linker_elf.specs.declared.riscv64.relocations.RiscVRelocation.{RiscVR
 use Rattle.linker_elf.specs.declared.riscv64.relocations.RiscVRelocation.TheVariants as riscv64
 use Rattle.linker_elf.specs.declared.x86_64.relocations.X86_64Relocation.{X86_64Relocation}
 use Rattle.linker_elf.specs.declared.x86_64.relocations.X86_64Relocation.TheVariants as x86_64
-use Rattle.linker_rewriting.specs.declared.groups.Group.TheVariants.{Descriptor, GotLoad}
-use Rattle.linker_rewriting.specs.declared.phases.Phase.TheVariants.{ShortPcRel}
 use Rattle.linker_elf.specs.Architectures.{IsNamedValue}
-use Rattle.linker_elf.specs.declared.elf.architecture.Architecture.TheVariants.{X86_64}
 
 -- ---- scopes
 

@@ -2,7 +2,7 @@
 use Rattle.std.specs.Prelude.{◌≡◌, ℕ, ◌+◌, ◌*◌, ◌/◌, ◌<◌, ◌^◌, ℤ, Bool, true, false, List, length}
 use Rattle.std.specs.Prelude.{slice_get, Option, Some, None, ◌==◌, ◌&&◌, not}
 use Rattle.linker_rewriting.specs.Imports.{Addresses, Architecture, OutputFacts, Phase, Rela}
-use Rattle.linker_rewriting.specs.Imports.{Symbol, SymbolFacts, r_type_of, ppc64_name}
+use Rattle.linker_rewriting.specs.Imports.{Symbol, SymbolFacts, ppc64_name, r_type_of}
 use Rattle.linker_rewriting.specs.Imports.{relocation_in}
 use Rattle.linker_elf.specs.declared.ppc64.relocations.Ppc64Relocation.TheVariants as ppc64
 use Rattle.linker_rewriting.specs.Agreement.{Agree, IsContradiction, of_both}

@@ -2,16 +2,10 @@
 use Rattle.std.specs.Prelude.{◌≡◌, ℕ, ◌==◌, if◌then◌else◌, List, map, pos, Option, Some, None}
 use Rattle.std.proofs.Common.{ap}
 use Rattle.linker_elf.specs.Machines.{architecture_of}
-use Rattle.linker_elf.specs.declared.elf.architecture.Architecture.{Architecture}
-use Rattle.linker_elf.specs.declared.elf.choice.Choice.{Choice}
-use Rattle.linker_rewriting.specs.declared.decisions.Decision.{Decision}
-use Rattle.linker_rewriting.specs.declared.decisions.Decision.TheVariants.{Kept, Rewritten}
-use Rattle.linker_rewriting.specs.declared.decisions.Decision.TheVariants.{Consumed}
-use Rattle.linker_rewriting.specs.declared.decisions.Decision.TheVariants.{RewrittenWithSymbol}
-use Rattle.linker_rewriting.specs.declared.decisions.Subject.{Subject}
+use Rattle.linker_rewriting.specs.Imports.{Architecture, Choice, Consumed, Decision, Kept}
+use Rattle.linker_rewriting.specs.Imports.{Relaxation, Rewritten, RewrittenWithSymbol, Subject}
+use Rattle.linker_rewriting.specs.Imports.{rewrite_of_number}
 use Rattle.linker_rewriting.specs.declared.decisions.numbers.DecisionNumbers.{DecisionNumbers}
-use Rattle.linker_utils.specs.Relaxations.{rewrite_of_number}
-use Rattle.linker_utils.specs.declared.architecture.Relaxation.{Relaxation}
 
 -- one that rewrites nothing
 abbrev pub of_fate : ℕ → DecisionNumbers

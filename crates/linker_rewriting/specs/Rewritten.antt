@@ -1,19 +1,18 @@
 -- A section and its relocations after their rewrites.
 use Rattle.std.specs.Prelude.{◌≡◌, ◌≢◌, ℕ, ◌+◌, ◌-◌, ◌<◌, ◌≤◌, ◌/◌, ◌⊎◌, ◌↔◌, List, length, get_or}
 use Rattle.std.specs.Prelude.{Option, None, Some, true, false}
-use Rattle.linker_rewriting.specs.Imports.{AArch64, AArch64Relocation, Architecture, Choice}
-use Rattle.linker_rewriting.specs.Imports.{Consumed, Decision, Group, Kept, LoongArch64}
-use Rattle.linker_rewriting.specs.Imports.{OutputFacts, Phase, Rela, Relaxation, Rewritten}
-use Rattle.linker_rewriting.specs.Imports.{RewrittenWithSymbol, SymbolFacts, UnrelaxableGroups}
-use Rattle.linker_rewriting.specs.Imports.{aarch64_name, relaxation_rewrite, relocation_in}
-use Rattle.linker_rewriting.specs.Imports.{rewritten}
-use Rattle.linker_base.specs.Rewrite.{Rewrite, rewrite_window, offset_after, addend_after}
+use Rattle.linker_rewriting.specs.Imports.{AArch64, Architecture, Choice, Consumed, Decision, Group}
+use Rattle.linker_rewriting.specs.Imports.{IsNameOf, Kept, LoongArch64, OutputFacts, Phase, Rela}
+use Rattle.linker_rewriting.specs.Imports.{Relaxation, Rewrite, Rewritten, RewrittenWithSymbol}
+use Rattle.linker_rewriting.specs.Imports.{SymbolFacts, UnrelaxableGroups, aarch64_name}
+use Rattle.linker_rewriting.specs.Imports.{addend_after, offset_after, relaxation_rewrite}
+use Rattle.linker_rewriting.specs.Imports.{relocation_in, rewrite_window, rewritten}
+use Rattle.linker_elf.specs.declared.aarch64.relocations.AArch64Relocation.{AArch64Relocation}
 use Rattle.linker_rewriting.specs.Decisions.{decision_at, is_taken, start_at, written_end_at}
 use Rattle.linker_rewriting.specs.Decisions.{AreDecidedIn, AreApart, AreClear, AllStillFit}
 use Rattle.linker_rewriting.specs.Facts.{RelaxContext, pre_layout}
 use Rattle.linker_rewriting.specs.Groups.{IsInGroupIn, symbol_of_group}
 use Rattle.linker_rewriting.specs.RiscVPcrelGroups.{IsInLabel, IsHighIn}
-use Rattle.linker_elf.specs.ElfNames.{IsNameOf}
 use Rattle.linker_elf.specs.declared.aarch64.relocations.AArch64Relocation.TheVariants as names
 use Rattle.linker_rewriting.specs.Sequences.{are_members, marked_load}
 use Rattle.linker_utils.specs.declared.aarch64.rewrites.RewriteKind.{RewriteKind}

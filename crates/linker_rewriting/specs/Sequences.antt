@@ -6,10 +6,10 @@
 use Rattle.std.specs.Prelude.{◌≡◌, ℕ, ◌+◌, ◌-◌, ◌==◌, ◌&&◌, nat_le, Bool, true, false, cond, pos}
 use Rattle.std.specs.Prelude.{List, [], ◌∷◌, Option, Some, None}
 use Rattle.std.specs.Ordering.{int_eq}
-use Rattle.linker_rewriting.specs.Imports.{AArch64, Architecture, LoongArch64, Phase, Ppc64}
-use Rattle.linker_rewriting.specs.Imports.{PreLayout, Rela, RiscV, aarch64_name, r_type_of}
-use Rattle.linker_rewriting.specs.Imports.{loongarch_name, ppc64_name, relocation_at, riscv_name}
-use Rattle.linker_elf.specs.ElfNames.{ElfName}
+use Rattle.linker_rewriting.specs.Imports.{AArch64, Architecture, ElfName, LoongArch64, Phase}
+use Rattle.linker_rewriting.specs.Imports.{Ppc64, PreLayout, Rela, RiscV, aarch64_name, ppc64_name}
+use Rattle.linker_rewriting.specs.Imports.{r_type_of, relocation_at, riscv_name}
+use Rattle.linker_elf.specs.LoongArchRelocations.{loongarch_name}
 use Rattle.linker_elf.specs.declared.aarch64.relocations.AArch64Relocation.TheVariants as aarch64
 use Rattle.linker_elf.specs.declared.loongarch64.relocations.LoongArch64Relocation.TheVariants as loongarch64
 use Rattle.linker_elf.specs.declared.ppc64.relocations.Ppc64Relocation.TheVariants as ppc64

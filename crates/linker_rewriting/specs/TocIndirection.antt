@@ -5,8 +5,8 @@ use Rattle.std.specs.Prelude.{◌≡◌, ℕ, ℤ, ◌<◌, ◌/◌, ◌⊎◌, 
 use Rattle.std.specs.Prelude.{List, length, Option, None, Some, slice_get}
 use Rattle.linker_rewriting.specs.Imports.{Addresses, Architecture, Choice, Decision, IsAscending}
 use Rattle.linker_rewriting.specs.Imports.{Kept, NotSurveyed, Ppc64, Rela, Relaxation}
-use Rattle.linker_rewriting.specs.Imports.{RewritingError, RewrittenWithSymbol, Symbol}
-use Rattle.linker_rewriting.specs.Imports.{cast_unsigned, r_type_of, difference_64, ppc64_name}
+use Rattle.linker_rewriting.specs.Imports.{RewritingError, RewrittenWithSymbol, Subject, Symbol}
+use Rattle.linker_rewriting.specs.Imports.{cast_unsigned, difference_64, ppc64_name, r_type_of}
 use Rattle.linker_rewriting.specs.Imports.{relocation_in, sum_64, w64}
 use Rattle.linker_elf.specs.declared.ppc64.relocations.Ppc64Relocation.TheVariants as ppc64
 use Rattle.linker_rewriting.specs.Candidates.{IsCandidateWith}
@@ -15,7 +15,6 @@ use Rattle.linker_rewriting.specs.Decisions.{decision_at, start_by, end_by, AreA
 use Rattle.linker_rewriting.specs.Facts.{RelaxContext, address_in, link_facts}
 use Rattle.linker_rewriting.specs.RiscVPcrelGroups.{IsHighFrom}
 use Rattle.linker_rewriting.specs.Rewritten.{AreRelocationsAfter, AreDone, IsRewritten, OthersStay}
-use Rattle.linker_rewriting.specs.declared.decisions.Subject.{Subject}
 
 -- ---- loads
 

@@ -1,13 +1,5 @@
 -- A call's site, and how far its target stands from it once the deleted bytes are gone.
-use Rattle.std.proofs.Common.{◌≡◌, ℕ, ◌+◌, ◌<◌, ◌≤◌, ◌^◌, List, ◌/◌, ap, ◌∙◌, arith, pos, ◌-ℤ◌, ℤ, w64, FitsSigned, to_z, of_z}
-use Rattle.std.proofs.lemmas.Int.{to_z-of_z}
-use Rattle.linker_base.specs.Deletions.{rank}
-use Rattle.linker_base.proofs.Rank.{rank-le, rank-mono, rank_all_kept}
-use Rattle.linker_base.specs.Bits.{field}
-use Rattle.std.proofs.lemmas.Nat.{mod_below}
-use Rattle.linker_riscv64.specs.RiscVCalls.{call_len, link_register, output_distance, word_at, IsSiteKept}
-use Rattle.linker_riscv64.specs.declared.calls.LinkRegister.{LinkRegister}
-use Rattle.linker_riscv64.specs.declared.calls.LinkRegister.TheVariants.{OfAuipc, OfJalr}
+use Rattle.linker_riscv64.proofs.Imports.{FitsSigned, IsSiteKept, LinkRegister, List, OfAuipc, OfJalr, ap, arith, call_len, field, link_register, mod_below, of_z, output_distance, pos, rank, rank-le, rank-mono, rank_all_kept, to_z, to_z-of_z, w64, word_at, ℕ, ℤ, ◌+◌, ◌-ℤ◌, ◌/◌, ◌<◌, ◌^◌, ◌∙◌, ◌≡◌, ◌≤◌}
 
 -- the difference of the output offsets that the code has taken
 pub distance_is : (ds : List (ℕ × ℕ)) (site target from to len : ℕ) (d : ℤ) → FitsSigned w64 d

@@ -1,17 +1,9 @@
 -- What a rewritten call reads as.
-use Rattle.std.proofs.Common.{◌≡◌, ℕ, suc, ◌+◌, ◌-◌, ◌*◌, ◌%◌, ◌^◌, ◌<◌, ◌≤◌, false, List, ◌++◌, length, take, drop, refl, sym, ◌∙◌, ap, arith, ℤ, pos, negsuc, ◌-ℤ◌, ltb}
-use Rattle.std.specs.Int.{w32, w64, from_le_bytes, to_le_bytes, cast_unsigned, int_rem_euclid, bit_at}
-use Rattle.std.proofs.lemmas.Bool.{agree_below_at, cond_both, ltb-true, ltb-false}
-use Rattle.std.proofs.lemmas.List.{append-nil, append_assoc, take_at, drop_at, drop_all, take_rest, length-take, length-drop, drop-drop}
-use Rattle.std.proofs.lemmas.Int.{ints}
-use Rattle.std.proofs.lemmas.Nat.{from_le_bytes-to_le_bytes_4, or_comm, or_shifted}
+use Rattle.linker_riscv64.proofs.Imports.{IsEven, IsJalDistance, JumpsAndLinks, List, agree_below_at, ap, append-nil, append_assoc, arith, bit_at, cast_unsigned, cond_both, drop, drop-drop, drop_all, drop_at, false, field, from_le_bytes, from_le_bytes-to_le_bytes_4, int_rem_euclid, ints, length, length-drop, length-take, ltb, ltb-false, ltb-true, negsuc, or_comm, or_shifted, pos, put_mid, refl, signed, suc, sym, take, take_at, take_rest, to_le_bytes, w32, w64, word_at, ℕ, ℤ, ◌%◌, ◌*◌, ◌++◌, ◌+◌, ◌-ℤ◌, ◌-◌, ◌<◌, ◌^◌, ◌∙◌, ◌≡◌, ◌≤◌}
 use Rattle.std.specs.Int.RustNames.{bit_or}
-use borrow.Rule.Slice.PartMut.{put_mid}
-use Rattle.linker_base.specs.Bits.{field, signed}
 use Rattle.linker_base.specs.Form.{is_placed, Written, MachineReads, place_sum}
 use Rattle.linker_base.proofs.Fields.{same_fields, signed_rem}
 use Rattle.linker_elf.specs.RiscV.{riscv_form}
-use Rattle.linker_riscv64.specs.RiscVCalls.{word_at, JumpsAndLinks, IsEven, IsJalDistance}
 use Rattle.linker_elf.specs.declared.riscv64.forms.RiscVInstruction.TheVariants.{JType}
 use Rattle.linker_base.proofs.Immediates.{always_clear}
 use Rattle.linker_elf.proofs.RiscV.{jtype_places, jtype_below}

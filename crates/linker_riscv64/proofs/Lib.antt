@@ -1,4 +1,5 @@
 pub mod CallSites
+pub mod Imports
 pub mod Jumps
 pub mod Packed
 pub mod Shrunk

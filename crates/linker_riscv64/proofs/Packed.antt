@@ -1,25 +1,10 @@
 -- How a section is packed: the jumps in it.
-use Rattle.std.proofs.Common.{◌≡◌, ℕ, suc, ◌+◌, ◌-◌, ◌<◌, ◌≤◌, true, List, ◌++◌, length, get_or, take, drop, sym, subst, ◌∙◌, ap, arith, inl, inr, ℤ}
-use Rattle.std.specs.Prelude.{◌↔◌, IsOk, IfErr, OnOk, Result, Ok, Err, All}
-use Rattle.std.proofs.lemmas.Bool.{cases_lt}
-use Rattle.std.proofs.lemmas.List.{length-take, get_or-take, get_or-drop, get_or_default, append_assoc, take_at, drop_at, drop-drop}
-use Rattle.linker_base.specs.Deletions.{is_kept, rank}
-use Rattle.linker_base.proofs.Rank.{rank_kept, rank-mono, rank_all_kept}
-use Rattle.std.specs.Int.{w32, from_le_bytes}
-use Rattle.linker_base.specs.Bits.{field}
-use Rattle.linker_riscv64.specs.Inner.Packing.{IsPackedTo, AreApartTo}
-use Rattle.linker_base.specs.Inner.Packing.{IsFilled}
-use Rattle.linker_riscv64.specs.Packing.{AreApart, CanJump, IsCallInSection, IsFirstRejected, IsRejected, IsNotAt, IsPacked}
-use Rattle.linker_riscv64.specs.RiscVCalls.{word_at, call_len, link_register, output_distance, IsEven, IsJal, IsJalDistance, IsSiteKept, JumpsAt, JumpsAndLinks, NamesRegister}
+use Rattle.linker_riscv64.proofs.Imports.{All, AreApart, AreApartTo, CanJump, Err, IfErr, IsCallInSection, IsEven, IsFilled, IsFirstRejected, IsJal, IsJalDistance, IsNotAt, IsOk, IsPacked, IsPackedTo, IsRejected, IsSiteKept, JumpsAndLinks, JumpsAt, LinkRegister, List, NamesRegister, OddDistance, OfAuipc, OfJalr, Ok, OnOk, OutOfSection, Result, SiteDeleted, TooFar, ap, append_assoc, arith, call_len, cases_lt, deletions_of, drop, drop-drop, drop_at, field, from_le_bytes, get_or, get_or-drop, get_or-take, get_or_default, inl, inr, is_kept, length, length-take, link_register, output_distance, rank, rank-mono, rank_all_kept, rank_kept, subst, suc, sym, take, take_at, true, w32, word_at, ℕ, ℤ, ◌++◌, ◌+◌, ◌-◌, ◌<◌, ◌↔◌, ◌∙◌, ◌≡◌, ◌≤◌}
 use Rattle.linker_riscv64.specs.declared.calls.CallError.{CallError}
-use Rattle.linker_riscv64.specs.declared.calls.CallError.TheVariants.{OutOfSection, SiteDeleted, OddDistance, TooFar}
 use Rattle.linker_riscv64.specs.declared.calls.JumpError.{JumpError}
 use Rattle.linker_riscv64.specs.declared.calls.JumpError.TheVariants.{Call, NotACall}
-use Rattle.linker_riscv64.specs.declared.calls.LinkRegister.{LinkRegister}
 use Rattle.linker_riscv64.specs.declared.packing.RejectedCall.{RejectedCall}
-use Rattle.linker_base.specs.Deltas.{deletions_of}
 use Rattle.linker_base.specs.declared.relaxation.RelaxDelta.{RelaxDelta}
-use Rattle.linker_riscv64.specs.declared.calls.LinkRegister.TheVariants.{OfAuipc, OfJalr}
 use Rattle.linker_base.proofs.Words.{word_of_front}
 
 -- ---- one jump

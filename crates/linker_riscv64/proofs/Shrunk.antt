@@ -1,26 +1,15 @@
 -- What chosen calls delete, how far that moves the ends of a call, and which choices stay in reach.
-use Rattle.std.proofs.Common.{◌≡◌, ◌≢◌, ℕ, zero, suc, ◌+◌, ◌-◌, ◌*◌, ◌/◌, ◌%◌, ◌<◌, ◌≤◌, Bool, true, false, cond, List, [], ◌∷◌, ◌++◌, length, map, get_or, set, take, drop, replicate, leb, nat_lt, refl, sym, subst, ◌∙◌, ap, inl, inr, arith, ℤ, pos, negsuc, ◌-ℤ◌}
-use Rattle.std.specs.Prelude.{◌↔◌, IsTrue, All, AllPairs, Contains, min, max}
+use Rattle.linker_riscv64.proofs.Imports.{All, AllPairs, AreClear, AreDisjoint, AreEightApart, AreKept, AreRunsOf, AreShrinkable, Bool, Contains, DoNotOverlap, EndFits, HaveHit, HaveShrinkableSites, HaveShrinkableTargets, IsApartAt, IsAround, IsChosen, IsEven, IsInReach, IsInReachAt, IsInsideDeletion, IsJalDistance, IsPartOf, IsSortedUnion, IsSplit, IsTrue, KeepsOthers, List, ShrunkCallsAreAccepted, [], all_pairs_head, all_pairs_tail, ap, append-nil, append_assoc, arith, cases_lt, cases_order, chosen_between, chosen_count, chosen_deletions, cond, disjoint_across, disjoint_back, disjoint_joined, distance_over, div-mul-le_self, drop, false, false≢true, get_or, get_or-map, get_or-replicate, get_or-set_other, get_or-set_same, get_or-take, get_or_default, get_or_past, inl, inr, ints, le-leb, leb, length, length-map, length-replicate, length-set, length-take, lt-div-mul-add, lt-leb, map, map-append, map-set, max, min, mul-le-mul_right, nat_lt, negsuc, output_distance, pos, rank, rank-mono, rank-removed, refl, removed, removed_by, replicate, set, shrinking, subst, suc, sym, take, take-append-drop, take-map, take-set-le, take-take, take_all, take_more, take_more_set, true, with_chosen, zero, ℕ, ℤ, ◌%◌, ◌*◌, ◌++◌, ◌+◌, ◌-ℤ◌, ◌-◌, ◌/◌, ◌<◌, ◌↔◌, ◌∙◌, ◌∷◌, ◌≡◌, ◌≢◌, ◌≤◌}
 use Rattle.std.specs.List.Sorted.{IsNonDecreasingBy, IsPartitionPoint}
 use Rattle.std.proofs.lemmas.Bool.Decides.{nat_tests}
-use Rattle.std.proofs.lemmas.Bool.{cases_lt, cases_order, false≢true, le-leb, lt-leb}
-use Rattle.std.proofs.lemmas.Int.{ints}
-use Rattle.std.proofs.lemmas.List.{length-map, length-take, map-set, get_or-map, get_or-take, get_or_default, get_or-set_other, get_or-set_same, map-append, take-map, take-append-drop, take-take, take_more, take_more_set, take_all, take-set-le, append_assoc, append-nil, length-replicate, length-set, get_or-replicate, get_or_past}
 use Rattle.std.proofs.lemmas.List.Elements.{All-head, All-tail, All-nil, All-cons, All-append, All-take, All-contains_itself, Contains-append_left, Contains-append_right}
 use Rattle.std.proofs.Math.Seq.{take-nil, take-set-lt}
-use Rattle.std.proofs.Math.Nat.{mul-le-mul_right, div-mul-le_self, lt-div-mul-add}
 use Rattle.std.proofs.lemmas.List.Kept.{AllPairs-cons}
 use Rattle.std.proofs.lemmas.List.Sums.{sum_by-cons, sum_by-append, sum_by-set, count_by_more_yes, count_by_more_no}
 use mir.Val.{bool_byte}
-use Rattle.linker_base.specs.Deletions.{DoNotOverlap, EndFits, AreDisjoint, AreKept, IsInsideDeletion, IsSortedUnion, rank}
-use Rattle.linker_base.proofs.Rank.{removed, removed_by, rank-removed, rank-mono, all_pairs_head, all_pairs_tail}
 use Rattle.linker_base.proofs.Laws.{merges_shorten}
 use Rattle.linker_base.proofs.Unions.{disjoint_left, rank-permutation}
-use Rattle.linker_base.proofs.Merging.{disjoint_joined, disjoint_back, disjoint_across}
-use Rattle.linker_riscv64.specs.Shrinking.{shrinking, chosen_deletions, with_chosen, IsInReach, IsChosen, IsPartOf, AreShrinkable, ShrunkCallsAreAccepted}
-use Rattle.linker_riscv64.specs.Inner.Shrinking.{chosen_count, chosen_between, AreEightApart, IsApartAt, IsSplit, IsInReachAt, KeepsOthers, HaveShrinkableSites, HaveShrinkableTargets, IsAround, AreClear, HaveHit, AreRunsOf, distance_over}
 use Rattle.linker_riscv64.specs.declared.shrinking.Runs.{Runs}
-use Rattle.linker_riscv64.specs.RiscVCalls.{IsEven, IsJalDistance, output_distance}
 
 -- ---- what chosen calls delete
 

@@ -1,5 +1,5 @@
 -- Addresses that are multiples of a number in every layout, and the nops that are then enough.
-use Rattle.linker_runs.proofs.Imports.{◌≡◌, ℕ, zero, suc, ◌+◌, ◌-◌, ◌*◌, ◌/◌, ◌<◌, ◌≤◌, ◌∙◌, List, length, ap, sym, ⊎_elim, arith, cond, nat_le, max, Option, None, Some, MatchOption, ⊤, IsPowerOfTwo, IsNextPowerOfTwo, mul_assoc, cases_lt, nat_tests, pow_pos, mul-le-mul_left, le-div, Item, Site, Aligned, offset_of, len_of, end_of, item_at, shape_len, needed, limit_of, kept_by, freed_before, IsSound, AreInOrder, AreItems, IsAnchor, FreesMultiples, IsAlwaysMultiple}
+use Rattle.linker_runs.proofs.Imports.{Aligned, AreInOrder, AreItems, FreesMultiples, IsAlwaysMultiple, IsAnchor, IsNextPowerOfTwo, IsPowerOfTwo, IsSound, Item, List, MatchOption, None, Option, Site, Some, ap, arith, cases_lt, cond, end_of, freed_before, item_at, kept_by, le-div, len_of, length, limit_of, max, mul-le-mul_left, mul_assoc, nat_le, nat_tests, needed, offset_of, pow_pos, shape_len, suc, sym, zero, ℕ, ⊎_elim, ⊤, ◌*◌, ◌+◌, ◌-◌, ◌/◌, ◌<◌, ◌∙◌, ◌≡◌, ◌≤◌}
 use Rattle.linker_runs.proofs.Units.{power_divides}
 use Rattle.linker_runs.proofs.Layouts.{freed_next, freed_none, freed_fits, ends_ascend}
 use Rattle.linker_runs.proofs.Multiples.{Multiple, multiple_of, needed_fills, needed_below}

@@ -1,5 +1,5 @@
 -- The next alignment after a relocation, by one relocation more.
-use Rattle.linker_runs.proofs.Imports.{ℕ, ◌+◌, ◌<◌, ◌≤◌, List, inl, inr, ⊎_elim, arith, ◌⊎◌, cases_lt, Relocation, IsNextAlignment, IsAhead, MayBeAhead, Machine, RiscV, LoongArch64}
+use Rattle.linker_runs.proofs.Imports.{IsAhead, IsNextAlignment, List, LoongArch64, Machine, MayBeAhead, Relocation, RiscV, arith, cases_lt, inl, inr, ℕ, ⊎_elim, ◌+◌, ◌<◌, ◌≤◌, ◌⊎◌}
 
 -- the next alignment after one relocation is that after the relocation after it, or this one
 pub next_on : (relocations : List Relocation) (i j : ℕ) → IsNextAlignment relocations i j → (j ≤ i + 1) ⊎ IsNextAlignment relocations (i + 1) j

@@ -1,5 +1,5 @@
 -- A site that its shortest shape reaches while nothing is freed is in reach whatever is freed.
-use Rattle.linker_runs.proofs.Imports.{◌≡◌, ℕ, zero, suc, ◌-◌, ◌*◌, ◌%◌, ◌<◌, ◌≤◌, ◌∙◌, true, List, length, refl, ap, sym, ⊎_elim, arith, cond, mul_assoc, cases_lt, Shapes, Item, Site, Aligned, len_of, target_of, item_at, is_reached, short_shape, freed_before, place_of, item_reaches, shape_reaches, IsSound, least_len, run_granularity, AreItems, AreNested, IsFormed, cautious_before, IsAlwaysInReach}
+use Rattle.linker_runs.proofs.Imports.{Aligned, AreItems, AreNested, IsAlwaysInReach, IsFormed, IsSound, Item, List, Shapes, Site, ap, arith, cases_lt, cautious_before, cond, freed_before, is_reached, item_at, item_reaches, least_len, len_of, length, mul_assoc, place_of, refl, run_granularity, shape_reaches, short_shape, suc, sym, target_of, true, zero, ℕ, ⊎_elim, ◌%◌, ◌*◌, ◌-◌, ◌<◌, ◌∙◌, ◌≡◌, ◌≤◌}
 use Rattle.linker_runs.proofs.Bounds.{all_nearer, len_fits, is_short, is_past}
 use Rattle.linker_runs.proofs.Choices.{place_is, cautious_frees}
 use Rattle.linker_runs.proofs.Frees.{exact_frees}

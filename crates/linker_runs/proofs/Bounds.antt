@@ -1,5 +1,5 @@
 -- What the rounds of a run that can be relaxed never exceed.
-use Rattle.linker_runs.proofs.Imports.{◌≡◌, ℕ, zero, suc, ◌+◌, ◌-◌, ◌<◌, ◌≤◌, ◌∙◌, true, false, List, length, refl, ap, sym, ⊎_elim, arith, cond, ◌⊎◌, nat_lt, cases_lt, cases_Bool, cases_order, nat_tests, Shape, Shapes, Item, Site, Aligned, offset_of, end_of, target_of, item_at, is_reached, shape_len, short_shape, freed_before, place_of, item_reaches, shape_reaches, is_in_reach, lengthened, least_len, run_granularity, AreItems, ShapesSuit, ItemSuits}
+use Rattle.linker_runs.proofs.Imports.{Aligned, AreItems, Item, ItemSuits, List, Shape, Shapes, ShapesSuit, Site, ap, arith, cases_Bool, cases_lt, cases_order, cond, end_of, false, freed_before, is_in_reach, is_reached, item_at, item_reaches, least_len, length, lengthened, nat_lt, nat_tests, offset_of, place_of, refl, run_granularity, shape_len, shape_reaches, short_shape, suc, sym, target_of, true, zero, ℕ, ⊎_elim, ◌+◌, ◌-◌, ◌<◌, ◌∙◌, ◌≡◌, ◌≤◌, ◌⊎◌}
 use Rattle.linker_runs.proofs.Units.{item_suits}
 use Rattle.linker_runs.proofs.Layouts.{lengthened_in, lengthened_out}
 use Rattle.linker_runs.proofs.Multiples.{Multiple, multiple_of}

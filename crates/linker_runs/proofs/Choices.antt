@@ -1,7 +1,5 @@
 -- The rounds of a run that can be relaxed are nowhere longer than a choice in reach.
-use Rattle.linker_runs.proofs.Imports.{◌≡◌, ◌≢◌, ◌^◌, ℕ, zero, suc, ◌+◌, ◌-◌, ◌<◌, ◌≤◌, ◌∙◌, true, false, List, length, get_or, refl, ap, sym, ⊎_elim, add-one, arith, nat_le, ◌⊎◌, cases_lt, cases_order, both_ways, nat_tests, get_or_default, Item, Site, Aligned, len_of, end_of, item_at, no_item, shape_len, kept_by, freed_before, place_of, target_of, choice_of, item_reaches, IsSound, AreApart, AreInOrder, AreRelaxed, is_in_reach_cautiously, AreForced, run_granularity, AreItems, IsSite, HaveNoAlignment, freed_cautiously, IsInReachCautiously, IsInReachExactly, AreNotLonger, ItemSuits}
-use Rattle.linker_runs.specs.Relaxing.{after_rounds}
-use Rattle.linker_runs.specs.Choosing.{cautious_before}
+use Rattle.linker_runs.proofs.Imports.{Aligned, AreApart, AreForced, AreInOrder, AreItems, AreNotLonger, AreRelaxed, HaveNoAlignment, IsInReachCautiously, IsInReachExactly, IsSite, IsSound, Item, ItemSuits, List, Site, add-one, after_rounds, ap, arith, both_ways, cases_lt, cases_order, cautious_before, choice_of, end_of, false, freed_before, freed_cautiously, get_or, get_or_default, is_in_reach_cautiously, item_at, item_reaches, kept_by, len_of, length, nat_le, nat_tests, no_item, place_of, refl, run_granularity, shape_len, suc, sym, target_of, true, zero, ℕ, ⊎_elim, ◌+◌, ◌-◌, ◌<◌, ◌^◌, ◌∙◌, ◌≡◌, ◌≢◌, ◌≤◌, ◌⊎◌}
 use Rattle.linker_runs.proofs.Units.{item_suits}
 use Rattle.linker_runs.proofs.Layouts.{freed_next, freed_none, ends_apart, count_point}
 use Rattle.linker_runs.proofs.Multiples.{multiple_of}

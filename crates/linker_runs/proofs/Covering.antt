@@ -1,7 +1,6 @@
 -- Which positions the deletions of a run take, and those of the chosen calls.
-use Rattle.linker_runs.proofs.Imports.{◌≡◌, ℕ, zero, suc, ◌+◌, ◌<◌, ◌≤◌, ◌∙◌, Bool, true, false, List, [], ◌∷◌, ◌++◌, length, get_or, refl, ap, sym, subst, ⊎_elim, arith, ◌⊎◌, not, cases_lt, false≢true, covers, is_kept, shrinking, chosen_deletions, IsChosen, list_any, or_cases, or_left, or_right, Item, item_at, deletion_at, deletions_before, pair_at}
+use Rattle.linker_runs.proofs.Imports.{Bool, IsChosen, Item, List, [], ap, arith, cases_lt, chosen_deletions, covers, deletion_at, deletions_before, false, false≢true, get_or, is_kept, item_at, length, list_any, not, or_cases, or_left, or_right, pair_at, rank, refl, shrinking, subst, suc, sym, true, zero, ℕ, ⊎_elim, ◌++◌, ◌+◌, ◌<◌, ◌∙◌, ◌∷◌, ◌≡◌, ◌≤◌, ◌⊎◌}
 use Rattle.std.proofs.lemmas.List.Folds.{list_any-append}
-use Rattle.linker_base.specs.Deletions.{rank}
 use Rattle.linker_runs.proofs.Deletions.{deletions_none, deletions_next}
 
 -- whether one of the deletions takes the position

@@ -1,8 +1,6 @@
 -- The deletions of a run are valid, and translate offsets as the layout does.
-use Rattle.linker_runs.proofs.Imports.{◌≡◌, ℕ, zero, suc, ◌+◌, ◌-◌, ◌<◌, ◌≤◌, ◌∙◌, true, false, List, [], ◌∷◌, ◌++◌, length, get_or, refl, ap, sym, subst, ⊎_elim, add-one, arith, cond, nat_lt, common_steps, cases_lt, nat_tests, append-nil, IsValid, ◌^◌, Item, offset_of, len_of, end_of, item_at, AreInOrder, deletion_at}
-use Rattle.std.proofs.Common.{length-append}
+use Rattle.linker_runs.proofs.Imports.{AreInOrder, IsValid, Item, List, [], add-one, ap, append-nil, arith, cases_lt, common_steps, cond, deletion_at, deletions_before, end_of, false, get_or, item_at, len_of, length, length-append, nat_lt, nat_tests, offset_of, refl, subst, suc, sym, true, zero, ℕ, ⊎_elim, ◌++◌, ◌+◌, ◌-◌, ◌<◌, ◌^◌, ◌∙◌, ◌∷◌, ◌≡◌, ◌≤◌}
 use Rattle.linker_base.proofs.Listed.{IsValid-push, IsValid-nil}
-use Rattle.linker_runs.specs.Deleting.{deletions_before}
 
 pub deletions_none : (items : List Item) (kept : List ℕ) → deletions_before items kept 0 ≡ []
 unfolding deletions_before

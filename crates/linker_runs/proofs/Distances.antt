@@ -1,5 +1,5 @@
 -- The value of a relocation between two places of a run.
-use Rattle.linker_runs.proofs.Imports.{◌≡◌, ℕ, ◌-◌, ◌^◌, ◌<◌, ◌≤◌, ◌∙◌, List, length, ap, ⊎_elim, arith, ℤ, pos, neg_ℤ, ◌-ℤ◌, ◌≤ℤ◌, ◌<ℤ◌, Some, w64, cast_signed, cases_lt, ints, to_z_pos, cast_negative, IsWithin, reach_of, IsInReach, sum_64, difference_64, RowInfo, holds, IsRejected, IsAccepted, IsInUnits, window_len, value_of, operands_of}
+use Rattle.linker_runs.proofs.Imports.{IsAccepted, IsInReach, IsInUnits, IsRejected, IsWithin, List, RowInfo, Some, ap, arith, cases_lt, cast_negative, cast_signed, difference_64, holds, ints, length, neg_ℤ, operands_of, pos, reach_of, sum_64, to_z_pos, value_of, w64, window_len, ℕ, ℤ, ⊎_elim, ◌-ℤ◌, ◌-◌, ◌<ℤ◌, ◌<◌, ◌^◌, ◌∙◌, ◌≡◌, ◌≤ℤ◌, ◌≤◌}
 use Rattle.linker_elf.specs.Agrees.{RowFits}
 use Rattle.linker_elf.specs.Relocate.{IsInWords}
 

@@ -1,5 +1,5 @@
 -- The bytes that stay of an item of a relaxed run are its first ones.
-use Rattle.linker_runs.proofs.Imports.{◌≡◌, ℕ, ◌+◌, ◌-◌, ◌<◌, ◌≤◌, ◌∙◌, Bool, true, false, List, length, get_or, refl, ap, sym, ⊎_elim, arith, Option, Some, None, not, nat_le, nat_lt, cases_lt, cases_Bool, cond-true, cond-false, false≢true, nat_tests, covers, is_kept, leb-true, ltb-true, rank, Item, Site, Aligned, offset_of, len_of, end_of, item_at, kept_by, freed_before, choice_of, short_shape, needed, limit_of, AreInOrder, IsSound, deletion_at, deletions_before, rank-kept, rank-gone}
+use Rattle.linker_runs.proofs.Imports.{Aligned, AreInOrder, Bool, IsSound, Item, List, None, Option, Site, Some, ap, arith, cases_Bool, cases_lt, choice_of, cond-false, cond-true, covers, deletion_at, deletions_before, end_of, false, false≢true, freed_before, get_or, is_kept, item_at, kept_by, leb-true, len_of, length, limit_of, ltb-true, nat_le, nat_lt, nat_tests, needed, not, offset_of, rank, rank-gone, rank-kept, refl, short_shape, sym, true, ℕ, ⊎_elim, ◌+◌, ◌-◌, ◌<◌, ◌∙◌, ◌≡◌, ◌≤◌}
 use Rattle.linker_runs.proofs.Layouts.{ends_ascend}
 use Rattle.linker_runs.specs.FirstBytes.{FirstBytesAreKept}
 use Rattle.linker_runs.proofs.Covering.{takes, losing, lost}

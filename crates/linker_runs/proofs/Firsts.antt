@@ -1,6 +1,6 @@
 -- What the parts of a run meet, fault by fault.
-use Rattle.linker_runs.proofs.Imports.{ℕ, zero, suc, ◌+◌, ◌<◌, ◌≤◌, arith, Shape, Shapes, Alignment, Fault, TooManyShapes, ShapeTooLong, ShapesNotAscending, BadGranularity, BadReach, AlignmentBelowGranularity, UnevenEnd, TooFewNops, UnevenNops, short_shape, number_of, ShapesMeet, AlignmentMeets}
-use Rattle.linker_runs.specs.declared.relaxation.faults.Fault.TheVariants.{Overlaps}
+use Rattle.linker_runs.proofs.Imports.{Alignment, AlignmentMeets, Fault, Shape, Shapes, ShapesMeet, arith, number_of, short_shape, suc, zero, ℕ, ◌+◌, ◌<◌, ◌≤◌}
+use Rattle.linker_runs.specs.declared.relaxation.faults.Fault.TheVariants.{TooManyShapes, ShapeTooLong, ShapesNotAscending, BadGranularity, BadReach, AlignmentBelowGranularity, UnevenEnd, TooFewNops, UnevenNops, Overlaps}
 
 -- what shapes meet of the faults below a number
 pub shapes_upto : (shapes : Shapes) (len n : ℕ) → (2 < n → ShapesMeet shapes len TooManyShapes) → (3 < n → ShapesMeet shapes len ShapeTooLong) → (4 < n → ShapesMeet shapes len ShapesNotAscending)

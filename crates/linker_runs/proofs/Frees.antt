@@ -1,5 +1,5 @@
 -- What runs that can be relaxed free: multiples of their granularity. What their alignments keep.
-use Rattle.linker_runs.proofs.Imports.{◌≡◌, ℕ, zero, suc, ◌+◌, ◌-◌, ◌*◌, ◌%◌, ◌<◌, ◌≤◌, ◌∙◌, List, length, refl, ap, sym, ⊎_elim, arith, subst, below_more, ◌⊎◌, Option, None, Some, min, MatchOption, ⊤, IsNextPowerOfTwo, mul_assoc, add-mul-mod_self_right, cases_lt, Alignment, Item, Site, Aligned, offset_of, len_of, item_at, shape_len, needed, limit_of, kept_by, freed_before, IsSound, least_len, AlignmentFits, run_granularity, AreItems, IsExactItem, IsExact, IsStill, IsFormed, IsAlwaysMultiple, AreAlwaysEnough, HasItsNops, ItemSuits}
+use Rattle.linker_runs.proofs.Imports.{Aligned, Alignment, AlignmentFits, AreAlwaysEnough, AreItems, HasItsNops, IsAlwaysMultiple, IsExact, IsExactItem, IsFormed, IsNextPowerOfTwo, IsSound, IsStill, Item, ItemSuits, List, MatchOption, None, Option, Site, Some, add-mul-mod_self_right, ap, arith, below_more, cases_lt, freed_before, item_at, kept_by, least_len, len_of, length, limit_of, min, mul_assoc, needed, offset_of, refl, run_granularity, shape_len, subst, suc, sym, zero, ℕ, ⊎_elim, ⊤, ◌%◌, ◌*◌, ◌+◌, ◌-◌, ◌<◌, ◌∙◌, ◌≡◌, ◌≤◌, ◌⊎◌}
 use Rattle.linker_runs.proofs.Units.{item_suits}
 use Rattle.linker_runs.proofs.Layouts.{freed_next, freed_none, freed_fits}
 use Rattle.linker_runs.proofs.Multiples.{Multiple, multiple_of, needed_fills, needed_below}

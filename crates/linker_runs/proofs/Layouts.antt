@@ -1,6 +1,5 @@
 -- What the items before an index free, and the places of offsets.
-use Rattle.linker_runs.proofs.Imports.{◌≡◌, ℕ, zero, suc, ◌+◌, ◌-◌, ◌<◌, ◌≤◌, Bool, true, false, List, [], ◌∷◌, length, refl, ap, ◌∙◌, ⊎_elim, add-one, arith, cond, ◌⊎◌, count_by, AllWithin, sum_by-cons, Item, offset_of, len_of, end_of, item_at, kept_by, item_reaches, is_in_reach, lengthened, AreApart, AreInOrder}
-use Rattle.linker_runs.specs.Relaxing.{freed_before}
+use Rattle.linker_runs.proofs.Imports.{AllWithin, AreApart, AreInOrder, Bool, Item, List, [], add-one, ap, arith, cond, count_by, end_of, false, freed_before, is_in_reach, item_at, item_reaches, kept_by, len_of, length, lengthened, offset_of, refl, suc, sum_by-cons, true, zero, ℕ, ⊎_elim, ◌+◌, ◌-◌, ◌<◌, ◌∙◌, ◌∷◌, ◌≡◌, ◌≤◌, ◌⊎◌}
 
 -- one item more frees what doesn't stay of it
 pub freed_next : (start : ℕ) (items : List Item) (choice : ℕ → ℕ) (i : ℕ) → freed_before start items choice (i + 1) ≡ freed_before start items choice i + (len_of (item_at items i) - kept_by start (item_at items i) (choice i) (freed_before start items choice i))

@@ -1,5 +1,5 @@
 -- The items of a section that was rewritten, by one item more.
-use Rattle.linker_runs.proofs.Imports.{◌≡◌, ◌+◌, ◌∙◌, ◌<◌, ◌≤◌, ⊎_elim, List, ℕ, suc, length, map, take, drop, set, refl, ap, subst, sym, inl, inr, add-one, arith, ◌⊎◌, take_more_set, map_push, drop-drop, All-nil, written_more, ◌-◌, Item, Site, Aligned, offset_of, end_of, Makes, AreListed, IsDeleted, deleted_at, Rewritten, AreListedIn}
+use Rattle.linker_runs.proofs.Imports.{Aligned, All-nil, AreListed, AreListedIn, IsDeleted, Item, List, Makes, Rewritten, Site, add-one, ap, arith, deleted_at, drop, drop-drop, end_of, inl, inr, length, map, map_push, offset_of, refl, set, subst, suc, sym, take, take_more_set, written_more, ℕ, ⊎_elim, ◌+◌, ◌-◌, ◌<◌, ◌∙◌, ◌≡◌, ◌≤◌, ◌⊎◌}
 use Rattle.linker_runs.specs.RewrittenItems.AreListed.{none, left_out, made, deleted}
 
 -- where a deletion is

@@ -1,5 +1,5 @@
 -- A site of a relaxed run can be written if its eight bytes can where it stays long.
-use Rattle.linker_runs.proofs.Imports.{◌≡◌, ℕ, ◌-◌, ◌<◌, ◌≤◌, ◌∙◌, List, length, ap, sym, subst, inl, inr, ⊎_elim, arith, nat_lt, ◌⊎◌, cases_lt, cond-true, cond-false, nat_tests, sum_64, rank, Item, Site, Aligned, Shapes, offset_of, target_of, item_at, short_shape, kept_by, freed_before, choice_of, place_of, AreItems, IsRelaxation, deletions_of_run, HasItsInstructions, section_of, kept_len, CodeCause, IsUnwritable, Machine, ItemError, NotItsFirstBytes, HasShapesOf, IsShortened}
+use Rattle.linker_runs.proofs.Imports.{Aligned, AreItems, CodeCause, HasItsInstructions, HasShapesOf, IsRelaxation, IsShortened, IsUnwritable, Item, ItemError, List, Machine, NotItsFirstBytes, Shapes, Site, ap, arith, cases_lt, choice_of, cond-false, cond-true, deletions_of_run, freed_before, inl, inr, item_at, kept_by, kept_len, length, nat_lt, nat_tests, offset_of, place_of, rank, section_of, short_shape, subst, sum_64, sym, target_of, ℕ, ⊎_elim, ◌-◌, ◌<◌, ◌∙◌, ◌≡◌, ◌≤◌, ◌⊎◌}
 use Rattle.linker_runs.proofs.First.{first_bytes}
 use Rattle.linker_runs.proofs.Translations.{translations_exact}
 use Rattle.linker_runs.proofs.Writable.{site_free, short_sites}

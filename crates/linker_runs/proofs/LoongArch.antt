@@ -1,5 +1,5 @@
 -- What calls and addresses of LoongArch become.
-use Rattle.linker_runs.proofs.Imports.{◌≡◌, ℕ, ◌+◌, ◌*◌, ◌^◌, ◌<◌, List, length, take, drop, refl, subst, ◌∙◌, ap, arith, inl, inr, ℤ, pos, ◌+ℤ◌, Bool, true, false, int_lt, Some, eqb, not, ◌↔◌, ⊎_elim, IsSomeAnd, ◌*ℤ◌, ◌⊎◌, IsTrue, w32, w64, from_le_bytes, to_le_bytes, agree_below, from_le_bytes-to_le_bytes_4, field, window_of, is_placed, BitRange, IsWithin, bit_bounds, InstructionWritten, bits_taken, Signed, Shift5, sum_64, IsAddress, AreAddresses, whole, places_cleared, is_jirl, loongarch_form, reach, Branch26, operands_of, IsRelocated, IsOutOfReach, IsCall36At, IsPcalaAt, IsSiteAt, destination, branch_template, pcaddi_template, call_template, high_template, low_template, IsBranch, IsPcaddi, IsFarCall, IsFarAddress, IsAddressInReach, IsAddressOutOfReach, LoongArchBecomes, LoongArchAccepts, LoongArchIsFar, LoongArchCause, jump, call, far_call, address, far_address, short_call, long_call, short_address, long_address, far_from_branch, far_from_call, far_from_pcaddi, far_from_pair, far_pages, far_high, far_low, HasLoongArchShapes, Shapes, CALL36, PCALA, IsKindAt, short_template, AreRelocated, IsLongOf, IsLongOutOfReach, ItemError, NotItsInstructions, NoShape, OutOfReach}
+use Rattle.linker_runs.proofs.Imports.{AreAddresses, AreRelocated, BitRange, Bool, Branch26, CALL36, HasLoongArchShapes, InstructionWritten, IsAddress, IsAddressInReach, IsAddressOutOfReach, IsBranch, IsCall36At, IsFarAddress, IsFarCall, IsKindAt, IsLongOf, IsLongOutOfReach, IsOutOfReach, IsPcaddi, IsPcalaAt, IsRelocated, IsSiteAt, IsSomeAnd, IsTrue, IsWithin, ItemError, List, LoongArchAccepts, LoongArchBecomes, LoongArchCause, LoongArchIsFar, NoShape, NotItsInstructions, OutOfReach, PCALA, Shapes, Shift5, Signed, Some, address, agree_below, ap, arith, bit_bounds, bits_taken, branch_template, call, call_template, destination, drop, eqb, false, far_address, far_call, far_from_branch, far_from_call, far_from_pair, far_from_pcaddi, far_high, far_low, far_pages, field, from_le_bytes, from_le_bytes-to_le_bytes_4, high_template, inl, inr, int_lt, is_jirl, is_placed, jump, length, long_address, long_call, loongarch_form, low_template, not, operands_of, pcaddi_template, places_cleared, pos, reach, refl, short_address, short_call, short_template, subst, sum_64, take, to_le_bytes, true, w32, w64, whole, window_of, ℕ, ℤ, ⊎_elim, ◌*ℤ◌, ◌*◌, ◌+ℤ◌, ◌+◌, ◌<◌, ◌^◌, ◌↔◌, ◌∙◌, ◌≡◌, ◌⊎◌}
 use Rattle.linker_elf.specs.declared.elf.AnyForm.TheVariants.{LoongArch64}
 use Rattle.linker_elf.specs.declared.loongarch64.forms.LoongArch64Instruction.{LoongArch64Instruction}
 use Rattle.linker_laws.specs.LoongArchRelocationLaws.{Branches, Calls, RelativeAddresses, page_and_low}

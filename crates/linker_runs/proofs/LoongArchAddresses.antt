@@ -1,5 +1,5 @@
 -- An address of LoongArch that stays long can be written in a run of less than 2 GiB less 8 KiB.
-use Rattle.linker_runs.proofs.Imports.{◌≡◌, ℕ, ◌+◌, ◌-◌, ◌%◌, ◌^◌, ◌<◌, ◌≤◌, ◌∙◌, true, false, List, length, take, drop, refl, ap, sym, subst, inr, ⊎_elim, arith, pos, ◌-ℤ◌, Some, w64, cast_signed, cases_lt, false≢true, ints, to_z_pos, length-take, length-drop, cast_negative, IsWithin, bit_bounds, sum_64, difference_64, Signed, Shift5, holds, loongarch_fits, page, Shift10, R_LARCH_PCALA_HI20, R_LARCH_PCALA_LO12, Item, Site, Aligned, CALL36, PCALA, offset_of, target_of, item_at, freed_before, choice_of, place_of, IsOutOfReach, IsCall36At, IsPcalaAt, high_template, low_template, ArePagesNear, IsAddressOutOfReach, LoongArchCause, far_from_branch, far_from_call, far_from_pcaddi, far_from_pair, far_pages, far_high, far_low, HasItsInstructions, LoongArch64, ItemError, NotItsInstructions, NoShape, OutOfReach, IsNearAddress, NearAddressesAreWritable}
+use Rattle.linker_runs.proofs.Imports.{Aligned, ArePagesNear, CALL36, HasItsInstructions, IsAddressOutOfReach, IsCall36At, IsNearAddress, IsOutOfReach, IsPcalaAt, IsWithin, Item, ItemError, List, LoongArch64, LoongArchCause, NearAddressesAreWritable, NoShape, NotItsInstructions, OutOfReach, PCALA, R_LARCH_PCALA_HI20, R_LARCH_PCALA_LO12, Shift10, Shift5, Signed, Site, Some, ap, arith, bit_bounds, cases_lt, cast_negative, cast_signed, choice_of, difference_64, drop, false, false≢true, far_from_branch, far_from_call, far_from_pair, far_from_pcaddi, far_high, far_low, far_pages, freed_before, high_template, holds, inr, ints, item_at, length, length-drop, length-take, loongarch_fits, low_template, offset_of, page, place_of, pos, refl, subst, sum_64, sym, take, target_of, to_z_pos, true, w64, ℕ, ⊎_elim, ◌%◌, ◌+◌, ◌-ℤ◌, ◌-◌, ◌<◌, ◌^◌, ◌∙◌, ◌≡◌, ◌≤◌}
 use Rattle.linker_elf.specs.declared.elf.AnyForm.TheVariants.{LoongArch64 as OfLoongArch}
 use Rattle.linker_elf.specs.declared.elf.RowSize.TheVariants.{BitMasking}
 use Rattle.linker_runs.proofs.LoongArch.{not_both, no_jirl}

@@ -1,6 +1,5 @@
 -- A call of LoongArch that stays long can be written in a run of less than 128 GiB less 128 KiB.
-use Rattle.linker_runs.proofs.Imports.{◌≡◌, ℕ, zero, suc, ◌+◌, ◌-◌, ◌*◌, ◌%◌, ◌^◌, ◌<◌, ◌≤◌, ◌∙◌, true, false, List, length, take, drop, refl, ap, sym, subst, inl, inr, ⊎_elim, arith, pos, ◌-ℤ◌, cases_lt, false≢true, nat_lt, if◌then◌else◌, ints, length-take, length-drop, IsAligned, sum_64, loongarch_fits, R_LARCH_CALL36, Item, Site, Aligned, CALL36, PCALA, offset_of, target_of, item_at, short_shape, freed_before, choice_of, place_of, run_granularity, IsInWords, ItemSuits, IsOutOfReach, IsCall36At, IsPcalaAt, call_template, LoongArchCause, far_from_branch, far_from_call, far_from_pcaddi, far_from_pair, HasItsInstructions, LoongArch64, ItemError, NotItsInstructions, NoShape, OutOfReach, IsNearCall36, NearCalls36AreWritable}
-use Rattle.std.proofs.Common.{mul_assoc}
+use Rattle.linker_runs.proofs.Imports.{Aligned, CALL36, HasItsInstructions, IsAligned, IsCall36At, IsInWords, IsNearCall36, IsOutOfReach, IsPcalaAt, Item, ItemError, ItemSuits, List, LoongArch64, LoongArchCause, NearCalls36AreWritable, NoShape, NotItsInstructions, OutOfReach, PCALA, R_LARCH_CALL36, Site, ap, arith, call_template, cases_lt, choice_of, drop, false, false≢true, far_from_branch, far_from_call, far_from_pair, far_from_pcaddi, freed_before, if◌then◌else◌, inl, inr, ints, item_at, length, length-drop, length-take, loongarch_fits, mul_assoc, nat_lt, offset_of, place_of, pos, refl, run_granularity, short_shape, subst, suc, sum_64, sym, take, target_of, true, zero, ℕ, ⊎_elim, ◌%◌, ◌*◌, ◌+◌, ◌-ℤ◌, ◌-◌, ◌<◌, ◌^◌, ◌∙◌, ◌≡◌, ◌≤◌}
 use Rattle.linker_runs.proofs.Choices.{place_is}
 use Rattle.linker_runs.proofs.Frees.{exact_frees}
 use Rattle.linker_runs.proofs.Multiples.{Multiple, multiple_of, no_rest}

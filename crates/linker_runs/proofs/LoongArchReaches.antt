@@ -1,5 +1,5 @@
 -- The reaches of calls and addresses of LoongArch are those of the rows of what they become.
-use Rattle.linker_runs.proofs.Imports.{refl, IsSomeAnd, R_LARCH_B26, R_LARCH_PCREL20_S2, CALL36, PCALA, IsOfRow, LoongArchShapesAreOfRows, short_shape}
+use Rattle.linker_runs.proofs.Imports.{CALL36, IsOfRow, IsSomeAnd, LoongArchShapesAreOfRows, PCALA, R_LARCH_B26, R_LARCH_PCREL20_S2, refl, short_shape}
 use Rattle.linker_elf.specs.LoongArchRelocations.{loongarch_row}
 use Rattle.linker_runs.proofs.Reaches.{one, fours, is_of_row, size_within}
 

@@ -1,5 +1,5 @@
 -- Calls and addresses of LoongArch that a relaxation made shorter can be written.
-use Rattle.linker_runs.proofs.Imports.{◌≡◌, ℕ, ◌+◌, ◌*◌, ◌^◌, ◌<◌, ◌∙◌, true, List, refl, ap, subst, inl, inr, ⊎_elim, arith, w32, to_le_bytes, ints, false≢true, sum_64, R_LARCH_B26, R_LARCH_PCREL20_S2, loongarch_fits, Shapes, CALL36, PCALA, short_shape, is_reached, IsOutOfReach, IsCall36At, IsPcalaAt, destination, branch_template, pcaddi_template, LoongArchCause, far_from_branch, far_from_call, far_from_pcaddi, far_from_pair, HasLoongArchShapes, ItemError, NotItsInstructions, NoShape, OutOfReach}
+use Rattle.linker_runs.proofs.Imports.{CALL36, HasLoongArchShapes, IsCall36At, IsOutOfReach, IsPcalaAt, ItemError, List, LoongArchCause, NoShape, NotItsInstructions, OutOfReach, PCALA, R_LARCH_B26, R_LARCH_PCREL20_S2, Shapes, ap, arith, branch_template, destination, false≢true, far_from_branch, far_from_call, far_from_pair, far_from_pcaddi, inl, inr, ints, is_reached, loongarch_fits, pcaddi_template, refl, short_shape, subst, sum_64, to_le_bytes, true, w32, ℕ, ⊎_elim, ◌*◌, ◌+◌, ◌<◌, ◌^◌, ◌∙◌, ◌≡◌}
 use Rattle.linker_runs.proofs.LoongArchReaches.{loongarch_shapes}
 use Rattle.linker_runs.proofs.LoongArch.{not_both}
 use Rattle.linker_runs.proofs.Distances.{not_rejected}

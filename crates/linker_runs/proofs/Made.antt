@@ -1,6 +1,5 @@
 -- The items so far, by one relocation more.
-use Rattle.linker_runs.proofs.Imports.{◌≡◌, ◌+◌, ◌++◌, ◌∷◌, ◌∙◌, ◌<◌, ◌≤◌, [], List, ℕ, suc, length, map, take, drop, set, refl, ap, subst, sym, add-one, arith, All, take_more_set, map_push, drop-set-lt, All-nil, drop_more_same, written_more, length-set, Item, AreMade}
-use Rattle.linker_runs.specs.Relocations.AreMade.{none, left_out, made}
+use Rattle.linker_runs.proofs.Imports.{All, All-nil, AreMade, Item, List, [], add-one, ap, arith, drop, drop-set-lt, drop_more_same, left_out, length, length-set, made, map, map_push, none, refl, set, subst, suc, sym, take, take_more_set, written_more, ℕ, ◌++◌, ◌+◌, ◌<◌, ◌∙◌, ◌∷◌, ◌≡◌, ◌≤◌}
 
 pub made_none : (Makes : ℕ → Item → Type 0) (items : List Item) (makers : List ℕ) → items ≡ [] → makers ≡ [] → AreMade Makes 0 items makers
 made_none Makes items makers e f = subst (λ items. AreMade Makes 0 items makers) (sym e) (subst (AreMade Makes 0 []) (sym f) none)

@@ -1,7 +1,6 @@
 -- The sites that relocations make are of the section's bytes.
-use Rattle.linker_runs.proofs.Imports.{◌≡◌, ℕ, zero, suc, ◌<◌, ◌≤◌, ◌++◌, ◌∷◌, [], List, length, sym, ap, subst, ◌∙◌, ⊎_elim, arith, cases_lt, length-append, get_or-append, Item, item_at, no_item, relocation_at, AreMade, Relocation, HasItsInstructions, Makes, Machine, RiscV, LoongArch64, MadeSitesHaveInstructions, Bool, ◌+◌, ◌-◌, inl, inr, Site, Aligned, CALL, TAIL_C, RiscVMakes, IsRiscVFormed, MayBeShort, HasRiscVShapes, CALL36, PCALA, LoongArchMakes, IsCall36, IsPcala, HasLoongArchShapes}
+use Rattle.linker_runs.proofs.Imports.{Aligned, AreMade, Bool, CALL, CALL36, HasItsInstructions, HasLoongArchShapes, HasRiscVShapes, IsCall36, IsPcala, IsRiscVFormed, Item, List, LoongArch64, LoongArchMakes, Machine, MadeSitesHaveInstructions, Makes, MayBeShort, PCALA, Relocation, RiscV, RiscVMakes, Site, TAIL_C, [], ap, arith, cases_lt, get_or-append, inl, inr, item_at, left_out, length, length-append, made, no_item, none, relocation_at, subst, suc, sym, zero, ℕ, ⊎_elim, ◌++◌, ◌+◌, ◌-◌, ◌<◌, ◌∙◌, ◌∷◌, ◌≡◌, ◌≤◌}
 use Rattle.std.proofs.Math.Seq.{get_or-append_seam}
-use Rattle.linker_runs.specs.Relocations.AreMade.{none, left_out, made}
 use Rattle.linker_runs.specs.SectionItems.{IsFormed}
 
 -- what holds of each item, and of one after them

@@ -1,5 +1,5 @@
 -- The relocations of a packed section.
-use Rattle.linker_runs.proofs.Imports.{◌⊎◌, Some, None, nat_lt, cases_Bool, cases_order, cond-true, nat_tests, length-drop, is_kept, rank_kept, relocation_in, ◌≡◌, ◌≢◌, ℕ, ◌+◌, ◌-◌, ◌*◌, ◌/◌, ◌<◌, ◌≤◌, true, false, List, ◌++◌, length, take, drop, sym, ◌∙◌, ap, arith, inl, inr, ⊎_elim, drop-append-le, take-append-le, rank, rank_gone, BeginsAt, IsApart, item_at, offset_of, end_of, place_of, AreApart, Item, relocation_of}
+use Rattle.linker_runs.proofs.Imports.{AreApart, BeginsAt, IsApart, Item, List, None, Some, ap, arith, cases_Bool, cases_order, cond-true, drop, drop-append-le, end_of, false, inl, inr, is_kept, item_at, length, length-drop, nat_lt, nat_tests, offset_of, place_of, rank, rank_gone, rank_kept, relocation_in, relocation_of, sym, take, take-append-le, true, ℕ, ⊎_elim, ◌*◌, ◌++◌, ◌+◌, ◌-◌, ◌/◌, ◌<◌, ◌∙◌, ◌≡◌, ◌≢◌, ◌≤◌, ◌⊎◌}
 use Rattle.linker_runs.proofs.Choices.{place_apart}
 use Rattle.linker_runs.proofs.Layouts.{ends_apart}
 use Rattle.linker_section.specs.Relocations.{relocation_at}

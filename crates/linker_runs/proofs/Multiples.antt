@@ -1,5 +1,5 @@
 -- Multiples of a granularity, and what alignments need.
-use Rattle.linker_runs.proofs.Imports.{◌≡◌, ℕ, zero, suc, ◌+◌, ◌-◌, ◌*◌, ◌/◌, ◌%◌, ◌<◌, ◌∙◌, refl, ap, inl, inr, ⊎_elim, arith, ◌⊎◌, mul-mod_left, mod_self, mod-lt, mod-eq_of_lt, div-add-mod', needed}
+use Rattle.linker_runs.proofs.Imports.{ap, arith, div-add-mod', inl, inr, mod-eq_of_lt, mod-lt, mod_self, mul-mod_left, needed, refl, suc, zero, ℕ, ⊎_elim, ◌%◌, ◌*◌, ◌+◌, ◌-◌, ◌/◌, ◌<◌, ◌∙◌, ◌≡◌, ◌⊎◌}
 
 -- a number that is a multiple of another
 abbrev pub Multiple : ℕ → ℕ → Type 0

@@ -1,6 +1,6 @@
 -- Where more is freed nothing is farther away, so that a choice which is in reach stays an upper
 -- bound.
-use Rattle.linker_runs.proofs.Imports.{◌≡◌, ℕ, zero, suc, ◌+◌, ◌-◌, ◌*◌, ◌%◌, ◌<◌, ◌≤◌, ◌∙◌, true, List, length, refl, ap, sym, ⊎_elim, arith, add-mul-mod_self_right, mul_assoc, cases_lt, cases_order, nat_tests, zero-mod, mul-sub, mul_comm, Shape, Item, offset_of, len_of, end_of, item_at, is_reached, AreInOrder, least_len}
+use Rattle.linker_runs.proofs.Imports.{AreInOrder, Item, List, Shape, add-mul-mod_self_right, ap, arith, cases_lt, cases_order, end_of, is_reached, item_at, least_len, len_of, length, mul-sub, mul_assoc, mul_comm, nat_tests, offset_of, refl, suc, sym, true, zero, zero-mod, ℕ, ⊎_elim, ◌%◌, ◌*◌, ◌+◌, ◌-◌, ◌<◌, ◌∙◌, ◌≡◌, ◌≤◌}
 use Rattle.linker_runs.proofs.Multiples.{Multiple}
 
 -- what is freed up to each index: from item to item a multiple of u more, and at most what may go

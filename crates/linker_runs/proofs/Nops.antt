@@ -1,6 +1,5 @@
 -- Words that are repeated, and nops.
-use Rattle.linker_runs.proofs.Imports.{Bool, ◌≡◌, ℕ, zero, suc, ◌+◌, ◌*◌, ◌/◌, ◌%◌, ◌≤◌, List, [], ◌∷◌, ◌++◌, length, take, drop, refl, sym, ◌∙◌, ap, arith, inl, inr, if◌then◌else◌, ◌==◌, cases_Bool, eqb-true, nat_tests, append_assoc, append-nil, length-append, length-take, take_at, drop_at, drop-drop, take-append-drop, nops, nop_len, Machine, RiscV, LoongArch64}
-use Rattle.linker_runs.specs.Packing.{repeated}
+use Rattle.linker_runs.proofs.Imports.{Bool, List, LoongArch64, Machine, RiscV, [], ap, append-nil, append_assoc, arith, cases_Bool, drop, drop-drop, drop_at, eqb-true, if◌then◌else◌, inl, inr, length, length-append, length-take, nat_tests, nop_len, nops, refl, repeated, suc, sym, take, take-append-drop, take_at, zero, ℕ, ◌%◌, ◌*◌, ◌++◌, ◌+◌, ◌/◌, ◌==◌, ◌∙◌, ◌∷◌, ◌≡◌, ◌≤◌}
 
 pub repeated_none : (word : List ℕ) → repeated word 0 ≡ []
 unfolding repeated

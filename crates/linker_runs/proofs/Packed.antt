@@ -1,5 +1,5 @@
 -- Which items of a relaxed run are never out of reach where they are packed.
-use Rattle.linker_runs.proofs.Imports.{◌≡◌, ℕ, ◌<◌, ◌≤◌, ◌∙◌, false, List, length, subst, sym, ⊎_elim, arith, cases_lt, nat_tests, Item, Site, Aligned, item_at, choice_of, AreItems, IsRelaxation, IsSite, deletions_of_run, HasItsInstructions, Section, section_of, is_fixed, IsUnwritable, IsCause, KeepsEnd, Machine, RiscV, LoongArch64, ItemError, OutOfReach, DeletedOutside, IsShortened, IsNearCall36, IsNearAddress, IsNearSite, MayBePacked, NoneIsOutOfReach}
+use Rattle.linker_runs.proofs.Imports.{Aligned, AreItems, DeletedOutside, HasItsInstructions, IsCause, IsNearAddress, IsNearCall36, IsNearSite, IsRelaxation, IsShortened, IsSite, IsUnwritable, Item, ItemError, KeepsEnd, List, LoongArch64, Machine, MayBePacked, NoneIsOutOfReach, OutOfReach, RiscV, Section, Site, arith, cases_lt, choice_of, deletions_of_run, false, is_fixed, item_at, length, nat_tests, section_of, subst, sym, ℕ, ⊎_elim, ◌<◌, ◌∙◌, ◌≡◌, ◌≤◌}
 use Rattle.linker_runs.specs.declared.relaxation.Site.{Site as sites}
 use Rattle.linker_runs.proofs.LoongArchAddresses.{near_addresses}
 use Rattle.linker_runs.proofs.RiscVLongCalls.{near_calls}

@@ -1,5 +1,5 @@
 -- What is written of each item.
-use Rattle.linker_runs.proofs.Imports.{◌≡◌, ℕ, zero, suc, ◌+◌, ◌-◌, ◌<◌, ◌≤◌, true, false, List, ◌++◌, length, get_or, take, drop, refl, sym, subst, ◌∙◌, ap, arith, inl, inr, if◌then◌else◌, ◌↔◌, cases_lt, cases_Bool, append_assoc, length-append, length-take, length-drop, get_or_default, take_at, drop_at, is_kept, rank_kept, rank-mono, rank_steps, get_or-take, get_or-drop, get_or-append_right, same_lists, rank, put_below, Item, Site, Aligned, offset_of, len_of, end_of, item_at, Section, packed_offset, kept_len, is_fixed, written_len, IsApart, IsInside, KeepsGap, gap_start, IsNotIn, ItemAccepts, ItemCause, ItemBecomes, IsWritable, IsUnwritable, IsCause, LosesItems, IsPackedRun, piece_bytes, IsWhole, IsPieceOf, IsFilledTo, AreReady, IsWrittenTo, Machine, RiscV, LoongArch64, ItemError, Overlaps, OutOfSection, DeletedOutside, NotItsFirstBytes, NotItsInstructions, NoShape, OutOfReach, Bool, IsSomeAnd, riscv_template, RiscVAccepts, RiscVCause}
+use Rattle.linker_runs.proofs.Imports.{Aligned, AreReady, Bool, DeletedOutside, IsApart, IsCause, IsFilledTo, IsInside, IsNotIn, IsPackedRun, IsPieceOf, IsSomeAnd, IsUnwritable, IsWhole, IsWritable, IsWrittenTo, Item, ItemAccepts, ItemBecomes, ItemCause, ItemError, KeepsGap, List, LoongArch64, LosesItems, Machine, NoShape, NotItsFirstBytes, NotItsInstructions, OutOfReach, OutOfSection, Overlaps, RiscV, RiscVAccepts, RiscVCause, Section, Site, ap, append_assoc, arith, cases_Bool, cases_lt, drop, drop_at, end_of, false, gap_start, get_or, get_or-append_right, get_or-drop, get_or-take, get_or_default, if◌then◌else◌, inl, inr, is_fixed, is_kept, item_at, kept_len, len_of, length, length-append, length-drop, length-take, offset_of, packed_offset, piece_bytes, put_below, rank, rank-mono, rank_kept, rank_steps, refl, riscv_template, same_lists, subst, suc, sym, take, take_at, true, written_len, zero, ℕ, ◌++◌, ◌+◌, ◌-◌, ◌<◌, ◌↔◌, ◌∙◌, ◌≡◌, ◌≤◌}
 use Rattle.linker_runs.proofs.LoongArch.{loongarch_excludes}
 use Rattle.linker_runs.specs.declared.packing.Piece.{Piece}
 use Rattle.linker_runs.specs.Sites.{IsInReach}

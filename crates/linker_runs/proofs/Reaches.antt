@@ -1,5 +1,5 @@
 -- Shapes reach what the rows of jumps reach.
-use Rattle.linker_runs.proofs.Imports.{◌≡◌, ℕ, zero, suc, ◌+◌, ◌-◌, ◌*◌, ◌%◌, ◌<◌, ◌≤◌, ◌↔◌, true, ap, sym, subst, inl, inr, arith, ℤ, pos, negsuc, neg_ℤ, ◌-ℤ◌, [], ◌∷◌, Option, Some, None, IsSomeAnd, ints, cases_lt, IsWithin, IsInReach, IsAligned, RowInfo, reach_of, slice_index_or, is_supported, IsEncoded, Shape, Shapes, IsOfRow, AreOfRows, short_shape, is_reached}
+use Rattle.linker_runs.proofs.Imports.{AreOfRows, IsAligned, IsEncoded, IsInReach, IsOfRow, IsSomeAnd, IsWithin, None, Option, RowInfo, Shape, Shapes, Some, [], ap, arith, cases_lt, inl, inr, ints, is_reached, is_supported, neg_ℤ, negsuc, pos, reach_of, short_shape, slice_index_or, subst, suc, sym, true, zero, ℕ, ℤ, ◌%◌, ◌*◌, ◌+◌, ◌-ℤ◌, ◌-◌, ◌<◌, ◌↔◌, ◌∷◌, ◌≡◌, ◌≤◌}
 use Rattle.linker_runs.proofs.Nearer.{above_is, is_above, below_is, is_below}
 
 -- distances up and down are multiples of a unit by their sizes

@@ -1,5 +1,5 @@
 -- What a call loses, and what its `jal` reaches.
-use Rattle.linker_runs.proofs.Imports.{◌≡◌, ℕ, ◌+◌, ◌-◌, ◌<◌, ◌≤◌, ◌∙◌, ◌↔◌, Bool, true, false, cond, refl, ap, sym, ⊎_elim, arith, nat_lt, pos, ints, cases_lt, nat_tests, covers, shrinking, ◌||◌, ◌-ℤ◌, Item, Site, Aligned, offset_of, len_of, target_of, shape_len, shape_reaches, kept_by, item_reaches, IsSite, deletion_at, IsEven, IsJalDistance, call_shapes, IsCallItem, IsDeletedItem}
+use Rattle.linker_runs.proofs.Imports.{Aligned, Bool, IsCallItem, IsDeletedItem, IsEven, IsJalDistance, IsSite, Item, Site, ap, arith, call_shapes, cases_lt, cond, covers, deletion_at, false, ints, item_reaches, kept_by, len_of, nat_lt, nat_tests, offset_of, pos, refl, shape_len, shape_reaches, shrinking, sym, target_of, true, ℕ, ⊎_elim, ◌+◌, ◌-ℤ◌, ◌-◌, ◌<◌, ◌||◌, ◌↔◌, ◌∙◌, ◌≡◌, ◌≤◌}
 use Rattle.linker_runs.proofs.Deletions.{deletion_some, deletion_none}
 use Rattle.linker_runs.proofs.Covering.{takes}
 use Rattle.linker_runs.proofs.Reaches.{reached_is, is_within, twos}

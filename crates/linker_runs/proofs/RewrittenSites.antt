@@ -1,5 +1,5 @@
 -- The items of a section that was rewritten: their instructions, and what stays of deletions.
-use Rattle.linker_runs.proofs.Imports.{◌≡◌, ℕ, suc, ◌<◌, true, false, List, length, refl, sym, subst, ◌∙◌, arith, ◌==◌, both_ways, common_steps, Item, Site, Aligned, item_at, kept_by, HasItsInstructions, is_fixed, Makes, AreListed, IsDeleted, deleted_at}
+use Rattle.linker_runs.proofs.Imports.{Aligned, AreListed, HasItsInstructions, IsDeleted, Item, List, Makes, Site, arith, both_ways, common_steps, deleted_at, false, is_fixed, item_at, kept_by, length, refl, subst, suc, sym, true, ℕ, ◌<◌, ◌==◌, ◌∙◌, ◌≡◌}
 use Rattle.linker_runs.specs.RewrittenItems.AreListed.{none, left_out, made, deleted}
 use Rattle.linker_runs.specs.RewrittenLaws.{RewrittenSitesHaveInstructions, DeletedBytesGo}
 use Rattle.linker_runs.proofs.First.{first_bytes}

@@ -1,5 +1,5 @@
 -- What calls of RISC-V become.
-use Rattle.linker_runs.proofs.Imports.{◌≡◌, ℕ, ◌+◌, ◌-◌, ◌*◌, ◌%◌, ◌^◌, ◌<◌, List, length, take, drop, refl, subst, ◌∙◌, ap, arith, inl, inr, ℤ, pos, ◌+ℤ◌, Option, Some, None, Bool, true, false, int_lt, ◌==◌, if◌then◌else◌, IsSomeAnd, ◌*ℤ◌, w32, w64, from_le_bytes, to_le_bytes, cases_Bool, eqb-true, agree_below, and_parts, from_le_bytes-to_le_bytes_4, field, window_of, is_placed, BitRange, InstructionWritten, bits_taken, riscv_row, link_register, OfJalr, IsApplied, IsAddress, AreAddresses, whole, ◌&&◌, w16, Template, operands_of, IsShortJump, short_bytes, IsJal, RiscVBecomes, short_jump, riscv_template, links_short}
+use Rattle.linker_runs.proofs.Imports.{AreAddresses, BitRange, Bool, InstructionWritten, IsAddress, IsApplied, IsJal, IsShortJump, IsSomeAnd, List, None, OfJalr, Option, RiscVBecomes, Some, Template, agree_below, and_parts, ap, arith, bits_taken, cases_Bool, drop, eqb-true, false, field, from_le_bytes, from_le_bytes-to_le_bytes_4, if◌then◌else◌, inl, inr, int_lt, is_placed, length, link_register, links_short, operands_of, pos, refl, riscv_row, riscv_template, short_bytes, short_jump, subst, take, to_le_bytes, true, w16, w32, w64, whole, window_of, ℕ, ℤ, ◌%◌, ◌&&◌, ◌*ℤ◌, ◌*◌, ◌+ℤ◌, ◌+◌, ◌-◌, ◌<◌, ◌==◌, ◌^◌, ◌∙◌, ◌≡◌}
 use Rattle.linker_elf.specs.RiscV.{riscv_form}
 use Rattle.linker_elf.specs.declared.elf.AnyForm.TheVariants.{RiscV}
 use Rattle.linker_elf.specs.declared.riscv64.forms.RiscVInstruction.{RiscVInstruction}

@@ -1,5 +1,5 @@
 -- A call of RISC-V that stays long can be written in a run of less than 2 GiB less 2 KiB.
-use Rattle.linker_runs.proofs.Imports.{◌≡◌, Bool, ℕ, ◌+◌, ◌-◌, ◌%◌, ◌^◌, ◌<◌, ◌≤◌, true, List, length, take, drop, refl, ap, sym, subst, ⊎_elim, arith, ℤ, pos, negsuc, ◌-ℤ◌, IsSomeAnd, false≢true, ints, length-take, length-drop, IsAligned, sum_64, riscv_fits, link_register, OfJalr, R_RISCV_CALL_PLT, Shapes, Item, Site, Aligned, CALL, TAIL_C, offset_of, target_of, item_at, freed_before, choice_of, place_of, IsSite, IsOutOfReach, riscv_template, RiscVCause, HasRiscVShapes, HasItsInstructions, links_short, RiscV, ItemError, NotItsInstructions, NoShape, OutOfReach, IsNear, NearCallsAreWritable}
+use Rattle.linker_runs.proofs.Imports.{Aligned, Bool, CALL, HasItsInstructions, HasRiscVShapes, IsAligned, IsNear, IsOutOfReach, IsSite, IsSomeAnd, Item, ItemError, List, NearCallsAreWritable, NoShape, NotItsInstructions, OfJalr, OutOfReach, R_RISCV_CALL_PLT, RiscV, RiscVCause, Shapes, Site, TAIL_C, ap, arith, choice_of, drop, false≢true, freed_before, ints, item_at, length, length-drop, length-take, link_register, links_short, negsuc, offset_of, place_of, pos, refl, riscv_fits, riscv_template, subst, sum_64, sym, take, target_of, true, ℕ, ℤ, ⊎_elim, ◌%◌, ◌+◌, ◌-ℤ◌, ◌-◌, ◌<◌, ◌^◌, ◌≡◌, ◌≤◌}
 use Rattle.linker_runs.proofs.LongSites.{IsLongSite, LongCause, long_sites}
 use Rattle.linker_runs.proofs.Distances.{not_rejected}
 

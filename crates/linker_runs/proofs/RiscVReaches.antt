@@ -1,5 +1,5 @@
 -- The reaches of calls of RISC-V are those of the rows of what they become.
-use Rattle.linker_runs.proofs.Imports.{refl, arith, IsSomeAnd, riscv_row, R_RISCV_JAL, R_RISCV_RVC_JUMP, CALL, TAIL_C, CALL_WITHOUT_C, IsOfRow, RiscVShapesAreOfRows, short_shape}
+use Rattle.linker_runs.proofs.Imports.{CALL, CALL_WITHOUT_C, IsOfRow, IsSomeAnd, R_RISCV_JAL, R_RISCV_RVC_JUMP, RiscVShapesAreOfRows, TAIL_C, arith, refl, riscv_row, short_shape}
 use Rattle.linker_runs.proofs.Reaches.{one, two, twos, is_of_row, even_within}
 
 jal : IsSomeAnd (riscv_row R_RISCV_JAL) (IsOfRow (short_shape CALL 0))

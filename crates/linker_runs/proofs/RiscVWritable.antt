@@ -1,5 +1,5 @@
 -- Calls of RISC-V that a relaxation made shorter can be written.
-use Rattle.linker_runs.proofs.Imports.{◌≡◌, Bool, ℕ, ◌+◌, ◌*◌, ◌^◌, ◌<◌, ◌≤◌, ◌∙◌, true, List, length, inl, inr, refl, ap, subst, ⊎_elim, arith, None, IsSomeAnd, w32, to_le_bytes, cases_lt, false≢true, ints, sum_64, R_RISCV_JAL, R_RISCV_RVC_JUMP, riscv_fits, link_register, cases_Bool, OfJalr, ◌==◌, Shapes, CALL, TAIL_C, short_shape, is_reached, IsOutOfReach, riscv_template, short_bytes, RiscVCause, links_short, HasRiscVShapes, ItemError, NotItsInstructions, NoShape, OutOfReach}
+use Rattle.linker_runs.proofs.Imports.{Bool, CALL, HasRiscVShapes, IsOutOfReach, IsSomeAnd, ItemError, List, NoShape, None, NotItsInstructions, OfJalr, OutOfReach, R_RISCV_JAL, R_RISCV_RVC_JUMP, RiscVCause, Shapes, TAIL_C, ap, arith, cases_Bool, cases_lt, false≢true, inl, inr, ints, is_reached, length, link_register, links_short, refl, riscv_fits, riscv_template, short_bytes, short_shape, subst, sum_64, to_le_bytes, true, w32, ℕ, ⊎_elim, ◌*◌, ◌+◌, ◌<◌, ◌==◌, ◌^◌, ◌∙◌, ◌≡◌, ◌≤◌}
 use Rattle.linker_runs.proofs.RiscVReaches.{riscv_shapes}
 use Rattle.linker_runs.proofs.Distances.{not_rejected}
 

@@ -1,6 +1,5 @@
 -- What a round makes of a choice, and how many rounds there can be.
-use Rattle.linker_runs.proofs.Imports.{◌≡◌, ℕ, zero, suc, ◌+◌, ◌*◌, ◌<◌, ◌≤◌, true, List, [], ◌∷◌, length, get_or, refl, ap, sym, ◌∙◌, ⊎_elim, add-one, arith, cond, sum, get_or-eq_default, cases_lt, nat_tests, sum_by-cons, Item, item_at, no_item, freed_before, place_of, target_of, item_reaches, is_in_reach, lengthened, choice_of}
-use Rattle.linker_runs.specs.Relaxing.{after_rounds}
+use Rattle.linker_runs.proofs.Imports.{Item, List, [], add-one, after_rounds, ap, arith, cases_lt, choice_of, cond, freed_before, get_or, get_or-eq_default, is_in_reach, item_at, item_reaches, length, lengthened, nat_tests, no_item, place_of, refl, suc, sum, sum_by-cons, sym, target_of, true, zero, ℕ, ⊎_elim, ◌*◌, ◌+◌, ◌<◌, ◌∙◌, ◌∷◌, ◌≡◌, ◌≤◌}
 use Rattle.linker_runs.proofs.Layouts.{freed_agrees, reaches_alike, lengthened_in}
 
 -- what stands outside of the run reaches everything

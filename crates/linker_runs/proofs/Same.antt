@@ -1,5 +1,5 @@
 -- Shapes that are compared.
-use Rattle.linker_runs.proofs.Imports.{◌≡◌, Bool, true, ◌&&◌, eqb, refl, sym, subst, ◌∙◌, rules, and_parts, eqb-true, Shape, Shapes}
+use Rattle.linker_runs.proofs.Imports.{Bool, Shape, Shapes, and_parts, eqb, eqb-true, refl, rules, subst, sym, true, ◌&&◌, ◌∙◌, ◌≡◌}
 use Rattle.std.specs.Bool.{Decides}
 use Rattle.std.proofs.lemmas.Slice.Eq.{slice_eq-Decides}
 use Rattle.std.specs.Cmp.Lexicographic.{pointwise}

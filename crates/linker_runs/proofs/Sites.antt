@@ -1,5 +1,5 @@
 -- Relocations of instructions: what they keep, where their operands are, and which are in reach.
-use Rattle.linker_runs.proofs.Imports.{◌≡◌, ℕ, ◌+◌, ◌-◌, ◌^◌, ◌<◌, ◌∙◌, ap, arith, ℤ, pos, ◌+ℤ◌, Bool, true, false, ◌*ℤ◌, IsSomeAnd, Option, Some, None, agree_below, ints, field, is_placed, AreAddresses, bit_at, agree_below_at, Form, Written, Template, operands_of, IsOutOfReach}
+use Rattle.linker_runs.proofs.Imports.{AreAddresses, Bool, Form, IsOutOfReach, IsSomeAnd, None, Option, Some, Template, Written, agree_below, agree_below_at, ap, arith, bit_at, false, field, ints, is_placed, operands_of, pos, true, ℕ, ℤ, ◌*ℤ◌, ◌+ℤ◌, ◌+◌, ◌-◌, ◌<◌, ◌^◌, ◌∙◌, ◌≡◌}
 use Rattle.linker_base.proofs.Fields.{same_fields}
 use Rattle.linker_runs.specs.Sites.{IsInReach}
 

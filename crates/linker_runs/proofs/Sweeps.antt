@@ -1,5 +1,5 @@
 -- Layouts of a sweep, of which a part is `more` above what the choice frees.
-use Rattle.linker_runs.proofs.Imports.{◌≡◌, ◌≢◌, ◌^◌, ℕ, ◌+◌, ◌-◌, ◌<◌, ◌≤◌, ◌∙◌, false, List, length, get_or, set, refl, ap, sym, ⊎_elim, arith, get_or-set_other, get_or-set_same, ◌⊎◌, cases_order, Item, item_at, choice_of, run_granularity, AreItems, freed_cautiously, cautious_before, AreCautious, AreForced, is_in_reach_cautiously}
+use Rattle.linker_runs.proofs.Imports.{AreCautious, AreForced, AreItems, Item, List, ap, arith, cases_order, cautious_before, choice_of, false, freed_cautiously, get_or, get_or-set_other, get_or-set_same, is_in_reach_cautiously, item_at, length, refl, run_granularity, set, sym, ℕ, ⊎_elim, ◌+◌, ◌-◌, ◌<◌, ◌^◌, ◌∙◌, ◌≡◌, ◌≢◌, ◌≤◌, ◌⊎◌}
 use Rattle.linker_runs.proofs.Units.{item_suits}
 use Rattle.linker_runs.proofs.Choices.{kept_less, forced_next, cautious_agrees, cautious_changed, cautious_up, cautious_end}
 

@@ -1,5 +1,5 @@
 -- The deletions of a relaxed run translate offsets as the layout does.
-use Rattle.linker_runs.proofs.Imports.{◌≡◌, ℕ, zero, suc, ◌+◌, ◌-◌, ◌<◌, ◌≤◌, ◌∙◌, List, length, get_or, ap, sym, inl, ⊎_elim, arith, cases_lt, sum_by-append, rank, removed, removed_by, rank-removed, Item, Site, Aligned, offset_of, len_of, end_of, target_of, item_at, kept_by, freed_before, place_of, choice_of, AreInOrder, least_len, run_granularity, AreItems, ItemSuits, deletion_at, deletions_before, TranslationsAreExact}
+use Rattle.linker_runs.proofs.Imports.{Aligned, AreInOrder, AreItems, Item, ItemSuits, List, Site, TranslationsAreExact, ap, arith, cases_lt, choice_of, deletion_at, deletions_before, end_of, freed_before, get_or, inl, item_at, kept_by, least_len, len_of, length, offset_of, place_of, rank, rank-removed, removed, removed_by, run_granularity, suc, sum_by-append, sym, target_of, zero, ℕ, ⊎_elim, ◌+◌, ◌-◌, ◌<◌, ◌∙◌, ◌≡◌, ◌≤◌}
 use Rattle.linker_runs.proofs.Units.{item_suits}
 use Rattle.linker_runs.proofs.Layouts.{freed_next, freed_none, ends_ascend}
 use Rattle.linker_runs.proofs.Bounds.{lens_ascend}

@@ -1,5 +1,5 @@
 -- The granularity of a run, and what runs that can be relaxed suit.
-use Rattle.linker_runs.proofs.Imports.{◌≡◌, ℕ, zero, suc, ◌+◌, ◌-◌, ◌*◌, ◌%◌, ◌^◌, ◌<◌, ◌≤◌, ◌∙◌, List, [], ◌∷◌, length, refl, ap, sym, subst, ⊎_elim, arith, max, IsPowerOfTwo, mul-mod_left, cases_lt, nat_tests, fold, pow-add, pow_below, Shapes, Item, Site, Aligned, item_at, shape_len, short_shape, IsSound, AreNested, IsFormed, ItemFits, shapes_granularity, item_granularity, run_granularity, AreItems, ItemSuits}
+use Rattle.linker_runs.proofs.Imports.{Aligned, AreItems, AreNested, IsFormed, IsPowerOfTwo, IsSound, Item, ItemFits, ItemSuits, List, Shapes, Site, [], ap, arith, cases_lt, fold, item_at, item_granularity, length, max, mul-mod_left, nat_tests, pow-add, pow_below, refl, run_granularity, shape_len, shapes_granularity, short_shape, subst, suc, sym, zero, ℕ, ⊎_elim, ◌%◌, ◌*◌, ◌+◌, ◌-◌, ◌<◌, ◌^◌, ◌∙◌, ◌∷◌, ◌≡◌, ◌≤◌}
 
 -- of two powers of two the less divides the other
 pub power_divides : (a b : ℕ) → IsPowerOfTwo a → IsPowerOfTwo b → a ≤ b → b % a ≡ 0

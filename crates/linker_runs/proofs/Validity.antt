@@ -1,6 +1,6 @@
 -- What is tested of a run, and what runs that can be relaxed are.
-use Rattle.linker_runs.proofs.Imports.{◌≡◌, ℕ, ◌+◌, ◌-◌, ◌%◌, ◌<◌, ◌≤◌, List, length, ap, inl, inr, ⊎_elim, arith, ◌⊎◌, ⊤, Option, None, Some, MatchOption, cases_lt, pow_pos, Item, Site, Aligned, Fault, TooHigh, TooManyShapes, ShapeTooLong, ShapesNotAscending, BadGranularity, BadReach, BadAlignment, UnevenShape, Misaligned, AlignmentBelowGranularity, UnevenEnd, TooFewNops, UnevenNops, TargetInside, MayBeMisaligned, offset_of, end_of, target_of, item_at, place_of, IsSound, AreInOrder, least_len, run_granularity, IsFormed, ItemFits, AlignmentFits, IsStill, AreItems, IsInWords, IsClear, HasItsNops, Alignment, number_of, ItemMeets, OwnMeets, AlignmentMeets, UnitMeets, RunMeets, AreSound, IsFirstOf, IsFirstAt, IsFirstFault, IsClearRun}
-use Rattle.linker_runs.specs.declared.relaxation.faults.Fault.TheVariants.{Overlaps}
+use Rattle.linker_runs.proofs.Imports.{Aligned, Alignment, AlignmentFits, AlignmentMeets, AreInOrder, AreItems, AreSound, Fault, HasItsNops, IsClear, IsClearRun, IsFirstAt, IsFirstFault, IsFirstOf, IsFormed, IsInWords, IsSound, IsStill, Item, ItemFits, ItemMeets, List, MatchOption, None, Option, OwnMeets, RunMeets, Site, Some, UnitMeets, ap, arith, cases_lt, end_of, inl, inr, item_at, least_len, length, number_of, offset_of, place_of, pow_pos, run_granularity, target_of, ℕ, ⊎_elim, ⊤, ◌%◌, ◌+◌, ◌-◌, ◌<◌, ◌≡◌, ◌≤◌, ◌⊎◌}
+use Rattle.linker_runs.specs.declared.relaxation.faults.Fault.TheVariants.{TooHigh, TooManyShapes, ShapeTooLong, ShapesNotAscending, BadGranularity, BadReach, BadAlignment, UnevenShape, Misaligned, AlignmentBelowGranularity, UnevenEnd, TooFewNops, UnevenNops, TargetInside, MayBeMisaligned, Overlaps}
 use Rattle.linker_runs.specs.declared.relaxation.faults.ItemFault.{ItemFault}
 use Rattle.linker_runs.proofs.Choices.{place_is}
 

@@ -1,5 +1,5 @@
 -- A site that a relaxation made shorter can be written.
-use Rattle.linker_runs.proofs.Imports.{◌≡◌, ℕ, ◌-◌, ◌<◌, ◌∙◌, true, List, ap, sym, arith, nat_lt, cond-true, nat_tests, sum_64, rank, Item, Site, Aligned, offset_of, target_of, item_at, short_shape, is_reached, item_reaches, kept_by, freed_before, choice_of, place_of, deletions_of_run, HasItsInstructions, Section, section_of, kept_len, CodeCause, IsUnwritable, Machine, RiscV, LoongArch64, ItemError, Overlaps, OutOfSection, DeletedOutside, NotItsFirstBytes, NotItsInstructions, NoShape, OutOfReach, IsShortened, ShortSitesAreWritable}
+use Rattle.linker_runs.proofs.Imports.{Aligned, CodeCause, DeletedOutside, HasItsInstructions, IsShortened, IsUnwritable, Item, ItemError, List, LoongArch64, Machine, NoShape, NotItsFirstBytes, NotItsInstructions, OutOfReach, OutOfSection, Overlaps, RiscV, Section, ShortSitesAreWritable, Site, ap, arith, choice_of, cond-true, deletions_of_run, freed_before, is_reached, item_at, item_reaches, kept_by, kept_len, nat_lt, nat_tests, offset_of, place_of, rank, section_of, short_shape, sum_64, sym, target_of, true, ℕ, ◌-◌, ◌<◌, ◌∙◌, ◌≡◌}
 use Rattle.linker_runs.specs.declared.relaxation.Site.{Site as sites}
 use Rattle.linker_runs.proofs.Translations.{translations_exact}
 use Rattle.linker_runs.proofs.First.{first_bytes}

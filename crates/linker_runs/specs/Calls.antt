@@ -1,9 +1,7 @@
 -- Runs of RISC-V calls between which nothing is aligned, with deletions that are decided already.
-use Rattle.std.specs.Prelude.{◌≡◌, ℕ, ◌<◌, ◌⊎◌, ◌↔◌, List, [], ◌∷◌, Bool, true, length}
-use Rattle.std.specs.Prelude.{slice_index_or}
-use Rattle.linker_runs.specs.declared.relaxation.Shapes.{Shapes}
-use Rattle.linker_runs.specs.declared.relaxation.Item.{Item}
-use Rattle.linker_runs.specs.declared.relaxation.Item.TheVariants.{Site, Aligned}
+use Rattle.linker_runs.specs.Imports.{Aligned, Bool, Item, List, Shapes, Site, [], length}
+use Rattle.linker_runs.specs.Imports.{slice_index_or, true, ℕ}
+use Rattle.std.specs.Prelude.{◌≡◌, ◌<◌, ◌⊎◌, ◌↔◌, ◌∷◌}
 use Rattle.linker_runs.specs.Relaxing.{item_at, no_shape, shape_len, shape_reaches, choice_of}
 use Rattle.linker_runs.specs.Choosing.{AreItems, IsRelaxation}
 use Rattle.linker_riscv64.specs.Shrinking.{IsChosen, IsGreatest}

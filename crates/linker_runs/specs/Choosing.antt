@@ -1,14 +1,10 @@
 -- Which runs keep every distance a multiple of its granularity, and what the choice
 -- for these is compared with.
-use Rattle.std.specs.Prelude.{◌≡◌, ℕ, zero, suc, ◌+◌, ◌-◌, ◌%◌, ◌<◌, ◌≤◌, ◌⊎◌, List, length, true}
-use Rattle.std.specs.Prelude.{if◌then◌else◌, nat_lt, max, MatchOption, None, ⊤, slice_index_or}
-use Rattle.std.specs.Int.{IsPowerOfTwo, IsNextPowerOfTwo}
+use Rattle.linker_runs.specs.Imports.{Aligned, Alignment, IsNextPowerOfTwo, IsPowerOfTwo, Item}
+use Rattle.linker_runs.specs.Imports.{List, MatchOption, None, Shape, Shapes, Site, length, max}
+use Rattle.linker_runs.specs.Imports.{nat_lt, slice_index_or, suc, true, zero, ℕ, ⊤}
+use Rattle.std.specs.Prelude.{◌≡◌, ◌+◌, ◌-◌, ◌%◌, ◌<◌, ◌≤◌, ◌⊎◌, if◌then◌else◌}
 use Rattle.std.specs.List.{fold}
-use Rattle.linker_runs.specs.declared.relaxation.Shape.{Shape}
-use Rattle.linker_runs.specs.declared.relaxation.Shapes.{Shapes}
-use Rattle.linker_runs.specs.declared.relaxation.Alignment.{Alignment}
-use Rattle.linker_runs.specs.declared.relaxation.Item.{Item}
-use Rattle.linker_runs.specs.declared.relaxation.Item.TheVariants.{Site, Aligned}
 use Rattle.linker_runs.specs.declared.shapes.loongarch64.TheConstants.{CALL36}
 use Rattle.linker_runs.specs.Relaxing.{freed_before, item_reaches, after_rounds, AreKeptBytes}
 use Rattle.linker_runs.specs.Relaxing.{offset_of, short_shape, is_in_reach, most_rounds, AreInOrder}

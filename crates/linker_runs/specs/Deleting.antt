@@ -1,8 +1,7 @@
 -- The deletions of a run, and that they translate offsets as the layout does.
-use Rattle.std.specs.Prelude.{◌≡◌, ℕ, zero, suc, ◌+◌, ◌-◌, ◌<◌, List, [], ◌∷◌, ◌++◌, length}
-use Rattle.std.specs.Prelude.{if◌then◌else◌, nat_lt, slice_index_or}
-use Rattle.linker_base.specs.Deletions.{rank}
-use Rattle.linker_runs.specs.declared.relaxation.Item.{Item}
+use Rattle.linker_runs.specs.Imports.{Item, List, [], length, nat_lt, rank, slice_index_or, suc}
+use Rattle.linker_runs.specs.Imports.{zero, ℕ}
+use Rattle.std.specs.Prelude.{◌≡◌, ◌+◌, ◌-◌, ◌<◌, ◌∷◌, ◌++◌, if◌then◌else◌}
 use Rattle.linker_runs.specs.Relaxing.{offset_of, len_of, target_of, item_at, place_of, choice_of}
 use Rattle.linker_runs.specs.Relaxing.{freed_before}
 use Rattle.linker_runs.specs.Choosing.{AreItems, IsRelaxation}

@@ -1,21 +1,13 @@
 -- What is wrong with the items of a run that can't be relaxed.
-use Rattle.std.specs.Prelude.{◌≡◌, ℕ, ◌+◌, ◌-◌, ◌%◌, ◌^◌, ◌<◌, ◌≤◌, ◌⊎◌, List, length, Option}
-use Rattle.std.specs.Prelude.{MatchOption, ⊤}
-use Rattle.std.specs.Int.{IsPowerOfTwo}
-use Rattle.linker_runs.specs.declared.relaxation.Shapes.{Shapes}
-use Rattle.linker_runs.specs.declared.relaxation.Alignment.{Alignment}
-use Rattle.linker_runs.specs.declared.relaxation.Item.{Item}
-use Rattle.linker_runs.specs.declared.relaxation.Item.TheVariants.{Site, Aligned}
+use Rattle.linker_runs.specs.Imports.{Aligned, Alignment, AlignmentBelowGranularity, BadAlignment}
+use Rattle.linker_runs.specs.Imports.{BadGranularity, BadReach, IsPowerOfTwo, Item, List}
+use Rattle.linker_runs.specs.Imports.{MatchOption, MayBeMisaligned, Misaligned, Option}
+use Rattle.linker_runs.specs.Imports.{ShapeTooLong, Shapes, ShapesNotAscending, Site, TargetInside}
+use Rattle.linker_runs.specs.Imports.{TooFewNops, TooHigh, TooManyShapes, UnevenEnd, UnevenNops}
+use Rattle.linker_runs.specs.Imports.{UnevenShape, length, ℕ, ⊤}
+use Rattle.std.specs.Prelude.{◌≡◌, ◌+◌, ◌-◌, ◌%◌, ◌^◌, ◌<◌, ◌≤◌, ◌⊎◌}
 use Rattle.linker_runs.specs.declared.relaxation.faults.Fault.{Fault}
-use Rattle.linker_runs.specs.declared.relaxation.faults.Fault.TheVariants.{AlignmentBelowGranularity}
-use Rattle.linker_runs.specs.declared.relaxation.faults.Fault.TheVariants.{ShapesNotAscending}
-use Rattle.linker_runs.specs.declared.relaxation.faults.Fault.TheVariants.{TooHigh, MayBeMisaligned}
-use Rattle.linker_runs.specs.declared.relaxation.faults.Fault.TheVariants.{Overlaps, BadGranularity}
-use Rattle.linker_runs.specs.declared.relaxation.faults.Fault.TheVariants.{TooManyShapes, UnevenEnd}
-use Rattle.linker_runs.specs.declared.relaxation.faults.Fault.TheVariants.{ShapeTooLong, Misaligned}
-use Rattle.linker_runs.specs.declared.relaxation.faults.Fault.TheVariants.{BadAlignment, TooFewNops}
-use Rattle.linker_runs.specs.declared.relaxation.faults.Fault.TheVariants.{UnevenNops, TargetInside}
-use Rattle.linker_runs.specs.declared.relaxation.faults.Fault.TheVariants.{BadReach, UnevenShape}
+use Rattle.linker_runs.specs.declared.relaxation.faults.Fault.TheVariants.{Overlaps}
 use Rattle.linker_runs.specs.declared.relaxation.faults.ItemFault.{ItemFault}
 use Rattle.linker_runs.specs.Relaxing.{offset_of, end_of, target_of, item_at, shape_len}
 use Rattle.linker_runs.specs.Relaxing.{short_shape}

@@ -1,13 +1,12 @@
 -- What stays of the items of a relaxed run, where it is packed with the
 -- deletions of its relaxation.
-use Rattle.std.specs.Prelude.{◌≡◌, ℕ, ◌<◌, List, length, slice_index_or}
-use Rattle.linker_runs.specs.declared.relaxation.Item.{Item}
+use Rattle.linker_runs.specs.Imports.{Item, List, Machine, NotItsFirstBytes, length, slice_index_or}
+use Rattle.linker_runs.specs.Imports.{ℕ}
+use Rattle.std.specs.Prelude.{◌≡◌, ◌<◌}
 use Rattle.linker_runs.specs.Relaxing.{item_at}
 use Rattle.linker_runs.specs.Choosing.{AreItems, IsRelaxation}
 use Rattle.linker_runs.specs.Deleting.{deletions_of_run}
 use Rattle.linker_runs.specs.Packing.{section_of, kept_len, IsUnwritable}
-use Rattle.linker_runs.specs.declared.packing.Machine.{Machine}
-use Rattle.linker_runs.specs.declared.packing.ItemError.TheVariants.{NotItsFirstBytes}
 
 -- As many bytes of each item stay as the relaxation says, and they are its first ones: `pack_run`
 -- rejects none of them for other bytes.

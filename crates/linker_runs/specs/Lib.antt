@@ -3,6 +3,7 @@ pub mod Choosing
 pub mod Deleting
 pub mod Faults
 pub mod FirstBytes
+pub mod Imports
 pub mod Inner
 pub mod LoongArchItems
 pub mod LoongArchSites

@@ -1,20 +1,14 @@
 -- The items that LoongArch's relocations make (LoongArch ELF psABI, "Relocations", `R_LARCH_ALIGN`,
 -- `R_LARCH_RELAX`, and linker relaxation).
-use Rattle.std.specs.Prelude.{List, length, Option, None, Some, Bool, false, nat_lt, if◌then◌else◌}
-use Rattle.std.specs.Prelude.{◌≡◌, ℕ, ◌+◌, ◌/◌, ◌^◌, ◌<◌, ◌≤◌, ◌⊎◌, pos, true, ◌&&◌, ◌%◌}
-use Rattle.std.specs.Int.{IsNextPowerOfTwo}
-use Rattle.linker_base.specs.Bits.{field}
-use Rattle.linker_elf.specs.ElfNames.{r_type_of}
-use Rattle.linker_elf.specs.LoongArchRelocations.{loongarch_name}
+use Rattle.linker_runs.specs.Imports.{Aligned, Alignment, Bool, IsNextPowerOfTwo, Item, List, None}
+use Rattle.linker_runs.specs.Imports.{Option, Relocation, Site, Some, false, field, length}
+use Rattle.linker_runs.specs.Imports.{loongarch_name, nat_lt, pos, r_type_of, true, ℕ}
+use Rattle.std.specs.Prelude.{if◌then◌else◌, ◌≡◌, ◌+◌, ◌/◌, ◌^◌, ◌<◌, ◌≤◌, ◌⊎◌, ◌&&◌, ◌%◌}
 use Rattle.linker_elf.specs.declared.loongarch64.relocations.LoongArch64Relocation.{LoongArch64Relocation}
 use Rattle.linker_elf.specs.declared.loongarch64.relocations.LoongArch64Relocation.TheVariants as r
 use Rattle.linker_utils.specs.LoongArchRewrites.{IsAddi, IsCall, IsPair}
 use Rattle.linker_runs.specs.declared.shapes.loongarch64.TheConstants.{CALL36, PCALA}
 use Rattle.linker_runs.specs.declared.relaxation.Site.{Site as site}
-use Rattle.linker_runs.specs.declared.relaxation.Alignment.{Alignment}
-use Rattle.linker_runs.specs.declared.relaxation.Item.{Item}
-use Rattle.linker_runs.specs.declared.relaxation.Item.TheVariants.{Site, Aligned}
-use Rattle.linker_runs.specs.declared.items.Relocation.{Relocation}
 use Rattle.linker_runs.specs.Relocations.{relocation_at, IsMarked}
 
 -- the relocation has the name

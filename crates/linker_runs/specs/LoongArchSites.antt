@@ -1,23 +1,16 @@
 -- What sites of LoongArch become (LoongArch ELF psABI, "Linker Relaxation"; the instructions by the
 -- LoongArch Reference Manual, volume 1).
-use Rattle.std.specs.Prelude.{◌≡◌, ◌≢◌, ◌⊎◌, ℕ, ◌+◌, ◌*◌, ◌^◌, List, length, take, drop, pos}
-use Rattle.std.specs.Prelude.{IsSomeAnd, Some, ◌+ℤ◌, ◌*ℤ◌}
-use Rattle.std.specs.Int.{w32, w64, from_le_bytes, to_le_bytes}
-use Rattle.linker_base.specs.Bits.{field, signed}
+use Rattle.linker_runs.specs.Imports.{Branch26, IsAddress, IsSomeAnd, ItemError, List, NoShape}
+use Rattle.linker_runs.specs.Imports.{NotItsInstructions, OutOfReach, Shift5, Some, drop, field}
+use Rattle.linker_runs.specs.Imports.{from_le_bytes, length, loongarch_row, pos, signed, sum_64}
+use Rattle.linker_runs.specs.Imports.{take, to_le_bytes, value_of, w32, w64, ℕ}
+use Rattle.std.specs.Prelude.{◌≡◌, ◌≢◌, ◌⊎◌, ◌+◌, ◌*◌, ◌^◌, ◌+ℤ◌, ◌*ℤ◌}
 use Rattle.linker_elf.specs.Elf.{IsWithin, bit_bounds}
 use Rattle.linker_elf.specs.LoongArch.{loongarch_form, pcalau12i, reach}
-use Rattle.linker_elf.specs.LoongArchRelocations.{loongarch_row}
-use Rattle.linker_elf.specs.Value.{sum_64, value_of}
 use Rattle.linker_elf.specs.declared.elf.Sign.TheVariants.{Signed}
-use Rattle.linker_elf.specs.declared.loongarch64.forms.LoongArch64Instruction.TheVariants.{Shift5}
-use Rattle.linker_elf.specs.declared.loongarch64.forms.LoongArch64Instruction.TheVariants.{Branch26}
 use Rattle.linker_elf.specs.declared.loongarch64.relocations.LoongArch64Relocation.TheVariants as r
 use Rattle.linker_utils.specs.LoongArchRewrites.{IsAddi, IsCall, IsPair, word_at, rd_of}
-use Rattle.linker_laws.specs.Schemes.{IsAddress}
 use Rattle.linker_runs.specs.Sites.{Template, operands_of, IsRelocated, IsInReach, IsOutOfReach}
-use Rattle.linker_runs.specs.declared.packing.ItemError.{ItemError}
-use Rattle.linker_runs.specs.declared.packing.ItemError.TheVariants.{NotItsInstructions, NoShape}
-use Rattle.linker_runs.specs.declared.packing.ItemError.TheVariants.{OutOfReach}
 
 -- ---- sites
 

@@ -1,6 +1,5 @@
 -- Architectures whose code can become shorter.
-use Rattle.std.specs.Prelude.{Option, None, Some, false}
-use Rattle.linker_runs.specs.declared.packing.Machine.{Machine}
+use Rattle.linker_runs.specs.Imports.{Machine, None, Option, Some, false}
 use Rattle.linker_runs.specs.declared.packing.Machine.TheVariants as machines
 use Rattle.linker_elf.specs.declared.elf.architecture.Architecture.{Architecture}
 use Rattle.linker_elf.specs.declared.elf.architecture.Architecture.TheVariants as architectures

@@ -1,19 +1,13 @@
 -- The relocations of a packed section: each at the place where its offset goes, with the type of
 -- what is there then. So they can be written, and they say what is in the packed section.
-use Rattle.std.specs.Prelude.{◌≡◌, ℕ, ◌+◌, ◌*◌, ◌/◌, ◌<◌, ◌≤◌, List, length, drop, false, IsTrue}
-use Rattle.std.specs.Prelude.{◌==◌, ◌||◌, if◌then◌else◌}
-use Rattle.linker_base.specs.Deletions.{is_kept}
-use Rattle.linker_elf.specs.ElfNames.{r_type_of}
-use Rattle.linker_elf.specs.LoongArchRelocations.{loongarch_name}
-use Rattle.linker_elf.specs.RiscVRelocations.{riscv_name}
+use Rattle.linker_runs.specs.Imports.{Aligned, IsTrue, Item, List, LoongArch64, Machine, RiscV}
+use Rattle.linker_runs.specs.Imports.{Site, drop, false, is_kept, length, loongarch_name, r_type_of}
+use Rattle.linker_runs.specs.Imports.{riscv_name, ℕ}
+use Rattle.std.specs.Prelude.{◌≡◌, ◌+◌, ◌*◌, ◌/◌, ◌<◌, ◌≤◌, ◌==◌, ◌||◌, if◌then◌else◌}
 use Rattle.linker_elf.specs.declared.loongarch64.relocations.LoongArch64Relocation.TheVariants as loongarch
 use Rattle.linker_elf.specs.declared.riscv64.relocations.RiscVRelocation.TheVariants as riscv
 use Rattle.linker_runs.specs.Packing.{Section, kept_len, packed_offset}
 use Rattle.linker_runs.specs.Relaxing.{end_of, item_at, offset_of}
-use Rattle.linker_runs.specs.declared.packing.Machine.{Machine}
-use Rattle.linker_runs.specs.declared.packing.Machine.TheVariants.{RiscV, LoongArch64}
-use Rattle.linker_runs.specs.declared.relaxation.Item.{Item}
-use Rattle.linker_runs.specs.declared.relaxation.Item.TheVariants.{Site, Aligned}
 use Rattle.linker_section.specs.Relocations.{relocation_in}
 use Rattle.linker_section.specs.declared.relocations.Rela.{Rela}
 

@@ -1,16 +1,11 @@
 -- Sites whose shapes are those of the instructions that are there.
-use Rattle.std.specs.Prelude.{◌≡◌, Bool, true, ℕ, ◌+◌, ◌-◌, ◌≤◌, ◌⊎◌, List, length, ⊤}
-use Rattle.linker_riscv64.specs.RiscVCalls.{link_register}
-use Rattle.linker_riscv64.specs.declared.calls.LinkRegister.TheVariants.{OfJalr}
-use Rattle.linker_runs.specs.declared.relaxation.Item.{Item}
-use Rattle.linker_runs.specs.declared.relaxation.Item.TheVariants.{Site, Aligned}
-use Rattle.linker_runs.specs.declared.relaxation.Shapes.{Shapes}
+use Rattle.linker_runs.specs.Imports.{Aligned, Bool, Item, List, LoongArch64, Machine, OfJalr}
+use Rattle.linker_runs.specs.Imports.{RiscV, Shapes, Site, length, link_register, true, ℕ, ⊤}
+use Rattle.std.specs.Prelude.{◌≡◌, ◌+◌, ◌-◌, ◌≤◌, ◌⊎◌}
 use Rattle.linker_runs.specs.declared.shapes.loongarch64.TheConstants.{CALL36, PCALA}
 use Rattle.linker_runs.specs.declared.shapes.riscv64.TheConstants.{CALL, TAIL_C}
 use Rattle.linker_runs.specs.RiscVItems.{IsCallAt, links_short}
 use Rattle.linker_runs.specs.LoongArchSites.{IsCall36At, IsPcalaAt}
-use Rattle.linker_runs.specs.declared.packing.Machine.{Machine}
-use Rattle.linker_runs.specs.declared.packing.Machine.TheVariants.{RiscV, LoongArch64}
 
 -- A call of RISC-V is at the offset that can have the shapes. Only some can be
 -- two bytes long.

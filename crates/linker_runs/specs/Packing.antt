@@ -1,22 +1,17 @@
 -- Sections of a relaxed run, packed: the bytes that stay, in order, with the instructions of sites
 -- and the nops of alignments written anew.
-use Rattle.std.specs.Prelude.{◌≡◌, ◌≢◌, ℕ, zero, suc, ◌+◌, ◌-◌, ◌/◌, ◌%◌, ◌<◌, ◌≤◌, List, []}
-use Rattle.std.specs.Prelude.{◌∷◌, ◌++◌, length, take, drop, slice_index, Bool, false, ◌==◌}
-use Rattle.std.specs.Prelude.{if◌then◌else◌, IsTrue, ◌⊎◌}
-use Rattle.linker_base.specs.Deletions.{rank, is_kept}
-use Rattle.linker_elf.specs.Value.{sum_64}
+use Rattle.linker_runs.specs.Imports.{Aligned, Bool, DeletedOutside, IsTrue, Item, ItemError, List}
+use Rattle.linker_runs.specs.Imports.{LoongArch64, Machine, NoShape, NotItsFirstBytes}
+use Rattle.linker_runs.specs.Imports.{NotItsInstructions, OutOfSection, RiscV, Site, [], drop}
+use Rattle.linker_runs.specs.Imports.{false, is_kept, length, rank, slice_index, suc, sum_64, take}
+use Rattle.linker_runs.specs.Imports.{zero, ℕ}
+use Rattle.std.specs.Prelude.{◌≡◌, ◌≢◌, ◌+◌, ◌-◌, ◌/◌, ◌%◌, ◌<◌, ◌≤◌, ◌∷◌, ◌++◌, ◌==◌}
+use Rattle.std.specs.Prelude.{if◌then◌else◌, ◌⊎◌}
 use Rattle.linker_runs.specs.declared.relaxation.Site.{Site as site}
-use Rattle.linker_runs.specs.declared.relaxation.Item.{Item}
-use Rattle.linker_runs.specs.declared.relaxation.Item.TheVariants.{Site, Aligned}
 use Rattle.linker_runs.specs.Relaxing.{offset_of, end_of, item_at}
 use Rattle.linker_runs.specs.RiscVSites.{RiscVBecomes, RiscVAccepts, RiscVCause}
 use Rattle.linker_runs.specs.LoongArchSites.{LoongArchBecomes, LoongArchAccepts, LoongArchCause}
-use Rattle.linker_runs.specs.declared.packing.Machine.{Machine}
-use Rattle.linker_runs.specs.declared.packing.Machine.TheVariants.{RiscV, LoongArch64}
-use Rattle.linker_runs.specs.declared.packing.ItemError.{ItemError}
-use Rattle.linker_runs.specs.declared.packing.ItemError.TheVariants.{Overlaps, NotItsInstructions}
-use Rattle.linker_runs.specs.declared.packing.ItemError.TheVariants.{OutOfSection, NotItsFirstBytes}
-use Rattle.linker_runs.specs.declared.packing.ItemError.TheVariants.{DeletedOutside, NoShape}
+use Rattle.linker_runs.specs.declared.packing.ItemError.TheVariants.{Overlaps}
 use Rattle.linker_runs.specs.declared.packing.RejectedItem.{RejectedItem}
 
 -- A section of a run.

@@ -1,15 +1,12 @@
 -- Which targets the short shapes of the architectures reach: those that the instructions reach that
 -- they stand for, by the rows of the relocations that give these their targets.
-use Rattle.std.specs.Prelude.{◌≡◌, ℕ, ◌<◌, ◌↔◌, List, [], ◌∷◌, length, true, slice_index_or}
-use Rattle.std.specs.Prelude.{Option, None, IsSomeAnd, pos, ◌-ℤ◌}
-use Rattle.linker_elf.specs.LoongArchRelocations.{loongarch_row}
+use Rattle.linker_runs.specs.Imports.{IsSomeAnd, List, None, Option, Shape, Shapes, [], length}
+use Rattle.linker_runs.specs.Imports.{loongarch_row, pos, riscv_row, slice_index_or, true, ℕ}
+use Rattle.std.specs.Prelude.{◌≡◌, ◌<◌, ◌↔◌, ◌∷◌, ◌-ℤ◌}
 use Rattle.linker_elf.specs.Relocate.{IsInReach, window_len}
-use Rattle.linker_elf.specs.RiscVRelocations.{riscv_row}
 use Rattle.linker_elf.specs.declared.elf.RowInfo.{RowInfo}
 use Rattle.linker_elf.specs.declared.loongarch64.relocations.LoongArch64Relocation.TheVariants as loongarch
 use Rattle.linker_elf.specs.declared.riscv64.relocations.RiscVRelocation.TheVariants as riscv
-use Rattle.linker_runs.specs.declared.relaxation.Shape.{Shape}
-use Rattle.linker_runs.specs.declared.relaxation.Shapes.{Shapes}
 use Rattle.linker_runs.specs.declared.shapes.loongarch64.TheConstants.{CALL36, PCALA}
 use Rattle.linker_runs.specs.declared.shapes.riscv64.TheConstants.{CALL, TAIL_C, CALL_WITHOUT_C}
 use Rattle.linker_runs.specs.Relaxing.{short_shape, is_reached}

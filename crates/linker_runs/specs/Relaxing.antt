@@ -1,15 +1,11 @@
 -- Which instructions of a run become shorter, where each alignment keeps as many nops as its output
 -- address then needs. A choice gives each item the index of a shape, 0 for the shortest one. For an
 -- alignment the index means nothing.
-use Rattle.std.specs.Prelude.{◌≡◌, ℕ, zero, suc, ◌+◌, ◌-◌, ◌%◌, ◌^◌, ◌<◌, ◌≤◌, List, [], length}
-use Rattle.std.specs.Prelude.{Bool, true, ◌&&◌, if◌then◌else◌, nat_le, nat_lt, nat_eq}
-use Rattle.std.specs.Prelude.{Option, None, Some, count_by, min, slice_index_or, map, ◌==◌}
+use Rattle.linker_runs.specs.Imports.{Aligned, Alignment, Bool, Item, List, None, Option, Shape}
+use Rattle.linker_runs.specs.Imports.{Shapes, Site, Some, [], count_by, length, map, min, nat_eq}
+use Rattle.linker_runs.specs.Imports.{nat_le, nat_lt, slice_index_or, suc, true, zero, ℕ}
+use Rattle.std.specs.Prelude.{◌≡◌, ◌+◌, ◌-◌, ◌%◌, ◌^◌, ◌<◌, ◌≤◌, ◌&&◌, if◌then◌else◌, ◌==◌}
 use Rattle.linker_runs.specs.declared.items.numbers.ItemNumbers.{ItemNumbers}
-use Rattle.linker_runs.specs.declared.relaxation.Shape.{Shape}
-use Rattle.linker_runs.specs.declared.relaxation.Shapes.{Shapes}
-use Rattle.linker_runs.specs.declared.relaxation.Alignment.{Alignment}
-use Rattle.linker_runs.specs.declared.relaxation.Item.{Item}
-use Rattle.linker_runs.specs.declared.relaxation.Item.TheVariants.{Site, Aligned}
 
 -- the item that numbers are, by its kind: 0 a site, 1 an alignment without limit, any other one
 -- with a limit

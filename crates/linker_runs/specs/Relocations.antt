@@ -1,8 +1,7 @@
 -- The items that the relocations of a section make.
-use Rattle.std.specs.Prelude.{◌≡◌, ℕ, zero, suc, ◌+◌, ◌<◌, List, [], ◌∷◌, ◌++◌, length}
-use Rattle.std.specs.Prelude.{pos, false, None, slice_index_or, ⊤}
-use Rattle.linker_runs.specs.declared.relaxation.Item.{Item}
-use Rattle.linker_runs.specs.declared.items.Relocation.{Relocation}
+use Rattle.linker_runs.specs.Imports.{Item, List, None, Relocation, [], false, length, pos}
+use Rattle.linker_runs.specs.Imports.{slice_index_or, suc, zero, ℕ, ⊤}
+use Rattle.std.specs.Prelude.{◌≡◌, ◌+◌, ◌<◌, ◌∷◌, ◌++◌}
 use Rattle.linker_runs.specs.declared.items.ItemsError.{ItemsError}
 use Rattle.linker_runs.specs.declared.items.ItemsError.TheVariants.{OutOfMemory, Malformed}
 

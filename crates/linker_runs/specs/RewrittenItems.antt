@@ -1,15 +1,10 @@
 -- The items of a section that was rewritten: those that its relocations make, and what rewrites
 -- delete.
-use Rattle.std.specs.Prelude.{◌≡◌, ℕ, zero, suc, ◌+◌, ◌<◌, ◌≤◌, ◌⊎◌, List, [], ◌∷◌, ◌++◌, length}
-use Rattle.std.specs.Prelude.{slice_index_or}
-use Rattle.linker_runs.specs.declared.relaxation.Item.{Item}
-use Rattle.linker_runs.specs.declared.relaxation.Item.TheVariants.{Site, Aligned}
-use Rattle.linker_runs.specs.declared.items.Relocation.{Relocation}
+use Rattle.linker_runs.specs.Imports.{Aligned, Item, List, Machine, Misplaced, Overlaps, Relocation}
+use Rattle.linker_runs.specs.Imports.{Site, [], length, slice_index_or, suc, zero, ℕ}
+use Rattle.std.specs.Prelude.{◌≡◌, ◌+◌, ◌<◌, ◌≤◌, ◌⊎◌, ◌∷◌, ◌++◌}
 use Rattle.linker_runs.specs.declared.items.rewritten.RewrittenItemsError.{RewrittenItemsError}
 use Rattle.linker_runs.specs.declared.items.rewritten.RewrittenItemsError.TheVariants.{Malformed}
-use Rattle.linker_runs.specs.declared.items.rewritten.RewrittenItemsError.TheVariants.{Misplaced}
-use Rattle.linker_runs.specs.declared.items.rewritten.RewrittenItemsError.TheVariants.{Overlaps}
-use Rattle.linker_runs.specs.declared.packing.Machine.{Machine}
 use Rattle.linker_runs.specs.Relaxing.{offset_of, end_of}
 use Rattle.linker_runs.specs.Relocations.{IsFirstMalformed, AreWellFormed}
 use Rattle.linker_runs.specs.SectionItems.{Makes, IsFormed}

@@ -1,8 +1,6 @@
 -- What becomes of the items of a section that was rewritten, in a relaxed run.
-use Rattle.std.specs.Prelude.{◌≡◌, ℕ, ◌<◌, List, length, false}
-use Rattle.linker_runs.specs.declared.items.Relocation.{Relocation}
-use Rattle.linker_runs.specs.declared.packing.Machine.{Machine}
-use Rattle.linker_runs.specs.declared.relaxation.Item.{Item}
+use Rattle.linker_runs.specs.Imports.{Item, List, Machine, Relocation, false, length, ℕ}
+use Rattle.std.specs.Prelude.{◌≡◌, ◌<◌}
 use Rattle.linker_runs.specs.Relaxing.{item_at}
 use Rattle.linker_runs.specs.Choosing.{AreItems, IsRelaxation}
 use Rattle.linker_runs.specs.Deleting.{deletions_of_run}

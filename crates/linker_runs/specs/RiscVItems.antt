@@ -1,22 +1,14 @@
 -- The items that RISC-V's relocations make (RISC-V ELF psABI, "Linker Relaxation": "Alignment
 -- Relaxation", "Function Call Relaxation" and "Compressed Tail Call Relaxation").
-use Rattle.std.specs.Prelude.{◌≡◌, ◌≢◌, ℕ, ◌+◌, ◌%◌, ◌^◌, ◌<◌, ◌≤◌, ◌⊎◌, List, length, pos, None}
-use Rattle.std.specs.Prelude.{Some, Bool, true, ◌-◌, ◌==◌, ◌&&◌, ◌||◌}
-use Rattle.std.specs.Int.{IsNextPowerOfTwo}
-use Rattle.linker_base.specs.Bits.{field}
-use Rattle.linker_elf.specs.ElfNames.{r_type_of}
-use Rattle.linker_elf.specs.RiscVRelocations.{riscv_name}
+use Rattle.linker_runs.specs.Imports.{Aligned, Alignment, Bool, IsCallPair, IsNextPowerOfTwo, Item}
+use Rattle.linker_runs.specs.Imports.{List, None, OfJalr, Relocation, Shapes, Site, Some, field}
+use Rattle.linker_runs.specs.Imports.{length, link_register, pos, r_type_of, riscv_name, true}
+use Rattle.linker_runs.specs.Imports.{word_at, ℕ}
+use Rattle.std.specs.Prelude.{◌≡◌, ◌≢◌, ◌+◌, ◌%◌, ◌^◌, ◌<◌, ◌≤◌, ◌⊎◌, ◌-◌, ◌==◌, ◌&&◌, ◌||◌}
 use Rattle.linker_elf.specs.declared.riscv64.relocations.RiscVRelocation.{RiscVRelocation}
 use Rattle.linker_elf.specs.declared.riscv64.relocations.RiscVRelocation.TheVariants as r
-use Rattle.linker_riscv64.specs.RiscVCalls.{IsCallPair, link_register, word_at}
-use Rattle.linker_riscv64.specs.declared.calls.LinkRegister.TheVariants.{OfJalr}
 use Rattle.linker_runs.specs.declared.shapes.riscv64.TheConstants.{CALL, TAIL_C}
-use Rattle.linker_runs.specs.declared.relaxation.Shapes.{Shapes}
 use Rattle.linker_runs.specs.declared.relaxation.Site.{Site as site}
-use Rattle.linker_runs.specs.declared.relaxation.Alignment.{Alignment}
-use Rattle.linker_runs.specs.declared.relaxation.Item.{Item}
-use Rattle.linker_runs.specs.declared.relaxation.Item.TheVariants.{Site, Aligned}
-use Rattle.linker_runs.specs.declared.items.Relocation.{Relocation}
 use Rattle.linker_runs.specs.Relocations.{relocation_at, IsMarked}
 
 -- the relocation has the name

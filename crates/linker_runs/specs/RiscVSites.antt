@@ -1,25 +1,17 @@
 -- What calls of RISC-V become (RISC-V ELF psABI, "Function Call Relaxation", "Compressed Tail Call
 -- Relaxation"; the instructions by the RISC-V unprivileged ISA).
-use Rattle.std.specs.Prelude.{◌≡◌, ℕ, ◌+◌, ◌-◌, ◌*◌, ◌%◌, ◌^◌, List, [], length, take, drop}
-use Rattle.std.specs.Prelude.{Option, Some, None, IsSomeAnd, ◌==◌, ◌&&◌, if◌then◌else◌, pos}
-use Rattle.std.specs.Prelude.{◌+ℤ◌, Bool, true, ◌∷◌}
-use Rattle.std.specs.Int.{w16, w32, w64, from_le_bytes, to_le_bytes}
-use Rattle.linker_base.specs.Bits.{field}
+use Rattle.linker_runs.specs.Imports.{Bool, IsAddress, IsApplied, IsSomeAnd, ItemError, List}
+use Rattle.linker_runs.specs.Imports.{NoShape, None, NotItsInstructions, OfJalr, Option, OutOfReach}
+use Rattle.linker_runs.specs.Imports.{Some, [], drop, field, from_le_bytes, length, link_register}
+use Rattle.linker_runs.specs.Imports.{pos, riscv_row, take, to_le_bytes, true, w16, w32, w64, ℕ}
+use Rattle.std.specs.Prelude.{◌≡◌, ◌+◌, ◌-◌, ◌*◌, ◌%◌, ◌^◌, ◌==◌, ◌&&◌, if◌then◌else◌, ◌+ℤ◌, ◌∷◌}
 use Rattle.linker_elf.specs.RiscV.{riscv_form}
-use Rattle.linker_elf.specs.RiscVRelocations.{riscv_row}
 use Rattle.linker_elf.specs.declared.riscv64.forms.RiscVInstruction.TheVariants.{JType, CjType}
 use Rattle.linker_elf.specs.declared.riscv64.forms.RiscVInstruction.TheVariants.{UiType}
 use Rattle.linker_elf.specs.declared.riscv64.relocations.RiscVRelocation.TheVariants as r
-use Rattle.linker_riscv64.specs.RiscVCalls.{link_register}
-use Rattle.linker_riscv64.specs.declared.calls.LinkRegister.TheVariants.{OfJalr}
 use Rattle.linker_laws.specs.RiscVRelocationLaws.{without_bit_0}
-use Rattle.linker_elf.specs.Applied.{IsApplied}
-use Rattle.linker_laws.specs.Schemes.{IsAddress}
 use Rattle.linker_runs.specs.RiscVItems.{IsCallAt, links_short}
 use Rattle.linker_runs.specs.Sites.{Template, operands_of, IsInReach, IsOutOfReach}
-use Rattle.linker_runs.specs.declared.packing.ItemError.{ItemError}
-use Rattle.linker_runs.specs.declared.packing.ItemError.TheVariants.{NotItsInstructions, NoShape}
-use Rattle.linker_runs.specs.declared.packing.ItemError.TheVariants.{OutOfReach}
 
 -- ---- what is written
 

@@ -1,11 +1,7 @@
 -- The items that the relocations of a section make, by its machine.
-use Rattle.std.specs.Prelude.{ℕ, List}
+use Rattle.linker_runs.specs.Imports.{Item, List, LoongArch64, Machine, Relocation, RiscV, ℕ}
 use Rattle.linker_runs.specs.LoongArchItems.{LoongArchMakes, IsLoongArchFormed}
 use Rattle.linker_runs.specs.RiscVItems.{RiscVMakes, IsRiscVFormed}
-use Rattle.linker_runs.specs.declared.items.Relocation.{Relocation}
-use Rattle.linker_runs.specs.declared.packing.Machine.{Machine}
-use Rattle.linker_runs.specs.declared.packing.Machine.TheVariants.{RiscV, LoongArch64}
-use Rattle.linker_runs.specs.declared.relaxation.Item.{Item}
 
 -- the item that the relocation at an index makes, where the section begins at an input offset
 abbrev pub Makes : Machine → List ℕ → ℕ → List Relocation → ℕ → Item → Type 0

@@ -1,8 +1,7 @@
 -- Instructions, and the relocations that are applied to them.
-use Rattle.std.specs.Prelude.{ℕ, List, Option, IsSomeAnd, pos, false}
+use Rattle.linker_runs.specs.Imports.{IsApplied, IsRejected, IsSomeAnd, List, Option, false, pos, ℕ}
 use Rattle.linker_elf.specs.declared.elf.RowInfo.{RowInfo}
 use Rattle.linker_elf.specs.declared.elf.value.Operands.{Operands}
-use Rattle.linker_elf.specs.Applied.{IsApplied, IsRejected}
 
 -- An instruction or two that go nowhere yet, and the relocation that gives them their target.
 pub record Template : Type 0 where

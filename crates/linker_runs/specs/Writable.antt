@@ -1,21 +1,15 @@
 -- What a relaxation made shorter can be written where the run is packed.
-use Rattle.std.specs.Prelude.{◌≡◌, Bool, ◌≢◌, ◌⊎◌, ⊤, ℕ, ◌-◌, ◌^◌, ◌<◌, List, length}
-use Rattle.linker_runs.specs.declared.relaxation.Shapes.{Shapes}
-use Rattle.linker_runs.specs.declared.relaxation.Item.{Item}
-use Rattle.linker_runs.specs.declared.relaxation.Item.TheVariants.{Site, Aligned}
+use Rattle.linker_runs.specs.Imports.{Aligned, Bool, Item, ItemError, List, LoongArch64, Machine}
+use Rattle.linker_runs.specs.Imports.{OutOfReach, Relocation, RiscV, Shapes, Site, length, ℕ, ⊤}
+use Rattle.std.specs.Prelude.{◌≡◌, ◌≢◌, ◌⊎◌, ◌-◌, ◌^◌, ◌<◌}
 use Rattle.linker_runs.specs.declared.shapes.loongarch64.TheConstants.{CALL36, PCALA}
 use Rattle.linker_runs.specs.Relaxing.{item_at, offset_of, target_of, choice_of}
 use Rattle.linker_runs.specs.Choosing.{AreItems, IsRelaxation, IsSite}
 use Rattle.linker_runs.specs.Deleting.{deletions_of_run}
 use Rattle.linker_runs.specs.Relocations.{AreMade, AreWellFormed}
 use Rattle.linker_runs.specs.SectionItems.{Makes, IsFormed}
-use Rattle.linker_runs.specs.declared.items.Relocation.{Relocation}
 use Rattle.linker_runs.specs.Origins.{HasItsInstructions}
 use Rattle.linker_runs.specs.Packing.{section_of, IsUnwritable, IsFirstRejected}
-use Rattle.linker_runs.specs.declared.packing.Machine.{Machine}
-use Rattle.linker_runs.specs.declared.packing.Machine.TheVariants.{RiscV, LoongArch64}
-use Rattle.linker_runs.specs.declared.packing.ItemError.{ItemError}
-use Rattle.linker_runs.specs.declared.packing.ItemError.TheVariants.{OutOfReach}
 use Rattle.linker_runs.specs.declared.packing.RejectedItem.{RejectedItem}
 
 -- a site that has a short shape

@@ -1,5 +1,5 @@
 -- What is written to a section, byte by byte.
-use Rattle.linker_section.proofs.Imports.{◌≡◌, ℕ, ℤ, ◌+◌, ◌-◌, ◌/◌, ◌<◌, ◌≤◌, ◌⊎◌, List, [], ◌∷◌, zero, suc, length, take, drop, get_or, cond, ltb, true, true≢false, refl, sym, ap, subst, ◌∙◌, inl, inr, arith, cases_eq, cases_lt, cases_Bool, or_left, cond_both, cond-true, cond-false, get_or-take, get_or-drop, length-drop, slice_index, window_len, RowInfo, Architecture, IsField, field_end, field_len, begins_pair, ends_pair, uleb_len, of_number, of_pair, AreApart, Overlap, AreRelocated, none, mark, one, pair, IsInNoField, AreAllRelocatedBy, IsValued, IsWritten, IsPairWritten, Values, offset_at, Addresses}
+use Rattle.linker_section.proofs.Imports.{Addresses, Architecture, AreAllRelocatedBy, AreApart, AreRelocated, IsField, IsInNoField, IsPairWritten, IsValued, IsWritten, List, Overlap, RowInfo, Values, [], ap, arith, begins_pair, cases_Bool, cases_eq, cases_lt, cond, cond-false, cond-true, cond_both, drop, ends_pair, field_end, field_len, get_or, get_or-drop, get_or-take, inl, inr, length, length-drop, ltb, mark, none, of_number, of_pair, offset_at, one, or_left, pair, refl, slice_index, subst, suc, sym, take, true, true≢false, uleb_len, window_len, zero, ℕ, ℤ, ◌+◌, ◌-◌, ◌/◌, ◌<◌, ◌∙◌, ◌∷◌, ◌≡◌, ◌≤◌, ◌⊎◌}
 use Rattle.linker_section.proofs.Ulebs.{some_uleb}
 use Rattle.linker_section.proofs.Composing.{begun_is_continued_none, begun_ends_none, begun_has_value}
 use Rattle.linker_section.proofs.Local.{IsLocal, one_local, pair_local}

@@ -1,5 +1,5 @@
 -- Fields that are gone through by ascending offsets are apart, if each is clear of the last one.
-use Rattle.linker_section.proofs.Imports.{◌≡◌, ℕ, ◌+◌, ◌-◌, ◌/◌, ◌<◌, ◌≤◌, ◌⊎◌, ◌&&◌, eqb, leb, sym, ap, subst, ◌∙◌, inl, inr, arith, true, false, true≢false, List, length, Some, or_cases, or_parts, and_parts, eqb-true, eq-eqb, leb-true, cases_eq, window_len, RowInfo, IsRow, IfSome, is_some, Option, Architecture, never, leb-false, and_from, both_ways, IsField, continues, field_end, begins_pair, ends_pair, is_of_pair, Overlap, Composes, of_number, of_pair, AreApart, IsOverlapped, relocation_in, BeginsPair, continues_at, is_clear_of, IsContinued, IsLastField, AreClaimed, HasField, ApartIn, Rela, None, offset_at, Field}
+use Rattle.linker_section.proofs.Imports.{ApartIn, Architecture, AreApart, AreClaimed, BeginsPair, Composes, Field, HasField, IfSome, IsContinued, IsField, IsLastField, IsOverlapped, IsRow, List, None, Option, Overlap, Rela, RowInfo, Some, and_from, and_parts, ap, arith, begins_pair, both_ways, cases_eq, continues, continues_at, ends_pair, eq-eqb, eqb, eqb-true, false, field_end, inl, inr, is_clear_of, is_of_pair, is_some, leb, leb-false, leb-true, length, never, of_number, of_pair, offset_at, or_cases, or_parts, relocation_in, subst, sym, true, true≢false, window_len, ℕ, ◌&&◌, ◌+◌, ◌-◌, ◌/◌, ◌<◌, ◌∙◌, ◌≡◌, ◌≤◌, ◌⊎◌}
 use Rattle.linker_section.proofs.Composing.{continues_on, second_is_none, first_is_none, begun_continues_none, begun_is_continued_none, begun_ends_none}
 use Rattle.linker_section.proofs.Rows.{one_info}
 

@@ -1,5 +1,5 @@
 -- Which kinds compose, and which rows are of a pair at a ULEB128 number.
-use Rattle.linker_section.proofs.Imports.{◌≡◌, ◌||◌, refl, sym, ◌∙◌, true, false, true≢false, RelocationKind, RowSize, ByteSize, BitMasking, never, begins_pair, ends_pair, changes_number, changes_bits, continues, has_value}
+use Rattle.linker_section.proofs.Imports.{BitMasking, ByteSize, RelocationKind, RowSize, begins_pair, changes_bits, changes_number, continues, ends_pair, false, has_value, never, refl, sym, true, true≢false, ◌||◌, ◌∙◌, ◌≡◌}
 use Rattle.linker_elf.specs.declared.elf.RelocationKind.TheVariants as kinds
 
 changed_number : (second third : RelocationKind) → changes_number second ≡ true

@@ -1,8 +1,6 @@
 -- Numbers of compact relocations, and relocations one after the other.
-use Rattle.linker_section.proofs.Imports.{◌≡◌, ℕ, zero, suc, ◌+◌, ◌-◌, ◌*◌, ◌/◌, ◌%◌, ◌^◌, ◌<◌, ◌≤◌, ◌⊎◌, inl, inr, Bool, true, false, List, [], ◌∷◌, ◌++◌, length, take, drop, slice_index, Ok, Err, refl, sym, ◌∙◌, ap, arith, Some, None, ℤ, bit_and, bit_or, add-one, true≢false, ◌≢◌, below_more, pow-le-pow_right, cases_lt, nat_tests, mod_below, mul-le, take_all, length-drop, drop-append-le, take-append-le, nat_lt, ◌==◌, ◌&&◌, AllContinue, uleb_number, low_groups, or_shifted, or_comm, one_shl, and_mask, mul-mod_first, prefix_len, nat_le, pow_128, groups_lt, number_at, number_in, number_to, word_of, delta_at, flags_of, next_of, followed, relocation_of_place, relocation_in, relocation_of, Rela}
-use Rattle.std.proofs.Common.{pow-suc}
+use Rattle.linker_section.proofs.Imports.{AllContinue, Bool, Err, List, None, Ok, Rela, Some, [], add-one, after, and_mask, ap, arith, below_more, bit_and, bit_or, cases_lt, delta_at, drop, drop-append-le, false, flags_of, followed, groups_lt, inl, inr, length, length-drop, low_groups, mod_below, mul-le, mul-mod_first, nat_le, nat_lt, nat_tests, next_of, number_at, number_in, number_to, one_shl, or_comm, or_shifted, pow-le-pow_right, pow-suc, pow_128, prefix_len, refl, relocation_in, relocation_of, relocation_of_place, slice_index, suc, sym, take, take-append-le, take_all, true, true≢false, uleb_number, word_of, zero, ℕ, ℤ, ◌%◌, ◌&&◌, ◌*◌, ◌++◌, ◌+◌, ◌-◌, ◌/◌, ◌<◌, ◌==◌, ◌^◌, ◌∙◌, ◌∷◌, ◌≡◌, ◌≢◌, ◌≤◌, ◌⊎◌}
 use Rattle.std.proofs.lemmas.List.Sums.{prefix_len-le-length}
-use Rattle.linker_section.specs.Crel.{after}
 use Rattle.linker_section.specs.declared.crel.CrelError.TheVariants.{CutOff, TooLarge}
 use Rattle.linker_section.specs.declared.crel.CrelError.{CrelError}
 use Rattle.linker_section.specs.declared.crel.Header.{Header}

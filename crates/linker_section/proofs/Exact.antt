@@ -1,5 +1,5 @@
 -- A section that can be written has no fault: each relocation has one value.
-use Rattle.linker_section.proofs.Imports.{◌≡◌, ℕ, ℤ, ◌+◌, ◌/◌, ◌<◌, ◌≤◌, ◌⊎◌, ◌^◌, List, length, drop, Bool, true, false, true≢false, ltb, refl, sym, ap, subst, ◌∙◌, inl, inr, arith, Option, Some, None, Ok, Err, Result, cases_eq, cases_lt, cases_Bool, and_parts, or_left, cond-true, cond-false, le-ltb, lt-ltb, slice_get, slice_index, ◌||◌, Uleb, IsUlebCause, BitRange, Uleb128Error, Ended, TooLarge, DoesNotFit, IsCause, IsAccepted, size_len, RiscV, RelocationKind, RowInfo, RowSize, BitMasking, RelocateError, Unsupported, TooShort, Misaligned, OutOfReach, UType, IsRow, Architecture, IsInReach, IsField, begins_pair, ends_pair, is_of_pair, Composes, of_number, of_pair, AreApart, relocation_in, relocation_at, Values, by_index, HasValue, IsRowValue, IsValueless, no_value, not_filled, no_stub, beyond, IsOtherLength, IsNotAccepted, IsPairRejected, IsNumberOfPair, IsCauseAt, IsOfValue, BeginsPair, offset_at, is_auipc, is_high_kind, is_high_part, names_label, IsHighPart, IsHighPartAt, low_value, IsLowValue, IsValueBy, IsValueIn, IsValue, CanBeWrittenBy, IsFirstFaultBy, PairFits, Addresses, Symbol, Rela, RelocationError, Value, Overlaps, OtherLength, Write, Uleb128, SectionError, ValueError}
+use Rattle.linker_section.proofs.Imports.{Addresses, Architecture, AreApart, BeginsPair, BitMasking, BitRange, Bool, CanBeWrittenBy, Composes, DoesNotFit, Ended, Err, HasValue, IsAccepted, IsCause, IsCauseAt, IsField, IsFirstFaultBy, IsHighPart, IsHighPartAt, IsInReach, IsLowValue, IsNotAccepted, IsNumberOfPair, IsOfValue, IsOtherLength, IsPairRejected, IsRow, IsRowValue, IsUlebCause, IsValue, IsValueBy, IsValueIn, IsValueless, List, Misaligned, None, Ok, Option, OtherLength, OutOfReach, Overlaps, PairFits, Rela, RelocateError, RelocationError, RelocationKind, Result, RiscV, RowInfo, RowSize, SectionError, Some, Symbol, TooLarge, TooShort, UType, Uleb, Uleb128, Uleb128Error, Unsupported, Value, ValueError, Values, Write, and_parts, ap, arith, begins_pair, beyond, by_index, cases_Bool, cases_eq, cases_lt, cond-false, cond-true, drop, ends_pair, false, inl, inr, is_auipc, is_high_kind, is_high_part, is_of_pair, le-ltb, length, low_value, lt-ltb, ltb, names_label, no_stub, no_value, not_filled, of_number, of_pair, offset_at, or_left, refl, relocation_at, relocation_in, size_len, slice_get, slice_index, subst, sym, true, true≢false, ℕ, ℤ, ◌+◌, ◌/◌, ◌<◌, ◌^◌, ◌||◌, ◌∙◌, ◌≡◌, ◌≤◌, ◌⊎◌}
 use Rattle.linker_elf.specs.declared.elf.RelocationKind.TheVariants as kinds
 use Rattle.linker_section.proofs.Composing.{begun_ends_none}
 use Rattle.linker_section.proofs.Fronts.{some_window}

@@ -1,5 +1,5 @@
 -- The first relocation that can't be written is that by the section before all writes.
-use Rattle.linker_section.proofs.Imports.{◌≡◌, ℕ, zero, suc, ℤ, ◌+◌, ◌^◌, ◌<◌, ◌≤◌, ◌⊎◌, List, [], ◌∷◌, length, take, drop, ltb, refl, sym, ap, subst, ◌∙◌, inl, inr, arith, cases_eq, or_left, cond_both, cond-false, le-ltb, length-drop, take_all, take-append-drop, get_or-take, drop_all, slice_index, AllContinue, IsUlebCause, Uleb128Error, Ended, TooLarge, DoesNotFit, IsCause, RowInfo, RelocateError, Unsupported, TooShort, Misaligned, OutOfReach, Architecture, IsField, field_len, begins_pair, ends_pair, uleb_len, AreApart, AreRelocated, IsUnwritable, IsPairRejected, IsNotAccepted, IsOtherLength, IsCauseAt, BeginsPair, IsOfValue, IsFirstRejectedBy, Values, offset_at, IsFirstFaultBy, Addresses, RelocationError, Value, Overlaps, OtherLength, Write, Uleb128, SectionError}
+use Rattle.linker_section.proofs.Imports.{Addresses, AllContinue, Architecture, AreApart, AreRelocated, BeginsPair, DoesNotFit, Ended, IsCause, IsCauseAt, IsField, IsFirstFaultBy, IsFirstRejectedBy, IsNotAccepted, IsOfValue, IsOtherLength, IsPairRejected, IsUlebCause, IsUnwritable, List, Misaligned, OtherLength, OutOfReach, Overlaps, RelocateError, RelocationError, RowInfo, SectionError, TooLarge, TooShort, Uleb128, Uleb128Error, Unsupported, Value, Values, Write, [], ap, arith, begins_pair, cases_eq, cond-false, cond_both, drop, drop_all, ends_pair, field_len, get_or-take, inl, inr, le-ltb, length, length-drop, ltb, offset_at, or_left, refl, slice_index, subst, suc, sym, take, take-append-drop, take_all, uleb_len, zero, ℕ, ℤ, ◌+◌, ◌<◌, ◌^◌, ◌∙◌, ◌∷◌, ◌≡◌, ◌≤◌, ◌⊎◌}
 use Rattle.linker_section.proofs.All.{untouched, pair_first, same_uleb}
 use Rattle.linker_section.proofs.Composing.{begun_has_value}
 use Rattle.linker_section.proofs.Fielded.{found_of, uses, found_are, are_inside, are_accepted, front_at, same_at}

@@ -1,5 +1,5 @@
 -- All fields of a section, after all writes.
-use Rattle.linker_section.proofs.Imports.{◌≡◌, ℕ, zero, suc, ℤ, pos, ◌+◌, ◌*◌, ◌^◌, ◌/◌, ◌<◌, ◌≤◌, ◌⊎◌, List, [], length, take, drop, true, false, true≢false, eqb, ltb, cond, refl, sym, ap, subst, ◌∙◌, inl, inr, arith, Option, Some, None, Ok, cases_eq, cases_lt, cases_Bool, or_left, or_right, cond-true, cond-false, eq-eqb, ne_eqb, eqb-true, lt-ltb, le-ltb, drop_at, length-drop, length-take, length-take-le, get_or-take, get_or-drop, get_or_past, slice_index, ◌||◌, Uleb, IsUlebWritten, WritesRow, SizeNumber, number_of_bytes, size_len, window_len, takes_size, RowInfo, RowSize, ByteSize, BitMasking, Architecture, supported_size, IsField, field_end, field_len, begins_pair, ends_pair, is_of_pair, Composes, of_number, of_pair, AreApart, AreRelocated, none, mark, one, pair, IsInside, IsValued, IsPairWritten, AreAllRelocatedBy, Values, has_value, offset_at, Found, AreFound, composed, composed_by, composed_with, field_bytes, HoldsNumber, HoldsValue, IsHeld, AreWrittenBy, MakePair, OfPair, HoldsPair, PairFits, IsAcceptedAt, AreAccepted, AreInside, IsUnwritten, Addresses}
+use Rattle.linker_section.proofs.Imports.{Addresses, Architecture, AreAccepted, AreAllRelocatedBy, AreApart, AreFound, AreInside, AreRelocated, AreWrittenBy, BitMasking, ByteSize, Composes, Found, HoldsNumber, HoldsPair, HoldsValue, IsAcceptedAt, IsField, IsHeld, IsInside, IsPairWritten, IsUlebWritten, IsUnwritten, IsValued, List, MakePair, None, OfPair, Ok, Option, PairFits, RowInfo, RowSize, SizeNumber, Some, Uleb, Values, WritesRow, [], ap, arith, begins_pair, cases_Bool, cases_eq, cases_lt, composed, composed_by, composed_with, cond, cond-false, cond-true, drop, drop_at, ends_pair, eq-eqb, eqb, eqb-true, false, field_bytes, field_end, field_len, get_or-drop, get_or-take, get_or_past, has_value, inl, inr, is_of_pair, le-ltb, length, length-drop, length-take, length-take-le, lt-ltb, ltb, mark, ne_eqb, none, number_of_bytes, of_number, of_pair, offset_at, one, or_left, or_right, pair, pos, refl, size_len, slice_index, subst, suc, supported_size, sym, take, takes_size, true, true≢false, window_len, zero, ℕ, ℤ, ◌*◌, ◌+◌, ◌/◌, ◌<◌, ◌^◌, ◌||◌, ◌∙◌, ◌≡◌, ◌≤◌, ◌⊎◌}
 use Rattle.linker_section.proofs.All.{AreUntouched, IsFirstAt, local_byte, pair_place, pair_first, untouched}
 use Rattle.linker_section.proofs.Composing.{begun_has_value, begun_ends_none, first_is_none, second_is_none}
 use Rattle.linker_section.proofs.Fronts.{HaveSameWindow, same_window, accepted_same, some_window, window_back}

@@ -1,5 +1,5 @@
 -- A write of a row reads and changes the bytes of its field only.
-use Rattle.linker_section.proofs.Imports.{◌≡◌, ℕ, ℤ, ◌-◌, ◌*◌, ◌^◌, ◌<◌, ◌≤◌, pos, List, ◌++◌, length, take, drop, Bool, true, sym, ap, subst, ◌∙◌, arith, lit≤, get_or-take, take-take, take_at, length-take-le, append-nil, Option, replicate, byte_len, byte_worth, from_le_bytes, w64, to_le_bytes, int_rem_euclid, window_of, BitRange, relocation_form, WritesRow, IsAccepted, SizeNumber, number_of_bytes, whole_number, size_len, window_len, takes_size, AArch64Instruction, Movnz, LoongArch64Instruction, Call36, Ppc64Form, D, RiscVInstruction, UType, AnyForm, RiscV, Ppc64, LoongArch64, RelocationKind, RowInfo, RowSize, ByteSize, BitMasking, window_at, supported_size, int_lt, Width, Written, BitsWritten, Fits, IsMultiple, IsAligned, IsInUnits, IsInWords, HoldsBits, IsReached, InstructionWritten, SizeReads, SizeHolds, FieldReads, InstructionHolds, number_written, low_bytes, bits_taken, bits_at, value_at, insn_at, is_dq_form, is_low_jump, Ds}
+use Rattle.linker_section.proofs.Imports.{AArch64Instruction, AnyForm, BitMasking, BitRange, BitsWritten, Bool, ByteSize, Call36, D, Ds, FieldReads, Fits, HoldsBits, InstructionHolds, InstructionWritten, IsAccepted, IsAligned, IsInUnits, IsInWords, IsMultiple, IsReached, List, LoongArch64, LoongArch64Instruction, Movnz, Option, Ppc64, Ppc64Form, RelocationKind, RiscV, RiscVInstruction, RowInfo, RowSize, SizeHolds, SizeNumber, SizeReads, UType, Width, WritesRow, Written, ap, append-nil, arith, bits_at, bits_taken, byte_len, byte_worth, drop, from_le_bytes, get_or-take, insn_at, int_lt, int_rem_euclid, is_dq_form, is_low_jump, length, length-take-le, lit≤, low_bytes, number_of_bytes, number_written, pos, relocation_form, replicate, size_len, subst, supported_size, sym, take, take-take, take_at, takes_size, to_le_bytes, true, value_at, w64, whole_number, window_at, window_len, window_of, ℕ, ℤ, ◌*◌, ◌++◌, ◌-◌, ◌<◌, ◌^◌, ◌∙◌, ◌≡◌, ◌≤◌}
 use Rattle.linker_elf.specs.Reach.{reach_of}
 use Rattle.linker_elf.specs.Relocate as relocate
 use Rattle.linker_elf.specs.declared.elf.AnyForm.TheVariants.{AArch64}

@@ -1,5 +1,5 @@
 -- What each field holds after all writes.
-use Rattle.linker_section.proofs.Imports.{◌≡◌, ℕ, ℤ, ◌+◌, ◌<◌, ◌≤◌, ◌⊎◌, List, take, drop, true, false, true≢false, sym, ap, subst, ◌∙◌, inl, inr, arith, cases_eq, cases_lt, or_left, or_right, take-take, drop_at, drop-take, length-drop, length-take-le, get_or-take, get_or-drop, length-take, WritesRow, window_len, RowInfo, Architecture, ext_get_or, IsField, field_end, field_len, begins_pair, ends_pair, is_of_pair, Composes, of_number, of_pair, AreApart, IsValued, IsWritten, Values, offset_at, field_bytes, Addresses}
+use Rattle.linker_section.proofs.Imports.{Addresses, Architecture, AreApart, Composes, IsField, IsValued, IsWritten, List, RowInfo, Values, WritesRow, ap, arith, begins_pair, cases_eq, cases_lt, drop, drop-take, drop_at, ends_pair, ext_get_or, false, field_bytes, field_end, field_len, get_or-drop, get_or-take, inl, inr, is_of_pair, length-drop, length-take, length-take-le, of_number, of_pair, offset_at, or_left, or_right, subst, sym, take, take-take, true, true≢false, window_len, ℕ, ℤ, ◌+◌, ◌<◌, ◌∙◌, ◌≡◌, ◌≤◌, ◌⊎◌}
 use Rattle.linker_section.proofs.All.{AreUntouched, IsFirstAt, first_byte}
 use Rattle.linker_section.proofs.Composing.{first_is_none, second_is_none}
 use Rattle.linker_section.proofs.Fronts.{writes_front}

@@ -28,7 +28,6 @@ pub use Rattle.linker_elf.specs.declared.elf.RowInfo.{RowInfo}
 pub use Rattle.linker_elf.specs.declared.elf.RowSize.{RowSize}
 pub use Rattle.linker_elf.specs.declared.elf.RowSize.TheVariants.{BitMasking, ByteSize}
 pub use Rattle.linker_elf.specs.declared.elf.architecture.Architecture.{Architecture}
-pub use Rattle.linker_elf.specs.declared.elf.architecture.Architecture.TheVariants.{AArch64, X86_64}
 pub use Rattle.linker_elf.specs.declared.elf.facts.Way.{Way}
 pub use Rattle.linker_elf.specs.declared.elf.relocate.RelocateError.{RelocateError}
 pub use Rattle.linker_elf.specs.declared.elf.relocate.RelocateError.TheVariants.{Misaligned, OutOfReach, TooShort, Unsupported}
@@ -44,7 +43,8 @@ pub use Rattle.linker_elf.specs.declared.riscv64.forms.RiscVInstruction.TheVaria
 pub use Rattle.linker_elf.specs.declared.riscv64.relocations.RiscVRelocation.{RiscVRelocation}
 pub use Rattle.linker_elf.specs.declared.x86_64.relocations.X86_64Relocation.{X86_64Relocation}
 pub use Rattle.linker_section.specs.Conditions.{HasLength, HoldsOffset, IsInReach, holds_offset, is_12_bits, is_filled, is_thread_based, is_tp_off, is_upper, lacks_stub, needs_upper, shows, shows_length}
-pub use Rattle.linker_section.specs.Crel.{after, delta_at, flags_of, followed, next_of, number_at, number_in, number_to, relocation_of_place, word_of}
+pub use Rattle.linker_section.specs.Crel.{delta_at, flags_of, followed, next_of, number_at, number_in, number_to, relocation_of_place, word_of}
+unfoldable pub use Rattle.linker_section.specs.Crel.{after}
 pub use Rattle.linker_section.specs.Fields.{AreApart, Composes, IsField, IsOverlapped, Overlap, begins_pair, changes_bits, changes_number, continues, ends_pair, field_end, field_len, is_of_pair, of_number, of_pair, uleb_len}
 pub use Rattle.linker_section.specs.Inner.Claims.{AreClaimed, HasField, IsContinued, IsLastField, continues_at, is_clear_of, next_field}
 pub use Rattle.linker_section.specs.Inner.Facts.{SaysNeeds, SaysWay, When, is_high, is_high_way, is_low, is_low_way, is_offset_way, is_plain, is_plain_way, is_quick, requirements_by, shows_lengths, word_shows}
@@ -71,8 +71,8 @@ pub use Rattle.linker_section.specs.declared.sections.SectionError.{SectionError
 pub use Rattle.linker_section.specs.declared.sections.Step.{Step}
 pub use Rattle.linker_section.specs.declared.values.ValueError.{ValueError}
 pub use Rattle.linker_section.specs.declared.values.ValueError.TheVariants.{NoHighPart, NotAligned}
-pub use Rattle.std.proofs.Common.{Bool, Err, FitsSigned, IfErr, IfNone, IfSome, IsOk, IsTrue, List, None, Ok, OnOk, Option, Result, Some, [], add-one, ap, append_assoc, ap₂, arith, below_more, bit_and, bit_or, cond, drop, eqb, false, get_or, if◌then◌else◌, inl, inr, int_lt, is_some, leb, length, lit≤, ltb, min, nat_le, nat_lt, neg_ℤ, negsuc, not, of_z, pos, refl, replicate, rules, set, slice_get, slice_index, subst, suc, sym, take, to_z, true, true≢false, unsigned_abs, zero, ℕ, ℤ, ◌%◌, ◌&&◌, ◌*◌, ◌++◌, ◌+ℤ◌, ◌+◌, ◌-ℤ◌, ◌-◌, ◌/◌, ◌<◌, ◌==◌, ◌^◌, ◌||◌, ◌↔◌, ◌∙◌, ◌∷◌, ◌≡◌, ◌≢◌, ◌≤◌, ◌⊎◌}
-pub use Rattle.std.proofs.Math.Nat.{add-mul-mod_self_right, min-eq_left, min-eq_right, mod-eq_of_lt, pow-le-pow_right, pow-suc}
+pub use Rattle.std.proofs.Common.{Bool, Err, FitsSigned, IfErr, IfNone, IfSome, IsOk, IsTrue, List, None, Ok, OnOk, Option, Result, Some, [], add-one, ap, append_assoc, ap₂, arith, below_more, bit_and, bit_or, cond, drop, eqb, false, get_or, if◌then◌else◌, inl, inr, int_lt, is_some, leb, length, lit≤, ltb, min, mod-eq_of_lt, nat_le, nat_lt, neg_ℤ, negsuc, not, of_z, pos, pow-suc, refl, replicate, rules, set, slice_get, slice_index, subst, suc, sym, take, to_z, true, true≢false, unsigned_abs, w64, zero, ℕ, ℤ, ◌%◌, ◌&&◌, ◌*◌, ◌++◌, ◌+ℤ◌, ◌+◌, ◌-ℤ◌, ◌-◌, ◌/◌, ◌<◌, ◌==◌, ◌^◌, ◌||◌, ◌↔◌, ◌∙◌, ◌∷◌, ◌≡◌, ◌≢◌, ◌≤◌, ◌⊎◌}
+pub use Rattle.std.proofs.Math.Nat.{add-mul-mod_self_right, min-eq_left, min-eq_right, pow-le-pow_right}
 pub use Rattle.std.proofs.lemmas.Bool.{and_from, and_parts, both_ways, cases_Bool, cases_eq, cases_lt, cond-false, cond-true, cond_both, eq-eqb, eqb-false, eqb-true, le-leb, le-ltb, leb-false, leb-true, lt-leb, lt-ltb, ltb-true, ne_eqb, not-false, not-true, or_cases, or_left, or_parts, or_right}
 pub use Rattle.std.proofs.lemmas.Bool.Decides.{nat_tests}
 pub use Rattle.std.proofs.lemmas.Int.{int_rem_euclid_is, ints, to_z-of_z, to_z_pos}
@@ -82,5 +82,5 @@ pub use Rattle.std.proofs.lemmas.Nat.{and_mask, div-add-mod', le_bytes_8, mod_be
 pub use Rattle.std.proofs.lemmas.Option.{slice_get_read}
 pub use Rattle.std.proofs.lemmas.Result.{err_from_is_err_and}
 pub use Rattle.std.proofs.lemmas.Slice.{drop-append-drop, take-put_mid}
-pub use Rattle.std.specs.Int.{Width, byte_len, byte_worth, cast_unsigned, from_le_bytes, int_rem_euclid, sum_through, to_le_bytes, w64}
+pub use Rattle.std.specs.Int.{Width, byte_len, byte_worth, cast_unsigned, from_le_bytes, int_rem_euclid, sum_through, to_le_bytes}
 pub use Rattle.std.specs.List.{Contains, prefix_len, swap}

@@ -1,5 +1,5 @@
 -- Whether an instruction is as long as the form of its relocation.
-use Rattle.linker_section.proofs.Imports.{◌≡◌, ℕ, ℤ, ◌<◌, List, length, take, drop, Bool, true, false, true≢false, eqb, ◌&&◌, ◌/◌, refl, sym, ap, ◌∙◌, inl, inr, arith, cases_Bool, cases_lt, get_or-take, length-drop, w64, from_le_bytes, slice_index, not, ◌||◌, size_len, window_len, RiscV, Ppc64, LoongArch64, RowInfo, RowSize, ByteSize, BitMasking, RiscVInstruction, OutOfReach, Architecture, ◌↔◌, IsTrue, ◌%◌, ◌^◌, Shift10, Prefixed, IType, SType, CbType, CjType, CluiType, HasLength, HoldsOffset, holds_offset, is_12_bits, is_thread_based, is_tp_off, shows, shows_length, is_of_pair, word_shows, IsValued, IsOtherLength, IsUnwritable, Values, offset_at, Addresses}
+use Rattle.linker_section.proofs.Imports.{Addresses, Architecture, BitMasking, Bool, ByteSize, CbType, CjType, CluiType, HasLength, HoldsOffset, IType, IsOtherLength, IsTrue, IsUnwritable, IsValued, List, LoongArch64, OutOfReach, Ppc64, Prefixed, RiscV, RiscVInstruction, RowInfo, RowSize, SType, Shift10, Values, ap, arith, cases_Bool, cases_lt, drop, eqb, false, from_le_bytes, get_or-take, holds_offset, inl, inr, is_12_bits, is_of_pair, is_thread_based, is_tp_off, length, length-drop, not, offset_at, refl, shows, shows_length, size_len, slice_index, sym, take, true, true≢false, w64, window_len, word_shows, ℕ, ℤ, ◌%◌, ◌&&◌, ◌/◌, ◌<◌, ◌^◌, ◌||◌, ◌↔◌, ◌∙◌, ◌≡◌}
 use Rattle.linker_elf.specs.declared.elf.facts.Length.{Length}
 use Rattle.linker_elf.specs.declared.elf.facts.Length.TheVariants as lengths
 use Rattle.linker_section.proofs.Fronts.{some_window, HaveSameWindow}

@@ -1,5 +1,5 @@
 -- A write changes the bytes of its field only.
-use Rattle.linker_section.proofs.Imports.{◌≡◌, ℕ, ℤ, ◌+◌, ◌≤◌, List, length, take, drop, true, ap, sym, ◌∙◌, arith, lit≤, and_parts, ltb-true, take_at, drop_at, drop-drop, length-drop, length-take-le, length-append, not, nat_lt, byte_len, w64, to_le_bytes, window_of, relocation_form, WritesRow, takes_size, size_len, window_len, AArch64Instruction, Movnz, RiscVInstruction, UType, Ppc64Form, D, LoongArch64Instruction, Call36, AnyForm, RiscV, Ppc64, LoongArch64, RelocationKind, RowInfo, RowSize, ByteSize, BitMasking, Architecture, window_at, supported_size, drop-append-drop, is_of_uleb128, uleb_len, IsWritten, IsPairWritten, Values, Addresses, offset_at}
+use Rattle.linker_section.proofs.Imports.{AArch64Instruction, Addresses, AnyForm, Architecture, BitMasking, ByteSize, Call36, D, IsPairWritten, IsWritten, List, LoongArch64, LoongArch64Instruction, Movnz, Ppc64, Ppc64Form, RelocationKind, RiscV, RiscVInstruction, RowInfo, RowSize, UType, Values, WritesRow, and_parts, ap, arith, byte_len, drop, drop-append-drop, drop-drop, drop_at, is_of_uleb128, length, length-append, length-drop, length-take-le, lit≤, ltb-true, nat_lt, not, offset_at, relocation_form, size_len, supported_size, sym, take, take_at, takes_size, to_le_bytes, true, uleb_len, w64, window_at, window_len, window_of, ℕ, ℤ, ◌+◌, ◌∙◌, ◌≡◌, ◌≤◌}
 use Rattle.linker_elf.specs.Relocate as relocate
 use Rattle.linker_elf.specs.declared.elf.AnyForm.TheVariants.{AArch64}
 use Rattle.linker_section.proofs.Ulebs.{uleb_len_is, same_last}

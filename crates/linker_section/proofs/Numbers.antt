@@ -1,5 +1,5 @@
 -- Numbers that relocations compose, modulo the size of their field.
-use Rattle.linker_section.proofs.Imports.{Bool, ◌≡◌, ℕ, zero, suc, ℤ, pos, negsuc, ◌+ℤ◌, ◌-ℤ◌, neg_ℤ, ◌+◌, ◌-◌, ◌*◌, ◌/◌, ◌%◌, ◌^◌, ◌<◌, ◌≤◌, List, ◌++◌, length, take, true, false, inl, inr, refl, sym, ap, subst, ◌∙◌, arith, unsigned_abs, cases_Bool, cases_lt, get_or-take, get_or_append_left, get_or-append_right, get_or-replicate, get_or_past, length-take, length-replicate, mod_below, mul-le, mod-eq_of_lt, pow-suc, slice_index, replicate, int_rem_euclid, byte_worth, sum_through, number_of_bytes, whole_number, SizeNumber, ByteSize, RelocationKind, never, ints, int_rem_euclid_is, pow_pos, pow-add, div-add-mod', shr_below, add-mul-mod_self_right, composed_with, HoldsWord6, HoldsNumber}
+use Rattle.linker_section.proofs.Imports.{Bool, ByteSize, HoldsNumber, HoldsWord6, List, RelocationKind, SizeNumber, add-mul-mod_self_right, ap, arith, byte_worth, cases_Bool, cases_lt, composed_with, div-add-mod', false, get_or-append_right, get_or-replicate, get_or-take, get_or_append_left, get_or_past, inl, inr, int_rem_euclid, int_rem_euclid_is, ints, length, length-replicate, length-take, mod-eq_of_lt, mod_below, mul-le, neg_ℤ, negsuc, never, number_of_bytes, pos, pow-add, pow-suc, pow_pos, refl, replicate, shr_below, slice_index, subst, suc, sum_through, sym, take, true, unsigned_abs, whole_number, zero, ℕ, ℤ, ◌%◌, ◌*◌, ◌++◌, ◌+ℤ◌, ◌+◌, ◌-ℤ◌, ◌-◌, ◌/◌, ◌<◌, ◌^◌, ◌∙◌, ◌≡◌, ◌≤◌}
 use Rattle.linker_elf.proofs.Agreement.{rem_rem, rem_below}
 use Rattle.linker_elf.specs.declared.elf.RelocationKind.TheVariants as kinds
 

@@ -1,5 +1,5 @@
 -- What a call that relocates a section returns, by what it returns of one value after the other.
-use Rattle.linker_section.proofs.Imports.{ℕ, ◌/◌, ◌<◌, List, length, Ok, Err, Result, refl, sym, true≢false, IfErr, IsOk, OnOk, slice_index, ◌↔◌, Architecture, AreApart, AreAllRelocatedBy, IsFirstRejectedBy, Values, AreWrittenBy, CanBeWrittenBy, IsFirstFaultBy, Addresses, SectionError}
+use Rattle.linker_section.proofs.Imports.{Addresses, Architecture, AreAllRelocatedBy, AreApart, AreWrittenBy, CanBeWrittenBy, Err, IfErr, IsFirstFaultBy, IsFirstRejectedBy, IsOk, List, Ok, OnOk, Result, SectionError, Values, length, refl, slice_index, sym, true≢false, ℕ, ◌/◌, ◌<◌, ◌↔◌}
 use Rattle.linker_section.proofs.Exact.{AreUnique, no_fault}
 use Rattle.linker_section.proofs.Faults.{first_fault}
 use Rattle.linker_section.proofs.Fielded.{are_written}

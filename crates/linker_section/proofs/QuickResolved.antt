@@ -1,5 +1,5 @@
 -- Values that are found by a look-up with few tests.
-use Rattle.linker_section.proofs.Imports.{◌≡◌, ℕ, ℤ, ◌<◌, ◌/◌, true, false, true≢false, List, length, Option, Some, None, Ok, refl, sym, ap, subst, ◌∙◌, IfSome, ◌&&◌, not, cond-true, ltb-true, lt-ltb, or_left, or_right, IsRow, way_of, window_len, difference_64, is_offset, RowInfo, Architecture, Way, is_tp_off, needs_upper, is_of_pair, SaysWay, is_high, is_high_way, is_low, is_low_way, is_offset_way, is_plain, is_quick, IsPlainResolved, IsQuickAt, IsResolvedHigh, IsValueAt, relocation_in, IsResolvedBy, IsResolvedUnless, IsLowResolved, Lookup, by_lookup, is_defined_in, is_skipped, lacks_resolved_stub, resolved_operands, has_value, is_high_part, low_by, low_operands, names_label, value_by, IsHighPart, Addresses, HighPart, Resolved}
+use Rattle.linker_section.proofs.Imports.{Addresses, Architecture, HighPart, IfSome, IsHighPart, IsLowResolved, IsPlainResolved, IsQuickAt, IsResolvedBy, IsResolvedHigh, IsResolvedUnless, IsRow, IsValueAt, List, Lookup, None, Ok, Option, Resolved, RowInfo, SaysWay, Some, Way, ap, by_lookup, cond-true, difference_64, false, has_value, is_defined_in, is_high, is_high_part, is_high_way, is_low, is_low_way, is_of_pair, is_offset, is_offset_way, is_plain, is_quick, is_skipped, is_tp_off, lacks_resolved_stub, length, low_by, low_operands, lt-ltb, ltb-true, names_label, needs_upper, not, or_left, or_right, refl, relocation_in, resolved_operands, subst, sym, true, true≢false, value_by, way_of, window_len, ℕ, ℤ, ◌&&◌, ◌/◌, ◌<◌, ◌∙◌, ◌≡◌}
 use Rattle.linker_elf.specs.declared.elf.RelocationKind.TheVariants as kinds
 use Rattle.linker_elf.specs.declared.elf.facts.Way.TheVariants as ways
 use Rattle.linker_section.proofs.QuickValues.{and_false, when_true}

@@ -1,5 +1,5 @@
 -- Values that are found by the facts of rows.
-use Rattle.linker_section.proofs.Imports.{◌≡◌, ℕ, ℤ, ◌<◌, ◌/◌, Bool, true, false, true≢false, not, ◌&&◌, List, length, Option, Some, None, Result, Ok, Err, refl, sym, ap, subst, ◌∙◌, IfSome, slice_get, if◌then◌else◌, cond-true, ltb-true, lt-ltb, or_left, or_right, window_len, value_of, RowInfo, Operands, IsRow, Architecture, way_of, difference_64, is_offset, Way, is_tp_off, lacks_stub, needs_upper, is_of_pair, When, SaysWay, is_plain_way, is_offset_way, is_high_way, is_plain, is_high, is_low, is_quick, IsPlainValue, IsQuickAt, IsQuickValue, IsHighValue, HasHighValue, may_use_stub, relocation_in, has_value, names_label, is_high_part, is_defined, lacks_origin, operands_of, value_by, own_value, low_by, low_value, low_operands, offset_at, IsHighPart, IsHighPartAt, IsValueBy, IsLowValue, address_of, target_of, Addresses, Symbol, HighPart, Rela, ValueError, by_index}
+use Rattle.linker_section.proofs.Imports.{Addresses, Architecture, Bool, Err, HasHighValue, HighPart, IfSome, IsHighPart, IsHighPartAt, IsHighValue, IsLowValue, IsPlainValue, IsQuickAt, IsQuickValue, IsRow, IsValueBy, List, None, Ok, Operands, Option, Rela, Result, RowInfo, SaysWay, Some, Symbol, ValueError, Way, When, address_of, ap, by_index, cond-true, difference_64, false, has_value, if◌then◌else◌, is_defined, is_high, is_high_part, is_high_way, is_low, is_of_pair, is_offset, is_offset_way, is_plain, is_plain_way, is_quick, is_tp_off, lacks_origin, lacks_stub, length, low_by, low_operands, low_value, lt-ltb, ltb-true, may_use_stub, names_label, needs_upper, not, offset_at, operands_of, or_left, or_right, own_value, refl, relocation_in, slice_get, subst, sym, target_of, true, true≢false, value_by, value_of, way_of, window_len, ℕ, ℤ, ◌&&◌, ◌/◌, ◌<◌, ◌∙◌, ◌≡◌}
 use Rattle.linker_elf.specs.declared.elf.RelocationKind.TheVariants as kinds
 use Rattle.linker_elf.specs.declared.elf.facts.Way.TheVariants as ways
 

@@ -1,5 +1,5 @@
 -- What is known of a section before and after some of its values are written.
-use Rattle.linker_section.proofs.Imports.{◌≡◌, ℕ, ℤ, ◌+◌, ◌-◌, ◌*◌, ◌^◌, ◌/◌, ◌<◌, ◌≤◌, List, length, drop, Option, None, inl, inr, Result, Ok, Err, leb, refl, sym, ap, subst, ◌∙◌, arith, eqb, true, false, true≢false, cases_eq, cond-false, or_left, or_right, ne_eqb, le-leb, drop-drop, length-drop, window_len, RowInfo, RelocateError, slice_index, Architecture, AreApart, is_clear_of, next_field, AreSmall, Step, Ascends, IsLimit, Reached, clear_in, field_of_row, AreWrittenBelow, IsFirstRun, IsFront, IsOwnField, IsQuickStep, AreRelocated, IsWritten, IsWrittenAt, AreAllRelocatedBy, Values, offset_at, Addresses, Field}
+use Rattle.linker_section.proofs.Imports.{Addresses, Architecture, AreAllRelocatedBy, AreApart, AreRelocated, AreSmall, AreWrittenBelow, Ascends, Err, Field, IsFirstRun, IsFront, IsLimit, IsOwnField, IsQuickStep, IsWritten, IsWrittenAt, List, None, Ok, Option, Reached, RelocateError, Result, RowInfo, Step, Values, ap, arith, cases_eq, clear_in, cond-false, drop, drop-drop, eqb, false, field_of_row, inl, inr, is_clear_of, le-leb, leb, length, length-drop, ne_eqb, next_field, offset_at, or_left, or_right, refl, slice_index, subst, sym, true, true≢false, window_len, ℕ, ℤ, ◌*◌, ◌+◌, ◌-◌, ◌/◌, ◌<◌, ◌^◌, ◌∙◌, ◌≡◌, ◌≤◌}
 use Rattle.linker_elf.specs.declared.elf.RelocationKind.TheVariants as kinds
 use Rattle.std.specs.Result.{is_err}
 use Rattle.linker_section.proofs.All.{all_relocated}

@@ -1,5 +1,5 @@
 -- What is found by a look-up is found once.
-use Rattle.linker_section.proofs.Imports.{◌≡◌, ℕ, ℤ, ◌/◌, List, length, Bool, true, false, true≢false, refl, sym, ap, subst, ◌∙◌, Option, Some, None, Ok, Err, Result, IsRow, difference_64, RowInfo, Architecture, IsInReach, is_filled, AreApart, relocation_in, IsLabelResolved, IsLowResolved, IsResolvedBy, IsResolvedIn, IsResolvedUnless, IsResolvedValue, IsUnresolved, Lookup, by_high, by_lookup, is_skipped, resolved_operands, stubless, too_far, unfilled, valueless, without, IsValued, Outcome, low_by, names_label, Addresses, Rela, Resolved, ValueError}
+use Rattle.linker_section.proofs.Imports.{Addresses, Architecture, AreApart, Bool, Err, IsInReach, IsLabelResolved, IsLowResolved, IsResolvedBy, IsResolvedIn, IsResolvedUnless, IsResolvedValue, IsRow, IsUnresolved, IsValued, List, Lookup, None, Ok, Option, Outcome, Rela, Resolved, Result, RowInfo, Some, ValueError, ap, by_high, by_lookup, difference_64, false, is_filled, is_skipped, length, low_by, names_label, refl, relocation_in, resolved_operands, stubless, subst, sym, too_far, true, true≢false, unfilled, valueless, without, ℕ, ℤ, ◌/◌, ◌∙◌, ◌≡◌}
 use Rattle.linker_section.proofs.Exact.{AreUnique, first_of, is_ok, of_ok, no_high, one_high}
 use Rattle.linker_section.proofs.ResolvedValues.{lookup_outcome}
 use Rattle.linker_section.proofs.Rows.{one_row}

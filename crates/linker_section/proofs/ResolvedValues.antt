@@ -1,5 +1,5 @@
 -- Values that are found by a look-up.
-use Rattle.linker_section.proofs.Imports.{◌≡◌, ℕ, ℤ, List, Bool, true, false, true≢false, refl, sym, subst, ◌∙◌, inl, inr, Option, Some, None, Ok, Err, and_parts, cases_Bool, cond-true, cond-false, not-true, ◌&&◌, not, IsRow, difference_64, is_offset, RowInfo, Architecture, is_of_pair, IsOutcome, relocation_in, IsLabelResolved, IsLowResolved, IsResolvedBy, IsResolvedIn, IsResolvedUnless, Lookup, by_high, by_lookup, is_defined_in, is_left_out, is_skipped, resolved_operands, resolved_value, without, Outcome, has_value, names_label, Addresses, Rela, Resolved}
+use Rattle.linker_section.proofs.Imports.{Addresses, Architecture, Bool, Err, IsLabelResolved, IsLowResolved, IsOutcome, IsResolvedBy, IsResolvedIn, IsResolvedUnless, IsRow, List, Lookup, None, Ok, Option, Outcome, Rela, Resolved, RowInfo, Some, and_parts, by_high, by_lookup, cases_Bool, cond-false, cond-true, difference_64, false, has_value, inl, inr, is_defined_in, is_left_out, is_of_pair, is_offset, is_skipped, names_label, not, not-true, refl, relocation_in, resolved_operands, resolved_value, subst, sym, true, true≢false, without, ℕ, ℤ, ◌&&◌, ◌∙◌, ◌≡◌}
 use Rattle.linker_section.proofs.Rows.{one_row}
 use Rattle.linker_section.proofs.Valued.{IsNoValue, IsSomeValue, by_none, low_by_none, unlabelled, unpaired}
 

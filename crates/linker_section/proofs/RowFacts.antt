@@ -1,12 +1,12 @@
 -- The facts of each row say what it requires, and what its way requires of it: by computation, name
 -- by name.
-use Rattle.linker_section.proofs.Imports.{◌≡◌, ℕ, ℤ, refl, sym, subst, true, false, true≢false, Option, Some, None, aarch64_name, aarch64_row, ElfName, loongarch_name, loongarch_row, ppc64_name, ppc64_row, riscv_name, riscv_relocation, x86_64_name, x86_64_row, AArch64Relocation, RowInfo, LoongArch64Relocation, Ppc64Relocation, RiscVRelocation, X86_64Relocation, IsNamedValue, IsRow, Architecture, AArch64, X86_64, facts_of, requirements_by, SaysNeeds, SaysWay, needs_of}
+use Rattle.linker_section.proofs.Imports.{AArch64Relocation, Architecture, ElfName, IsNamedValue, IsRow, LoongArch64Relocation, None, Option, Ppc64Relocation, RiscVRelocation, RowInfo, SaysNeeds, SaysWay, Some, X86_64Relocation, aarch64_name, aarch64_row, facts_of, false, loongarch_name, loongarch_row, needs_of, ppc64_name, ppc64_row, refl, requirements_by, riscv_name, riscv_relocation, subst, sym, true, true≢false, x86_64_name, x86_64_row, ℕ, ℤ, ◌≡◌}
+use Rattle.linker_elf.specs.declared.elf.architecture.Architecture.TheVariants.{AArch64, X86_64, RiscV, LoongArch64, Ppc64}
 use Rattle.linker_elf.specs.declared.aarch64.relocations.AArch64Relocation.TheVariants as aarch64
 use Rattle.linker_elf.specs.declared.loongarch64.relocations.LoongArch64Relocation.TheVariants as loongarch64
 use Rattle.linker_elf.specs.declared.ppc64.relocations.Ppc64Relocation.TheVariants as ppc64
 use Rattle.linker_elf.specs.declared.riscv64.relocations.RiscVRelocation.TheVariants as riscv64
 use Rattle.linker_elf.specs.declared.x86_64.relocations.X86_64Relocation.TheVariants as x86_64
-use Rattle.linker_elf.specs.declared.elf.architecture.Architecture.TheVariants.{RiscV, LoongArch64, Ppc64}
 
 -- ---- names
 

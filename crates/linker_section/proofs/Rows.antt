@@ -1,11 +1,11 @@
 -- An `r_type` has one row.
-use Rattle.linker_section.proofs.Imports.{◌≡◌, ℕ, refl, sym, ap, ◌∙◌, Option, Some, None, ◌⊎◌, inl, inr, aarch64_name, aarch64_row, ElfName, loongarch_name, loongarch_row, ppc64_name, ppc64_row, riscv_name, riscv_relocation, x86_64_name, x86_64_row, AArch64Relocation, RowInfo, LoongArch64Relocation, Ppc64Relocation, RiscVRelocation, X86_64Relocation, IsNamedValue, IsRow, Architecture, AArch64, X86_64, named, unnamed, IsNamed}
+use Rattle.linker_section.proofs.Imports.{AArch64Relocation, Architecture, ElfName, IsNamed, IsNamedValue, IsRow, LoongArch64Relocation, None, Option, Ppc64Relocation, RiscVRelocation, RowInfo, Some, X86_64Relocation, aarch64_name, aarch64_row, ap, inl, inr, loongarch_name, loongarch_row, named, ppc64_name, ppc64_row, refl, riscv_name, riscv_relocation, sym, unnamed, x86_64_name, x86_64_row, ℕ, ◌∙◌, ◌≡◌, ◌⊎◌}
+use Rattle.linker_elf.specs.declared.elf.architecture.Architecture.TheVariants.{AArch64, X86_64, RiscV, LoongArch64, Ppc64}
 use Rattle.linker_elf.specs.declared.aarch64.relocations.AArch64Relocation.TheVariants as aarch64_names
 use Rattle.linker_elf.specs.declared.loongarch64.relocations.LoongArch64Relocation.TheVariants as loongarch64_names
 use Rattle.linker_elf.specs.declared.ppc64.relocations.Ppc64Relocation.TheVariants as ppc64_names
 use Rattle.linker_elf.specs.declared.riscv64.relocations.RiscVRelocation.TheVariants as riscv64_names
 use Rattle.linker_elf.specs.declared.x86_64.relocations.X86_64Relocation.TheVariants as x86_64_names
-use Rattle.linker_elf.specs.declared.elf.architecture.Architecture.TheVariants.{RiscV, LoongArch64, Ppc64}
 
 -- ---- names without a text have no row
 

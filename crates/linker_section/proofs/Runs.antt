@@ -1,5 +1,5 @@
 -- Two runs of relocations by ascending offsets, gone through by offset.
-use Rattle.linker_section.proofs.Imports.{◌≡◌, ℕ, ◌+◌, ◌/◌, ◌<◌, ◌≤◌, List, length, drop, Some, true, false, ap, subst, inl, inr, arith, cases_eq, cases_lt, cases_Bool, cond-false, window_len, RowInfo, IsRow, Architecture, IsField, field_end, field_len, is_of_pair, AreApart, IsPast, AreSmall, IsOfRuns, ArePast, relocation_in, has_value, offset_at, Rela, ltb-true}
+use Rattle.linker_section.proofs.Imports.{Architecture, AreApart, ArePast, AreSmall, IsField, IsOfRuns, IsPast, IsRow, List, Rela, RowInfo, Some, ap, arith, cases_Bool, cases_eq, cases_lt, cond-false, drop, false, field_end, field_len, has_value, inl, inr, is_of_pair, length, ltb-true, offset_at, relocation_in, subst, true, window_len, ℕ, ◌+◌, ◌/◌, ◌<◌, ◌≡◌, ◌≤◌}
 use Rattle.linker_section.proofs.Claims.{OneMore}
 use Rattle.linker_section.proofs.RowFacts.{says_way}
 use Rattle.linker_section.proofs.Stepping.{len_alone, len_paired}

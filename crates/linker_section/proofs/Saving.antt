@@ -1,5 +1,5 @@
 -- Bytes that are kept, put back.
-use Rattle.linker_section.proofs.Imports.{◌≡◌, ℕ, suc, zero, ◌+◌, ◌-◌, ◌<◌, ◌≤◌, List, ◌++◌, length, take, drop, set, leb, true, false, min, get_or, replicate, ap₂, refl, ap, sym, subst, ◌∙◌, inl, inr, arith, Option, Some, cond-true, cond-false, cases_lt, le-leb, take_at, drop_at, drop-drop, take-take, take_all, drop_all, take-append-drop, append-nil, length-take-le, length-append, length-drop, take-append-le, get_or-set_other, get_or-drop, get_or_past, get_or_append_left, get_or-append_right, get_or-replicate, length-replicate, w64, to_le_bytes, from_le_bytes, slice_index, sum_64, IsRow, Architecture, RowInfo, lt-leb, get_or-set_same, length-set, le_bytes_8, min-eq_left, min-eq_right, ends_pair, IsSavedAt, with_word, saved_place, Restores, relocation_in}
+use Rattle.linker_section.proofs.Imports.{Architecture, IsRow, IsSavedAt, List, Option, Restores, RowInfo, Some, ap, append-nil, ap₂, arith, cases_lt, cond-false, cond-true, drop, drop-drop, drop_all, drop_at, ends_pair, false, from_le_bytes, get_or, get_or-append_right, get_or-drop, get_or-replicate, get_or-set_other, get_or-set_same, get_or_append_left, get_or_past, inl, inr, le-leb, le_bytes_8, leb, length, length-append, length-drop, length-replicate, length-set, length-take-le, lt-leb, min, min-eq_left, min-eq_right, refl, relocation_in, replicate, saved_place, set, slice_index, subst, suc, sum_64, sym, take, take-append-drop, take-append-le, take-take, take_all, take_at, to_le_bytes, true, w64, with_word, zero, ℕ, ◌++◌, ◌+◌, ◌-◌, ◌<◌, ◌∙◌, ◌≡◌, ◌≤◌}
 
 -- ---- one word
 

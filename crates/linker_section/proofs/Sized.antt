@@ -1,5 +1,6 @@
 -- Rows whose values compose are of whole bytes, and fields have at most ten.
-use Rattle.linker_section.proofs.Imports.{◌≡◌, ℕ, ◌≤◌, List, [], ◌∷◌, length, take, drop, Bool, true, false, refl, sym, ap, ◌∙◌, Option, Some, None, not, nat_le, nat_lt, subst, inl, inr, arith, ◌||◌, cases_Bool, leb-true, not-true, or_cases, length-take, BitRange, AnyForm, aarch64_name, aarch64_row, ElfName, loongarch_name, loongarch_row, ppc64_name, ppc64_row, size_len, window_len, riscv_name, riscv_relocation, x86_64_name, x86_64_row, AArch64Relocation, RelocationKind, RowInfo, RowSize, ByteSize, BitMasking, LoongArch64Relocation, Ppc64Relocation, RiscVRelocation, X86_64Relocation, IsNamedValue, IsRow, Architecture, AArch64, X86_64, never, changes_number, changes_bits, continues, IsField, field_len, is_of_pair, uleb_len, has_value, is_auipc, offset_at}
+use Rattle.linker_section.proofs.Imports.{AArch64Relocation, AnyForm, Architecture, BitMasking, BitRange, Bool, ByteSize, ElfName, IsField, IsNamedValue, IsRow, List, LoongArch64Relocation, None, Option, Ppc64Relocation, RelocationKind, RiscVRelocation, RowInfo, RowSize, Some, X86_64Relocation, [], aarch64_name, aarch64_row, ap, arith, cases_Bool, changes_bits, changes_number, continues, drop, false, field_len, has_value, inl, inr, is_auipc, is_of_pair, leb-true, length, length-take, loongarch_name, loongarch_row, nat_le, nat_lt, never, not, not-true, offset_at, or_cases, ppc64_name, ppc64_row, refl, riscv_name, riscv_relocation, size_len, subst, sym, take, true, uleb_len, window_len, x86_64_name, x86_64_row, ℕ, ◌||◌, ◌∙◌, ◌∷◌, ◌≡◌, ◌≤◌}
+use Rattle.linker_elf.specs.declared.elf.architecture.Architecture.TheVariants.{AArch64, X86_64, RiscV, LoongArch64, Ppc64}
 use Rattle.linker_elf.specs.declared.aarch64.relocations.AArch64Relocation.TheVariants as aarch64_names
 use Rattle.linker_elf.specs.declared.elf.RelocationKind.TheVariants as kinds
 use Rattle.linker_elf.specs.declared.loongarch64.relocations.LoongArch64Relocation.TheVariants as loongarch_names
@@ -7,7 +8,6 @@ use Rattle.linker_elf.specs.declared.ppc64.relocations.Ppc64Relocation.TheVarian
 use Rattle.linker_elf.specs.declared.riscv64.relocations.RiscVRelocation.TheVariants as riscv_names
 use Rattle.linker_elf.specs.declared.x86_64.relocations.X86_64Relocation.TheVariants as x86_64_names
 use Rattle.linker_section.proofs.Numbers.{is_word6}
-use Rattle.linker_elf.specs.declared.elf.architecture.Architecture.TheVariants.{RiscV, LoongArch64, Ppc64}
 
 -- the kinds whose values compose
 abbrev pub is_composing : RelocationKind → Bool

@@ -1,5 +1,5 @@
 -- Fields that are gone through by sorted indexes.
-use Rattle.linker_section.proofs.Imports.{◌≡◌, ℕ, ◌+◌, ◌*◌, ◌/◌, ◌^◌, ◌<◌, ◌≤◌, ◌⊎◌, eqb, ltb, cond, refl, sym, ap, subst, ◌∙◌, inl, inr, arith, true, false, List, length, Some, None, cases_eq, cases_lt, cond-true, cond-false, eq-eqb, ne_eqb, lt-ltb, slice_index, RowInfo, Architecture, get_or_default, All-permutation, Contains-permutation, IsPermutation-keeps, swap, Contains, IsField, AreApart, begins_pair, ends_pair, is_clear_of, HasField, AreIndexes, place_in, place_of, IsOrder, IsOverlappedBelow, IsSeen, IsLastAt, AreSwept, relocation_in, BeginsPair, offset_at, Field}
+use Rattle.linker_section.proofs.Imports.{All-permutation, Architecture, AreApart, AreIndexes, AreSwept, BeginsPair, Contains, Contains-permutation, Field, HasField, IsField, IsLastAt, IsOrder, IsOverlappedBelow, IsPermutation-keeps, IsSeen, List, None, RowInfo, Some, ap, arith, begins_pair, cases_eq, cases_lt, cond, cond-false, cond-true, ends_pair, eq-eqb, eqb, false, get_or_default, inl, inr, is_clear_of, length, lt-ltb, ltb, ne_eqb, offset_at, place_in, place_of, refl, relocation_in, slice_index, subst, swap, sym, true, ℕ, ◌*◌, ◌+◌, ◌/◌, ◌<◌, ◌^◌, ◌∙◌, ◌≡◌, ◌≤◌, ◌⊎◌}
 use Rattle.std.proofs.lemmas.List.Edits.{swapped_from_swap, length-swap}
 use Rattle.std.proofs.lemmas.List.Elements.{All-from_get_or}
 use Rattle.std.specs.List.Sorted.{IsPermutation, IsNonDecreasingBy}

@@ -1,6 +1,5 @@
 -- What is known of a section after one more relocation.
-use Rattle.linker_section.proofs.Imports.{◌≡◌, ◌≢◌, ℕ, ℤ, ◌+◌, ◌-◌, ◌/◌, ◌<◌, ◌≤◌, ◌⊎◌, ◌||◌, eqb, set, not, refl, sym, ap, subst, ◌∙◌, inl, inr, arith, true, false, true≢false, Bool, ◌++◌, List, length, take, drop, Option, Some, None, ◌^◌, or_cases, or_parts, eqb-true, eq-eqb, ne_eqb, cases_eq, cases_Bool, cond-true, cond-false, and_parts, not-true, not-false, length-drop, drop_all, drop-drop, take-append-drop, get_or-set_other, window_len, takes_size, RelocationKind, RowInfo, RowSize, ByteSize, BitMasking, sum_64, slice_index, or_left, or_right, Ok, IfNone, IsRow, Architecture, never, supported_size, eqb-false, IsSavedAt, with_word, saved_place, Restores, RelocationError, Overlaps, Write, Step, TooShort, SectionError, IsField, continues, field_end, field_len, begins_pair, ends_pair, is_of_pair, uleb_len, of_number, of_pair, AreApart, IsOverlapped, is_clear_of, next_field, AreClaimed, HasField, AreWrittenBelow, Ascends, HasNoValue, IsAlone, IsInOrder, IsLeftOut, IsLimit, IsStep, IsStopped, Reached, clear_in, field_of_row, relocation_in, IsWritten, BeginsPair, IsPairWritten, IsFirstRejectedBy, IsCauseAt, IsInside, Values, has_value, offset_at, Addresses, Field, Err, Result}
-use Rattle.std.proofs.Common.{mod-eq_of_lt}
+use Rattle.linker_section.proofs.Imports.{Addresses, Architecture, AreApart, AreClaimed, AreWrittenBelow, Ascends, BeginsPair, BitMasking, Bool, ByteSize, Err, Field, HasField, HasNoValue, IfNone, IsAlone, IsCauseAt, IsField, IsFirstRejectedBy, IsInOrder, IsInside, IsLeftOut, IsLimit, IsOverlapped, IsPairWritten, IsRow, IsSavedAt, IsStep, IsStopped, IsWritten, List, None, Ok, Option, Overlaps, Reached, RelocationError, RelocationKind, Restores, Result, RowInfo, RowSize, SectionError, Some, Step, TooShort, Values, Write, and_parts, ap, arith, begins_pair, cases_Bool, cases_eq, clear_in, cond-false, cond-true, continues, drop, drop-drop, drop_all, ends_pair, eq-eqb, eqb, eqb-false, eqb-true, false, field_end, field_len, field_of_row, get_or-set_other, has_value, inl, inr, is_clear_of, is_of_pair, length, length-drop, mod-eq_of_lt, ne_eqb, never, next_field, not, not-false, not-true, of_number, of_pair, offset_at, or_cases, or_left, or_parts, or_right, refl, relocation_in, saved_place, set, slice_index, subst, sum_64, supported_size, sym, take, take-append-drop, takes_size, true, true≢false, uleb_len, window_len, with_word, ℕ, ℤ, ◌++◌, ◌+◌, ◌-◌, ◌/◌, ◌<◌, ◌^◌, ◌||◌, ◌∙◌, ◌≡◌, ◌≢◌, ◌≤◌, ◌⊎◌}
 use Rattle.linker_elf.specs.declared.elf.RelocationKind.TheVariants as kinds
 use Rattle.linker_section.proofs.Claims.{clear_cases, apart_more, claimed_more, overlapped, apart_pair, claimed_pair, apart_mark, claimed_mark, to_in, from_in, one_below, pair_below}
 use Rattle.linker_section.proofs.Composing.{second_is_none, begun_is_continued_none, begun_ends_none, ended_begins_none, ended_has_value}

@@ -1,5 +1,5 @@
 -- How many bytes a ULEB128 number has.
-use Rattle.linker_section.proofs.Imports.{◌≡◌, ℕ, suc, zero, ◌+◌, ◌-◌, ◌*◌, ◌%◌, ◌^◌, ◌<◌, ◌≤◌, List, [], ◌∷◌, length, take, drop, cond, ltb, arith, refl, sym, ap, subst, ◌∙◌, pow-suc, mod_below, mul-le, RelocationKind, sum_through, cond_both, cond-true, cond-false, lt-ltb, le-ltb, drop_all, get_or-take, take-take, length-take, length-take-le, length-drop, slice_index, Uleb, AllContinue, uleb_number, IsUlebWritten, one_reading, IsNumberOfPair, ℤ, drop_more, uleb_len}
+use Rattle.linker_section.proofs.Imports.{AllContinue, IsNumberOfPair, IsUlebWritten, List, RelocationKind, Uleb, [], ap, arith, cond, cond-false, cond-true, cond_both, drop, drop_all, drop_more, get_or-take, le-ltb, length, length-drop, length-take, length-take-le, lt-ltb, ltb, mod_below, mul-le, one_reading, pow-suc, refl, slice_index, subst, suc, sum_through, sym, take, take-take, uleb_len, uleb_number, zero, ℕ, ℤ, ◌%◌, ◌*◌, ◌+◌, ◌-◌, ◌<◌, ◌^◌, ◌∙◌, ◌∷◌, ◌≡◌, ◌≤◌}
 use Rattle.linker_elf.specs.declared.elf.RelocationKind.TheVariants as kinds
 
 -- the number's last byte is the first below 0x80

@@ -1,5 +1,5 @@
 -- Which relocations have a value.
-use Rattle.linker_section.proofs.Imports.{◌≡◌, ℕ, ℤ, List, Bool, true, false, true≢false, refl, sym, subst, ◌∙◌, inl, inr, Option, Some, None, Result, Ok, Err, ap, cases_Bool, cond-true, cond-false, value_of, RelocationKind, RowInfo, RowSize, Operands, slice_get, IsRow, Architecture, formula, read_signed, ends_pair, is_of_pair, IsOutcome, relocation_in, by_index, HasValue, IsMark, IsRowValue, Outcome, has_value, names_label, lacks_origin, own_value, value_by, low_by, low_value, operands_of, IsValueBy, IsLowValue, IsValueIn, IsValue, Addresses, Symbol, Rela, ValueError, ◌||◌}
+use Rattle.linker_section.proofs.Imports.{Addresses, Architecture, Bool, Err, HasValue, IsLowValue, IsMark, IsOutcome, IsRow, IsRowValue, IsValue, IsValueBy, IsValueIn, List, None, Ok, Operands, Option, Outcome, Rela, RelocationKind, Result, RowInfo, RowSize, Some, Symbol, ValueError, ap, by_index, cases_Bool, cond-false, cond-true, ends_pair, false, formula, has_value, inl, inr, is_of_pair, lacks_origin, low_by, low_value, names_label, operands_of, own_value, read_signed, refl, relocation_in, slice_get, subst, sym, true, true≢false, value_by, value_of, ℕ, ℤ, ◌||◌, ◌∙◌, ◌≡◌}
 use Rattle.linker_elf.specs.declared.elf.RelocationKind.TheVariants as kinds
 use Rattle.linker_section.proofs.Rows.{one_row}
 use Rattle.linker_section.proofs.Composing.{unvalued_begins_none, unvalued_ends_none}

@@ -1,5 +1,5 @@
 -- A section of which one window is rewritten: what that window has then, and that all else stays.
-use Rattle.linker_section.proofs.Imports.{◌≡◌, ℕ, zero, suc, ◌+◌, ◌-◌, ◌≤◌, ◌<◌, ◌⊎◌, inl, inr, ◌∙◌, List, [], ◌∷◌, ◌++◌, length, take, drop, get_or, ap, sym, arith, refl, append_assoc, length-take-le, length-append, length-drop, take_at, drop_at, drop-append-le, take-append-le, drop-take, take-take, drop-drop, get_or-drop, get_or-take, get_or_append_left, take-append-drop}
+use Rattle.linker_section.proofs.Imports.{List, [], ap, append_assoc, arith, drop, drop-append-le, drop-drop, drop-take, drop_at, get_or, get_or-drop, get_or-take, get_or_append_left, inl, inr, length, length-append, length-drop, length-take-le, refl, suc, sym, take, take-append-drop, take-append-le, take-take, take_at, zero, ℕ, ◌++◌, ◌+◌, ◌-◌, ◌<◌, ◌∙◌, ◌∷◌, ◌≡◌, ◌≤◌, ◌⊎◌}
 
 -- a section with other bytes in a window
 pub record IsReplaced (start len : ℕ) (bytes before after : List ℕ) : Type 0 where

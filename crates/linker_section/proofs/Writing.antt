@@ -1,5 +1,5 @@
 -- A value that is written to the bytes from an offset on.
-use Rattle.linker_section.proofs.Imports.{◌≡◌, ℕ, ℤ, ◌≤◌, ◌∙◌, List, ◌++◌, length, take, drop, ap, arith, inl, take-append-drop, Ok, OnOk, IfErr, WritesRow, RejectsValue, RowInfo, RelocateError, Result, Err, HasLength, HoldsOffset, IsWrittenAt}
+use Rattle.linker_section.proofs.Imports.{Err, HasLength, HoldsOffset, IfErr, IsWrittenAt, List, Ok, OnOk, RejectsValue, RelocateError, Result, RowInfo, WritesRow, ap, arith, drop, inl, length, take, take-append-drop, ℕ, ℤ, ◌++◌, ◌∙◌, ◌≡◌, ◌≤◌}
 
 pub written_at : (row : RowInfo) (v : ℤ) (offset : ℕ) (before after rest : List ℕ)
     (result : Result Unit RelocateError) → offset ≤ length before → HasLength row offset before

@@ -3,9 +3,8 @@
 use Rattle.std.specs.Prelude.{◌≡◌, ℕ, ◌+◌, ◌-◌, ◌*◌, ◌/◌, ◌%◌, ◌^◌, ◌==◌, ◌&&◌, ◌<◌, ◌≤◌, ◌⊎◌, suc}
 use Rattle.std.specs.Prelude.{zero, if◌then◌else◌, nat_le, nat_lt, Bool, true, false, List, length}
 use Rattle.std.specs.Prelude.{drop, slice_index, Option, Some, None, Result, Ok, Err}
-use Rattle.std.specs.Int.{w64, cast_signed}
+use Rattle.linker_section.specs.Imports.{Rela, cast_signed, uleb_number, w64}
 use Rattle.std.specs.List.{prefix_len}
-use Rattle.linker_base.specs.Uleb.{uleb_number}
 use Rattle.linker_section.specs.Relocations.{relocation_in}
 use Rattle.linker_section.specs.declared.crel.Crel.{Crel}
 use Rattle.linker_section.specs.declared.crel.CrelError.{CrelError}
@@ -13,7 +12,6 @@ use Rattle.linker_section.specs.declared.crel.CrelError.TheVariants.{CutOff, Too
 use Rattle.linker_section.specs.declared.crel.Header.{Header}
 use Rattle.linker_section.specs.declared.crel.Number.{Number}
 use Rattle.linker_section.specs.declared.crel.Place.{Place}
-use Rattle.linker_section.specs.declared.relocations.Rela.{Rela}
 
 -- what follows, unless there is an error
 abbrev pub followed : {A B : Type 0} → Result A CrelError → (A → Result B CrelError)

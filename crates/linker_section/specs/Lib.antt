@@ -1,6 +1,7 @@
 pub mod Conditions
 pub mod Crel
 pub mod Fields
+pub mod Imports
 pub mod Inner
 pub mod Needed
 pub mod Relocations

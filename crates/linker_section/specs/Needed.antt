@@ -2,25 +2,13 @@
 -- relocations and on thread-local storage, as `linker_elf` names them in `Value`).
 use Rattle.std.specs.Prelude.{ℤ, pos, Bool, true, false, not, ◌&&◌, ◌||◌, ◌==◌, nat_lt}
 use Rattle.std.specs.Prelude.{Option, Some, None, if◌then◌else◌}
-use Rattle.linker_elf.specs.Entries.{is_branch}
-use Rattle.linker_elf.specs.Value.{loads_plt_word, names_plt_entry}
-use Rattle.linker_elf.specs.declared.elf.AnyForm.TheVariants.{RiscV, Ppc64}
-use Rattle.linker_elf.specs.declared.elf.AnyForm.TheVariants.{LoongArch64, AArch64}
-use Rattle.linker_elf.specs.declared.elf.RelocationKind.{RelocationKind}
+use Rattle.linker_section.specs.Imports.{AArch64, Address, BType, BitMasking, ByteSize, CbType}
+use Rattle.linker_section.specs.Imports.{CjType, Descriptor, Entry, EntryClass, IType, JType}
+use Rattle.linker_section.specs.Imports.{LoongArch64, Module, ModuleOffset, Ppc64, RelocationKind}
+use Rattle.linker_section.specs.Imports.{Requirements, RiscV, RowInfo, RowSize, SType, ThreadOffset}
+use Rattle.linker_section.specs.Imports.{is_branch, loads_plt_word, names_plt_entry}
 use Rattle.linker_elf.specs.declared.elf.RelocationKind.TheVariants as kinds
-use Rattle.linker_elf.specs.declared.elf.RowInfo.{RowInfo}
-use Rattle.linker_elf.specs.declared.elf.RowSize.{RowSize}
-use Rattle.linker_elf.specs.declared.elf.RowSize.TheVariants.{ByteSize, BitMasking}
 use Rattle.linker_elf.specs.declared.aarch64.forms.AArch64Instruction.TheVariants.{TstBr, Bcond}
-use Rattle.linker_elf.specs.declared.riscv64.forms.RiscVInstruction.TheVariants.{IType, SType}
-use Rattle.linker_elf.specs.declared.riscv64.forms.RiscVInstruction.TheVariants.{BType, JType}
-use Rattle.linker_elf.specs.declared.riscv64.forms.RiscVInstruction.TheVariants.{CbType, CjType}
-use Rattle.linker_section.specs.declared.needed.Entry.{Entry}
-use Rattle.linker_section.specs.declared.needed.EntryClass.{EntryClass}
-use Rattle.linker_section.specs.declared.needed.EntryClass.TheVariants.{Address, ThreadOffset}
-use Rattle.linker_section.specs.declared.needed.EntryClass.TheVariants.{ModuleOffset, Module}
-use Rattle.linker_section.specs.declared.needed.EntryClass.TheVariants.{Descriptor}
-use Rattle.linker_section.specs.declared.needed.Requirements.{Requirements}
 
 -- ---- the entry of the GOT
 

@@ -2,8 +2,7 @@
 -- are `r_offset`, `r_info` and `r_addend`, each of 8 bytes, little-endian).
 use Rattle.std.specs.Prelude.{ℕ, ◌*◌, ◌/◌, nat_lt, if◌then◌else◌, List, length, take, drop}
 use Rattle.std.specs.Prelude.{Option, Some, None}
-use Rattle.std.specs.Int.{w32, w64, from_le_bytes, cast_signed}
-use Rattle.linker_section.specs.declared.relocations.Rela.{Rela}
+use Rattle.linker_section.specs.Imports.{Rela, cast_signed, from_le_bytes, w32, w64}
 
 -- what 24 bytes are
 abbrev pub relocation_of : List ℕ → Rela

@@ -1,11 +1,9 @@
 -- Symbols by look-up: what a linker knows of the symbol of each relocation, and the values by that.
 use Rattle.std.specs.Prelude.{◌≡◌, ℕ, ℤ, pos, ◌==◌, ◌&&◌, Bool, true, false, not, if◌then◌else◌}
 use Rattle.std.specs.Prelude.{List, slice_get, Option, Some, None, Result, Ok, Err}
-use Rattle.linker_elf.specs.Architectures.{IsRow}
-use Rattle.linker_elf.specs.Value.{difference_64, is_offset}
-use Rattle.linker_elf.specs.declared.elf.RowInfo.{RowInfo}
-use Rattle.linker_elf.specs.declared.elf.architecture.Architecture.{Architecture}
-use Rattle.linker_elf.specs.declared.elf.value.Operands.{Operands}
+use Rattle.linker_section.specs.Imports.{Addresses, Architecture, Entry, IsRow, NeedsStub}
+use Rattle.linker_section.specs.Imports.{NoHighPart, NoSymbol, NotAligned, Operands, Rela, RowInfo}
+use Rattle.linker_section.specs.Imports.{Symbol, UnknownType, ValueError, difference_64, is_offset}
 use Rattle.linker_section.specs.Conditions.{IsInReach, changes_toc, is_filled, keeps_toc}
 use Rattle.linker_section.specs.Fields.{is_of_pair}
 use Rattle.linker_section.specs.Needed.{entry_of}
@@ -13,15 +11,8 @@ use Rattle.linker_section.specs.Relocations.{relocation_in}
 use Rattle.linker_section.specs.Sections.{Outcome, Values}
 use Rattle.linker_section.specs.Values.{IsHighPart, IsHighPartAt, has_value, low_by, names_label}
 use Rattle.linker_section.specs.Values.{operands_by, value_by}
-use Rattle.linker_section.specs.declared.facts.Addresses.{Addresses}
-use Rattle.linker_section.specs.declared.facts.Symbol.{Symbol}
-use Rattle.linker_section.specs.declared.needed.Entry.{Entry}
-use Rattle.linker_section.specs.declared.relocations.Rela.{Rela}
 use Rattle.linker_section.specs.declared.resolved.Resolved.{Resolved}
-use Rattle.linker_section.specs.declared.values.ValueError.{ValueError}
-use Rattle.linker_section.specs.declared.values.ValueError.TheVariants.{UnknownType, NoSymbol}
-use Rattle.linker_section.specs.declared.values.ValueError.TheVariants.{NoHighPart, NotAligned}
-use Rattle.linker_section.specs.declared.values.ValueError.TheVariants.{NeedsStub, OutOfReach}
+use Rattle.linker_section.specs.declared.values.ValueError.TheVariants.{OutOfReach}
 
 -- what is known of the symbol of a relocation with an index
 abbrev pub Lookup : Type 0

@@ -5,19 +5,14 @@
 use Rattle.std.specs.Prelude.{◌≡◌, ◌<◌, ℕ, ℤ, pos, ◌*◌, ◌/◌, ◌%◌, ◌^◌, ◌≤ℤ◌, ◌<ℤ◌, ◌+ℤ◌}
 use Rattle.std.specs.Prelude.{if◌then◌else◌, List, length, take, drop, Option, Some, None, Result}
 use Rattle.std.specs.Prelude.{Ok}
-use Rattle.std.specs.Int.{w32, w64, from_le_bytes, cast_signed, cast_unsigned, int_rem_euclid}
-use Rattle.linker_elf.specs.Architectures.{IsRow}
+use Rattle.linker_section.specs.Imports.{Addresses, IsRow, Rela, RowInfo, Symbol, ValueError}
+use Rattle.linker_section.specs.Imports.{cast_signed, cast_unsigned, difference_64, from_le_bytes}
+use Rattle.linker_section.specs.Imports.{int_rem_euclid, sum_64, w32, w64}
 use Rattle.linker_elf.specs.Reach.{reach_of}
 use Rattle.linker_elf.specs.Rows.{Bounds}
-use Rattle.linker_elf.specs.Value.{sum_64, difference_64}
-use Rattle.linker_elf.specs.declared.elf.RowInfo.{RowInfo}
 use Rattle.linker_elf.specs.declared.elf.architecture.Architecture.TheVariants.{RiscV}
 use Rattle.linker_section.specs.Relocations.{relocation_in}
 use Rattle.linker_section.specs.Values.{names_label, own_value}
-use Rattle.linker_section.specs.declared.facts.Addresses.{Addresses}
-use Rattle.linker_section.specs.declared.facts.Symbol.{Symbol}
-use Rattle.linker_section.specs.declared.relocations.Rela.{Rela}
-use Rattle.linker_section.specs.declared.values.ValueError.{ValueError}
 
 -- what 12 bytes are: the type is the low byte of `r_info`
 abbrev pub relocation32_of : List ℕ → Rela

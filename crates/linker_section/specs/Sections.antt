@@ -2,37 +2,24 @@
 use Rattle.std.specs.Prelude.{◌≡◌, ◌⊎◌, ℕ, ◌+◌, ◌/◌, ◌<◌, ◌≤◌, true, false, ℤ, List}
 use Rattle.std.specs.Prelude.{◌++◌, length, take, drop, slice_index, Option, Some, None, Result}
 use Rattle.std.specs.Prelude.{Ok, Err, ⊤}
-use Rattle.std.specs.Int.{w64, cast_unsigned}
-use Rattle.linker_base.specs.Uleb.{IsUlebWritten, IsUlebCause}
-use Rattle.linker_base.specs.declared.utils.Uleb128Error.{Uleb128Error}
-use Rattle.linker_elf.specs.Relocate.{WritesRow, IsCause, window_len}
-use Rattle.linker_elf.specs.declared.elf.RelocationKind.{RelocationKind}
-use Rattle.linker_elf.specs.declared.elf.RelocationKind.TheVariants.{PairSubtractionULEB128LoongArch}
-use Rattle.linker_elf.specs.declared.elf.RowInfo.{RowInfo}
+use Rattle.linker_section.specs.Imports.{Addresses, Architecture, IsCause, IsRow, IsUlebCause}
+use Rattle.linker_section.specs.Imports.{IsUlebWritten, NeedsStub, NotAligned, OtherLength}
+use Rattle.linker_section.specs.Imports.{OutOfReach, Overlaps, PairSubtractionULEB128LoongArch}
+use Rattle.linker_section.specs.Imports.{Rela, RelocationKind, RowInfo, SectionError, Symbol}
+use Rattle.linker_section.specs.Imports.{TooShort, Uleb128, Uleb128Error, Value, ValueError, Write}
+use Rattle.linker_section.specs.Imports.{WritesRow, cast_unsigned, w64, window_len}
 use Rattle.linker_elf.specs.declared.elf.Uleb128Role.{Uleb128Role}
 use Rattle.linker_elf.specs.declared.elf.Uleb128Role.TheVariants.{Sets, Adds}
 use Rattle.linker_elf.specs.declared.elf.relocate.RelocateError.{RelocateError}
-use Rattle.linker_elf.specs.declared.elf.relocate.RelocateError.TheVariants.{TooShort, OutOfReach}
 use Rattle.linker_section.specs.Conditions.{HasLength, IsInReach, holds_offset, is_filled}
 use Rattle.linker_section.specs.Conditions.{lacks_stub, shows_length}
 use Rattle.linker_section.specs.Fields.{begins_pair, ends_pair, field_end, IsField}
 use Rattle.linker_section.specs.Fields.{AreApart, IsOverlapped}
 use Rattle.linker_section.specs.Relocations.{relocation_in}
 use Rattle.linker_section.specs.Values.{IsValueIn, IsValue, has_value, offset_at}
-use Rattle.linker_section.specs.declared.facts.Addresses.{Addresses}
-use Rattle.linker_section.specs.declared.facts.Symbol.{Symbol}
-use Rattle.linker_section.specs.declared.relocations.Rela.{Rela}
 use Rattle.linker_section.specs.declared.sections.RelocationError.{RelocationError}
-use Rattle.linker_section.specs.declared.sections.RelocationError.TheVariants.{Value, Overlaps}
-use Rattle.linker_section.specs.declared.sections.RelocationError.TheVariants.{Write, Uleb128}
-use Rattle.linker_section.specs.declared.sections.RelocationError.TheVariants.{OtherLength}
-use Rattle.linker_section.specs.declared.sections.SectionError.{SectionError}
-use Rattle.linker_section.specs.declared.values.ValueError.{ValueError}
-use Rattle.linker_section.specs.declared.values.ValueError.TheVariants.{NotAligned, NeedsStub}
 use Rattle.linker_section.specs.declared.values.ValueError.TheVariants as value_errors
-use Rattle.linker_elf.specs.Architectures.{IsRow}
 use Rattle.linker_elf.specs.Uleb128.{IsPairNumber}
-use Rattle.linker_elf.specs.declared.elf.architecture.Architecture.{Architecture}
 
 -- ---- one value, at an offset
 

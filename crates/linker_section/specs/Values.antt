@@ -2,33 +2,16 @@
 use Rattle.std.specs.Prelude.{◌≡◌, ◌≢◌, ◌⊎◌, ℕ, ℤ, pos, ◌/◌, ◌^◌, ◌<◌, ◌≤◌, Bool, true, false}
 use Rattle.std.specs.Prelude.{◌&&◌, ◌||◌, ◌==◌, not, nat_lt, List, length, Option}
 use Rattle.std.specs.Prelude.{Some, None, if◌then◌else◌, slice_get, Result, Ok, Err, is_some}
-use Rattle.std.specs.Ordering.{int_eq}
-use Rattle.linker_elf.specs.Entries.{is_branch, is_of_high_part}
-use Rattle.linker_elf.specs.Value.{sum_64, difference_64, value_of, is_offset, loads_plt_word}
-use Rattle.linker_elf.specs.declared.elf.AnyForm.TheVariants.{RiscV, Ppc64}
-use Rattle.linker_elf.specs.declared.elf.RelocationKind.{RelocationKind}
+use Rattle.linker_section.specs.Imports.{Address, Addresses, Architecture, BitMasking, Descriptor}
+use Rattle.linker_section.specs.Imports.{Entry, EntryClass, IsRow, Module, ModuleOffset, NoEntry}
+use Rattle.linker_section.specs.Imports.{NoHighPart, NoSymbol, NoTlsBase, Operands, Ppc64, Rela}
+use Rattle.linker_section.specs.Imports.{RelocationKind, RiscV, RowInfo, RowSize, Symbol}
+use Rattle.linker_section.specs.Imports.{ThreadOffset, UType, UnknownType, ValueError}
+use Rattle.linker_section.specs.Imports.{difference_64, int_eq, is_branch, is_of_high_part}
+use Rattle.linker_section.specs.Imports.{is_offset, loads_plt_word, sum_64, value_of}
 use Rattle.linker_elf.specs.declared.elf.RelocationKind.TheVariants as kinds
-use Rattle.linker_elf.specs.declared.elf.RowInfo.{RowInfo}
-use Rattle.linker_elf.specs.declared.elf.RowSize.{RowSize}
-use Rattle.linker_elf.specs.declared.elf.RowSize.TheVariants.{BitMasking}
-use Rattle.linker_elf.specs.declared.elf.value.Operands.{Operands}
-use Rattle.linker_elf.specs.declared.riscv64.forms.RiscVInstruction.TheVariants.{UType}
 use Rattle.linker_section.specs.Needed.{class_of_kind, entry_of, may_use_stub}
 use Rattle.linker_section.specs.Relocations.{relocation_in, relocation_at}
-use Rattle.linker_section.specs.declared.facts.Addresses.{Addresses}
-use Rattle.linker_section.specs.declared.facts.Symbol.{Symbol}
-use Rattle.linker_section.specs.declared.needed.Entry.{Entry}
-use Rattle.linker_section.specs.declared.needed.EntryClass.{EntryClass}
-use Rattle.linker_section.specs.declared.needed.EntryClass.TheVariants.{Address, ThreadOffset}
-use Rattle.linker_section.specs.declared.needed.EntryClass.TheVariants.{ModuleOffset, Module}
-use Rattle.linker_section.specs.declared.needed.EntryClass.TheVariants.{Descriptor}
-use Rattle.linker_section.specs.declared.relocations.Rela.{Rela}
-use Rattle.linker_section.specs.declared.values.ValueError.{ValueError}
-use Rattle.linker_section.specs.declared.values.ValueError.TheVariants.{UnknownType, NoSymbol}
-use Rattle.linker_section.specs.declared.values.ValueError.TheVariants.{NoEntry, NoHighPart}
-use Rattle.linker_section.specs.declared.values.ValueError.TheVariants.{NoTlsBase}
-use Rattle.linker_elf.specs.Architectures.{IsRow}
-use Rattle.linker_elf.specs.declared.elf.architecture.Architecture.{Architecture}
 use Rattle.linker_elf.specs.declared.elf.architecture.Architecture.TheVariants as architectures
 
 -- ---- the entry of the GOT

@@ -3,28 +3,18 @@
 use Rattle.std.specs.Prelude.{◌≡◌, ◌⊎◌, ℕ, zero, suc, ◌+◌, ◌*◌, ◌/◌, ◌%◌, ◌^◌, ◌<◌, ◌≤◌, ◌==◌, true}
 use Rattle.std.specs.Prelude.{false, nat_lt, if◌then◌else◌, ℤ, pos, ◌+ℤ◌, ◌-ℤ◌, List}
 use Rattle.std.specs.Prelude.{length, take, slice_index, drop, Option, Some, None, Ok}
-use Rattle.std.specs.Int.{int_rem_euclid}
-use Rattle.linker_base.specs.Uleb.{Uleb, IsUlebWritten}
-use Rattle.linker_elf.specs.Relocate.{WritesRow, IsAccepted, number_of_bytes}
-use Rattle.linker_elf.specs.declared.elf.RelocationKind.{RelocationKind}
-use Rattle.linker_elf.specs.declared.elf.RelocationKind.TheVariants.{AbsoluteSetWord6}
-use Rattle.linker_elf.specs.declared.elf.RelocationKind.TheVariants.{AbsoluteAddition}
-use Rattle.linker_elf.specs.declared.elf.RelocationKind.TheVariants.{AbsoluteAdditionWord6}
-use Rattle.linker_elf.specs.declared.elf.RelocationKind.TheVariants.{AbsoluteSubtraction}
-use Rattle.linker_elf.specs.declared.elf.RelocationKind.TheVariants.{AbsoluteSubtractionWord6}
-use Rattle.linker_elf.specs.declared.elf.RowInfo.{RowInfo}
-use Rattle.linker_elf.specs.declared.elf.RowSize.{RowSize}
-use Rattle.linker_elf.specs.declared.elf.RowSize.TheVariants.{ByteSize, BitMasking}
+use Rattle.linker_section.specs.Imports.{AbsoluteAddition, AbsoluteAdditionWord6, AbsoluteSetWord6}
+use Rattle.linker_section.specs.Imports.{AbsoluteSubtraction, AbsoluteSubtractionWord6, Addresses}
+use Rattle.linker_section.specs.Imports.{Architecture, BitMasking, ByteSize, IsAccepted}
+use Rattle.linker_section.specs.Imports.{IsUlebWritten, RelocationKind, RowInfo, RowSize}
+use Rattle.linker_section.specs.Imports.{SectionError, Symbol, Uleb, WritesRow, int_rem_euclid}
+use Rattle.linker_section.specs.Imports.{number_of_bytes}
 use Rattle.linker_section.specs.Conditions.{HasLength, holds_offset}
 use Rattle.linker_section.specs.Fields.{field_end, field_len, begins_pair, ends_pair, is_of_pair}
 use Rattle.linker_section.specs.Fields.{AreApart}
 use Rattle.linker_section.specs.Sections.{IsNumberOfPair, IsInside, BeginsPair}
 use Rattle.linker_section.specs.Sections.{Values, by_index, IsCauseAt, IsOfValue}
 use Rattle.linker_section.specs.Values.{offset_at}
-use Rattle.linker_section.specs.declared.facts.Addresses.{Addresses}
-use Rattle.linker_section.specs.declared.facts.Symbol.{Symbol}
-use Rattle.linker_section.specs.declared.sections.SectionError.{SectionError}
-use Rattle.linker_elf.specs.declared.elf.architecture.Architecture.{Architecture}
 
 -- ---- values
 

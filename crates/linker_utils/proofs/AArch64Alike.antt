@@ -1,16 +1,9 @@
 -- The relocations of a pair or of a sequence are chosen alike: each by one condition, and by
 -- another one if that doesn't hold, of the place of the first.
-use Rattle.std.proofs.Common.{◌≡◌, ◌↔◌, ◌≤◌, inl, inr, ℕ, ◌+◌, ◌-◌, List, [], ◌∷◌, sym, subst, arith}
-use Rattle.std.specs.Prelude.{◌⊎◌}
-use Rattle.linker_utils.specs.AArch64Rewrites.{IsDescriptorSequence, IsOfDescriptor, to_address, to_local_exec, halves_to_local_exec, to_initial_exec, IsEntryLoad, AArch64Applies, AArch64Choice, AArch64Entry, HasPattern, erased, descriptor_entries, GotPairIsChosenAlike, InitialExecIsChosenAlike, DescriptorIsChosenAlike, aarch64_matches}
-use Rattle.linker_elf.specs.AArch64Relocations.{aarch64_row}
-use Rattle.linker_elf.specs.Choices.{AllHold, IsFirst, entry, choice, RowReaches, facts_on}
-use Rattle.linker_elf.specs.declared.aarch64.relocations.AArch64Relocation.{AArch64Relocation}
+use Rattle.linker_utils.proofs.Imports.{AArch64Applies, AArch64Choice, AArch64Entry, AArch64Relocation, AdrpX0, AllHold, DescriptorIsChosenAlike, GotPairIsChosenAlike, InitialExecIsChosenAlike, IsDescriptorSequence, IsEntryLoad, IsFirst, IsOfDescriptor, LdrToAdd, LdrX0, LinkFacts, List, MovkX0, MovkXn, MovzX0Lsl16, MovzXnLsl16, NoOp, RowReaches, [], aarch64_matches, aarch64_row, arith, choice, descriptor_entries, entry, erased, facts_on, halves_to_local_exec, inl, inr, same_reach, subst, sym, to_address, to_initial_exec, to_local_exec, ℕ, ◌+◌, ◌-◌, ◌↔◌, ◌∷◌, ◌≡◌, ◌≤◌, ◌⊎◌}
+use Rattle.linker_utils.specs.AArch64Rewrites.{HasPattern}
 use Rattle.linker_elf.specs.declared.aarch64.relocations.AArch64Relocation.TheVariants as r
-use Rattle.linker_utils.specs.declared.aarch64.rewrites.RewriteKind.TheVariants.{NoOp, MovzX0Lsl16, MovkX0, MovzXnLsl16, MovkXn, AdrpX0, LdrX0, LdrToAdd}
-use Rattle.linker_elf.specs.declared.elf.choice.LinkFacts.{LinkFacts}
 use Rattle.linker_utils.proofs.AArch64Choices.{load_matches_add, adrp_matches, ldr_matches, nop_matches}
-use Rattle.linker_elf.proofs.Choices.{same_reach}
 
 -- a choice by a condition
 pub data Two (P : Type 0) (a otherwise chosen : AArch64Choice) : Type 0 where

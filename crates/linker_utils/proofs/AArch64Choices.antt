@@ -1,17 +1,7 @@
 -- Which rewrite of AArch64 is chosen: operands after a rewrite, and what follows from a choice.
-use Rattle.std.proofs.Common.{◌≡◌, ◌<◌, ◌≤◌, ℕ, ℤ, ◌+◌, ◌-◌, ◌%◌, ◌^◌, List, ap, ◌∙◌, refl, subst, arith, rules}
-use Rattle.std.specs.Prelude.{⊤}
-use Rattle.linker_base.specs.Rewrite.{CanRewrite, offset_after, addend_after}
-use Rattle.linker_utils.specs.AArch64Rewrites.{aarch64_rewrite, rd_of, rn_of, IsOfDescriptor, IsEntryLoad, AArch64Applies, AArch64Choice, IsAArch64Choice, aarch64_entries, IsAdrp, IsLdr64, aarch64_matches}
-use Rattle.linker_elf.specs.Choices.{choice, operands_after}
-use Rattle.linker_elf.specs.Originals.{HasWord}
-use Rattle.linker_elf.specs.Value.{sum_64, difference_64}
-use Rattle.linker_elf.proofs.ChoiceTables.{holds_of_first}
-use Rattle.linker_elf.specs.declared.aarch64.relocations.AArch64Relocation.{AArch64Relocation}
-use Rattle.linker_elf.specs.declared.elf.choice.LinkFacts.{LinkFacts}
+use Rattle.linker_utils.proofs.Imports.{AArch64Applies, AArch64Choice, AArch64Relocation, AddToAdr, AdrpAddToNopAdr, AdrpToAdr, AdrpX0, CanRewrite, HasWord, IsAArch64Choice, IsAdrp, IsEntryLoad, IsLdr64, IsOfDescriptor, LdrToAdd, LdrToAdr, LdrX0, LinkFacts, List, MovkX0, MovkXn, MovzX0Lsl16, MovzXnLsl16, NoOp, ReplaceWithNop, aarch64_entries, aarch64_matches, aarch64_rewrite, addend_after, ap, arith, choice, difference_64, holds_of_first, offset_after, operands_after, rd_of, refl, rn_of, rules, subst, sum_64, ℕ, ℤ, ⊤, ◌%◌, ◌+◌, ◌-◌, ◌<◌, ◌^◌, ◌∙◌, ◌≡◌, ◌≤◌}
 use Rattle.linker_elf.specs.declared.elf.value.Operands.{Operands}
 use Rattle.linker_utils.specs.declared.aarch64.rewrites.RewriteKind.{RewriteKind}
-use Rattle.linker_utils.specs.declared.aarch64.rewrites.RewriteKind.TheVariants.{NoOp, ReplaceWithNop, MovzX0Lsl16, MovkX0, MovzXnLsl16, MovkXn, AdrpToAdr, AdrpX0, LdrX0, AddToAdr, LdrToAdr, LdrToAdd, AdrpAddToNopAdr}
 
 -- ---- what a name requires is what its rewrites are meant for
 

@@ -1,10 +1,5 @@
 -- Four moves load a number of 64 bits.
-use Rattle.std.proofs.Common.{◌≡◌, ℕ, ◌*◌, ◌%◌, ◌^◌, ◌<◌, ◌≤◌, true, ◌&&◌, eqb, List, ◌++◌, ◌∙◌, ap, arith, Some, None}
-use Rattle.std.specs.Int.{w32, from_le_bytes, to_le_bytes}
-use Rattle.std.proofs.lemmas.Bool.{and_from, eq-eqb, cond-true}
-use Rattle.std.proofs.lemmas.Nat.{from_le_bytes-to_le_bytes_4}
-use Rattle.linker_base.specs.Bits.{field}
-use Rattle.linker_utils.specs.AArch64Rewrites.{mov_word, mov_words, mov4, moved4, movk, with_bits, is_move, rd_of, imm_of}
+use Rattle.linker_utils.proofs.Imports.{List, None, Some, and_from, ap, arith, cond-true, eq-eqb, eqb, field, from_le_bytes, from_le_bytes-to_le_bytes_4, imm_of, is_move, mov4, mov_word, mov_words, moved4, movk, rd_of, to_le_bytes, true, w32, with_bits, ℕ, ◌%◌, ◌&&◌, ◌*◌, ◌++◌, ◌<◌, ◌^◌, ◌∙◌, ◌≡◌, ◌≤◌}
 use Rattle.linker_elf.specs.AArch64.{opcode_of, shift_of, movz_opcode, movk_opcode}
 
 move_is : (opcode rd word : ℕ) → opcode_of word ≡ opcode → rd_of word ≡ rd → is_move opcode rd word ≡ true

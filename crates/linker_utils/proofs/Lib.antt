@@ -1,6 +1,7 @@
 pub mod AArch64Alike
 pub mod AArch64Choices
 pub mod AArch64Moves
+pub mod Imports
 pub mod LoongArchAlike
 pub mod LoongArchChoices
 pub mod LoongArchRows

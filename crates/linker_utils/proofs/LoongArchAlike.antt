@@ -1,15 +1,9 @@
 -- The relocations of a pair or of a sequence are chosen alike: each by the same conditions of the
 -- place of the first.
-use Rattle.std.proofs.Common.{◌≡◌, ◌↔◌, Option, refl, ◌≤◌, inl, inr, ℕ, ◌+◌, ◌-◌, List, [], ◌∷◌, ap, ◌∙◌, sym, subst, slice_index_or, drop, take, ◌++◌, arith}
-use Rattle.linker_elf.specs.Choices.{facts_on, with_group, operands_before, AllHold, IsFirst, entry, choice, RowReaches, RowIsWithin}
-use Rattle.linker_elf.specs.declared.elf.RowInfo.{RowInfo}
+use Rattle.linker_utils.proofs.Imports.{AllHold, IsFirst, LinkFacts, List, LoongArch64Relocation, Option, RowInfo, RowIsWithin, RowReaches, [], ap, arith, choice, drop, entry, facts_on, inl, inr, loongarch_row, operands_before, refl, same_reach, slice_index_or, subst, sym, take, with_group, ℕ, ◌++◌, ◌+◌, ◌-◌, ◌↔◌, ◌∙◌, ◌∷◌, ◌≡◌, ◌≤◌}
 use Rattle.linker_utils.specs.LoongArchRewrites.{LoongArchEntry, LoongArchChoice, LoongArchApplies, IsAfter, IsAmong, by_pcaddi, bound_by_pcaddi, entry_by_pcaddi, bound_by_pages, page_to_initial_exec, to_initial_exec, ReachesEntry, to_local_exec, to_short_local_exec, signed_32, GotPairIsChosenAlike, EntryPairsAreChosenAlike, IsLoongArchChoice, AddressPairIsChosenAlike, InitialExecIsChosenAlike, DescriptorIsChosenAlike, AddressOfDescriptorIsChosenAlike, HasPattern, descriptor_by_pcaddi, left_out, parted, with_call, with_low, ThreadOffsetIsChosenAlike, loongarch_entries, IsPair, IsAddi, IsLd}
-use Rattle.linker_elf.specs.LoongArchRelocations.{loongarch_row}
-use Rattle.linker_elf.specs.declared.elf.choice.LinkFacts.{LinkFacts}
-use Rattle.linker_elf.specs.declared.loongarch64.relocations.LoongArch64Relocation.{LoongArch64Relocation}
 use Rattle.linker_elf.specs.declared.loongarch64.relocations.LoongArch64Relocation.TheVariants as r
 use Rattle.linker_utils.specs.declared.loongarch64.rewrites.RewriteKind.TheVariants as kinds
-use Rattle.linker_elf.proofs.Choices.{same_reach}
 
 -- ---- of the same conditions
 

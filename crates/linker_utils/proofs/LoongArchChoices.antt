@@ -1,11 +1,5 @@
 -- What is chosen on LoongArch matches, and can be rewritten.
-use Rattle.std.proofs.Common.{◌≡◌, ◌↔◌, ◌⊎◌, ℕ, ◌+◌, ◌-◌, List, [], ◌∷◌, inl, inr, subst, sym, ◌∙◌, arith, rules}
-use Rattle.std.specs.Bool.{⊤}
-use Rattle.linker_base.specs.Rewrite.{CanRewrite}
-use Rattle.linker_elf.specs.Choices.{choice, IsFirst}
-use Rattle.linker_elf.specs.Originals.{HasWord}
-use Rattle.linker_elf.specs.declared.elf.choice.LinkFacts.{LinkFacts}
-use Rattle.linker_elf.specs.declared.loongarch64.relocations.LoongArch64Relocation.{LoongArch64Relocation}
+use Rattle.linker_utils.proofs.Imports.{CanRewrite, HasWord, IsFirst, LinkFacts, List, LoongArch64Relocation, [], arith, choice, inl, inr, rules, subst, sym, ℕ, ⊤, ◌+◌, ◌-◌, ◌↔◌, ◌∙◌, ◌∷◌, ◌≡◌, ◌⊎◌}
 use Rattle.linker_elf.specs.declared.loongarch64.relocations.LoongArch64Relocation.TheVariants as r
 use Rattle.linker_utils.specs.LoongArchRewrites.{LoongArchChoice, LoongArchEntry, LoongArchApplies, IsLoongArchChoice, loongarch_entries, HasPattern, IsAfter, IsSingle, IsLowOfDescriptor, loongarch_matches, IsPair, IsAddi, IsLd, IsIntoOwnSource, word_at, loongarch_rewrite}
 use Rattle.linker_utils.specs.declared.loongarch64.rewrites.RewriteKind.{RewriteKind}

@@ -1,7 +1,5 @@
 -- What the tests of a pair and the bits of `tp` mean.
-use Rattle.std.proofs.Common.{◌≡◌, ℕ, ◌+◌, ◌*◌, ◌-◌, ◌/◌, ◌%◌, ◌^◌, ◌<◌, ◌≢◌, ◌≤◌, ◌↔◌, List, length, refl, ◌∙◌, ap, arith, bit_and, bit_or}
-use Rattle.std.specs.Bool.{⊤}
-use Rattle.std.proofs.lemmas.Nat.{and_block, and_mask}
+use Rattle.linker_utils.proofs.Imports.{List, and_block, and_mask, ap, arith, bit_and, bit_or, length, refl, ℕ, ⊤, ◌%◌, ◌*◌, ◌+◌, ◌-◌, ◌/◌, ◌<◌, ◌^◌, ◌↔◌, ◌∙◌, ◌≡◌, ◌≢◌, ◌≤◌}
 use Rattle.linker_utils.proofs.RewriteRows.{kept_and_set}
 use Rattle.linker_utils.specs.LoongArchRewrites.{IsPair, IsPcalau12i, rd_of, rj_of, tp, word_at}
 

@@ -1,15 +1,8 @@
 -- The relocations of a sequence are chosen alike: each by the same conditions, which no place
 -- enters.
-use Rattle.std.proofs.Common.{◌≡◌, ◌↔◌, inl, inr, ℕ, List, [], ◌∷◌, ap, sym, ◌∙◌, slice_index_or, ◌%◌, ◌-◌, ◌+◌, ◌&&◌, ◌==◌, true, false, Bool, IsTrue, drop, arith}
-use Rattle.std.specs.Int.{w32, from_le_bytes}
-use Rattle.std.proofs.lemmas.Bool.{and_parts, or_cases, eqb-true}
-use Rattle.linker_base.specs.Bits.{field}
-use Rattle.linker_utils.specs.Ppc64Rewrites.{HasMarked, is_add_of_thread, is_indexed_any, is_indexed, is_indexed_word, is_over_thread, is_access, is_word_access, is_store, keeps_base, access_of, ppc64_entries, Ppc64Choice, Ppc64Applies, facts_at, IsAmong, TocPairsAreChosenAlike, ThreadPairsAreChosenAlike, GotPairIsChosenAlike, InitialExecPairIsChosenAlike, PrefixedInitialExecIsChosenAlike, GeneralDynamicIsChosenAlike, LocalDynamicIsChosenAlike}
-use Rattle.linker_elf.specs.Choices.{Entry, entry, IsFirst, choice}
-use Rattle.linker_elf.specs.declared.elf.choice.LinkFacts.{LinkFacts}
-use Rattle.linker_elf.specs.declared.ppc64.relocations.Ppc64Relocation.{Ppc64Relocation}
+use Rattle.linker_utils.proofs.Imports.{Bool, Entry, GeneralDynamicIsChosenAlike, HasMarked, InitialExecPairIsChosenAlike, IsFirst, IsTrue, LinkFacts, List, LocalDynamicIsChosenAlike, Ppc64Applies, Ppc64Choice, Ppc64Relocation, PrefixedInitialExecIsChosenAlike, RewriteKind, ThreadPairsAreChosenAlike, TocPairsAreChosenAlike, [], access_of, and_parts, ap, arith, choice, drop, entry, eqb-true, facts_at, false, field, from_le_bytes, inl, inr, is_access, is_add_of_thread, is_indexed, is_indexed_any, is_indexed_word, is_over_thread, is_store, is_word_access, keeps_base, or_cases, ppc64_entries, slice_index_or, sym, true, w32, ℕ, ◌%◌, ◌&&◌, ◌+◌, ◌-◌, ◌==◌, ◌↔◌, ◌∙◌, ◌∷◌, ◌≡◌}
+use Rattle.linker_utils.specs.Ppc64Rewrites.{IsAmong, GotPairIsChosenAlike}
 use Rattle.linker_elf.specs.declared.ppc64.relocations.Ppc64Relocation.TheVariants as r
-use Rattle.linker_utils.specs.declared.ppc64.rewrites.RewriteKind.{RewriteKind}
 use Rattle.linker_utils.specs.declared.ppc64.rewrites.RewriteKind.TheVariants as kinds
 
 abbrev Ppc64Entry : Type 0

@@ -1,13 +1,5 @@
 -- What is chosen on PowerPC64 matches, and can be rewritten.
-use Rattle.std.proofs.Common.{ℕ, List, Some, length, ◌≡◌, ◌≤◌, ◌+◌, ◌-◌, ◌%◌, refl, arith, rules}
-use Rattle.linker_base.specs.Rewrite.{CanRewrite}
-use Rattle.linker_elf.specs.Choices.{choice}
-use Rattle.linker_elf.proofs.ChoiceTables.{holds_of_first}
-use Rattle.linker_elf.specs.declared.elf.choice.Choice.{Choice}
-use Rattle.linker_elf.specs.declared.elf.choice.LinkFacts.{LinkFacts}
-use Rattle.linker_elf.specs.declared.ppc64.relocations.Ppc64Relocation.{Ppc64Relocation}
-use Rattle.linker_utils.specs.Ppc64Rewrites.{ppc64_entries, Ppc64Applies, IsPpc64Choice, ppc64_matches, ppc64_rewrite, rewrites_marked, to_move, direct}
-use Rattle.linker_utils.specs.declared.ppc64.rewrites.RewriteKind.{RewriteKind}
+use Rattle.linker_utils.proofs.Imports.{CanRewrite, Choice, IsPpc64Choice, LinkFacts, List, Ppc64Applies, Ppc64Relocation, RewriteKind, Some, arith, choice, direct, holds_of_first, length, ppc64_entries, ppc64_matches, ppc64_rewrite, refl, rewrites_marked, rules, to_move, ℕ, ◌%◌, ◌+◌, ◌-◌, ◌≡◌, ◌≤◌}
 use Rattle.linker_utils.specs.declared.ppc64.rewrites.RewriteKind.TheVariants as kinds
 
 marked_rewrite : (section : List ℕ) (o : ℕ) (new : ℕ → ℕ) → o % 4 ≡ 1 → o - 1 + 4 ≤ length section

@@ -1,15 +1,8 @@
 -- PowerPC64: what the tests of rows, and the bits that they keep and set, mean.
-use Rattle.std.proofs.Common.{◌≡◌, ◌≢◌, ◌↔◌, ℕ, ◌+◌, ◌*◌, ◌/◌, ◌%◌, ◌^◌, ◌<◌, ◌⊎◌, Bool, true, false, refl, sym, ◌∙◌, ap, arith, bit_and, bit_or, inl, inr, IsTrue}
-use Rattle.std.specs.Bool.{⊤}
-use Rattle.std.specs.Prelude.{◌&&◌, ◌||◌, ◌==◌, not, nat_lt}
-use Rattle.std.proofs.lemmas.Bool.{agree_below, agree_below_at, and_parts, and_from, eqb-true, eq-eqb, ne_eqb, or_left, or_right, false≢true, or_cases}
-use Rattle.std.proofs.lemmas.Nat.{and_block, and_mask}
+use Rattle.linker_utils.proofs.Imports.{Bool, IsTrue, access_of, agree_below, agree_below_at, and_block, and_from, and_mask, and_parts, ap, arith, bit_and, bit_or, eq-eqb, eqb-true, false, false≢true, field, inl, inr, is_access, is_among, is_indexed, is_indexed_any, is_indexed_word, is_over_base, is_over_thread, is_store, is_word_access, keeps_base, nat_lt, ne_eqb, not, or_cases, or_left, or_right, or_zero_r, over_base, ra_of, rb_of, refl, rt_of, set_by, sym, true, ℕ, ⊤, ◌%◌, ◌&&◌, ◌*◌, ◌+◌, ◌/◌, ◌<◌, ◌==◌, ◌^◌, ◌||◌, ◌↔◌, ◌∙◌, ◌≡◌, ◌≢◌, ◌⊎◌}
 use Rattle.std.proofs.Math.Bool as bools
-use Rattle.std.specs.Int.Bits.{or_zero_r}
-use Rattle.linker_base.specs.Bits.{field}
-use Rattle.linker_utils.specs.Inner.RewriteRows.{is_among, set_by}
 use Rattle.linker_utils.proofs.RewriteRows.{kept_and_set}
-use Rattle.linker_utils.specs.Ppc64Rewrites.{opcode_of, rt_of, ra_of, rb_of, access_of, over_base, is_over_base, is_over_thread, is_indexed, is_indexed_word, is_indexed_any, is_access, is_store, is_word_access, keeps_base}
+use Rattle.linker_utils.specs.Ppc64Rewrites.{opcode_of}
 
 -- an access over its base by the opcode, the lowest two bits, and whether both registers are the
 -- same

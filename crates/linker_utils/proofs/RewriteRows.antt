@@ -1,14 +1,6 @@
 -- Bits of instructions, and places of those.
-use Rattle.std.proofs.Common.{◌≡◌, ◌≤◌, ◌⊎◌, ◌↔◌, ℕ, ◌+◌, ◌-◌, ◌*◌, ◌/◌, ◌%◌, ◌^◌, ◌==◌, Bool, true, false, List, [], ◌∷◌, take, drop, length, inl, inr, subst, ◌++◌, refl, sym, ◌∙◌, ap, arith, bit_and, bit_or}
-use Rattle.std.specs.Bool.{⊤}
-use Rattle.std.proofs.lemmas.Bool.{eqb-true}
-use Rattle.std.proofs.lemmas.List.{drop-drop}
-use Rattle.std.proofs.lemmas.Nat.{and_assoc, and_block, and_mask, mod_below, or_disjoint, pow_pos}
+use Rattle.linker_utils.proofs.Imports.{Bool, HasWord, List, [], and_assoc, and_block, and_mask, and_zero_r, ap, arith, bit_and, bit_or, drop, drop-drop, eqb-true, false, from_le_bytes, inl, inr, kept, kept_of, length, mod_below, or_disjoint, or_zero_l, pow_pos, refl, subst, sym, take, to_le_bytes, true, w16, w32, ℕ, ⊤, ◌%◌, ◌*◌, ◌++◌, ◌+◌, ◌-◌, ◌/◌, ◌==◌, ◌^◌, ◌↔◌, ◌∙◌, ◌∷◌, ◌≡◌, ◌≤◌, ◌⊎◌}
 use Rattle.std.proofs.Math.Nat.{add-zero, add_comm, div-add-mod, mul_comm}
-use Rattle.std.specs.Int.{w16, w32, from_le_bytes, to_le_bytes}
-use Rattle.std.specs.Int.Bits.{and_zero_r, or_zero_l}
-use Rattle.linker_elf.specs.Originals.{HasWord}
-use Rattle.linker_utils.specs.Inner.RewriteRows.{kept, kept_of}
 
 of_kept : (ones whole : Bool) (w from mask n : ℕ) → (mask + 1 == 2 ^ n) ≡ ones → (from == 0) ≡ whole
     → bit_and (w / 2 ^ from) mask ≡ kept_of ones whole w from mask n

@@ -1,12 +1,9 @@
 -- The relocations of a sequence are chosen alike: each by the same conditions.
-use Rattle.std.proofs.Common.{◌≡◌, ◌↔◌, inl, inr, ℕ, List, [], ◌∷◌, ap, ◌∙◌, slice_index_or}
-use Rattle.linker_elf.specs.Choices.{AllHold, IsFirst, entry, choice, facts_on}
-use Rattle.linker_utils.specs.RiscVRewrites.{RiscVEntry, RiscVChoice, AppliesToRiscV, HasPattern, riscv_row_of, riscv_entries, start_of_descriptor, to_local_exec, to_short_local_exec, IsAmong, AreChosenAlike, deleted, nop, from_zero, from_high, from_got, DescriptorIsChosenAlike, GotPairIsChosenAlike, AbsoluteIsChosenAlike, ThreadOffsetIsChosenAlike}
+use Rattle.linker_utils.proofs.Imports.{AbsoluteIsChosenAlike, AllHold, AppliesToRiscV, AreChosenAlike, IsFirst, LinkFacts, List, RiscVChoice, RiscVEntry, RiscVRelocation, [], ap, choice, deleted, entry, facts_on, from_got, from_high, from_zero, inl, inr, riscv_entries, riscv_row_of, slice_index_or, start_of_descriptor, ℕ, ◌↔◌, ◌∙◌, ◌∷◌, ◌≡◌}
+use Rattle.linker_utils.specs.RiscVRewrites.{HasPattern, to_local_exec, to_short_local_exec, IsAmong, nop, DescriptorIsChosenAlike, GotPairIsChosenAlike, ThreadOffsetIsChosenAlike}
 use Rattle.linker_elf.specs.declared.riscv64.relocations.RiscVRelocation.TheVariants as r
 use Rattle.linker_utils.specs.declared.riscv64.rewrites.RewriteKind.TheVariants as kinds
-use Rattle.linker_elf.specs.declared.elf.choice.LinkFacts.{LinkFacts}
 use Rattle.linker_utils.specs.declared.riscv64.rewrites.RewriteKind.{RewriteKind}
-use Rattle.linker_elf.specs.declared.riscv64.relocations.RiscVRelocation.{RiscVRelocation}
 
 abbrev two : RiscVChoice → RiscVChoice → RiscVChoice × RiscVChoice
 two a b = (a, b)

@@ -1,14 +1,7 @@
 -- What is chosen on RISC-V matches, and can be rewritten.
-use Rattle.std.proofs.Common.{ℕ, List, [], ◌∷◌, ◌≡◌, sym, subst, inl, inr, rules}
-use Rattle.std.specs.Bool.{⊤}
-use Rattle.std.specs.Int.{cast_unsigned, w64}
-use Rattle.linker_base.specs.Rewrite.{CanRewrite}
-use Rattle.linker_elf.specs.Choices.{IsFirst, choice}
-use Rattle.linker_elf.specs.Value.{sum_64}
-use Rattle.linker_elf.specs.declared.elf.choice.LinkFacts.{LinkFacts}
-use Rattle.linker_elf.specs.declared.riscv64.relocations.RiscVRelocation.{RiscVRelocation}
+use Rattle.linker_utils.proofs.Imports.{AppliesToRiscV, CanRewrite, FitsClui, IsFirst, IsRiscVChoice, LinkFacts, List, RiscVChoice, RiscVEntry, RiscVRelocation, [], cast_unsigned, choice, inl, inr, riscv_entries, riscv_matches, riscv_rewrite, rules, subst, sum_64, sym, w64, ℕ, ⊤, ◌∷◌, ◌≡◌}
 use Rattle.linker_elf.specs.declared.riscv64.relocations.RiscVRelocation.TheVariants as r
-use Rattle.linker_utils.specs.RiscVRewrites.{RiscVEntry, RiscVChoice, AppliesToRiscV, HasPattern, IsRiscVChoice, riscv_entries, riscv_matches, riscv_rewrite, FitsClui}
+use Rattle.linker_utils.specs.RiscVRewrites.{HasPattern}
 use Rattle.linker_utils.specs.declared.riscv64.rewrites.RewriteKind.{RewriteKind}
 use Rattle.linker_utils.specs.declared.riscv64.rewrites.RewriteKind.TheVariants as kinds
 

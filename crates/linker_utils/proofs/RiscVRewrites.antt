@@ -1,19 +1,10 @@
 -- What the tests of RISC-V's rows, and the bits that they keep and set, mean; and the high parts
 -- that are 0 or fit `c.lui`.
-use Rattle.std.proofs.Common.{◌≡◌, ◌↔◌, ℕ, ◌+◌, ◌-◌, ◌*◌, ◌/◌, ◌%◌, ◌^◌, ◌<◌, ◌≤◌, refl, sym, subst, ap, ◌∙◌, arith, bit_and, bit_or, IsTrue, List, [], ◌∷◌, take, inl, inr, ℤ, pos, negsuc, ◌+ℤ◌, ◌-ℤ◌, ◌≤ℤ◌}
-use Rattle.std.specs.Bool.{⊤}
-use Rattle.std.specs.Prelude.{◌&&◌, ◌==◌, nat_le, not}
-use Rattle.std.specs.Int.{w16, w64, from_le_bytes, cast_signed, int_div_euclid}
-use Rattle.std.specs.Int.Bits.{or_zero_r}
-use Rattle.std.proofs.lemmas.Bool.{agree_below_at, cases_lt}
+use Rattle.linker_utils.proofs.Imports.{FitsClui, HasWord, HoldsHigh, IsLowOverOther, IsTrue, List, [], adds_low12, agree_below_at, and_block, and_mask, ap, arith, bit_and, bit_or, cases_lt, cast_signed, field, from_le_bytes, inl, inr, int_div_euclid, load_to_addi, nat_le, negsuc, not, or_zero_r, pos, refl, signed, subst, sym, take, w16, w64, with_rs1, ℕ, ℤ, ⊤, ◌%◌, ◌&&◌, ◌*◌, ◌+ℤ◌, ◌+◌, ◌-ℤ◌, ◌-◌, ◌/◌, ◌<◌, ◌==◌, ◌^◌, ◌↔◌, ◌∙◌, ◌∷◌, ◌≡◌, ◌≤ℤ◌, ◌≤◌}
 use Rattle.std.proofs.lemmas.Int.{ints, to_z_pos}
-use Rattle.std.proofs.lemmas.Nat.{and_block, and_mask}
-use Rattle.linker_base.specs.Bits.{field, signed}
 use Rattle.linker_base.specs.Form.{place_sum}
 use Rattle.linker_elf.specs.RiscV.{riscv_places, IsPairRange}
-use Rattle.linker_elf.specs.Originals.{HasWord}
 use Rattle.linker_riscv64.specs.RiscVFields.{opcode_of, funct3_of, rs1_of, rs2_of}
-use Rattle.linker_utils.specs.RiscVRewrites.{adds_low12, load_to_addi, with_rs1, IsLowOverOther, FitsClui, HoldsHigh}
 use Rattle.linker_elf.specs.declared.riscv64.forms.RiscVInstruction.TheVariants.{UType, CluiType}
 use Rattle.linker_base.proofs.Bits.{cast_negative}
 use Rattle.linker_base.proofs.Pairs.{signed_cases}

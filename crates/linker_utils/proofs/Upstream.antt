@@ -1,24 +1,13 @@
 -- The rows that the crate `linker-utils` has are of forms that it has, by computation.
-use Rattle.std.proofs.Common.{◌≡◌, ◌∙◌, ap, Bool, true, true≢false, refl, subst, sym, Option, Some, None, IfSome, is_some}
+use Rattle.linker_utils.proofs.Imports.{AArch64Relocation, Bool, IfSome, IsUpstream, LoongArch64Relocation, None, Option, Ppc64Relocation, RiscVRelocation, RowInfo, Some, X86_64Relocation, aarch64_row, ap, is_some, is_upstream, loongarch_raw_row, refl, riscv_row, row_of, subst, sym, true, true≢false, x86_64_relocation, ◌∙◌, ◌≡◌}
 use Rattle.std.specs.Option.{option_map}
-use Rattle.linker_elf.specs.AArch64Relocations.{aarch64_row}
-use Rattle.linker_elf.specs.LoongArchRelocations.{loongarch_raw_row}
 use Rattle.linker_elf.specs.Ppc64Relocations.{ppc64_relocation}
-use Rattle.linker_elf.specs.RiscVRelocations.{riscv_row}
 use Rattle.linker_elf.specs.Rows.{raw_row}
-use Rattle.linker_elf.specs.X86Relocations.{x86_64_relocation}
-use Rattle.linker_elf.specs.declared.aarch64.relocations.AArch64Relocation.{AArch64Relocation}
 use Rattle.linker_elf.specs.declared.aarch64.relocations.AArch64Relocation.TheVariants.{R_AARCH64_NONE}
-use Rattle.linker_elf.specs.declared.elf.RowInfo.{RowInfo}
-use Rattle.linker_elf.specs.declared.loongarch64.relocations.LoongArch64Relocation.{LoongArch64Relocation}
 use Rattle.linker_elf.specs.declared.loongarch64.relocations.LoongArch64Relocation.TheVariants.{R_LARCH_NONE}
-use Rattle.linker_elf.specs.declared.ppc64.relocations.Ppc64Relocation.{Ppc64Relocation}
 use Rattle.linker_elf.specs.declared.ppc64.relocations.Ppc64Relocation.TheVariants.{R_PPC64_TLS}
-use Rattle.linker_elf.specs.declared.riscv64.relocations.RiscVRelocation.{RiscVRelocation}
 use Rattle.linker_elf.specs.declared.riscv64.relocations.RiscVRelocation.TheVariants.{R_RISCV_NONE}
-use Rattle.linker_elf.specs.declared.x86_64.relocations.X86_64Relocation.{X86_64Relocation}
 use Rattle.linker_elf.specs.declared.x86_64.relocations.X86_64Relocation.TheVariants.{R_X86_64_NONE}
-use Rattle.linker_utils.specs.Upstream.{IsUpstream, is_upstream, row_of}
 use Rattle.linker_utils.specs.declared.elf.RelocationKindInfo.{RelocationKindInfo}
 
 -- what holds of a row holds of what that crate says of it

@@ -1,12 +1,5 @@
 -- What the rewrites of x86-64 leave in prefix and ModRM bytes.
-use Rattle.std.proofs.Common.{◌≡◌, ℕ, ◌+◌, ◌-◌, ◌*◌, ◌/◌, ◌≤◌, List, [], ◌∷◌, ◌++◌, length, take, drop, get_or, refl, sym, ◌∙◌, ap, arith, Some, bit_and, bit_or, min}
-use Rattle.std.specs.Int.{bit_at}
-use Rattle.std.proofs.lemmas.Bool.{eq-eqb, ne_eqb}
-use Rattle.std.proofs.lemmas.List.{get_or-take, get_or-drop, append_assoc, drop_at, length-take}
-use Rattle.std.proofs.lemmas.Nat.Bits.{bit_at-lt, bit_at_and, bit_at_or, and_pow}
-use Rattle.linker_base.specs.Bits.{field}
-use Rattle.linker_base.specs.Rewrite.{rewritten}
-use Rattle.linker_utils.specs.X86Rewrites.{rex_r_to_b, evex_reg_to_rm, evex_high, modrm_reg_to_rm, rex_mov, KeepsRegister}
+use Rattle.linker_utils.proofs.Imports.{KeepsRegister, List, Some, [], and_pow, ap, append_assoc, arith, bit_and, bit_at, bit_at-lt, bit_at_and, bit_at_or, bit_or, drop, drop_at, eq-eqb, evex_high, evex_reg_to_rm, field, get_or, get_or-drop, get_or-take, length, length-take, min, modrm_reg_to_rm, ne_eqb, refl, rewritten, rex_mov, rex_r_to_b, sym, take, ℕ, ◌*◌, ◌++◌, ◌+◌, ◌-◌, ◌/◌, ◌∙◌, ◌∷◌, ◌≡◌, ◌≤◌}
 
 -- ---- the EVEX byte, by the code's tests
 

@@ -1,12 +1,6 @@
 -- What is chosen on x86-64 matches.
-use Rattle.std.proofs.Common.{ℕ, List, rules}
-use Rattle.linker_elf.specs.Choices.{Applies, choice}
-use Rattle.linker_elf.proofs.ChoiceTables.{holds_of_first}
-use Rattle.linker_elf.specs.X86Relocations.{x86_64_row}
-use Rattle.linker_elf.specs.declared.elf.choice.Choice.{Choice}
-use Rattle.linker_elf.specs.declared.elf.choice.LinkFacts.{LinkFacts}
-use Rattle.linker_elf.specs.declared.x86_64.relocations.X86_64Relocation.{X86_64Relocation}
-use Rattle.linker_utils.specs.X86Rewrites.{Table, HasPattern, IsByTable, x86_64_after, x86_64_matches}
+use Rattle.linker_utils.proofs.Imports.{Applies, Choice, IsByTable, LinkFacts, List, Table, X86_64Relocation, choice, holds_of_first, rules, x86_64_after, x86_64_matches, x86_64_row, ℕ}
+use Rattle.linker_utils.specs.X86Rewrites.{HasPattern}
 use Rattle.linker_utils.specs.declared.x86_64.rewrites.RewriteKind.{RewriteKind}
 use Rattle.linker_utils.specs.declared.x86_64.rewrites.RewriteKind.TheVariants as kinds
 

@@ -1,13 +1,8 @@
 -- The bytes of an instruction, as a loop over them compares.
-use Rattle.std.proofs.Common.{◌≡◌, ℕ, ◌+◌, ◌-◌, ◌<◌, ◌≤◌, ◌∙◌, Bool, true, false, true≢false, subst, List, [], ◌∷◌, length, get_or, drop, refl, sym, ap, arith, bit_and, eqb, leb, add-one}
-use Rattle.std.specs.Prelude.{◌&&◌, ◌||◌, ◌^◌, ◌%◌, slice_index}
-use Rattle.std.proofs.lemmas.Bool.{eq-eqb, eqb-true, ne_eqb, le-leb, leb-true, lt-leb, and_parts}
-use Rattle.std.proofs.lemmas.Nat.{and_mask}
+use Rattle.linker_utils.proofs.Imports.{Bool, List, [], add-one, and_mask, and_parts, ap, arith, begins, bit_and, drop, eq-eqb, eqb, eqb-true, false, field4, get_or, get_or-drop, is_at, is_one_at, le-leb, leb, leb-true, legacy, length, length-drop, lt-leb, ne_eqb, original, refl, rex, rip, slice_index, subst, sym, true, true≢false, with_rex, ℕ, ◌%◌, ◌&&◌, ◌+◌, ◌-◌, ◌<◌, ◌^◌, ◌||◌, ◌∙◌, ◌∷◌, ◌≡◌, ◌≤◌}
 use Rattle.std.proofs.Math.Bool.{and-false}
 use Rattle.std.proofs.Math.Seq.{drop-cons}
 use Rattle.std.proofs.Math.ListN.{drop_of_length-le}
-use Rattle.std.proofs.lemmas.List.{length-drop, get_or-drop}
-use Rattle.linker_utils.specs.X86Rewrites.{begins, is_at, original, with_rex, rex, rip, field4, is_one_at, legacy}
 
 -- bytes that are too few
 begins_short : (ps : List (ℕ × ℕ)) (bs : List ℕ) → length bs < length ps → begins ps bs ≡ false

@@ -1,6 +1,5 @@
 -- Each sequence has the field of its call where the rewrite says.
-use Rattle.std.proofs.Common.{[], ◌∷◌, ◌++◌, refl}
-use Rattle.linker_utils.specs.X86Rewrites.{HaveFieldAt, general_dynamic, large, byte, field4, x86_64_originals}
+use Rattle.linker_utils.proofs.Imports.{HaveFieldAt, [], byte, field4, general_dynamic, large, refl, x86_64_originals, ◌++◌, ◌∷◌}
 use Rattle.linker_utils.specs.declared.x86_64.rewrites.RewriteKind.TheVariants as kinds
 
 pub of_general_dynamic : HaveFieldAt 8 general_dynamic

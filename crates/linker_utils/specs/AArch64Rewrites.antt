@@ -1,24 +1,17 @@
 -- The rewrites of AArch64, and the moves of a number of 64 bits (Arm Architecture Reference Manual
 -- for A-profile, DDI 0487).
-use Rattle.std.specs.Prelude.{◌∷◌, [], ℕ, ◌+◌, ◌-◌, ◌*◌, ◌/◌, ◌^◌, Bool, true, ◌&&◌, ◌==◌}
-use Rattle.std.specs.Prelude.{if◌then◌else◌, List, ◌++◌, drop, Option, None, Some, bit_and, ◌≡◌}
-use Rattle.std.specs.Prelude.{negsuc, pos, neg_ℤ, ◌≢◌, ◌≤◌, IsTrue, ⊤, ◌⊎◌, length}
-use Rattle.std.specs.Int.{w32, w64, from_le_bytes, to_le_bytes}
+use Rattle.linker_utils.specs.Imports.{AArch64Relocation, Applies, Bool, Choice, Condition, Entry}
+use Rattle.linker_utils.specs.Imports.{HasWord, IsFirst, IsTrue, LinkFacts, List, None, Normal}
+use Rattle.linker_utils.specs.Imports.{Option, OtherRelocation, RelocationModifier, Rewrite, Some}
+use Rattle.linker_utils.specs.Imports.{[], bit_and, bound, choice, drop, entry, executable}
+use Rattle.linker_utils.specs.Imports.{facts_on, field, fixed_distance, from_le_bytes, group_fits}
+use Rattle.linker_utils.specs.Imports.{in_reach, in_reach_if_known, length, neg_ℤ, negsuc, pos}
+use Rattle.linker_utils.specs.Imports.{replaces, to_le_bytes, true, w32, w64, weak_zero, ℕ, ⊤}
+use Rattle.std.specs.Prelude.{◌∷◌, ◌+◌, ◌-◌, ◌*◌, ◌/◌, ◌^◌, ◌&&◌, ◌==◌, if◌then◌else◌, ◌++◌, ◌≡◌}
+use Rattle.std.specs.Prelude.{◌≢◌, ◌≤◌, ◌⊎◌}
 use Rattle.linker_elf.specs.AArch64.{opcode_of, shift_of, movz_opcode, movk_opcode}
-use Rattle.linker_base.specs.Bits.{field}
-use Rattle.linker_base.specs.Rewrite.{Rewrite, replaces}
-use Rattle.linker_base.specs.declared.relaxation.RelocationModifier.{RelocationModifier}
-use Rattle.linker_base.specs.declared.relaxation.RelocationModifier.TheVariants.{Normal}
-use Rattle.linker_elf.specs.declared.aarch64.relocations.AArch64Relocation.{AArch64Relocation}
-use Rattle.linker_elf.specs.declared.elf.choice.OtherRelocation.{OtherRelocation}
 use Rattle.linker_utils.specs.declared.aarch64.rewrites.RewriteKind.{RewriteKind}
-use Rattle.linker_elf.specs.Originals.{HasWord}
 use Rattle.linker_elf.specs.AArch64Relocations.{aarch64_row}
-use Rattle.linker_elf.specs.Choices.{Condition, bound, weak_zero, fixed_distance, executable}
-use Rattle.linker_elf.specs.Choices.{in_reach, in_reach_if_known, Entry, entry, choice, Applies}
-use Rattle.linker_elf.specs.Choices.{IsFirst, facts_on, group_fits}
-use Rattle.linker_elf.specs.declared.elf.choice.Choice.{Choice}
-use Rattle.linker_elf.specs.declared.elf.choice.LinkFacts.{LinkFacts}
 use Rattle.linker_elf.specs.declared.aarch64.relocations.AArch64Relocation.TheVariants as r
 use Rattle.linker_utils.specs.declared.aarch64.rewrites.RewriteKind.TheVariants as kinds
 

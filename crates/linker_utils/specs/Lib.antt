@@ -1,4 +1,5 @@
 pub mod AArch64Rewrites
+pub mod Imports
 pub mod Inner
 pub mod LoongArchRewrites
 pub mod Ppc64Rewrites

@@ -1,26 +1,18 @@
 -- LoongArch: its rewrites (LoongArch ELF psABI, relaxation and the sequences of thread-local
 -- storage; LoongArch Reference Manual, volume 1).
-use Rattle.std.specs.Prelude.{ℕ, ◌+◌, ◌-◌, ◌*◌, ◌^◌, List, [], ◌∷◌, Option, None, Some, ◌≡◌, ◌≢◌}
-use Rattle.std.specs.Prelude.{◌≤◌, ◌/◌, length, drop, Bool, true, ◌==◌, ◌||◌, ◌&&◌, nat_le, IsTrue}
-use Rattle.std.specs.Prelude.{⊤, not}
-use Rattle.std.specs.Prelude.{◌⊎◌, ◌<◌, ◌++◌, ℤ, pos, neg_ℤ}
-use Rattle.std.specs.Int.{w32, from_le_bytes, to_le_bytes}
-use Rattle.linker_base.specs.Bits.{field}
-use Rattle.linker_base.specs.Rewrite.{Rewrite, replaces}
-use Rattle.linker_base.specs.declared.relaxation.RelocationModifier.{RelocationModifier}
-use Rattle.linker_base.specs.declared.relaxation.RelocationModifier.TheVariants.{Normal}
+use Rattle.linker_utils.specs.Imports.{Applies, Bool, Choice, Condition, ConditionHolds}
+use Rattle.linker_utils.specs.Imports.{DeletedBytes, Entry, Fits, HasWord, IsFirst, IsTrue}
+use Rattle.linker_utils.specs.Imports.{LinkFacts, List, LoongArch64Relocation, None, Normal, Option}
+use Rattle.linker_utils.specs.Imports.{RelocationModifier, Rewrite, Some, [], addend, bound, choice}
+use Rattle.linker_utils.specs.Imports.{drop, entry, executable, facts_on, field, fixed_distance}
+use Rattle.linker_utils.specs.Imports.{from_le_bytes, group_fits, in_reach, length, loongarch_row}
+use Rattle.linker_utils.specs.Imports.{marked, nat_le, neg_ℤ, not, pos, replaces, to_le_bytes, true}
+use Rattle.linker_utils.specs.Imports.{w32, within, within_if_known, ℕ, ℤ, ⊤}
+use Rattle.std.specs.Prelude.{◌+◌, ◌-◌, ◌*◌, ◌^◌, ◌∷◌, ◌≡◌, ◌≢◌, ◌≤◌, ◌/◌, ◌==◌, ◌||◌, ◌&&◌, ◌⊎◌}
+use Rattle.std.specs.Prelude.{◌<◌, ◌++◌}
 use Rattle.linker_utils.specs.declared.loongarch64.relaxation_kind.RelaxationKind.{RelaxationKind}
 use Rattle.linker_utils.specs.declared.loongarch64.relaxation_kind.RelaxationKind.TheVariants as originals
 use Rattle.linker_utils.specs.declared.loongarch64.rewrites.RewriteKind.{RewriteKind}
-use Rattle.linker_base.specs.declared.rewrite.DeletedBytes.{DeletedBytes}
-use Rattle.linker_elf.specs.Originals.{HasWord}
-use Rattle.linker_elf.specs.Choices.{facts_on, Condition, bound, fixed_distance, executable, marked}
-use Rattle.linker_elf.specs.Choices.{addend, in_reach, within, within_if_known, Entry, entry}
-use Rattle.linker_elf.specs.Choices.{choice, Applies, IsFirst, ConditionHolds, group_fits, Fits}
-use Rattle.linker_elf.specs.LoongArchRelocations.{loongarch_row}
-use Rattle.linker_elf.specs.declared.elf.choice.Choice.{Choice}
-use Rattle.linker_elf.specs.declared.elf.choice.LinkFacts.{LinkFacts}
-use Rattle.linker_elf.specs.declared.loongarch64.relocations.LoongArch64Relocation.{LoongArch64Relocation}
 use Rattle.linker_elf.specs.declared.loongarch64.relocations.LoongArch64Relocation.TheVariants as r
 use Rattle.linker_utils.specs.declared.loongarch64.rewrites.RewriteKind.TheVariants as kinds
 

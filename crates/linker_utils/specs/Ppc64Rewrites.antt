@@ -1,27 +1,18 @@
 -- What the rewrites of PowerPC64 leave (64-bit ELF V2 ABI for Power, "TLS Linkage Optimizations"
 -- and "TOC Optimizations"; Power ISA, "Instruction Formats"). Bits are numbered from the lowest, 0.
-use Rattle.std.specs.Prelude.{ℕ, ◌+◌, ◌-◌, ◌*◌, ◌^◌, ◌==◌, if◌then◌else◌, List, [], ◌∷◌, drop}
-use Rattle.std.specs.Prelude.{Option, None, Some, true, Bool, ◌&&◌, ◌||◌, not, nat_lt, IsTrue}
-use Rattle.std.specs.Prelude.{⊤, ◌%◌, ◌≡◌}
-use Rattle.std.specs.Prelude.{◌⊎◌, ◌++◌, false, ℤ, pos}
-use Rattle.std.specs.Int.{w32, w64, from_le_bytes, to_le_bytes}
-use Rattle.linker_base.specs.Bits.{field}
-use Rattle.linker_base.specs.Rewrite.{Rewrite, replaces}
-use Rattle.linker_base.specs.declared.relaxation.RelocationModifier.{RelocationModifier}
-use Rattle.linker_base.specs.declared.relaxation.RelocationModifier.TheVariants.{Normal}
-use Rattle.linker_base.specs.declared.relaxation.RelocationModifier.TheVariants.{SkipNextRelocation}
+use Rattle.linker_utils.specs.Imports.{Applies, Bool, Choice, Condition, Entry, HasWord, IsFirst}
+use Rattle.linker_utils.specs.Imports.{IsTrue, LinkFacts, List, None, Normal, Option}
+use Rattle.linker_utils.specs.Imports.{Ppc64Relocation, RelocationModifier, Rewrite}
+use Rattle.linker_utils.specs.Imports.{SkipNextRelocation, Some, [], addend, bound, changed_toc}
+use Rattle.linker_utils.specs.Imports.{choice, drop, entry, executable, false, field, fixed_address}
+use Rattle.linker_utils.specs.Imports.{fixed_distance, from_le_bytes, group_fits, in_reach}
+use Rattle.linker_utils.specs.Imports.{in_reach_if_known, marked, nat_lt, not, pos, ppc64_row}
+use Rattle.linker_utils.specs.Imports.{private_base, replaces, to_le_bytes, true, w32, w64, ℕ, ℤ, ⊤}
+use Rattle.std.specs.Prelude.{◌+◌, ◌-◌, ◌*◌, ◌^◌, ◌==◌, if◌then◌else◌, ◌∷◌, ◌&&◌, ◌||◌, ◌%◌, ◌≡◌}
+use Rattle.std.specs.Prelude.{◌⊎◌, ◌++◌}
 use Rattle.linker_utils.specs.declared.ppc64.relaxation_kind.RelaxationKind.{RelaxationKind}
 use Rattle.linker_utils.specs.declared.ppc64.relaxation_kind.RelaxationKind.TheVariants as originals
 use Rattle.linker_utils.specs.declared.ppc64.rewrites.RewriteKind.{RewriteKind}
-use Rattle.linker_elf.specs.Originals.{HasWord}
-use Rattle.linker_elf.specs.Choices.{Condition, bound, fixed_distance, executable, private_base}
-use Rattle.linker_elf.specs.Choices.{fixed_address, addend, marked}
-use Rattle.linker_elf.specs.Choices.{changed_toc, group_fits, in_reach, in_reach_if_known}
-use Rattle.linker_elf.specs.Choices.{Entry, entry, choice, Applies, IsFirst}
-use Rattle.linker_elf.specs.Ppc64Relocations.{ppc64_row}
-use Rattle.linker_elf.specs.declared.elf.choice.Choice.{Choice}
-use Rattle.linker_elf.specs.declared.elf.choice.LinkFacts.{LinkFacts}
-use Rattle.linker_elf.specs.declared.ppc64.relocations.Ppc64Relocation.{Ppc64Relocation}
 use Rattle.linker_utils.specs.declared.ppc64.rewrites.RewriteKind.TheVariants as kinds
 use Rattle.linker_elf.specs.declared.ppc64.relocations.Ppc64Relocation.TheVariants as r
 

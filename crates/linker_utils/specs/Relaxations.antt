@@ -1,52 +1,41 @@
 -- The rewrites of all architectures, and what is chosen.
-use Rattle.std.specs.Prelude.{◌≡◌, ◌↔◌, ℕ, Bool, IsTrue, List, slice_get, Option, None, false}
-use Rattle.linker_base.specs.Rewrite.{Rewrite}
-use Rattle.linker_base.specs.declared.relaxation.RelocationModifier.{RelocationModifier}
+use Rattle.linker_utils.specs.Imports.{AArch64, AArch64Relocation, Bool, Choice, DeletedBytes}
+use Rattle.linker_utils.specs.Imports.{IsTrue, LinkFacts, List, LoongArch64, None, Option}
+use Rattle.linker_utils.specs.Imports.{OtherRelocation, Ppc64, Relaxation, RelocationModifier}
+use Rattle.linker_utils.specs.Imports.{Rewrite, RiscV, X86_64, false, loongarch_name, ppc64_name}
+use Rattle.linker_utils.specs.Imports.{riscv_name, slice_get, with_group, x86_64_name, ℕ}
+use Rattle.std.specs.Prelude.{◌≡◌, ◌↔◌}
 use Rattle.linker_utils.specs.AArch64Rewrites.{aarch64_rewrite, aarch64_modifier, aarch64_other}
 use Rattle.linker_utils.specs.AArch64Rewrites.{aarch64_rewrites}
 use Rattle.linker_utils.specs.AArch64Rewrites.{IsAArch64Choice}
 use Rattle.linker_utils.specs.AArch64Rewrites.{aarch64_matches}
 use Rattle.linker_elf.specs.AArch64Relocations.{aarch64_name}
 use Rattle.linker_elf.specs.Architectures.{IsNamedValue, of_some}
-use Rattle.linker_elf.specs.Choices.{with_group}
 use Rattle.linker_elf.specs.ElfNames.{ElfName, IsNameOf, r_type_of}
 use Rattle.linker_utils.specs.LoongArchRewrites.{IsLoongArchChoice}
 use Rattle.linker_utils.specs.LoongArchRewrites.{loongarch_matches}
-use Rattle.linker_elf.specs.LoongArchRelocations.{loongarch_name}
 use Rattle.linker_utils.specs.LoongArchRewrites.{loongarch_rewrite, loongarch_modifier}
 use Rattle.linker_utils.specs.LoongArchRewrites.{loongarch_deleted, loongarch64_rewrites}
 use Rattle.linker_utils.specs.Ppc64Rewrites.{IsPpc64Choice}
 use Rattle.linker_utils.specs.Ppc64Rewrites.{ppc64_matches}
 use Rattle.linker_utils.specs.Ppc64Rewrites.{ppc64_skipped, ppc64_may_be_skipped}
-use Rattle.linker_elf.specs.Ppc64Relocations.{ppc64_name}
 use Rattle.linker_utils.specs.Ppc64Rewrites.{ppc64_rewrites, ppc64_rewrite, ppc64_modifier}
 use Rattle.linker_utils.specs.RiscVRewrites.{riscv_rewrites, riscv_rewrite, riscv_modifier}
 use Rattle.linker_utils.specs.RiscVRewrites.{riscv_deleted}
 use Rattle.linker_utils.specs.RiscVRewrites.{IsRiscVChoice}
 use Rattle.linker_utils.specs.RiscVRewrites.{riscv_matches}
 use Rattle.linker_utils.specs.RiscVRewrites.{riscv_skipped, riscv_may_be_skipped}
-use Rattle.linker_elf.specs.RiscVRelocations.{riscv_name}
 use Rattle.linker_utils.specs.X86Rewrites.{x86_64_rewrites, x86_64_rewrite, x86_64_modifier}
 use Rattle.linker_utils.specs.X86Rewrites.{IsX86Choice}
 use Rattle.linker_utils.specs.X86Rewrites.{x86_64_matches}
 use Rattle.linker_utils.specs.X86Rewrites.{x86_64_skipped, x86_64_may_be_skipped}
-use Rattle.linker_elf.specs.X86Relocations.{x86_64_name}
 use Rattle.linker_utils.specs.declared.aarch64.rewrites.RewriteKind.TheVariants as aarch64
 use Rattle.linker_utils.specs.declared.loongarch64.rewrites.RewriteKind.TheVariants as loongarch64
 use Rattle.linker_utils.specs.declared.ppc64.rewrites.RewriteKind.TheVariants as ppc64
 use Rattle.linker_utils.specs.declared.riscv64.rewrites.RewriteKind.TheVariants as riscv64
 use Rattle.linker_utils.specs.declared.x86_64.rewrites.RewriteKind.TheVariants as x86_64
-use Rattle.linker_utils.specs.declared.architecture.Relaxation.{Relaxation}
 use Rattle.linker_utils.specs.declared.architecture.Relaxation.TheVariants as relaxations
 use Rattle.linker_elf.specs.declared.elf.architecture.Architecture.{Architecture}
-use Rattle.linker_elf.specs.declared.elf.architecture.Architecture.TheVariants.{AArch64, RiscV}
-use Rattle.linker_elf.specs.declared.elf.architecture.Architecture.TheVariants.{LoongArch64}
-use Rattle.linker_elf.specs.declared.elf.architecture.Architecture.TheVariants.{Ppc64, X86_64}
-use Rattle.linker_elf.specs.declared.elf.choice.Choice.{Choice}
-use Rattle.linker_elf.specs.declared.aarch64.relocations.AArch64Relocation.{AArch64Relocation}
-use Rattle.linker_elf.specs.declared.elf.choice.LinkFacts.{LinkFacts}
-use Rattle.linker_elf.specs.declared.elf.choice.OtherRelocation.{OtherRelocation}
-use Rattle.linker_base.specs.declared.rewrite.DeletedBytes.{DeletedBytes}
 
 -- the rewrite with a number, and with a count of bytes before the field
 abbrev pub rewrite_of_number : Architecture → ℕ → ℕ → Option Relaxation

@@ -1,34 +1,25 @@
 -- The rewrites of RISC-V (RISC-V Instruction Set Manual, volume I; RISC-V ELF psABI, "Linker
 -- Relaxation").
-use Rattle.std.specs.Prelude.{◌≡◌, ℕ, ◌+◌, ◌*◌, List, Option, None, Some, ℤ, pos, negsuc, ◌≤ℤ◌, ◌≢◌}
-use Rattle.std.specs.Prelude.{◌-◌, ◌%◌, ◌^◌, Bool, [], ◌∷◌, ◌<ℤ◌, ◌+ℤ◌, ◌≤◌, length, ◌==◌, ◌&&◌}
-use Rattle.std.specs.Prelude.{◌||◌, nat_lt, not, IsTrue, ⊤, drop, ◌⊎◌, ◌++◌, true, false}
-use Rattle.std.specs.Int.{w32, from_le_bytes, to_le_bytes, w16, w64, int_div_euclid, cast_signed}
+use Rattle.linker_utils.specs.Imports.{Applies, Bool, Choice, Condition, DeletedBytes, Entry}
+use Rattle.linker_utils.specs.Imports.{HasWord, IsFirst, IsTrue, LinkFacts, List, None, Normal}
+use Rattle.linker_utils.specs.Imports.{Option, RelocationModifier, Rewrite, RiscVRelocation}
+use Rattle.linker_utils.specs.Imports.{RowInfo, SkipNextRelocation, Some, Written, [], addend}
+use Rattle.linker_utils.specs.Imports.{bound, cast_signed, choice, class32, compressible, drop}
+use Rattle.linker_utils.specs.Imports.{entry, executable, facts_on, false, field, fixed_address}
+use Rattle.linker_utils.specs.Imports.{fixed_distance, from_le_bytes, got_high_part, in_reach}
+use Rattle.linker_utils.specs.Imports.{in_reach_if_known, int_div_euclid, label_marked, length}
+use Rattle.linker_utils.specs.Imports.{low_12, low_12_bounds, marked, nat_lt, negsuc, not, pos}
+use Rattle.linker_utils.specs.Imports.{replaces, riscv_relocation, signed, to_le_bytes, true, w16}
+use Rattle.linker_utils.specs.Imports.{w32, w64, within, without_plt, ℕ, ℤ, ⊤}
+use Rattle.std.specs.Prelude.{◌≡◌, ◌+◌, ◌*◌, ◌≤ℤ◌, ◌≢◌, ◌-◌, ◌%◌, ◌^◌, ◌∷◌, ◌<ℤ◌, ◌+ℤ◌, ◌≤◌, ◌==◌}
+use Rattle.std.specs.Prelude.{◌&&◌, ◌||◌, ◌⊎◌, ◌++◌}
 use Rattle.linker_elf.specs.RiscV.{riscv_form}
-use Rattle.linker_base.specs.Bits.{field, signed}
-use Rattle.linker_base.specs.Form.{Written}
-use Rattle.linker_base.specs.Rewrite.{Rewrite, replaces}
-use Rattle.linker_base.specs.declared.relaxation.RelocationModifier.{RelocationModifier}
-use Rattle.linker_base.specs.declared.relaxation.RelocationModifier.TheVariants.{Normal}
-use Rattle.linker_base.specs.declared.relaxation.RelocationModifier.TheVariants.{SkipNextRelocation}
 use Rattle.linker_elf.specs.declared.riscv64.forms.RiscVInstruction.{RiscVInstruction}
-use Rattle.linker_base.specs.declared.rewrite.DeletedBytes.{DeletedBytes}
 use Rattle.linker_utils.specs.declared.riscv64.relaxation_kind.RelaxationKind.{RelaxationKind}
 use Rattle.linker_utils.specs.declared.riscv64.relaxation_kind.RelaxationKind.TheVariants as originals
 use Rattle.linker_utils.specs.declared.riscv64.rewrites.RewriteKind.{RewriteKind}
-use Rattle.linker_elf.specs.Originals.{HasWord}
 use Rattle.linker_riscv64.specs.RiscVCalls.{IsCallPair, IsPlainCall, word_at}
 use Rattle.linker_riscv64.specs.RiscVFields.{opcode_of, funct3_of, rd_of, stores_base}
-use Rattle.linker_elf.specs.Choices.{Condition, fixed_address, fixed_distance, compressible, marked}
-use Rattle.linker_elf.specs.Choices.{class32, without_plt, low_12, in_reach, low_12_bounds}
-use Rattle.linker_elf.specs.Choices.{executable, bound, addend, within, in_reach_if_known}
-use Rattle.linker_elf.specs.Choices.{got_high_part, label_marked, facts_on, Entry, entry}
-use Rattle.linker_elf.specs.Choices.{choice, Applies, IsFirst}
-use Rattle.linker_elf.specs.RiscVRelocations.{riscv_relocation}
-use Rattle.linker_elf.specs.declared.elf.RowInfo.{RowInfo}
-use Rattle.linker_elf.specs.declared.elf.choice.Choice.{Choice}
-use Rattle.linker_elf.specs.declared.elf.choice.LinkFacts.{LinkFacts}
-use Rattle.linker_elf.specs.declared.riscv64.relocations.RiscVRelocation.{RiscVRelocation}
 use Rattle.linker_elf.specs.declared.riscv64.relocations.RiscVRelocation.TheVariants as r
 use Rattle.linker_utils.specs.declared.riscv64.rewrites.RewriteKind.TheVariants as kinds
 

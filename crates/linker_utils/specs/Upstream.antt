@@ -1,12 +1,11 @@
 -- What the types of the crate `linker-utils` stand for: forms and rows of this library, which has
 -- more forms of PowerPC64.
-use Rattle.std.specs.Prelude.{◌≡◌, Bool, true, false}
-use Rattle.linker_base.specs.Form.{Form}
+use Rattle.linker_utils.specs.Imports.{Bool, Branch14, Branch24, D, Ds, Form, RowInfo, false, true}
+use Rattle.std.specs.Prelude.{◌≡◌}
 use Rattle.linker_elf.specs.Elf.{relocation_form}
 use Rattle.linker_elf.specs.Ppc64.{ppc64_form}
 use Rattle.linker_elf.specs.declared.elf.AnyForm.{AnyForm}
 use Rattle.linker_elf.specs.declared.elf.AnyForm.TheVariants as forms
-use Rattle.linker_elf.specs.declared.elf.RowInfo.{RowInfo}
 use Rattle.linker_elf.specs.declared.elf.RowSize.{RowSize}
 use Rattle.linker_elf.specs.declared.elf.RowSize.TheVariants as sizes
 use Rattle.linker_elf.specs.declared.ppc64.forms.Ppc64Form.{Ppc64Form}
@@ -18,9 +17,6 @@ use Rattle.linker_utils.specs.declared.elf.RelocationKindInfo.{RelocationKindInf
 use Rattle.linker_utils.specs.declared.elf.RelocationSize.{RelocationSize}
 use Rattle.linker_utils.specs.declared.elf.RelocationSize.TheVariants.{ByteSize, BitMasking}
 use Rattle.linker_utils.specs.declared.ppc64.instruction.Ppc64Instruction.{Ppc64Instruction}
-use Rattle.linker_utils.specs.declared.ppc64.instruction.Ppc64Instruction.TheVariants.{D, Ds}
-use Rattle.linker_utils.specs.declared.ppc64.instruction.Ppc64Instruction.TheVariants.{Branch14}
-use Rattle.linker_utils.specs.declared.ppc64.instruction.Ppc64Instruction.TheVariants.{Branch24}
 
 abbrev pub ppc64_of : Ppc64Instruction → Ppc64Form
 ppc64_of D = ppc64.D

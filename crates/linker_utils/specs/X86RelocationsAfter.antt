@@ -1,9 +1,8 @@
 -- x86-64: the relocation of the field after a rewrite (x86-64 psABI, "Optimize GOTPCRELX
 -- Relocations"; "ELF Handling For Thread-Local Storage", "x86-64").
-use Rattle.std.specs.Prelude.{ℕ, ◌==◌, if◌then◌else◌, Option, None, Some}
-use Rattle.linker_elf.specs.declared.x86_64.relocations.X86_64Relocation.{X86_64Relocation}
+use Rattle.linker_utils.specs.Imports.{None, Option, RewriteKind, Some, X86_64Relocation, ℕ}
+use Rattle.std.specs.Prelude.{◌==◌, if◌then◌else◌}
 use Rattle.linker_elf.specs.declared.x86_64.relocations.X86_64Relocation.TheVariants as r
-use Rattle.linker_utils.specs.declared.x86_64.rewrites.RewriteKind.{RewriteKind}
 use Rattle.linker_utils.specs.declared.x86_64.rewrites.RewriteKind.TheVariants as kinds
 
 -- The relocation after is the first, where that before is of the named kind.

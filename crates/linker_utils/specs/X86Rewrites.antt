@@ -1,28 +1,20 @@
 -- x86-64: its rewrites (x86-64 psABI, "Optimize GOTPCRELX Relocations" and "Thread-Local Storage";
 -- prefixes and ModRM bytes by the Intel 64 and IA-32 Software Developer's Manual, "Instruction
 -- Format").
-use Rattle.std.specs.Prelude.{◌≡◌, ℕ, ◌+◌, ◌-◌, ◌/◌, ◌==◌, if◌then◌else◌, true, List, [], ◌∷◌}
-use Rattle.std.specs.Prelude.{slice_index, Option, None, Some, ℤ, pos, bit_and, bit_or, Bool, false}
-use Rattle.std.specs.Prelude.{◌&&◌, ◌||◌, nat_le, IsTrue, ◌++◌, drop, neg_ℤ, ⊤}
-use Rattle.std.specs.Int.{bit_at}
-use Rattle.linker_base.specs.Bits.{field}
-use Rattle.linker_base.specs.Rewrite.{Rewrite, replaces, CanRewrite}
-use Rattle.linker_base.specs.declared.relaxation.RelocationModifier.{RelocationModifier}
-use Rattle.linker_base.specs.declared.relaxation.RelocationModifier.TheVariants.{Normal}
-use Rattle.linker_base.specs.declared.relaxation.RelocationModifier.TheVariants.{SkipNextRelocation}
+use Rattle.linker_utils.specs.Imports.{Applies, Bool, CanRewrite, Choice, Condition, Entry, IsFirst}
+use Rattle.linker_utils.specs.Imports.{IsTrue, LinkFacts, List, None, Normal, Option}
+use Rattle.linker_utils.specs.Imports.{RelocationModifier, Rewrite, RewriteKind, SkipNextRelocation}
+use Rattle.linker_utils.specs.Imports.{Some, X86_64Relocation, [], addend, bit_and, bit_at, bit_or}
+use Rattle.linker_utils.specs.Imports.{bound, choice, drop, entry, executable, false, field}
+use Rattle.linker_utils.specs.Imports.{fixed_address, fixed_distance, group_fits, in_reach}
+use Rattle.linker_utils.specs.Imports.{in_reach_if_known, local_exec_base, nat_le, neg_ℤ}
+use Rattle.linker_utils.specs.Imports.{operands_after, pos, replaces, slice_index, true, weak_zero}
+use Rattle.linker_utils.specs.Imports.{x86_64_row, ℕ, ℤ, ⊤}
+use Rattle.std.specs.Prelude.{◌≡◌, ◌+◌, ◌-◌, ◌/◌, ◌==◌, if◌then◌else◌, ◌∷◌, ◌&&◌, ◌||◌, ◌++◌}
 use Rattle.linker_utils.specs.declared.x86_64.relaxation_kind.RelaxationKind.{RelaxationKind}
 use Rattle.linker_utils.specs.declared.x86_64.relaxation_kind.RelaxationKind.TheVariants as originals
-use Rattle.linker_utils.specs.declared.x86_64.rewrites.RewriteKind.{RewriteKind}
-use Rattle.linker_elf.specs.Choices.{Condition, Entry, entry, choice, operands_after, Applies}
-use Rattle.linker_elf.specs.Choices.{IsFirst, bound, weak_zero, fixed_address, fixed_distance}
-use Rattle.linker_elf.specs.Choices.{executable, local_exec_base, addend, in_reach}
-use Rattle.linker_elf.specs.Choices.{in_reach_if_known, group_fits}
-use Rattle.linker_elf.specs.X86Relocations.{x86_64_row}
 use Rattle.linker_utils.specs.X86RelocationsAfter.{immediate_of}
-use Rattle.linker_elf.specs.declared.elf.choice.Choice.{Choice}
-use Rattle.linker_elf.specs.declared.elf.choice.LinkFacts.{LinkFacts}
 use Rattle.linker_elf.specs.declared.elf.value.Operands.{Operands}
-use Rattle.linker_elf.specs.declared.x86_64.relocations.X86_64Relocation.{X86_64Relocation}
 use Rattle.linker_utils.specs.declared.x86_64.rewrites.RewriteKind.TheVariants as kinds
 use Rattle.linker_elf.specs.declared.x86_64.relocations.X86_64Relocation.TheVariants as r
 

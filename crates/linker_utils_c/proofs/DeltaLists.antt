@@ -1,11 +1,7 @@
 -- Lists of deletions and deltas that are made one by one.
-use Rattle.std.proofs.Common.{◌≡◌, ℕ, ◌+◌, ◌<◌, List, [], ◌∷◌, ◌++◌, length, map, get_or, take, ap, ◌∙◌, arith}
-use Rattle.std.specs.List.Sorted.{IsNonDecreasingBy}
-use Rattle.std.proofs.lemmas.List.Sorted.{IsNonDecreasingBy-from_default}
-use Rattle.std.proofs.lemmas.List.{get_or-map, length-map, take_more}
+use Rattle.linker_utils_c.proofs.Imports.{IsNonDecreasingBy, IsNonDecreasingBy-from_default, List, [], ap, arith, get_or, get_or-map, length, length-map, map, pair_of, pair_of_key, pairs_in, take, take_more, ℕ, ◌++◌, ◌+◌, ◌<◌, ◌∙◌, ◌∷◌, ◌≡◌}
 use Rattle.linker_rewriting.specs.declared.decisions.Deletion.{Deletion}
 use Rattle.linker_utils_c.specs.declared.merges.Key.{Key}
-use Rattle.linker_utils_c.specs.Deltas.{pair_of, pair_of_key, pairs_in}
 
 -- what a read past the end gives
 abbrev pub no_deletion : Deletion

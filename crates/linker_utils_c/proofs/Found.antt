@@ -1,10 +1,6 @@
 -- What was found, in the numbers that C sees.
-use Rattle.std.proofs.Common.{◌≡◌, ℕ, ◌+◌, ◌<◌, List, [], ◌∷◌, ◌++◌, length, get_or, take, set, ap, refl, Option, Some, None}
-use Rattle.std.proofs.lemmas.List.{take_more, take_more_set}
+use Rattle.linker_utils_c.proofs.Imports.{AreInNumbers, IsMadeInNumbers, List, None, Option, RecognisedNumbers, Relaxation, Some, [], ap, get_or, length, present, refl, set, take, take_more, take_more_set, ℕ, ◌++◌, ◌+◌, ◌<◌, ◌∷◌, ◌≡◌}
 use Rattle.linker_reading.specs.declared.recognise.engine.Recognised.{Recognised}
-use Rattle.linker_utils.specs.declared.architecture.Relaxation.{Relaxation}
-use Rattle.linker_utils_c.specs.Recognising.{AreInNumbers, IsMadeInNumbers, present}
-use Rattle.linker_utils_c.specs.declared.recognising.RecognisedNumbers.{RecognisedNumbers}
 
 -- one more at the end of both
 pub one_more : (ms : List (Recognised Relaxation ℕ)) (ns : List RecognisedNumbers) (m : Recognised Relaxation ℕ) (n : RecognisedNumbers) → AreInNumbers ms ns → IsMadeInNumbers m n → AreInNumbers (ms ++ m ∷ []) (ns ++ n ∷ [])

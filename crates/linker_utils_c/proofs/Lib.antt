@@ -1,5 +1,6 @@
 pub mod DeltaLists
 pub mod Found
+pub mod Imports
 pub mod Named
 pub mod Placing
 pub mod Provided

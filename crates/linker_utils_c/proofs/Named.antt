@@ -1,12 +1,7 @@
 -- What is known of a rewrite by its number, and of the status of a call that may apply it.
-use Rattle.std.proofs.Common.{◌≡◌, ℕ, sym, Option, Some, None, MatchOption, MatchResult}
+use Rattle.linker_utils_c.proofs.Imports.{Architecture, MatchOption, MatchResult, None, Option, Relaxation, Some, UnknownRewrite, code, rewrite_of_number, sym, ℕ, ◌≡◌}
 use Rattle.linker_elf.specs.Machines.{architecture_of}
-use Rattle.linker_elf.specs.declared.elf.architecture.Architecture.{Architecture}
-use Rattle.linker_utils.specs.Relaxations.{rewrite_of_number}
-use Rattle.linker_utils.specs.declared.architecture.Relaxation.{Relaxation}
 use Rattle.linker_utils_c.specs.Rewrites.{named_rewrite, rewrite_or_unknown}
-use Rattle.linker_utils_c.specs.Status.{code}
-use Rattle.linker_utils_c.specs.declared.status.Status.TheVariants.{UnknownRewrite}
 
 of_found : (P : Relaxation → Type 0) (found : Option Relaxation) (number : ℕ) → MatchOption found (number ≡ code UnknownRewrite) P
     → MatchResult (rewrite_or_unknown found) P (λ why. number ≡ code why)

@@ -1,11 +1,8 @@
 -- The cases of a call that places stubs.
-use Rattle.std.proofs.Common.{◌≡◌, ◌≤◌, ◌<◌, ◌*◌, ℕ, List, length, refl, arith}
+use Rattle.linker_utils_c.proofs.Imports.{Arrays, DifferentLengths, HaveLengths, IsCodeOf, IsPlacing, IsPlacingOf, List, ShortMemory, arith, code, length, refl, ℕ, ◌*◌, ◌<◌, ◌≡◌, ◌≤◌}
 use Rattle.linker_output.specs.declared.placement.Branch.{Branch}
 use Rattle.linker_output.specs.declared.placement.Code.{Code}
 use Rattle.linker_output.specs.declared.placement.StubShape.{StubShape}
-use Rattle.linker_utils_c.specs.Placement.{Arrays, HaveLengths, IsCodeOf, IsPlacing, IsPlacingOf}
-use Rattle.linker_utils_c.specs.Status.{code}
-use Rattle.linker_utils_c.specs.declared.status.Status.TheVariants.{DifferentLengths, ShortMemory}
 
 pub of_different : (branches : List Branch) (targets boundaries : List ℕ) (shape : StubShape)
     (old : Arrays) (faulty status : ℕ) → ¬ HaveLengths branches boundaries old

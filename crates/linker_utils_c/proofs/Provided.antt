@@ -1,6 +1,5 @@
 -- What linkers provide, at an index.
-use Rattle.std.proofs.Common.{◌≡◌, ℕ, zero, suc, List, [], ◌∷◌, slice_get, refl, option_map}
-use Rattle.linker_output.specs.View.{Symbol, view_run, view_runs, view_symbols}
+use Rattle.linker_utils_c.proofs.Imports.{List, Symbol, [], option_map, refl, slice_get, suc, view_run, view_runs, view_symbols, zero, ℕ, ◌∷◌, ◌≡◌}
 use Rattle.linker_output.specs.declared.layout.SaveRestoreRoutines.{SaveRestoreRoutines}
 use Rattle.linker_output.specs.declared.layout.ProvidedSymbol.{ProvidedSymbol}
 

@@ -1,13 +1,7 @@
 -- A write's outcome, and relocations one after the other.
-use Rattle.std.proofs.Common.{ℕ, List, [], ◌∷◌, ◌++◌, refl, sym, ℤ, Result, Ok, Err, OnOk, IfErr}
+use Rattle.linker_utils_c.proofs.Imports.{Architecture, AreRelocated, Err, IfErr, IsApplied, IsOutcome, List, Ok, OnOk, Relocation, Result, RowInfo, Success, [], code, refl, sym, ℕ, ℤ, ◌++◌, ◌∷◌}
 use Rattle.linker_elf.specs.Relocate.{WritesRow, RejectsValue}
-use Rattle.linker_elf.specs.declared.elf.architecture.Architecture.{Architecture}
-use Rattle.linker_elf.specs.declared.elf.RowInfo.{RowInfo}
 use Rattle.linker_elf.specs.declared.elf.relocate.RelocateError.{RelocateError}
-use Rattle.linker_utils_c.specs.Relocate.{IsOutcome, IsApplied, AreRelocated}
-use Rattle.linker_utils_c.specs.Status.{code}
-use Rattle.linker_utils_c.specs.declared.relocate.Relocation.{Relocation}
-use Rattle.linker_utils_c.specs.declared.status.Status.TheVariants.{Success}
 
 pub outcome_of : (o : Result Unit RelocateError) (row : RowInfo) (v : ℤ) (before after : List ℕ)
     → OnOk o (WritesRow row v before after)

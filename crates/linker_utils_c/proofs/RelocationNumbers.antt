@@ -1,5 +1,5 @@
 -- A row's numbers are what C is promised of them.
-use Rattle.std.proofs.Common.{◌≡◌, ℤ, refl, Option, Some, None, Ok}
+use Rattle.linker_utils_c.proofs.Imports.{InNumbers, IsRange, IsSize, None, Ok, Option, RowInfo, Some, refl, ℤ, ◌≡◌}
 use Rattle.linker_elf.specs.Numbers.{numbers_of, form_number, form_machine}
 use Rattle.linker_elf.specs.declared.aarch64.forms.AArch64Instruction.{AArch64Instruction}
 use Rattle.linker_elf.specs.declared.aarch64.forms.AArch64Instruction.TheVariants.{Adr}
@@ -11,11 +11,9 @@ use Rattle.linker_elf.specs.declared.ppc64.forms.Ppc64Form.{Ppc64Form}
 use Rattle.linker_elf.specs.declared.ppc64.forms.Ppc64Form.TheVariants.{D}
 use Rattle.linker_elf.specs.declared.elf.AnyForm.{AnyForm}
 use Rattle.linker_elf.specs.declared.elf.AnyForm.TheVariants.{AArch64, RiscV, LoongArch64, Ppc64}
-use Rattle.linker_elf.specs.declared.elf.RowInfo.{RowInfo}
 use Rattle.linker_elf.specs.declared.elf.RowSize.{RowSize}
 use Rattle.linker_elf.specs.declared.elf.RowSize.TheVariants.{ByteSize, BitMasking}
 use Rattle.linker_utils_c.specs.Forms.{named_form}
-use Rattle.linker_utils_c.specs.Relocations.{InNumbers, IsSize, IsRange}
 
 aarch64_named : (f : AArch64Instruction) → named_form (form_machine (AArch64 f)) (form_number (AArch64 f)) ≡ Ok (AArch64 f)
 aarch64_named Adr = refl

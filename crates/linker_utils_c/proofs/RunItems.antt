@@ -1,19 +1,8 @@
 -- Runs of items as C passes them, and the deltas of what they lose.
-use Rattle.std.proofs.Common.{◌≡◌, ℕ, ◌+◌, ◌-◌, ◌<◌, ◌≤◌, ◌∙◌, Bool, true, false, List, [], ◌∷◌, ◌++◌, length, get_or, take, set, refl, ap, sym, subst, arith, cond}
-use Rattle.std.specs.Prelude.{◌^◌, ◌==◌}
-use Rattle.std.proofs.lemmas.List.{get_or-map, take_more_set, append-nil, take_all}
-use Rattle.std.proofs.lemmas.List.Sums.{sum_by-append}
-use Rattle.linker_base.specs.declared.relaxation.RelaxDelta.{RelaxDelta}
-use Rattle.linker_base.specs.Deletions.{bytes_of}
-use Rattle.linker_base.specs.Deltas.{deletion_of, RecordsDeletions}
-use Rattle.linker_base.proofs.Listed.{RecordsDeletions-push}
-use Rattle.linker_base.proofs.OutputOffsets.{bytes_of-take_fit}
+use Rattle.linker_utils_c.proofs.Imports.{AreInOrder, Bool, List, RecordsDeletions, RecordsDeletions-push, RelaxDelta, [], ap, append-nil, arith, bytes_of, bytes_of-take_fit, cond, deletion_none, deletion_of, deletion_some, deletions_before, deletions_next, deletions_none, deletions_valid, false, get_or, get_or-map, item_at, item_of, items_in, len_of, length, no_item, offset_of, refl, set, subst, sum_by-append, sym, take, take_all, take_more_set, true, ℕ, ◌++◌, ◌+◌, ◌-◌, ◌<◌, ◌^◌, ◌∙◌, ◌∷◌, ◌≡◌, ◌≤◌}
+use Rattle.std.specs.Prelude.{◌==◌}
 use Rattle.linker_runs.specs.declared.relaxation.Item.{Item}
-use Rattle.linker_runs.specs.Relaxing.{offset_of, len_of, item_at, no_item, AreInOrder}
-use Rattle.linker_runs.specs.Deleting.{deletions_before}
-use Rattle.linker_runs.proofs.Deletions.{deletions_none, deletions_next, deletion_some, deletion_none, deletions_valid}
 use Rattle.linker_runs.specs.declared.items.numbers.ItemNumbers.{ItemNumbers}
-use Rattle.linker_runs.specs.Relaxing.{item_of, items_in}
 
 -- what a read past the end gives
 abbrev pub no_numbers : ItemNumbers

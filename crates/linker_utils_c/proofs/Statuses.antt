@@ -1,5 +1,5 @@
 -- What a status says of the outcome of the call that it is about.
-use Rattle.std.proofs.Common.{◌↔◌, Result, Ok, Err, IsOk, OnOk, OnErr, refl}
+use Rattle.linker_utils_c.proofs.Imports.{Err, IsOk, Ok, OnErr, OnOk, Result, refl, ◌↔◌}
 
 pub via : {A B C : Type 0} → A ↔ B → B ↔ C → A ↔ C
 via f g = (λ a. g.0 (f.0 a), λ c. f.1 (g.1 c))

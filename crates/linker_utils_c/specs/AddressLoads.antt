@@ -1,13 +1,10 @@
 -- Loads of addresses from words of a section, rewritten in one call, in the numbers that C sees.
 use Rattle.std.specs.Prelude.{◌≡◌, ◌⊎◌, ℕ, ◌/◌, Bool, List, length, take, drop, All}
-use Rattle.linker_rewriting.specs.Agreement.{Agree}
-use Rattle.linker_rewriting.specs.Facts.{RelaxContext}
+use Rattle.linker_utils_c.specs.Imports.{Agree, DecisionNumbers, IsWrittenDecision, RelaxContext}
+use Rattle.linker_utils_c.specs.Imports.{Success, decisions_in}
 use Rattle.linker_rewriting.specs.TocIndirection.{AreLoadsRewrittenAs, AreLoadsRejectedFirst}
-use Rattle.linker_rewriting.specs.Numbers.{decisions_in, IsWrittenDecision}
 use Rattle.linker_utils_c.specs.Rewriting.{IsErrorReturned}
-use Rattle.linker_rewriting.specs.declared.decisions.numbers.DecisionNumbers.{DecisionNumbers}
 use Rattle.linker_utils_c.specs.Status.{code}
-use Rattle.linker_utils_c.specs.declared.status.Status.TheVariants.{Success}
 
 abbrev pub AreLoadsReturned : RelaxContext → ℕ → List ℕ → List Bool → List ℕ → List ℕ → List ℕ → List ℕ
     → List DecisionNumbers → List DecisionNumbers → ℕ → ℕ → ℕ → Type 0

@@ -1,19 +1,12 @@
 -- What a linker knows, and what it chooses, in the numbers that C sees.
 use Rattle.std.specs.Prelude.{◌≡◌, ℕ, ◌==◌, not, Option, None, Some, Bool, pos, Result, Ok, Err}
-use Rattle.linker_utils.specs.Relaxations.{rewrite_of_number, relaxation_modifier}
-use Rattle.linker_utils.specs.Relaxations.{relaxation_no_op}
-use Rattle.linker_utils.specs.Relaxations.{relaxation_deleted, relaxation_other}
-use Rattle.linker_utils.specs.Relaxations.{relaxation_skipped}
-use Rattle.linker_utils.specs.declared.architecture.Relaxation.{Relaxation}
-use Rattle.linker_elf.specs.declared.elf.architecture.Architecture.{Architecture}
-use Rattle.linker_elf.specs.declared.elf.choice.Choice.{Choice}
-use Rattle.linker_elf.specs.declared.elf.choice.LinkFacts.{LinkFacts}
+use Rattle.linker_utils_c.specs.Imports.{Architecture, Choice, ChoiceNumbers, LinkFacts, Relaxation}
+use Rattle.linker_utils_c.specs.Imports.{Status, completed, relaxation_deleted, relaxation_modifier}
+use Rattle.linker_utils_c.specs.Imports.{relaxation_no_op, relaxation_other, relaxation_skipped}
+use Rattle.linker_utils_c.specs.Imports.{rewrite_of_number}
 use Rattle.linker_elf.specs.declared.elf.choice.OtherRelocation.{OtherRelocation}
-use Rattle.linker_elf.specs.Value.{completed}
 use Rattle.linker_base.specs.declared.rewrite.DeletedBytes.{DeletedBytes}
-use Rattle.linker_utils_c.specs.declared.choices.ChoiceNumbers.{ChoiceNumbers}
 use Rattle.linker_utils_c.specs.declared.choices.LinkFactNumbers.{LinkFactNumbers}
-use Rattle.linker_utils_c.specs.declared.status.Status.{Status}
 use Rattle.linker_utils_c.specs.Rewrites.{modifier_number, named_rewrite}
 
 -- a number that isn't 0 is true

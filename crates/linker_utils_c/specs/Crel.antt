@@ -5,9 +5,7 @@ use Rattle.linker_section.specs.declared.crel.Crel.{Crel}
 use Rattle.linker_section.specs.declared.crel.CrelError.{CrelError}
 use Rattle.linker_section.specs.declared.crel.CrelError.TheVariants as errors
 use Rattle.linker_utils_c.specs.Status.{code}
-use Rattle.linker_utils_c.specs.declared.status.Status.{Status}
-use Rattle.linker_utils_c.specs.declared.status.Status.TheVariants.{Success, CutOff, TooLarge}
-use Rattle.linker_utils_c.specs.declared.status.Status.TheVariants.{TooShort}
+use Rattle.linker_utils_c.specs.Imports.{CutOff, Status, Success, TooLarge, TooShort}
 
 abbrev pub crel_status : Result Crel CrelError → Status
 crel_status (Ok crel) = Success

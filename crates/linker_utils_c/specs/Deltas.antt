@@ -1,17 +1,14 @@
 -- The deletions and deltas that C passes.
 use Rattle.std.specs.Prelude.{◌≡◌, ℕ, ◌+◌, ◌/◌, ◌%◌, ◌^◌, ◌++◌, ◌<◌, ◌⊎◌, List, length, take}
 use Rattle.std.specs.List.Sorted.{IsNonDecreasing}
-use Rattle.linker_base.specs.declared.relaxation.RelaxDelta.{RelaxDelta}
-use Rattle.linker_base.specs.Deletions.{AreDisjoint, IsValid, IsSortedUnion}
-use Rattle.linker_base.specs.Deltas.{deletions_of}
-use Rattle.linker_base.specs.Listed.{AreValidDeltas, IsFirstInvalid, IsFirstOverlapping}
+use Rattle.linker_utils_c.specs.Imports.{AreDisjoint, AreValidDeltas, InvalidDeletions}
+use Rattle.linker_utils_c.specs.Imports.{IsFirstInvalid, IsFirstOverlapping, IsSortedUnion, IsValid}
+use Rattle.linker_utils_c.specs.Imports.{NotMergeable, RelaxDelta, Success, deletions_of}
 pub use Rattle.linker_rewriting.specs.Decisions.{pair_of, pairs_in}
 use Rattle.linker_utils_c.specs.declared.merges.MergeError.{MergeError}
 use Rattle.linker_utils_c.specs.declared.merges.MergeError.TheVariants.{OutOfMemory, Invalid}
 use Rattle.linker_utils_c.specs.declared.merges.MergeError.TheVariants.{Overlapping}
 use Rattle.linker_utils_c.specs.declared.merges.Key.{Key}
-use Rattle.linker_utils_c.specs.declared.status.Status.TheVariants.{Success, InvalidDeletions}
-use Rattle.linker_utils_c.specs.declared.status.Status.TheVariants.{NotMergeable}
 use Rattle.linker_utils_c.specs.declared.status.Status.TheVariants as statuses
 use Rattle.linker_utils_c.specs.Status.{code}
 

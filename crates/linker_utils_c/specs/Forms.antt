@@ -1,18 +1,11 @@
 -- The numbers by which C names forms of instructions.
 use Rattle.std.specs.Prelude.{◌≡◌, ◌≢◌, ◌<◌, ◌≤◌, Bool, length, drop, ℕ, List}
 use Rattle.std.specs.Prelude.{Option, None, Some, Result, Ok, Err, MatchResult}
-use Rattle.std.specs.Int.{byte_len, cast_unsigned, w64}
+use Rattle.linker_utils_c.specs.Imports.{Architecture, DoesNotFit, Status, Success, TooShort}
+use Rattle.linker_utils_c.specs.Imports.{UnknownArchitecture, UnknownForm, X86_64, architecture_of}
+use Rattle.linker_utils_c.specs.Imports.{byte_len, cast_unsigned, flag_number, form_of_number, w64}
 use Rattle.linker_base.specs.Form.{Form, window_of, Fits, Written, MachineReads, IsReadBack}
-use Rattle.linker_elf.specs.Architectures.{form_of_number}
-use Rattle.linker_elf.specs.Machines.{architecture_of}
-use Rattle.linker_elf.specs.Numbers.{flag_number}
-use Rattle.linker_elf.specs.declared.elf.architecture.Architecture.{Architecture}
-use Rattle.linker_elf.specs.declared.elf.architecture.Architecture.TheVariants.{X86_64}
 use Rattle.linker_elf.specs.declared.elf.AnyForm.{AnyForm}
-use Rattle.linker_utils_c.specs.declared.status.Status.{Status}
-use Rattle.linker_utils_c.specs.declared.status.Status.TheVariants.{Success, UnknownArchitecture}
-use Rattle.linker_utils_c.specs.declared.status.Status.TheVariants.{UnknownForm, TooShort}
-use Rattle.linker_utils_c.specs.declared.status.Status.TheVariants.{DoesNotFit}
 use Rattle.linker_utils_c.specs.Status.{code, HasRoom}
 
 -- a form, or that there is none

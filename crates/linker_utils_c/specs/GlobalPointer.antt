@@ -1,20 +1,15 @@
 -- Addresses near the global pointer, in the numbers that C sees.
 use Rattle.std.specs.Prelude.{◌≡◌, ◌⊎◌, ℕ, ◌<◌, ◌/◌, List, Bool, true, length, take, drop, All}
-use Rattle.linker_rewriting.specs.Agreement.{Agree}
+use Rattle.linker_utils_c.specs.Imports.{Addresses, Agree, DecisionNumbers, IsWrittenDecision}
+use Rattle.linker_utils_c.specs.Imports.{OutOfReach, RelaxContext, Success, Symbol, decisions_in}
 use Rattle.linker_rewriting.specs.Decisions.{IsRejectedFirst}
-use Rattle.linker_rewriting.specs.Facts.{RelaxContext}
 use Rattle.linker_rewriting.specs.GlobalPointer.{ArePartsRewrittenAs, ArePartsRejected, AreBased}
 use Rattle.linker_rewriting.specs.GlobalPointer.{section_based, is_placed, IsFirstUnplaced}
 use Rattle.linker_section.specs.Relocations.{relocation_in}
-use Rattle.linker_section.specs.declared.facts.Addresses.{Addresses}
-use Rattle.linker_section.specs.declared.facts.Symbol.{Symbol}
-use Rattle.linker_rewriting.specs.Numbers.{decisions_in, IsWrittenDecision}
 use Rattle.linker_utils_c.specs.Rewriting.{IsErrorReturned}
 use Rattle.linker_utils_c.specs.Rewriting.{AreDeletionsTo}
-use Rattle.linker_rewriting.specs.declared.decisions.numbers.DecisionNumbers.{DecisionNumbers}
 use Rattle.linker_utils_c.specs.Status.{code}
 use Rattle.linker_rewriting.specs.declared.decisions.Deletion.{Deletion}
-use Rattle.linker_utils_c.specs.declared.status.Status.TheVariants.{Success, OutOfReach}
 
 abbrev pub ArePartsReturned : RelaxContext → ℕ → List Bool → List ℕ → List ℕ → List ℕ
     → List DecisionNumbers → List DecisionNumbers → List Deletion → List Deletion → ℕ → ℕ → ℕ → ℕ

@@ -1,7 +1,8 @@
 -- Values that are written where choices of rewrites would read what they read, in the numbers that
 -- C sees.
 use Rattle.std.specs.Prelude.{◌≡◌, ℕ, ◌<◌, ◌≤◌, List, length, Result, Ok, Err}
-use Rattle.linker_rewriting.specs.Agreement.{Agree, IsContradiction}
+use Rattle.linker_utils_c.specs.Imports.{Addresses, Agree, Architecture, FactsChanged}
+use Rattle.linker_utils_c.specs.Imports.{FactsContradict, IsContradiction, ShortMemory, Symbol}
 use Rattle.linker_rewriting.specs.Kept.{AreAsKept, IsFirstChanged, HaveStubs, IsFirstWithoutStub}
 use Rattle.linker_rewriting.specs.declared.facts.OutputFacts.{OutputFacts}
 use Rattle.linker_rewriting.specs.declared.facts.SymbolFacts.{SymbolFacts}
@@ -10,13 +11,8 @@ use Rattle.linker_rewriting.specs.declared.kept.WritingError.{WritingError}
 use Rattle.linker_rewriting.specs.declared.kept.WritingError.TheVariants.{Contradiction, Changed}
 use Rattle.linker_rewriting.specs.declared.kept.WritingError.TheVariants.{NeedsStub, Section}
 use Rattle.linker_section.specs.Sections.{by_index}
-use Rattle.linker_section.specs.declared.facts.Addresses.{Addresses}
-use Rattle.linker_section.specs.declared.facts.Symbol.{Symbol}
-use Rattle.linker_elf.specs.declared.elf.architecture.Architecture.{Architecture}
 use Rattle.linker_utils_c.specs.Sections.{room_of, IsSectionOutcome}
 use Rattle.linker_utils_c.specs.Status.{code}
-use Rattle.linker_utils_c.specs.declared.status.Status.TheVariants.{FactsChanged, ShortMemory}
-use Rattle.linker_utils_c.specs.declared.status.Status.TheVariants.{FactsContradict}
 use Rattle.linker_utils_c.specs.declared.status.Status.TheVariants as statuses
 
 -- The tables agree, all facts are as kept, no call lacks its stub, and all values are written or

@@ -9,12 +9,10 @@ use Rattle.linker_output.specs.declared.lazy_plt.LazyForm.{LazyForm}
 use Rattle.linker_output.specs.declared.lazy_plt.LazyForm.TheVariants as form
 use Rattle.linker_output.specs.declared.lazy_plt.LazyPiece.{LazyPiece}
 use Rattle.linker_output.specs.declared.stubs.StubError.{StubError}
-use Rattle.linker_elf.specs.declared.elf.architecture.Architecture.{Architecture}
+use Rattle.linker_utils_c.specs.Imports.{Architecture, Status, Success, UnknownStub}
 use Rattle.linker_utils_c.specs.Output.{stub_status}
 use Rattle.linker_utils_c.specs.Status.{code}
 use Rattle.linker_utils_c.specs.declared.lazy_plt.LazyPltNumbers.{LazyPltNumbers}
-use Rattle.linker_utils_c.specs.declared.status.Status.{Status}
-use Rattle.linker_utils_c.specs.declared.status.Status.TheVariants.{Success, UnknownStub}
 
 -- the form with a number
 abbrev pub form_of : ℕ → Option LazyForm

@@ -4,6 +4,7 @@ pub mod Crel
 pub mod Deltas
 pub mod Forms
 pub mod GlobalPointer
+pub mod Imports
 pub mod Kept
 pub mod LazyPlt
 pub mod Output

@@ -11,17 +11,12 @@ use Rattle.linker_output.specs.declared.layout.SymbolPlace.{SymbolPlace}
 use Rattle.linker_output.specs.declared.layout.SymbolPlace.TheVariants.{ThreadLocal, Got, SmallData}
 use Rattle.linker_output.specs.declared.stubs.StubError.{StubError}
 use Rattle.linker_output.specs.declared.stubs.StubError.TheVariants as errors
-use Rattle.linker_output.specs.declared.stubs.StubKind.{StubKind}
-use Rattle.linker_output.specs.declared.stubs.StubKind.TheVariants.{Load, Jump}
-use Rattle.linker_output.specs.declared.stubs.StubKind.TheVariants.{Far, FarRelative, LandingLoad}
-use Rattle.linker_output.specs.declared.stubs.StubKind.TheVariants.{TocLoad, TocFar}
-use Rattle.linker_output.specs.declared.stubs.StubKind.TheVariants.{PrefixedLoad, PrefixedJump}
+use Rattle.linker_utils_c.specs.Imports.{Address, Architecture, Descriptor, DifferentFlags}
+use Rattle.linker_utils_c.specs.Imports.{EntryClass, Far, FarRelative, Jump, LandingLoad, Load}
+use Rattle.linker_utils_c.specs.Imports.{Module, ModuleOffset, NotProvided, PrefixedJump}
+use Rattle.linker_utils_c.specs.Imports.{PrefixedLoad, Status, StubKind, Success, ThreadOffset}
+use Rattle.linker_utils_c.specs.Imports.{TocFar, TocLoad, TooShort, UnknownEntryClass, UnknownStub}
 use Rattle.linker_output.specs.declared.tags.DynamicEntry.{DynamicEntry}
-use Rattle.linker_section.specs.declared.needed.EntryClass.{EntryClass}
-use Rattle.linker_section.specs.declared.needed.EntryClass.TheVariants.{Address, ThreadOffset}
-use Rattle.linker_section.specs.declared.needed.EntryClass.TheVariants.{ModuleOffset, Module}
-use Rattle.linker_section.specs.declared.needed.EntryClass.TheVariants.{Descriptor}
-use Rattle.linker_elf.specs.declared.elf.architecture.Architecture.{Architecture}
 use Rattle.linker_utils_c.specs.Relocate.{write_status}
 use Rattle.linker_utils_c.specs.Relocations.{IsCopied}
 use Rattle.linker_utils_c.specs.Status.{code}
@@ -32,11 +27,6 @@ use Rattle.linker_utils_c.specs.declared.output.RunNumbers.{RunNumbers}
 use Rattle.linker_utils_c.specs.declared.output.StubNumbers.{StubNumbers}
 use Rattle.linker_utils_c.specs.declared.output.SymbolNumbers.{SymbolNumbers}
 use Rattle.linker_utils_c.specs.declared.output.WordNumbers.{WordNumbers}
-use Rattle.linker_utils_c.specs.declared.status.Status.{Status}
-use Rattle.linker_utils_c.specs.declared.status.Status.TheVariants.{Success, TooShort}
-use Rattle.linker_utils_c.specs.declared.status.Status.TheVariants.{UnknownEntryClass}
-use Rattle.linker_utils_c.specs.declared.status.Status.TheVariants.{DifferentFlags, UnknownStub}
-use Rattle.linker_utils_c.specs.declared.status.Status.TheVariants.{NotProvided}
 
 -- ---- dynamic relocations
 

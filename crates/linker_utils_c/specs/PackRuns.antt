@@ -1,13 +1,11 @@
 -- Packed sections of a run, in the numbers that C sees.
 use Rattle.std.specs.Prelude.{◌≡◌, ◌≢◌, ◌+◌, ◌^◌, ◌<◌, ◌≤◌, ◌⊎◌, ◌↔◌, ℕ, List, [], ◌∷◌, length}
 use Rattle.std.specs.Prelude.{Option, None, Some, true, ◌==◌, if◌then◌else◌}
-use Rattle.linker_base.specs.Deltas.{deletions_of}
-use Rattle.linker_base.specs.Listed.{AreValidDeltas}
-use Rattle.linker_base.specs.declared.relaxation.RelaxDelta.{RelaxDelta}
-use Rattle.linker_elf.specs.Machines.{architecture_of}
-use Rattle.linker_elf.specs.declared.elf.architecture.Architecture.{Architecture}
-use Rattle.linker_runs.specs.declared.relaxation.Item.{Item}
-use Rattle.linker_runs.specs.declared.packing.Machine.{Machine}
+use Rattle.linker_utils_c.specs.Imports.{Architecture, AreValidDeltas, DeletedOutside}
+use Rattle.linker_utils_c.specs.Imports.{DifferentLengths, EndsTooHigh, Item, ItemOutOfSection}
+use Rattle.linker_utils_c.specs.Imports.{ItemsOverlap, Machine, NoShape, NotItsFirstBytes}
+use Rattle.linker_utils_c.specs.Imports.{NotItsInstructions, RelaxDelta, Status, Success}
+use Rattle.linker_utils_c.specs.Imports.{TargetOutOfReach, architecture_of, deletions_of}
 use Rattle.linker_runs.specs.declared.packing.Machine.TheVariants.{RiscV}
 use Rattle.linker_runs.specs.declared.packing.ItemError.{ItemError}
 use Rattle.linker_runs.specs.declared.packing.ItemError.TheVariants as errors
@@ -16,14 +14,6 @@ use Rattle.linker_runs.specs.Moved.{AreMoved}
 use Rattle.linker_runs.specs.Origins.{HasItsInstructions}
 use Rattle.linker_runs.specs.Packing.{Section, section_of, packed_offset, IsPackedRun}
 use Rattle.linker_runs.specs.Packing.{IsFirstRejected}
-use Rattle.linker_utils_c.specs.declared.status.Status.{Status}
-use Rattle.linker_utils_c.specs.declared.status.Status.TheVariants.{Success, ItemsOverlap}
-use Rattle.linker_utils_c.specs.declared.status.Status.TheVariants.{ItemOutOfSection}
-use Rattle.linker_utils_c.specs.declared.status.Status.TheVariants.{DeletedOutside}
-use Rattle.linker_utils_c.specs.declared.status.Status.TheVariants.{NotItsFirstBytes}
-use Rattle.linker_utils_c.specs.declared.status.Status.TheVariants.{NotItsInstructions, NoShape}
-use Rattle.linker_utils_c.specs.declared.status.Status.TheVariants.{TargetOutOfReach}
-use Rattle.linker_utils_c.specs.declared.status.Status.TheVariants.{EndsTooHigh, DifferentLengths}
 use Rattle.linker_utils_c.specs.Status.{code, IsOneOf}
 
 -- the machine of an architecture whose sections are packed

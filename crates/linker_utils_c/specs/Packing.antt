@@ -1,10 +1,9 @@
 -- Packing by the numbers that C sees.
 use Rattle.std.specs.Prelude.{◌≡◌, ◌≢◌, ◌⊎◌, ◌↔◌, ℕ, zero, suc, List, [], ◌∷◌, Option, None}
 use Rattle.std.specs.Prelude.{Some, map, All, length}
-use Rattle.linker_base.specs.Deletions.{rank}
-use Rattle.linker_base.specs.Deltas.{deletions_of}
-use Rattle.linker_base.specs.Listed.{AreValidDeltas}
-use Rattle.linker_base.specs.declared.relaxation.RelaxDelta.{RelaxDelta}
+use Rattle.linker_utils_c.specs.Imports.{AreValidDeltas, CallsNotApart, DifferentLengths, NotACall}
+use Rattle.linker_utils_c.specs.Imports.{OddDistance, OutOfSection, RelaxDelta, SiteDeleted, Status}
+use Rattle.linker_utils_c.specs.Imports.{Success, TooFar, deletions_of, rank}
 use Rattle.linker_riscv64.specs.Packing.{call_of, AreApart, CanJump, IsFirstNotApart}
 use Rattle.linker_riscv64.specs.Packing.{IsFirstRejected, IsPacked}
 use Rattle.linker_riscv64.specs.declared.calls.Call.{Call}
@@ -13,11 +12,6 @@ use Rattle.linker_riscv64.specs.declared.calls.LinkRegister.TheVariants.{OfAuipc
 use Rattle.linker_riscv64.specs.declared.calls.CallError.TheVariants as call_errors
 use Rattle.linker_riscv64.specs.declared.calls.JumpError.{JumpError}
 use Rattle.linker_riscv64.specs.declared.calls.JumpError.TheVariants as jump_errors
-use Rattle.linker_utils_c.specs.declared.status.Status.{Status}
-use Rattle.linker_utils_c.specs.declared.status.Status.TheVariants.{Success, OutOfSection}
-use Rattle.linker_utils_c.specs.declared.status.Status.TheVariants.{SiteDeleted, OddDistance}
-use Rattle.linker_utils_c.specs.declared.status.Status.TheVariants.{TooFar, NotACall, CallsNotApart}
-use Rattle.linker_utils_c.specs.declared.status.Status.TheVariants.{DifferentLengths}
 use Rattle.linker_utils_c.specs.Status.{code, IsOneOf}
 
 -- the calls as pairs of a site and a target

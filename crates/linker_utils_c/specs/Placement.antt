@@ -12,13 +12,9 @@ use Rattle.linker_output.specs.declared.placement.Placement.{Placement}
 use Rattle.linker_output.specs.declared.placement.StubShape.{StubShape}
 use Rattle.linker_utils_c.specs.Status.{code}
 use Rattle.linker_utils_c.specs.declared.placement.PlacedStub.{PlacedStub}
-use Rattle.linker_utils_c.specs.declared.status.Status.{Status}
-use Rattle.linker_utils_c.specs.declared.status.Status.TheVariants.{Success, OutOfMemory}
-use Rattle.linker_utils_c.specs.declared.status.Status.TheVariants.{ShortMemory}
-use Rattle.linker_utils_c.specs.declared.status.Status.TheVariants.{StubWithoutLength, NotAscending}
-use Rattle.linker_utils_c.specs.declared.status.Status.TheVariants.{NoTarget, CodeTooLong}
-use Rattle.linker_utils_c.specs.declared.status.Status.TheVariants.{DifferentLengths}
-use Rattle.linker_utils_c.specs.declared.status.Status.TheVariants.{NoBoundary, StubTooFar}
+use Rattle.linker_utils_c.specs.Imports.{CodeTooLong, DifferentLengths, NoBoundary, NoTarget}
+use Rattle.linker_utils_c.specs.Imports.{NotAscending, OutOfMemory, ShortMemory, Status, StubTooFar}
+use Rattle.linker_utils_c.specs.Imports.{StubWithoutLength, Success}
 
 -- arrays are those of code
 pub record IsCodeOf (code : Code) (branches : List Branch) (targets boundaries : List ℕ)

@@ -7,15 +7,10 @@ use Rattle.linker_output.specs.declared.properties.LandingProperty.{LandingPrope
 use Rattle.linker_output.specs.declared.properties.Property.{Property}
 use Rattle.linker_output.specs.declared.properties.PropertyError.{PropertyError}
 use Rattle.linker_output.specs.declared.properties.PropertyError.TheVariants as errors
-use Rattle.linker_elf.specs.declared.elf.architecture.Architecture.{Architecture}
+use Rattle.linker_utils_c.specs.Imports.{Architecture, CutOff, DifferentValues, DoesNotFit}
+use Rattle.linker_utils_c.specs.Imports.{NotAscending, NotProperties, NotProvided, Status, Success}
+use Rattle.linker_utils_c.specs.Imports.{TooLarge, TooShort, UnknownProperty, WrongSize}
 use Rattle.linker_utils_c.specs.Status.{code}
-use Rattle.linker_utils_c.specs.declared.status.Status.{Status}
-use Rattle.linker_utils_c.specs.declared.status.Status.TheVariants.{Success, NotProperties, CutOff}
-use Rattle.linker_utils_c.specs.declared.status.Status.TheVariants.{WrongSize, NotAscending}
-use Rattle.linker_utils_c.specs.declared.status.Status.TheVariants.{DifferentValues}
-use Rattle.linker_utils_c.specs.declared.status.Status.TheVariants.{UnknownProperty}
-use Rattle.linker_utils_c.specs.declared.status.Status.TheVariants.{DoesNotFit, TooLarge, TooShort}
-use Rattle.linker_utils_c.specs.declared.status.Status.TheVariants.{NotProvided}
 
 -- a property's type has a rule
 abbrev pub has_rule : Option Architecture → ℕ → Bool

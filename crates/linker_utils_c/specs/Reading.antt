@@ -2,24 +2,19 @@
 -- named by numbers, and the address that it leads to.
 use Rattle.std.specs.Prelude.{◌≡◌, ℕ, ℤ, List, length, nat_lt, Bool, true, false, Option, None}
 use Rattle.std.specs.Prelude.{Some}
-use Rattle.linker_elf.specs.Relocate.{window_len}
-use Rattle.linker_elf.specs.declared.elf.RowInfo.{RowInfo}
-use Rattle.linker_elf.specs.declared.elf.value.Operands.{Operands}
+use Rattle.linker_utils_c.specs.Imports.{BadFieldValue, DoesNotMatch, FieldValue, HoldsNoValue}
+use Rattle.linker_utils_c.specs.Imports.{NoAddress, NotHalves, Operands, RowInfo, Success, TooShort}
+use Rattle.linker_utils_c.specs.Imports.{UnknownRelocation, window_len}
 use Rattle.linker_elf.specs.declared.elf.AnyForm.{AnyForm}
 use Rattle.linker_reading.specs.Encodings.{IsOperand}
 use Rattle.linker_reading.specs.Fields.{IsProper}
 use Rattle.linker_reading.specs.Reading.{value_read}
 use Rattle.linker_reading.specs.Solving.{terms_of, IsSolved, IsJoined}
-use Rattle.linker_reading.specs.declared.fields.FieldValue.{FieldValue}
 use Rattle.linker_reading.specs.declared.solving.Reference.{Reference}
 use Rattle.linker_reading.specs.declared.solving.Reference.TheVariants.{Symbol, GotEntry, PltEntry}
 use Rattle.linker_reading.specs.declared.solving.Terms.{Terms}
 use Rattle.linker_utils_c.specs.Status.{code}
 use Rattle.linker_utils_c.specs.declared.reading.FieldValueNumbers.{FieldValueNumbers}
-use Rattle.linker_utils_c.specs.declared.status.Status.TheVariants.{Success, UnknownRelocation}
-use Rattle.linker_utils_c.specs.declared.status.Status.TheVariants.{TooShort, HoldsNoValue}
-use Rattle.linker_utils_c.specs.declared.status.Status.TheVariants.{BadFieldValue, NoAddress}
-use Rattle.linker_utils_c.specs.declared.status.Status.TheVariants.{NotHalves, DoesNotMatch}
 
 -- ---- immediates
 

@@ -1,33 +1,23 @@
 -- What a linker made of a relocation that is named by numbers, and the bits of its field.
 use Rattle.std.specs.Prelude.{◌≡◌, ◌≢◌, ◌<◌, ◌≤◌, ◌==◌, ◌↔◌, ℕ, List, [], ◌∷◌, length, take, ⊤}
 use Rattle.std.specs.Prelude.{slice_index_or, Bool, Option, None, Some, IsTrue}
-use Rattle.std.specs.Int.{bit_at}
+use Rattle.linker_utils_c.specs.Imports.{Architecture, DifferentLengths, FieldValue, IsRow}
+use Rattle.linker_utils_c.specs.Imports.{LeavesOtherBytes, LinkFacts, NoAddress, Operands}
+use Rattle.linker_utils_c.specs.Imports.{Relaxation, RowInfo, Success, TooShort, UnknownRelocation}
+use Rattle.linker_utils_c.specs.Imports.{UnknownRewrite, WindowTooLong, bit_at}
+use Rattle.linker_utils_c.specs.Imports.{relaxation_architecture, rewrite_of_number, window_len}
 use Rattle.linker_base.specs.declared.rewrite.RewriteWindow.{RewriteWindow}
-use Rattle.linker_elf.specs.Relocate.{window_len}
-use Rattle.linker_elf.specs.declared.elf.RowInfo.{RowInfo}
-use Rattle.linker_reading.specs.declared.fields.FieldValue.{FieldValue}
 use Rattle.linker_reading.specs.FieldsOfBytes.{is_field_bit, AreSameButFor}
 use Rattle.linker_reading.specs.FoundByType.{AreFound, IsFoundChosen}
 use Rattle.linker_reading.specs.Windows.{IsWindowOf, IsDestination, symbol_of}
 use Rattle.linker_reading.specs.declared.windows.Destination.{Destination}
 use Rattle.linker_reading.specs.declared.recognise.engine.Recognised.{Recognised}
 use Rattle.linker_reading.specs.declared.recognise.fields.FieldBits.{FieldBits}
-use Rattle.linker_elf.specs.declared.elf.value.Operands.{Operands}
-use Rattle.linker_elf.specs.Architectures.{IsRow}
-use Rattle.linker_utils.specs.Relaxations.{relaxation_architecture, rewrite_of_number}
-use Rattle.linker_utils.specs.declared.architecture.Relaxation.{Relaxation}
-use Rattle.linker_elf.specs.declared.elf.architecture.Architecture.{Architecture}
-use Rattle.linker_elf.specs.declared.elf.choice.LinkFacts.{LinkFacts}
 use Rattle.linker_utils_c.specs.Choices.{IsChoiceInNumbers}
 use Rattle.linker_utils_c.specs.Reading.{field_of, reference_number}
 use Rattle.linker_utils_c.specs.Status.{code}
 use Rattle.linker_utils_c.specs.declared.recognising.DestinationNumbers.{DestinationNumbers}
 use Rattle.linker_utils_c.specs.declared.recognising.RecognisedNumbers.{RecognisedNumbers}
-use Rattle.linker_utils_c.specs.declared.status.Status.TheVariants.{Success, UnknownRelocation}
-use Rattle.linker_utils_c.specs.declared.status.Status.TheVariants.{TooShort, DifferentLengths}
-use Rattle.linker_utils_c.specs.declared.status.Status.TheVariants.{WindowTooLong, NoAddress}
-use Rattle.linker_utils_c.specs.declared.status.Status.TheVariants.{UnknownRewrite}
-use Rattle.linker_utils_c.specs.declared.status.Status.TheVariants.{LeavesOtherBytes}
 
 -- ---- the bits of a field
 

@@ -2,24 +2,16 @@
 use Rattle.std.specs.Prelude.{◌≡◌, ℕ, ◌+◌, ◌==◌, if◌then◌else◌, List}
 use Rattle.std.specs.Prelude.{Option, None, Some}
 use Rattle.linker_runs.specs.declared.relaxation.Shapes.{Shapes}
-use Rattle.linker_runs.specs.declared.relaxation.Item.{Item}
+use Rattle.linker_utils_c.specs.Imports.{AlignmentBelowGranularity, BadAlignment, BadGranularity}
+use Rattle.linker_utils_c.specs.Imports.{BadReach, EndsTooHigh, Item, ItemsOverlap, MayBeMisaligned}
+use Rattle.linker_utils_c.specs.Imports.{Misaligned, ShapeTooLong, ShapesNotAscending, Status}
+use Rattle.linker_utils_c.specs.Imports.{TargetInside, TooFewNops, TooManyShapes, UnevenEnd}
+use Rattle.linker_utils_c.specs.Imports.{UnevenNops, UnevenShape}
 use Rattle.linker_runs.specs.declared.relaxation.faults.Fault.{Fault}
 use Rattle.linker_runs.specs.declared.relaxation.faults.Fault.TheVariants as faults
 use Rattle.linker_runs.specs.declared.shapes.riscv64.TheConstants as riscv
 use Rattle.linker_runs.specs.declared.shapes.loongarch64.TheConstants as loongarch
 use Rattle.linker_runs.specs.Faults.{IsFirstFault}
-use Rattle.linker_utils_c.specs.declared.status.Status.{Status}
-use Rattle.linker_utils_c.specs.declared.status.Status.TheVariants.{ItemsOverlap, EndsTooHigh}
-use Rattle.linker_utils_c.specs.declared.status.Status.TheVariants.{TooManyShapes, ShapeTooLong}
-use Rattle.linker_utils_c.specs.declared.status.Status.TheVariants.{ShapesNotAscending}
-use Rattle.linker_utils_c.specs.declared.status.Status.TheVariants.{BadGranularity}
-use Rattle.linker_utils_c.specs.declared.status.Status.TheVariants.{BadReach, BadAlignment}
-use Rattle.linker_utils_c.specs.declared.status.Status.TheVariants.{UnevenShape, Misaligned}
-use Rattle.linker_utils_c.specs.declared.status.Status.TheVariants.{AlignmentBelowGranularity}
-use Rattle.linker_utils_c.specs.declared.status.Status.TheVariants.{UnevenEnd}
-use Rattle.linker_utils_c.specs.declared.status.Status.TheVariants.{TooFewNops, UnevenNops}
-use Rattle.linker_utils_c.specs.declared.status.Status.TheVariants.{TargetInside}
-use Rattle.linker_utils_c.specs.declared.status.Status.TheVariants.{MayBeMisaligned}
 use Rattle.linker_utils_c.specs.Status.{code}
 
 -- the shapes that a number names

@@ -4,32 +4,23 @@ use Rattle.std.specs.Prelude.{slice_index_or, Option, None, Some, Result, Ok, Er
 use Rattle.linker_base.specs.Uleb.{IsUlebWritten, IsUlebCause}
 use Rattle.linker_base.specs.declared.utils.Uleb128Error.{Uleb128Error}
 use Rattle.linker_base.specs.declared.utils.Uleb128Error.TheVariants as uleb_errors
-use Rattle.linker_elf.specs.Architectures.{IsRow}
-use Rattle.linker_elf.specs.Reach.{reach_of}
-use Rattle.linker_elf.specs.Relocate.{WritesRow, RejectsValue}
-use Rattle.linker_elf.specs.Value.{value_given}
+use Rattle.linker_utils_c.specs.Imports.{Architecture, DoesNotFit, IsRow, Misaligned, NoEntry}
+use Rattle.linker_utils_c.specs.Imports.{NoTlsBase, NoValue, Operands, OutOfReach, RejectsValue}
+use Rattle.linker_utils_c.specs.Imports.{RowInfo, Status, Success, TooShort, Uleb128Ended}
+use Rattle.linker_utils_c.specs.Imports.{Uleb128TooLarge, UnknownRelocation, Unsupported, WritesRow}
+use Rattle.linker_utils_c.specs.Imports.{reach_of, value_given}
 use Rattle.linker_elf.specs.Uleb128.{IsPairOutcome}
-use Rattle.linker_elf.specs.declared.elf.architecture.Architecture.{Architecture}
 use Rattle.linker_elf.specs.declared.elf.architecture.Uleb128PairError.{Uleb128PairError}
 use Rattle.linker_elf.specs.declared.elf.architecture.Uleb128PairError.TheVariants as pair_errors
-use Rattle.linker_elf.specs.declared.elf.RowInfo.{RowInfo}
 use Rattle.linker_elf.specs.declared.elf.Uleb128Role.{Uleb128Role}
 use Rattle.linker_elf.specs.declared.elf.Uleb128Role.TheVariants as roles
 use Rattle.linker_elf.specs.declared.elf.relocate.RelocateError.{RelocateError}
 use Rattle.linker_elf.specs.declared.elf.relocate.RelocateError.TheVariants as errors
 use Rattle.linker_elf.specs.declared.elf.value.FormulaError.{FormulaError}
 use Rattle.linker_elf.specs.declared.elf.value.FormulaError.TheVariants as formula_errors
-use Rattle.linker_elf.specs.declared.elf.value.Operands.{Operands}
 use Rattle.linker_utils_c.specs.Status.{code}
 use Rattle.linker_utils_c.specs.declared.relocate.Reach.{Reach}
 use Rattle.linker_utils_c.specs.declared.relocate.Relocation.{Relocation}
-use Rattle.linker_utils_c.specs.declared.status.Status.{Status}
-use Rattle.linker_utils_c.specs.declared.status.Status.TheVariants.{Success, UnknownRelocation}
-use Rattle.linker_utils_c.specs.declared.status.Status.TheVariants.{TooShort, Misaligned}
-use Rattle.linker_utils_c.specs.declared.status.Status.TheVariants.{OutOfReach, NoValue}
-use Rattle.linker_utils_c.specs.declared.status.Status.TheVariants.{Unsupported, NoEntry, NoTlsBase}
-use Rattle.linker_utils_c.specs.declared.status.Status.TheVariants.{Uleb128Ended, DoesNotFit}
-use Rattle.linker_utils_c.specs.declared.status.Status.TheVariants.{Uleb128TooLarge}
 
 -- ---- the value
 

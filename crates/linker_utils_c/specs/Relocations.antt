@@ -1,14 +1,11 @@
 -- What relocations are, by e_machine and r_type of ELF files, and what they mean in numbers.
 use Rattle.std.specs.Prelude.{◌≡◌, ◌<◌, ◌≤◌, ◌++◌, ℕ, List, length, drop, Option, None, Some, Ok, ℤ}
 use Rattle.std.specs.Prelude.{pos}
-use Rattle.linker_elf.specs.Numbers.{kind_number, mask_number, flag_number, number_or_zero}
-use Rattle.linker_elf.specs.declared.elf.RowInfo.{RowInfo}
-use Rattle.linker_elf.specs.declared.elf.RowSize.{RowSize}
+use Rattle.linker_utils_c.specs.Imports.{RowInfo, RowSize, Success, TooShort, UnknownRelocation}
+use Rattle.linker_utils_c.specs.Imports.{flag_number, kind_number, mask_number, number_or_zero}
 use Rattle.linker_elf.specs.declared.elf.RowSize.TheVariants.{ByteSize, BitMasking}
 use Rattle.linker_elf.specs.ElfNames.{ElfName, named, unnamed}
 use Rattle.linker_elf.specs.declared.elf.numbers.RelocationNumbers.{RelocationNumbers}
-use Rattle.linker_utils_c.specs.declared.status.Status.TheVariants.{Success, UnknownRelocation}
-use Rattle.linker_utils_c.specs.declared.status.Status.TheVariants.{TooShort}
 use Rattle.linker_utils_c.specs.Forms.{named_form}
 use Rattle.linker_utils_c.specs.Status.{code}
 

@@ -4,10 +4,8 @@ use Rattle.linker_output.specs.Relr.{WritesPacked, RejectsAddresses, Unpacks, Re
 use Rattle.linker_output.specs.declared.relr.RelrError.{RelrError}
 use Rattle.linker_output.specs.declared.relr.RelrError.TheVariants as errors
 use Rattle.linker_utils_c.specs.Status.{code}
-use Rattle.linker_utils_c.specs.declared.status.Status.{Status}
-use Rattle.linker_utils_c.specs.declared.status.Status.TheVariants.{Success, UnalignedAddress}
-use Rattle.linker_utils_c.specs.declared.status.Status.TheVariants.{NotAscending, NoAddress}
-use Rattle.linker_utils_c.specs.declared.status.Status.TheVariants.{TooLarge, TooShort}
+use Rattle.linker_utils_c.specs.Imports.{NoAddress, NotAscending, Status, Success, TooLarge}
+use Rattle.linker_utils_c.specs.Imports.{TooShort, UnalignedAddress}
 
 abbrev pub relr_status : Result ℕ RelrError → Status
 relr_status (Ok count) = Success

@@ -5,14 +5,9 @@ use Rattle.linker_base.specs.Rewrite.{Rewrite, CanRewrite, rewritten, offset_aft
 use Rattle.linker_base.specs.declared.relaxation.RelocationModifier.{RelocationModifier}
 use Rattle.linker_base.specs.declared.relaxation.RelocationModifier.TheVariants.{Normal}
 use Rattle.linker_base.specs.declared.relaxation.RelocationModifier.TheVariants.{SkipNextRelocation}
-use Rattle.linker_utils.specs.Relaxations.{rewrite_of_number, relaxation_matches}
-use Rattle.linker_elf.specs.Machines.{architecture_of}
-use Rattle.linker_utils.specs.declared.architecture.Relaxation.{Relaxation}
-use Rattle.linker_elf.specs.declared.elf.architecture.Architecture.{Architecture}
-use Rattle.linker_utils_c.specs.declared.status.Status.{Status}
-use Rattle.linker_utils_c.specs.declared.status.Status.TheVariants.{Success, UnknownArchitecture}
-use Rattle.linker_utils_c.specs.declared.status.Status.TheVariants.{UnknownRewrite, CannotApply}
-use Rattle.linker_utils_c.specs.declared.status.Status.TheVariants.{DoesNotMatch}
+use Rattle.linker_utils_c.specs.Imports.{Architecture, CannotApply, DoesNotMatch, Relaxation}
+use Rattle.linker_utils_c.specs.Imports.{Status, Success, UnknownArchitecture, UnknownRewrite}
+use Rattle.linker_utils_c.specs.Imports.{architecture_of, relaxation_matches, rewrite_of_number}
 use Rattle.linker_utils_c.specs.Status.{code}
 
 -- a rewrite, or that there is none

@@ -2,10 +2,12 @@
 use Rattle.std.specs.Prelude.{◌≡◌, ◌⊎◌, ℕ, ◌/◌, ◌==◌, if◌then◌else◌, List, length}
 use Rattle.std.specs.Prelude.{take, drop}
 use Rattle.std.specs.Prelude.{All, Option, Some, None}
-use Rattle.linker_rewriting.specs.Agreement.{Agree}
+use Rattle.linker_utils_c.specs.Imports.{Agree, DecisionNumbers, DoesNotMatch, FactsContradict}
+use Rattle.linker_utils_c.specs.Imports.{GotToPcRel, IsKeptDecision, IsWrittenDecision, NotSurveyed}
+use Rattle.linker_utils_c.specs.Imports.{Overlaps, PreLayout, RelaxContext, ShortMemory, ShortPcRel}
+use Rattle.linker_utils_c.specs.Imports.{Status, Success, TlsLocalExec, decisions_in, numbers_in}
 use Rattle.linker_rewriting.specs.Decisions.{AllCanBeMade, IsUnmade, deletions_by}
 use Rattle.linker_rewriting.specs.Decisions.{IsRejectedIn, IsRejectedPlaced}
-use Rattle.linker_rewriting.specs.Facts.{RelaxContext}
 use Rattle.linker_rewriting.specs.Rewritten.{IsRewrittenAs, AreDecidedAs, AreMadeAs}
 use Rattle.linker_rewriting.specs.declared.decisions.Decision.{Decision}
 use Rattle.linker_rewriting.specs.declared.decisions.DecisionError.{DecisionError}
@@ -14,18 +16,9 @@ use Rattle.linker_rewriting.specs.declared.decisions.RewritingError.{RewritingEr
 use Rattle.linker_rewriting.specs.declared.decisions.RewritingError.TheVariants as errors
 use Rattle.linker_rewriting.specs.declared.groups.UnrelaxableGroups.{UnrelaxableGroups}
 use Rattle.linker_rewriting.specs.declared.phases.Phase.{Phase}
-use Rattle.linker_rewriting.specs.declared.phases.Phase.TheVariants.{PreLayout, TlsLocalExec}
-use Rattle.linker_rewriting.specs.declared.phases.Phase.TheVariants.{GotToPcRel, ShortPcRel}
 use Rattle.linker_utils_c.specs.Deltas.{pairs_in}
-use Rattle.linker_rewriting.specs.declared.decisions.numbers.DecisionNumbers.{DecisionNumbers}
-use Rattle.linker_rewriting.specs.Numbers.{decisions_in, numbers_in}
-use Rattle.linker_rewriting.specs.Numbers.{IsKeptDecision, IsWrittenDecision}
 use Rattle.linker_utils_c.specs.Status.{code}
 use Rattle.linker_rewriting.specs.declared.decisions.Deletion.{Deletion}
-use Rattle.linker_utils_c.specs.declared.status.Status.{Status}
-use Rattle.linker_utils_c.specs.declared.status.Status.TheVariants.{Success, ShortMemory}
-use Rattle.linker_utils_c.specs.declared.status.Status.TheVariants.{NotSurveyed, Overlaps}
-use Rattle.linker_utils_c.specs.declared.status.Status.TheVariants.{FactsContradict, DoesNotMatch}
 
 -- ---- phases
 

@@ -1,14 +1,10 @@
 -- Relocations of RV32, in the numbers that C sees.
 use Rattle.std.specs.Prelude.{◌≡◌, ◌<◌, ◌≤◌, ◌/◌, ℕ, Bool, true, false, List, length, Option}
 use Rattle.std.specs.Prelude.{Some}
-use Rattle.linker_elf.specs.declared.elf.architecture.Architecture.{Architecture}
-use Rattle.linker_elf.specs.declared.elf.architecture.Architecture.TheVariants.{RiscV}
+use Rattle.linker_utils_c.specs.Imports.{Addresses, Architecture, RiscV, Success, Symbol, TooShort}
+use Rattle.linker_utils_c.specs.Imports.{UnknownArchitecture}
 use Rattle.linker_section.specs.RiscV32.{AreCopied, AreWrapped}
-use Rattle.linker_section.specs.declared.facts.Addresses.{Addresses}
-use Rattle.linker_section.specs.declared.facts.Symbol.{Symbol}
 use Rattle.linker_utils_c.specs.Status.{code}
-use Rattle.linker_utils_c.specs.declared.status.Status.TheVariants.{Success, TooShort}
-use Rattle.linker_utils_c.specs.declared.status.Status.TheVariants.{UnknownArchitecture}
 
 -- those whose files of ELFCLASS32 have these relocations
 abbrev pub has_class32 : Option Architecture → Bool

@@ -6,21 +6,14 @@ use Rattle.linker_output.specs.declared.routes.Route.{Route}
 use Rattle.linker_output.specs.declared.routes.Route.TheVariants as routes
 use Rattle.linker_output.specs.declared.routes.RouteError.{RouteError}
 use Rattle.linker_output.specs.declared.routes.RouteError.TheVariants as errors
-use Rattle.linker_output.specs.declared.stubs.StubKind.{StubKind}
-use Rattle.linker_output.specs.declared.stubs.StubKind.TheVariants.{Load, Jump}
-use Rattle.linker_output.specs.declared.stubs.StubKind.TheVariants.{Far, FarRelative, LandingLoad}
-use Rattle.linker_output.specs.declared.stubs.StubKind.TheVariants.{TocLoad, TocFar}
-use Rattle.linker_output.specs.declared.stubs.StubKind.TheVariants.{PrefixedLoad, PrefixedJump}
-use Rattle.linker_section.specs.declared.facts.Addresses.{Addresses}
-use Rattle.linker_section.specs.declared.facts.Symbol.{Symbol}
-use Rattle.linker_section.specs.declared.relocations.Rela.{Rela}
+use Rattle.linker_utils_c.specs.Imports.{Addresses, Far, FarRelative, Jump, LandingLoad, Load}
+use Rattle.linker_utils_c.specs.Imports.{NoRoom, NoSymbol, NotABranch, PrefixedJump, PrefixedLoad}
+use Rattle.linker_utils_c.specs.Imports.{Rela, Status, StubKind, Success, Symbol, TocFar, TocLoad}
+use Rattle.linker_utils_c.specs.Imports.{TooShort, UnknownStub}
 use Rattle.linker_utils_c.specs.Relocate.{write_status}
 use Rattle.linker_utils_c.specs.Sections.{value_status}
 use Rattle.linker_utils_c.specs.Status.{code}
 use Rattle.linker_utils_c.specs.declared.routes.RouteNumbers.{RouteNumbers}
-use Rattle.linker_utils_c.specs.declared.status.Status.{Status}
-use Rattle.linker_utils_c.specs.declared.status.Status.TheVariants.{Success, TooShort, NoSymbol}
-use Rattle.linker_utils_c.specs.declared.status.Status.TheVariants.{NotABranch, NoRoom, UnknownStub}
 
 -- the number of a kind of stubs
 abbrev pub kind_number : StubKind → ℕ

@@ -5,36 +5,23 @@ use Rattle.std.specs.Prelude.{pos, ⊤}
 use Rattle.linker_elf.specs.AppliedRows.{IsAppliedIfKnown}
 use Rattle.linker_elf.specs.ElfNames.{ElfName, named, unnamed}
 use Rattle.linker_elf.specs.Entries.{IsPltAnswer}
-use Rattle.linker_elf.specs.Numbers.{kind_number, flag_number}
-use Rattle.linker_elf.specs.Reach.{reach_of}
-use Rattle.linker_elf.specs.Relocate.{window_len}
+use Rattle.linker_utils_c.specs.Imports.{Architecture, Choice, ChoiceNumbers, IsArchitectureChoice}
+use Rattle.linker_utils_c.specs.Imports.{IsElfName, IsFit, IsRow, LinkFacts, Operands, Relaxation}
+use Rattle.linker_utils_c.specs.Imports.{RequirementNumbers, Requirements, RowInfo, RowSize, Status}
+use Rattle.linker_utils_c.specs.Imports.{Success, UnknownRelocation, flag_number, kind_number}
+use Rattle.linker_utils_c.specs.Imports.{machine_of, reach_of, window_len}
 use Rattle.linker_elf.specs.declared.elf.RelocationKind.{RelocationKind}
 use Rattle.linker_elf.specs.declared.elf.RelocationKind.TheVariants as kinds
-use Rattle.linker_elf.specs.declared.elf.RowInfo.{RowInfo}
-use Rattle.linker_elf.specs.declared.elf.RowSize.{RowSize}
 use Rattle.linker_elf.specs.declared.elf.RowSize.TheVariants.{ByteSize}
-use Rattle.linker_elf.specs.declared.elf.choice.Choice.{Choice}
-use Rattle.linker_elf.specs.declared.elf.choice.LinkFacts.{LinkFacts}
 use Rattle.linker_elf.specs.declared.elf.relocate.ApplyError.{ApplyError}
 use Rattle.linker_elf.specs.declared.elf.relocate.ApplyError.TheVariants.{Formula, Write}
-use Rattle.linker_elf.specs.declared.elf.value.Operands.{Operands}
 use Rattle.linker_section.specs.Needed.{needs_in}
-use Rattle.linker_section.specs.declared.needed.Requirements.{Requirements}
-use Rattle.linker_elf.specs.Architectures.{IsElfName, IsRow}
-use Rattle.linker_utils.specs.Relaxations.{IsArchitectureChoice, IsFit}
 use Rattle.linker_elf.specs.Handles.{architecture_in, handle_unit}
-use Rattle.linker_elf.specs.Machines.{machine_of}
-use Rattle.linker_utils.specs.declared.architecture.Relaxation.{Relaxation}
-use Rattle.linker_elf.specs.declared.elf.architecture.Architecture.{Architecture}
 use Rattle.linker_utils_c.specs.Choices.{IsChoiceInNumbers}
 use Rattle.linker_utils_c.specs.Relocate.{AreBounds, value_status, write_status}
 use Rattle.linker_utils_c.specs.Sections.{requirements_in}
 use Rattle.linker_utils_c.specs.Status.{code}
-use Rattle.linker_utils_c.specs.declared.choices.ChoiceNumbers.{ChoiceNumbers}
 use Rattle.linker_utils_c.specs.declared.rows.RowNumbers.{RowNumbers}
-use Rattle.linker_utils_c.specs.declared.sections.RequirementNumbers.{RequirementNumbers}
-use Rattle.linker_utils_c.specs.declared.status.Status.{Status}
-use Rattle.linker_utils_c.specs.declared.status.Status.TheVariants.{Success, UnknownRelocation}
 
 -- ---- the value, written
 

@@ -7,13 +7,10 @@ use Rattle.linker_runs.specs.RewrittenItems.{AreRewrittenItems, IsRewrittenCause
 use Rattle.linker_runs.specs.SectionItems.{Makes, IsFormed}
 use Rattle.linker_runs.specs.declared.items.Relocation.{Relocation}
 use Rattle.linker_runs.specs.declared.items.rewritten.RewrittenItemsError.TheVariants as why
-use Rattle.linker_runs.specs.declared.packing.Machine.{Machine}
+use Rattle.linker_utils_c.specs.Imports.{DifferentLengths, EndsTooHigh, InvalidDeletions}
+use Rattle.linker_utils_c.specs.Imports.{ItemsOverlap, Machine, MalformedRelocation, Success}
 use Rattle.linker_runs.specs.declared.items.numbers.ItemNumbers.{ItemNumbers}
 use Rattle.linker_utils_c.specs.declared.section_items.Rela.{Rela}
-use Rattle.linker_utils_c.specs.declared.status.Status.TheVariants.{Success, DifferentLengths}
-use Rattle.linker_utils_c.specs.declared.status.Status.TheVariants.{EndsTooHigh, InvalidDeletions}
-use Rattle.linker_utils_c.specs.declared.status.Status.TheVariants.{MalformedRelocation}
-use Rattle.linker_utils_c.specs.declared.status.Status.TheVariants.{ItemsOverlap}
 use Rattle.linker_utils_c.specs.Choices.{is_set}
 use Rattle.linker_runs.specs.Relaxing.{items_in, HasKind}
 use Rattle.linker_utils_c.specs.Status.{code}

@@ -4,32 +4,19 @@ use Rattle.std.specs.Prelude.{Option, None, Some, Result, Ok, Err}
 use Rattle.linker_section.specs.Sections.{AreAllRelocatedBy, IsFirstRejectedBy, Values}
 use Rattle.linker_section.specs.WrittenFields.{AreWrittenBy, IsFirstFaultBy}
 use Rattle.linker_section.specs.Values.{IsValue}
-use Rattle.linker_section.specs.declared.facts.Addresses.{Addresses}
-use Rattle.linker_section.specs.declared.facts.Symbol.{Symbol}
+use Rattle.linker_utils_c.specs.Imports.{Address, Addresses, Architecture, Descriptor, EntryClass}
+use Rattle.linker_utils_c.specs.Imports.{Module, ModuleOffset, NoEntry, NoHighPart, NoSymbol}
+use Rattle.linker_utils_c.specs.Imports.{NoTlsBase, NoValue, OtherLength, Rela, RequirementNumbers}
+use Rattle.linker_utils_c.specs.Imports.{Requirements, ShortMemory, Status, Success, Symbol}
+use Rattle.linker_utils_c.specs.Imports.{ThreadOffset, TooShort, Uleb128, UnknownRelocation, Value}
 use Rattle.linker_section.specs.declared.needed.Entry.{Entry}
-use Rattle.linker_section.specs.declared.needed.EntryClass.{EntryClass}
-use Rattle.linker_section.specs.declared.needed.EntryClass.TheVariants.{Address, ThreadOffset}
-use Rattle.linker_section.specs.declared.needed.EntryClass.TheVariants.{ModuleOffset, Module}
-use Rattle.linker_section.specs.declared.needed.EntryClass.TheVariants.{Descriptor}
-use Rattle.linker_section.specs.declared.needed.Requirements.{Requirements}
-use Rattle.linker_section.specs.declared.relocations.Rela.{Rela}
 use Rattle.linker_section.specs.declared.sections.RelocationError.{RelocationError}
-use Rattle.linker_section.specs.declared.sections.RelocationError.TheVariants.{Value, Write}
-use Rattle.linker_section.specs.declared.sections.RelocationError.TheVariants.{Overlaps, Uleb128}
-use Rattle.linker_section.specs.declared.sections.RelocationError.TheVariants.{OtherLength}
+use Rattle.linker_section.specs.declared.sections.RelocationError.TheVariants.{Write, Overlaps}
 use Rattle.linker_section.specs.declared.sections.SectionError.{SectionError}
 use Rattle.linker_section.specs.declared.values.ValueError.{ValueError}
 use Rattle.linker_section.specs.declared.values.ValueError.TheVariants as value_errors
-use Rattle.linker_elf.specs.declared.elf.architecture.Architecture.{Architecture}
 use Rattle.linker_utils_c.specs.Relocate.{write_status, uleb_status}
 use Rattle.linker_utils_c.specs.Status.{code}
-use Rattle.linker_utils_c.specs.declared.sections.RequirementNumbers.{RequirementNumbers}
-use Rattle.linker_utils_c.specs.declared.status.Status.{Status}
-use Rattle.linker_utils_c.specs.declared.status.Status.TheVariants.{Success, UnknownRelocation}
-use Rattle.linker_utils_c.specs.declared.status.Status.TheVariants.{TooShort, NoValue, NoSymbol}
-use Rattle.linker_utils_c.specs.declared.status.Status.TheVariants.{NoEntry, NoHighPart}
-use Rattle.linker_utils_c.specs.declared.status.Status.TheVariants.{NoTlsBase}
-use Rattle.linker_utils_c.specs.declared.status.Status.TheVariants.{ShortMemory}
 use Rattle.linker_utils_c.specs.declared.status.Status.TheVariants as statuses
 
 -- ---- what a relocation requires

@@ -1,60 +1,30 @@
 -- The statuses that C sees as numbers.
 use Rattle.std.specs.Prelude.{◌≡◌, ◌⊎◌, ℕ, ◌<◌, ◌≤◌, List, [], ◌∷◌, length}
-use Rattle.linker_utils_c.specs.declared.status.Status.{Status}
-use Rattle.linker_utils_c.specs.declared.status.Status.TheVariants.{Success, UnknownArchitecture}
-use Rattle.linker_utils_c.specs.declared.status.Status.TheVariants.{UnknownForm, UnknownRewrite}
-use Rattle.linker_utils_c.specs.declared.status.Status.TheVariants.{UnknownRelocation, TooShort}
-use Rattle.linker_utils_c.specs.declared.status.Status.TheVariants.{DoesNotFit, CannotApply}
-use Rattle.linker_utils_c.specs.declared.status.Status.TheVariants.{BadRegister, OutOfSection}
-use Rattle.linker_utils_c.specs.declared.status.Status.TheVariants.{SiteDeleted, OddDistance}
-use Rattle.linker_utils_c.specs.declared.status.Status.TheVariants.{TooFar, InvalidDeletions}
-use Rattle.linker_utils_c.specs.declared.status.Status.TheVariants.{NotMergeable, TooLarge}
-use Rattle.linker_utils_c.specs.declared.status.Status.TheVariants.{NotAscending, DifferentLengths}
-use Rattle.linker_utils_c.specs.declared.status.Status.TheVariants.{OutOfMemory, Uleb128Ended}
-use Rattle.linker_utils_c.specs.declared.status.Status.TheVariants.{Uleb128TooLarge}
-use Rattle.linker_utils_c.specs.declared.status.Status.TheVariants.{UnknownLinkRegister}
-use Rattle.linker_utils_c.specs.declared.status.Status.TheVariants.{CallsNotApart, NotACall}
-use Rattle.linker_utils_c.specs.declared.status.Status.TheVariants.{CallsNotShrinkable, Misaligned}
-use Rattle.linker_utils_c.specs.declared.status.Status.TheVariants.{OutOfReach, NoValue}
-use Rattle.linker_utils_c.specs.declared.status.Status.TheVariants.{Unsupported, DoesNotMatch}
-use Rattle.linker_utils_c.specs.declared.status.Status.TheVariants.{UnknownShapes}
-use Rattle.linker_utils_c.specs.declared.status.Status.TheVariants.{MalformedRelocation}
-use Rattle.linker_utils_c.specs.declared.status.Status.TheVariants.{ItemsOverlap, EndsTooHigh}
-use Rattle.linker_utils_c.specs.declared.status.Status.TheVariants.{TooManyShapes, ShapeTooLong}
-use Rattle.linker_utils_c.specs.declared.status.Status.TheVariants.{ShapesNotAscending}
-use Rattle.linker_utils_c.specs.declared.status.Status.TheVariants.{BadGranularity}
-use Rattle.linker_utils_c.specs.declared.status.Status.TheVariants.{BadReach, BadAlignment}
-use Rattle.linker_utils_c.specs.declared.status.Status.TheVariants.{UnevenShape}
-use Rattle.linker_utils_c.specs.declared.status.Status.TheVariants.{AlignmentBelowGranularity}
-use Rattle.linker_utils_c.specs.declared.status.Status.TheVariants.{UnevenEnd}
-use Rattle.linker_utils_c.specs.declared.status.Status.TheVariants.{TooFewNops, UnevenNops}
-use Rattle.linker_utils_c.specs.declared.status.Status.TheVariants.{TargetInside}
-use Rattle.linker_utils_c.specs.declared.status.Status.TheVariants.{HoldsNoValue, BadFieldValue}
-use Rattle.linker_utils_c.specs.declared.status.Status.TheVariants.{NoAddress, NotHalves}
-use Rattle.linker_utils_c.specs.declared.status.Status.TheVariants.{WindowTooLong}
-use Rattle.linker_utils_c.specs.declared.status.Status.TheVariants.{ItemOutOfSection}
-use Rattle.linker_utils_c.specs.declared.status.Status.TheVariants.{NotItsFirstBytes}
-use Rattle.linker_utils_c.specs.declared.status.Status.TheVariants.{NotItsInstructions, NoShape}
-use Rattle.linker_utils_c.specs.declared.status.Status.TheVariants.{TargetOutOfReach}
-use Rattle.linker_utils_c.specs.declared.status.Status.TheVariants.{LeavesOtherBytes}
-use Rattle.linker_utils_c.specs.declared.status.Status.TheVariants.{MayBeMisaligned}
-use Rattle.linker_utils_c.specs.declared.status.Status.TheVariants.{DeletedOutside}
-use Rattle.linker_utils_c.specs.declared.status.Status.TheVariants.{NoSymbol, NoEntry, NoHighPart}
-use Rattle.linker_utils_c.specs.declared.status.Status.TheVariants.{Overlaps, ShortMemory}
-use Rattle.linker_utils_c.specs.declared.status.Status.TheVariants.{NotSurveyed, UnknownEntryClass}
-use Rattle.linker_utils_c.specs.declared.status.Status.TheVariants.{DifferentFlags, NotProvided}
-use Rattle.linker_utils_c.specs.declared.status.Status.TheVariants.{UnknownStub, UnknownPhase}
-use Rattle.linker_utils_c.specs.declared.status.Status.TheVariants.{NotABranch, NoRoom}
-use Rattle.linker_utils_c.specs.declared.status.Status.TheVariants.{StubWithoutLength, NoTarget}
-use Rattle.linker_utils_c.specs.declared.status.Status.TheVariants.{CodeTooLong, NoBoundary}
-use Rattle.linker_utils_c.specs.declared.status.Status.TheVariants.{StubTooFar, FactsChanged}
-use Rattle.linker_utils_c.specs.declared.status.Status.TheVariants.{NotAligned, NeedsStub}
-use Rattle.linker_utils_c.specs.declared.status.Status.TheVariants.{OtherLength, FactsContradict}
-use Rattle.linker_utils_c.specs.declared.status.Status.TheVariants.{NoTlsBase, UnalignedAddress}
-use Rattle.linker_utils_c.specs.declared.status.Status.TheVariants.{NotProperties, CutOff}
-use Rattle.linker_utils_c.specs.declared.status.Status.TheVariants.{WrongSize}
-use Rattle.linker_utils_c.specs.declared.status.Status.TheVariants.{DifferentValues}
-use Rattle.linker_utils_c.specs.declared.status.Status.TheVariants.{UnknownProperty}
+use Rattle.linker_utils_c.specs.Imports.{AlignmentBelowGranularity, BadAlignment, BadFieldValue}
+use Rattle.linker_utils_c.specs.Imports.{BadGranularity, BadReach, BadRegister, CallsNotApart}
+use Rattle.linker_utils_c.specs.Imports.{CallsNotShrinkable, CannotApply, CodeTooLong, CutOff}
+use Rattle.linker_utils_c.specs.Imports.{DeletedOutside, DifferentFlags, DifferentLengths}
+use Rattle.linker_utils_c.specs.Imports.{DifferentValues, DoesNotFit, DoesNotMatch, EndsTooHigh}
+use Rattle.linker_utils_c.specs.Imports.{FactsChanged, FactsContradict, HoldsNoValue}
+use Rattle.linker_utils_c.specs.Imports.{InvalidDeletions, ItemOutOfSection, ItemsOverlap}
+use Rattle.linker_utils_c.specs.Imports.{LeavesOtherBytes, MalformedRelocation, MayBeMisaligned}
+use Rattle.linker_utils_c.specs.Imports.{Misaligned, NoAddress, NoBoundary, NoEntry, NoHighPart}
+use Rattle.linker_utils_c.specs.Imports.{NoRoom, NoShape, NoSymbol, NoTarget, NoTlsBase, NoValue}
+use Rattle.linker_utils_c.specs.Imports.{NotABranch, NotACall, NotAligned, NotAscending, NotHalves}
+use Rattle.linker_utils_c.specs.Imports.{NotItsFirstBytes, NotItsInstructions, NotMergeable}
+use Rattle.linker_utils_c.specs.Imports.{NotProperties, NotProvided, NotSurveyed, OddDistance}
+use Rattle.linker_utils_c.specs.Imports.{OutOfMemory, OutOfReach, OutOfSection, Overlaps}
+use Rattle.linker_utils_c.specs.Imports.{ShapeTooLong, ShapesNotAscending, ShortMemory, SiteDeleted}
+use Rattle.linker_utils_c.specs.Imports.{Status, StubTooFar, StubWithoutLength, Success}
+use Rattle.linker_utils_c.specs.Imports.{TargetInside, TargetOutOfReach, TooFar, TooFewNops}
+use Rattle.linker_utils_c.specs.Imports.{TooLarge, TooManyShapes, TooShort, Uleb128Ended}
+use Rattle.linker_utils_c.specs.Imports.{Uleb128TooLarge, UnalignedAddress, UnevenEnd, UnevenNops}
+use Rattle.linker_utils_c.specs.Imports.{UnevenShape, UnknownArchitecture, UnknownEntryClass}
+use Rattle.linker_utils_c.specs.Imports.{UnknownForm, UnknownLinkRegister, UnknownPhase}
+use Rattle.linker_utils_c.specs.Imports.{UnknownProperty, UnknownRelocation, UnknownRewrite}
+use Rattle.linker_utils_c.specs.Imports.{UnknownShapes, UnknownStub, Unsupported, WindowTooLong}
+use Rattle.linker_utils_c.specs.Imports.{WrongSize}
+use Rattle.linker_utils_c.specs.declared.status.Status.TheVariants.{NeedsStub, OtherLength}
 
 abbrev pub code : Status → ℕ
 code Success = 0

@@ -1,23 +1,9 @@
 -- Calls by site, which a map keeps.
-use Rattle.std.proofs.Common.{Err, ◌↔◌, ◌≡◌, ℕ, ◌-◌, ◌<◌, ◌≤◌, List, [], ◌∷◌, ◌++◌, nat_lt, true, false, refl, sym, ap, ◌∙◌, inl, inr, arith}
-use Rattle.std.specs.Prelude.{Result, All, Bool, nat_eq, IsPermutation}
-use Rattle.std.specs.Ordering.{nat_cmp}
+use Rattle.linkfix.proofs.Imports.{All, All-cons, All-head, All-nil, All-permutation, All-tail, AreApart, AreBySite, Bool, CallError, CallFailsWith, Err, IsApart, IsFarFrom, IsPermutation, IsPermutation-cons, IsPermutation-middle, IsPermutation-refl, IsPermutation-to_front, IsPermutation-trans, List, OddDistance, OutOfSection, Result, SiteDeleted, TooFar, [], all_pairs_head, all_pairs_tail, ap, arith, cases_Bool, cases_lt, cases_order, false, inl, inr, insert_entry, is_at, nat_cmp, nat_eq, nat_lt, nat_tests, placed, refl, remove_entry, sym, true, ℕ, ◌++◌, ◌-◌, ◌<◌, ◌↔◌, ◌∙◌, ◌∷◌, ◌≡◌, ◌≤◌}
 use Rattle.std.specs.declared.cmp.Ordering.TheVariants.{Less, Equal, Greater}
 use Rattle.std.specs.declared.ops.Bound.TheVariants.{Included, Unbounded}
-use Rattle.std.specs.Map.{remove_entry}
-use Rattle.std.specs.BTreeMap.{insert_entry, is_at}
 use Rattle.std.specs.BTreeMap.Range.{entries_between}
-use Rattle.std.proofs.lemmas.Bool.{cases_Bool, cases_lt, cases_order}
-use Rattle.std.proofs.lemmas.Bool.Decides.{nat_tests}
-use Rattle.std.proofs.lemmas.List.Elements.{All-nil, All-cons, All-head, All-tail}
 use Rattle.std.proofs.lemmas.List.Kept.{AllPairs-cons}
-use Rattle.std.proofs.lemmas.List.Sorted.{All-permutation, IsPermutation-refl, IsPermutation-cons, IsPermutation-middle, IsPermutation-to_front, IsPermutation-trans}
-use Rattle.linker_base.proofs.Rank.{all_pairs_head, all_pairs_tail}
-use Rattle.linker_utils.specs.Packing.{AreApart, IsApart}
-use Rattle.linker_utils.specs.CallError.TheVariants.{OutOfSection, SiteDeleted, OddDistance, TooFar}
-use Rattle.linker_utils.specs.CallError.{CallError}
-use Rattle.linkfix.specs.AcceptedCalls.{AreBySite, IsFarFrom, placed}
-use Rattle.linkfix.specs.Execution.{CallFailsWith}
 
 -- ---- calls by site
 

@@ -1,28 +1,12 @@
 -- The lines of an input take its section through the same states, but for the bytes of the section.
-use Rattle.std.proofs.Common.{◌≡◌, ◌≢◌, ℕ, List, [], ◌∷◌, ◌++◌, length, take, get_or, Vec, Some, inl, inr, refl, sym, ap, subst, ◌∙◌, ⊎_elim, arith}
-use Rattle.std.specs.Prelude.{◌⊎◌, All, Contains}
-use Rattle.std.proofs.lemmas.List.Elements.{All-contains}
-use Rattle.std.proofs.lemmas.List.Sorted.{Contains-permutation, IsPermutation-sym, IsPermutation-trans}
+use Rattle.linkfix.proofs.Imports.{All, All-contains, AreApart, AreBySite, BeginWithLines, Call as JumpFailed, CallError, CallFailsWith, CanJump, Contains, Contains-permutation, Executes, ExecutesLine, ExecutesLines, IsApart, IsFarFrom, IsFirstRejected, IsPermutation-sym, IsPermutation-trans, IsRejected, List, OddDistance, OfAuipc, OutOfSection, Rejects, RejectsLine, ReportedError, SectionState, SiteDeleted, Some, TooFar, Vec, [], all_pairs_head, all_pairs_tail, ap, arith, decoded_hex, drop_through, first_line, get_or, inl, inr, length, refl, subst, sym, take, words_of, ℕ, ⊎_elim, ◌++◌, ◌∙◌, ◌∷◌, ◌≡◌, ◌≢◌, ◌⊎◌}
 use Rattle.std.specs.Global.{Global}
-use Rattle.std.specs.Io.BufRead.{drop_through, first_line}
 use Rattle.linker_utils.specs.Deletions.{AreDisjoint, HasInput, IsSortedUnion}
-use Rattle.linker_base.proofs.Rank.{all_pairs_head, all_pairs_tail}
 use Rattle.linker_base.proofs.Unions.{union_once, contains_cases, contains_head, contains_tail}
-use Rattle.linker_utils.specs.Packing.{AreApart, CanJump, IsApart, IsFirstRejected, IsRejected}
-use Rattle.linker_utils.specs.CallError.{CallError}
-use Rattle.linker_utils.specs.CallError.TheVariants.{OutOfSection, SiteDeleted, OddDistance, TooFar}
-use Rattle.linker_utils.specs.JumpError.TheVariants.{Call as JumpFailed}
-use Rattle.linker_utils.specs.LinkRegister.TheVariants.{OfAuipc}
-use Rattle.linkfix.specs.AcceptedCalls.{AreBySite, IsFarFrom}
 use Rattle.linkfix.specs.CommandSyntax.{IsWrittenAs}
-use Rattle.linkfix.specs.DecodedHex.{decoded_hex}
-use Rattle.linkfix.specs.Execution.{BeginWithLines, CallFailsWith, Executes, ExecutesLine, ExecutesLines, RejectsLine, Rejects}
 use Rattle.linkfix.specs.Laws.{RejectedInputsAreNotExecuted}
-use Rattle.linkfix.specs.Words.{words_of}
 use Rattle.linkfix.specs.declared.commands.Command.{Command}
 use Rattle.linkfix.specs.declared.commands.Command.TheVariants.{Call, Delete, Pack, Show, ToInput, ToOutput}
-use Rattle.linkfix.specs.declared.program.ReportedError.{ReportedError}
-use Rattle.linkfix.specs.declared.program.SectionState.{SectionState}
 
 -- ---- calls by site
 

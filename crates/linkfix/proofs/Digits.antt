@@ -1,7 +1,5 @@
 -- What one digit more does to a number.
-use Rattle.std.proofs.Common.{ℕ, ◌+◌, ◌*◌, ◌≤◌, List, [], ◌∷◌, arith}
-use Rattle.std.specs.Char.{digit_value}
-use Rattle.std.specs.Str.Parse.{digits_value_after}
+use Rattle.linkfix.proofs.Imports.{List, [], arith, digit_value, digits_value_after, ℕ, ◌*◌, ◌+◌, ◌∷◌, ◌≤◌}
 
 -- more digits never make a number smaller
 pub digits_value_after-grows : (n : ℕ) (cs : List ℕ) → n ≤ digits_value_after 10 n cs

@@ -1,21 +1,11 @@
 -- A run over the lines of an input, line by line.
-use Rattle.std.proofs.Common.{Ok, Err, ◌≡◌, ◌≢◌, ℕ, List, [], ◌∷◌, ◌++◌, ◌⊎◌, Bool, true, false, IsTrue, Option, None, Some, IfSome, ◌↔◌, inl, inr, refl, sym, ap, subst, ◌∙◌, append_assoc, append-nil}
-use Rattle.std.specs.Prelude.{Result}
-use Rattle.std.proofs.lemmas.Bool.{false≢true}
+use Rattle.linkfix.proofs.Imports.{Appends, BeginWithLines, Bool, EndsWith, Err, ExecutesInput, ExecutesLine, ExecutesLines, IfSome, Io, IsMemoryOrIoError, IsNextLine, IsTrue, List, None, Ok, Option, RejectsLine, Reported, ReportedError, Result, RunsTo, SectionState, Some, [], ap, append-nil, append_assoc, decoded_hex, drop_through, false, false≢true, first_line, inl, inr, refl, subst, sym, true, ℕ, ◌++◌, ◌↔◌, ◌∙◌, ◌∷◌, ◌≡◌, ◌≢◌, ◌⊎◌}
 use Rattle.std.proofs.KnownBytes.{Appends-nil, Appends-trans}
-use Rattle.std.specs.Io.KnownBytes.{Appends}
-use Rattle.std.specs.Io.BufRead.{drop_through, first_line}
-use Rattle.linkfix.specs.DecodedHex.{decoded_hex}
 use Rattle.linkfix.specs.ErrorLines.{error_line}
-use Rattle.linkfix.specs.Execution.{BeginWithLines, EndsWith, ExecutesInput, ExecutesLine, ExecutesLines, IsMemoryOrIoError, RejectsLine, RunsTo}
-use Rattle.linkfix.specs.RemainingInput.{IsNextLine}
 use Rattle.linkfix.specs.declared.input.InputError.{InputError}
 use Rattle.linkfix.specs.declared.input.InputError.TheVariants.{Read as ReadFails, OutOfMemory as NoMemoryForInput}
-use Rattle.linkfix.specs.declared.program.ReportedError.{ReportedError}
 use Rattle.linkfix.specs.declared.program.ReportedError.TheVariants.{BadSection, OutOfMemory}
 use Rattle.linkfix.specs.declared.program.RunError.{RunError}
-use Rattle.linkfix.specs.declared.program.RunError.TheVariants.{Io, Reported}
-use Rattle.linkfix.specs.declared.program.SectionState.{SectionState}
 use Rattle.linkfix.specs.declared.sections.LineFault.{LineFault}
 use Rattle.linkfix.specs.declared.sections.LineFault.TheVariants.{BadSection as LineIsBad, OutOfMemory as NoMemoryForLine}
 

@@ -1,6 +1,7 @@
 mod CallLemmas
 mod Determined
 mod Digits
+pub mod Imports
 mod LineLemmas
 mod Execution
 mod Rejected

@@ -1,12 +1,6 @@
 -- What the first line of an input is, by the parts in which its bytes come.
-use Rattle.std.proofs.Common.{◌≡◌, ◌≢◌, ℕ, ◌+◌, ◌-◌, ◌<◌, ◌≤◌, ◌⊎◌, ◌↔◌, ◌==◌, Bool, true, false, not, inl, inr, cond, IsTrue, List, [], ◌∷◌, ◌++◌, All, Option, None, Some, IfSome, length, take, drop, slice_index, slice_range, get_or, refl, sym, ap, ◌∙◌, arith, append_assoc, append-nil, take-append-drop, ne_eqb}
-use Rattle.std.proofs.lemmas.Bool.{false≢true}
-use Rattle.std.proofs.lemmas.List.{drop-drop, drop-take, get_or_push, length-take, length_push, take_at, take_more}
-use Rattle.std.proofs.lemmas.List.Elements.{All-append}
+use Rattle.linkfix.proofs.Imports.{All, All-append, Bool, Consumes, IfSome, IsNextLine, IsTrue, List, None, Option, Some, [], ap, append-nil, append_assoc, arith, cond, drop, drop-drop, drop-take, drop_through, ends_with_byte, false, false≢true, first_line, get_or, get_or_push, inl, inr, length, length-take, length_push, ne_eqb, not, prepend_known, refl, slice_index, slice_range, strip_last, sym, take, take-append-drop, take_at, take_more, take_through, true, ℕ, ◌++◌, ◌+◌, ◌-◌, ◌<◌, ◌==◌, ◌↔◌, ◌∙◌, ◌∷◌, ◌≡◌, ◌≢◌, ◌≤◌, ◌⊎◌}
 use Rattle.std.proofs.BufReadLemmas.{take_through-append, drop_through-append}
-use Rattle.std.specs.Io.BufRead.{take_through, drop_through, ends_with_byte, strip_last, first_line}
-use Rattle.std.specs.Io.KnownBytes.{Consumes, prepend_known}
-use Rattle.linkfix.specs.RemainingInput.{IsNextLine}
 
 -- no LF among the bytes
 abbrev pub IsOneLine : List ℕ → Type 0

@@ -1,12 +1,5 @@
 -- A call is rejected for one cause, and the first that is rejected is one.
-use Rattle.std.proofs.Common.{◌≡◌, ℕ, ◌<◌, List, get_or, refl, sym, subst, inl, inr, arith}
-use Rattle.std.specs.Prelude.{All}
-use Rattle.std.proofs.lemmas.Bool.{cases_order}
-use Rattle.std.proofs.lemmas.List.{get_or-take, length-take}
-use Rattle.linker_utils.specs.Packing.{CanJump, IsFirstRejected, IsRejected}
-use Rattle.linker_utils.specs.CallError.{CallError}
-use Rattle.linker_utils.specs.CallError.TheVariants.{OutOfSection, SiteDeleted, OddDistance, TooFar}
-use Rattle.linker_utils.specs.JumpError.TheVariants.{Call}
+use Rattle.linkfix.proofs.Imports.{All, Call, CallError, CanJump, IsFirstRejected, IsRejected, List, OddDistance, OutOfSection, SiteDeleted, TooFar, arith, cases_order, get_or, get_or-take, inl, inr, length-take, refl, subst, sym, ℕ, ◌<◌, ◌≡◌}
 use Rattle.linker_utils.specs.LinkRegister.{LinkRegister}
 
 module _ (link : LinkRegister) (deletions : List (ℕ × ℕ)) (section : List ℕ) where

@@ -1,8 +1,6 @@
 -- The words of a line, the first of them and the others.
-use Rattle.std.proofs.Common.{◌≡◌, ℕ, ◌<◌, true, false, inl, inr, List, [], ◌∷◌, length, take, drop, refl, sym, ◌∙◌, arith, one-add}
-use Rattle.std.proofs.lemmas.Bool.{cases_Bool}
+use Rattle.linkfix.proofs.Imports.{List, [], arith, begins_word, cases_Bool, drop, false, inl, inr, is_space, length, one-add, prepend_to_first, refl, sym, take, true, words_of, ℕ, ◌<◌, ◌∙◌, ◌∷◌, ◌≡◌}
 use Rattle.std.specs.List.{position_or_len, prefix_len}
-use Rattle.linkfix.specs.Words.{begins_word, is_space, prepend_to_first, words_of}
 
 -- what is left after the spaces in front
 abbrev pub after_spaces : List ℕ → List ℕ

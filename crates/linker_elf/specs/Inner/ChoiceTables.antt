@@ -1,6 +1,7 @@
 -- Entries of the tables of choices, as the code has them.
-use Rattle.std.specs.Prelude.{◌≡◌, ◌==◌, ◌++◌, ◌⊎◌, ◌↔◌, ℕ, ℤ, ⊤, Bool, not, ◌&&◌, ◌||◌, bit_and}
-use Rattle.std.specs.Prelude.{if◌then◌else◌, List, [], ◌∷◌, Option, None, Some, suc, zero, IsTrue}
+use Rattle.linker_elf.specs.Imports.{Choice, LinkFacts, Operands}
+use Rattle.std.specs.Prelude.{Bool, IsTrue, List, None, Option, Some, [], bit_and, not, suc, zero}
+use Rattle.std.specs.Prelude.{ℕ, ℤ, ⊤, ◌≡◌, ◌==◌, ◌++◌, ◌⊎◌, ◌↔◌, ◌&&◌, ◌||◌, if◌then◌else◌, ◌∷◌}
 use Rattle.linker_elf.specs.Choices.{Condition, Entry, entry, choice, Applies, AllHold, IsFirst}
 use Rattle.linker_elf.specs.Choices.{bound, weak_zero, fixed_address, class32, fixed_distance}
 use Rattle.linker_elf.specs.Choices.{executable, local_exec_base, compressible, marked}
@@ -9,14 +10,11 @@ use Rattle.linker_elf.specs.Choices.{without_plt, group_fits}
 use Rattle.linker_elf.specs.Choices.{addend, low_12, in_reach, in_reach_if_known}
 use Rattle.linker_elf.specs.Choices.{within, within_if_known}
 use Rattle.linker_elf.specs.declared.elf.RowInfo.{RowInfo}
-use Rattle.linker_elf.specs.declared.elf.choice.Choice.{Choice}
-use Rattle.linker_elf.specs.declared.elf.choice.LinkFacts.{LinkFacts}
 use Rattle.linker_elf.specs.declared.elf.choice_table.ChoiceEntry.{ChoiceEntry}
 use Rattle.linker_elf.specs.declared.elf.choice_table.ValueCondition.{ValueCondition}
 use Rattle.linker_elf.specs.declared.elf.choice_table.ValueCondition.TheVariants as values
 use Rattle.linker_elf.specs.declared.elf.choice_table.ValueConditions.{ValueConditions}
 use Rattle.linker_elf.specs.declared.elf.choice_table.ValueConditions.TheVariants as some
-use Rattle.linker_elf.specs.declared.elf.value.Operands.{Operands}
 
 -- ---- facts as masks
 

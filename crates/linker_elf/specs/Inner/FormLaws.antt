@@ -1,14 +1,17 @@
 -- The forms of all architectures keep the laws of forms. A clause of a variable stands for every
 -- variant that no clause above it names; one variant is named above it in any case.
-use Rattle.std.proofs.Common.{◌≡◌, ℕ, ◌+◌, ◌/◌, ◌^◌, ◌<◌, true, false, refl, ap, sym, ◌∙◌, cond}
-use Rattle.std.specs.Int.{w16, w32, bit_at}
+use Rattle.linker_elf.specs.Imports.{AArch64, AArch64Instruction, AnyForm, Call30, Call36, CluiType}
+use Rattle.linker_elf.specs.Imports.{D, Field, ImmediateBit, LoongArch64, LoongArch64Instruction}
+use Rattle.linker_elf.specs.Imports.{MachOLow12, Movnz, Ppc64, Ppc64Form, RiscV, RiscVInstruction}
+use Rattle.linker_elf.specs.Imports.{Shift10, Shift5, UType, UiType, WriteBackChangesNothing}
+use Rattle.linker_elf.specs.Imports.{WriteKeepsOtherBits, bit_at, cleared, cleared_bits, exactly}
+use Rattle.linker_elf.specs.Imports.{field, or_bits_to, unsigned, w16, w32}
 use Rattle.std.specs.List.{All}
+use Rattle.std.specs.Prelude.{false, true, ℕ}
+use Rattle.std.proofs.Common.{◌≡◌, ◌+◌, ◌/◌, ◌^◌, ◌<◌, refl, ap, sym, ◌∙◌, cond}
 use Rattle.std.proofs.lemmas.Bool.{agree_below_at, eqb-true, ltb-true}
 use Rattle.std.proofs.lemmas.Nat.{mod_below}
 use Rattle.std.proofs.lemmas.Nat.Bits.{bit_at-zero}
-use Rattle.linker_base.specs.Bits.{field}
-use Rattle.linker_base.specs.Form.{ImmediateBit, Field, or_bits_to, cleared_bits, cleared, unsigned}
-use Rattle.linker_base.specs.Form.{exactly, WriteKeepsOtherBits, WriteBackChangesNothing}
 use Rattle.linker_base.proofs.Fields.{bit_at_run}
 use Rattle.linker_base.proofs.Immediates.{IsSoundField, is_sound_field, sound_field, field_restored}
 use Rattle.linker_base.proofs.Immediates.{layout_restores}
@@ -26,22 +29,6 @@ use Rattle.linker_elf.specs.LoongArch.{loongarch_form, loongarch_layout, call30_
 use Rattle.linker_elf.specs.LoongArch.{call36_high, call36_low}
 use Rattle.linker_elf.specs.Ppc64.{ppc64_form, ppc64_layout}
 use Rattle.linker_elf.specs.RiscV.{riscv_form, riscv_layout, riscv_places, ui_high, ui_low}
-use Rattle.linker_elf.specs.declared.aarch64.forms.AArch64Instruction.{AArch64Instruction}
-use Rattle.linker_elf.specs.declared.aarch64.forms.AArch64Instruction.TheVariants.{Movnz}
-use Rattle.linker_elf.specs.declared.aarch64.forms.AArch64Instruction.TheVariants.{MachOLow12}
-use Rattle.linker_elf.specs.declared.loongarch64.forms.LoongArch64Instruction.{LoongArch64Instruction}
-use Rattle.linker_elf.specs.declared.loongarch64.forms.LoongArch64Instruction.TheVariants.{Shift5}
-use Rattle.linker_elf.specs.declared.loongarch64.forms.LoongArch64Instruction.TheVariants.{Shift10}
-use Rattle.linker_elf.specs.declared.loongarch64.forms.LoongArch64Instruction.TheVariants.{Call30}
-use Rattle.linker_elf.specs.declared.loongarch64.forms.LoongArch64Instruction.TheVariants.{Call36}
-use Rattle.linker_elf.specs.declared.ppc64.forms.Ppc64Form.{Ppc64Form}
-use Rattle.linker_elf.specs.declared.ppc64.forms.Ppc64Form.TheVariants.{D}
-use Rattle.linker_elf.specs.declared.elf.AnyForm.{AnyForm}
-use Rattle.linker_elf.specs.declared.elf.AnyForm.TheVariants.{AArch64, RiscV, Ppc64}
-use Rattle.linker_elf.specs.declared.elf.AnyForm.TheVariants.{LoongArch64}
-use Rattle.linker_elf.specs.declared.riscv64.forms.RiscVInstruction.{RiscVInstruction}
-use Rattle.linker_elf.specs.declared.riscv64.forms.RiscVInstruction.TheVariants.{UType, CluiType}
-use Rattle.linker_elf.specs.declared.riscv64.forms.RiscVInstruction.TheVariants.{UiType}
 
 -- ---- bits outside the places stay
 

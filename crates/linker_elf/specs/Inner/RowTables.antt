@@ -1,9 +1,14 @@
 -- Entries of the tables of rows.
-use Rattle.std.specs.Prelude.{◌≡◌, ℕ, ◌-◌, Bool, true, false, ◌&&◌, ◌||◌, Option, Some, None}
-use Rattle.std.specs.Prelude.{if◌then◌else◌, ◌==◌, ◌^◌, bit_and, ℤ, Result, Ok, Err, List, []}
-use Rattle.std.specs.Prelude.{map, slice_index_or}
+use Rattle.linker_elf.specs.Imports.{AArch64, AbsoluteAddition, AbsoluteAdditionWord6}
+use Rattle.linker_elf.specs.Imports.{AbsoluteLowPart, AbsoluteSetWord6, AbsoluteSubtraction}
+use Rattle.linker_elf.specs.Imports.{AbsoluteSubtractionWord6, Alignment, BitMasking, ByteSize}
+use Rattle.linker_elf.specs.Imports.{CluiType, Ds, FormulaError, LoongArch64, Movnz, NoEntry}
+use Rattle.linker_elf.specs.Imports.{Operands, PageMask, Ppc64, Relative, RelocationKind, RiscV}
+use Rattle.linker_elf.specs.Imports.{RowSize, Shift10, cast_signed, cast_unsigned, w64}
+use Rattle.std.specs.Prelude.{Bool, Err, List, None, Ok, Option, Result, Some, [], bit_and, false}
+use Rattle.std.specs.Prelude.{map, slice_index_or, true, ℕ, ℤ, ◌≡◌, ◌-◌, ◌&&◌, ◌||◌, if◌then◌else◌}
+use Rattle.std.specs.Prelude.{◌==◌, ◌^◌}
 use Rattle.std.specs.Borrow.{Bor}
-use Rattle.std.specs.Int.{w64, cast_signed, cast_unsigned}
 use Rattle.linker_elf.specs.Agrees.{RowFits}
 use Rattle.linker_elf.specs.Bounds.{least_within, last_within}
 use Rattle.linker_elf.specs.Facts.{facts_of}
@@ -12,33 +17,13 @@ use Rattle.linker_elf.specs.Reach.{reach_of}
 use Rattle.linker_elf.specs.Relocate.{is_supported, window_len}
 use Rattle.linker_elf.specs.Value.{sum_64, bias_number, masks_symbol, masks_entry, masks_place}
 use Rattle.linker_elf.specs.Value.{masks_got, loads_plt_word}
-use Rattle.linker_elf.specs.declared.aarch64.forms.AArch64Instruction.TheVariants.{Movnz}
-use Rattle.linker_elf.specs.declared.loongarch64.forms.LoongArch64Instruction.TheVariants.{Shift10}
-use Rattle.linker_elf.specs.declared.ppc64.forms.Ppc64Form.TheVariants.{Ds}
-use Rattle.linker_elf.specs.declared.riscv64.forms.RiscVInstruction.TheVariants.{CluiType}
-use Rattle.linker_elf.specs.declared.elf.PageMask.{PageMask}
-use Rattle.linker_elf.specs.declared.elf.AnyForm.TheVariants.{RiscV, Ppc64}
-use Rattle.linker_elf.specs.declared.elf.AnyForm.TheVariants.{LoongArch64, AArch64}
-use Rattle.linker_elf.specs.declared.elf.RelocationKind.{RelocationKind}
-use Rattle.linker_elf.specs.declared.elf.RelocationKind.TheVariants.{AbsoluteAddition}
-use Rattle.linker_elf.specs.declared.elf.RelocationKind.TheVariants.{AbsoluteAdditionWord6}
-use Rattle.linker_elf.specs.declared.elf.RelocationKind.TheVariants.{AbsoluteLowPart}
-use Rattle.linker_elf.specs.declared.elf.RelocationKind.TheVariants.{AbsoluteSetWord6}
-use Rattle.linker_elf.specs.declared.elf.RelocationKind.TheVariants.{AbsoluteSubtraction}
-use Rattle.linker_elf.specs.declared.elf.RelocationKind.TheVariants.{AbsoluteSubtractionWord6}
-use Rattle.linker_elf.specs.declared.elf.RelocationKind.TheVariants.{Alignment}
-use Rattle.linker_elf.specs.declared.elf.RelocationKind.TheVariants.{None as NoKind, Relative}
+use Rattle.linker_elf.specs.declared.elf.RelocationKind.TheVariants.{None as NoKind}
 use Rattle.linker_elf.specs.declared.elf.RelocationKind.TheVariants as kinds
 use Rattle.linker_elf.specs.declared.elf.RowInfo.{RowInfo}
-use Rattle.linker_elf.specs.declared.elf.RowSize.{RowSize}
-use Rattle.linker_elf.specs.declared.elf.RowSize.TheVariants.{ByteSize, BitMasking}
 use Rattle.linker_elf.specs.declared.elf.rows.TableRow.{TableRow}
 use Rattle.linker_elf.specs.declared.elf.rows.WriteTests.{WriteTests}
 use Rattle.linker_elf.specs.declared.elf.value.Formula.{Formula}
 use Rattle.linker_elf.specs.declared.elf.value.Formula.TheVariants as formulas
-use Rattle.linker_elf.specs.declared.elf.value.FormulaError.{FormulaError}
-use Rattle.linker_elf.specs.declared.elf.value.FormulaError.TheVariants.{NoEntry}
-use Rattle.linker_elf.specs.declared.elf.value.Operands.{Operands}
 use Rattle.linker_elf.specs.declared.elf.value.FormulaTerms.{FormulaTerms}
 
 -- a relocation of whole bytes that changes the existing number

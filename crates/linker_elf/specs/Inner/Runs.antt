@@ -1,23 +1,18 @@
 -- Steps of bits between a value and a window, as the engine has them, and the tables of the forms.
-use Rattle.std.specs.Prelude.{ℕ, ◌+◌, ◌-◌, ◌%◌, ◌^◌, Bool, true, false, not, ◌&&◌, ◌||◌, ◌==◌}
-use Rattle.std.specs.Prelude.{nat_lt, List, [], ◌∷◌, slice_index_or}
+use Rattle.linker_elf.specs.Imports.{AArch64, AnyForm, ImmediateBit, LoongArch64, MachOLow12, Mark}
+use Rattle.linker_elf.specs.Imports.{Movnz, Ppc64, RiscV, Width, bit_at, cleared, is_of, is_placed}
+use Rattle.linker_elf.specs.Imports.{ored, replaced, values_apart, values_below, w16, w32, w64}
+use Rattle.std.specs.Prelude.{Bool, List, [], false, nat_lt, not, slice_index_or, true, ℕ, ◌+◌, ◌-◌}
+use Rattle.std.specs.Prelude.{◌%◌, ◌^◌, ◌&&◌, ◌||◌, ◌==◌, ◌∷◌}
 use Rattle.std.specs.List.{list_all}
-use Rattle.std.specs.Int.{Width, w16, w32, w64, bit_at}
 use denote.Enum.Declared.{tag_of}
 use Rattle.std.proofs.lemmas.Bool.{agree_below}
-use Rattle.linker_base.specs.Form.{ImmediateBit, Mark, replaced, ored, cleared, is_of, is_placed}
-use Rattle.linker_base.specs.Form.{values_apart, values_below}
 use Rattle.linker_elf.specs.contracts.aarch64.forms.AArch64Instruction as aarch64
 use Rattle.linker_elf.specs.contracts.loongarch64.forms.LoongArch64Instruction as loongarch64
 use Rattle.linker_elf.specs.contracts.ppc64.forms.Ppc64Form as ppc64
 use Rattle.linker_elf.specs.contracts.riscv64.forms.RiscVInstruction as riscv64
 use Rattle.linker_elf.specs.Elf.{relocation_form}
 use Rattle.linker_elf.specs.declared.aarch64.forms.TheConstants as aarch64_table
-use Rattle.linker_elf.specs.declared.aarch64.forms.AArch64Instruction.TheVariants.{Movnz}
-use Rattle.linker_elf.specs.declared.aarch64.forms.AArch64Instruction.TheVariants.{MachOLow12}
-use Rattle.linker_elf.specs.declared.elf.AnyForm.{AnyForm}
-use Rattle.linker_elf.specs.declared.elf.AnyForm.TheVariants.{AArch64, LoongArch64}
-use Rattle.linker_elf.specs.declared.elf.AnyForm.TheVariants.{Ppc64, RiscV}
 use Rattle.linker_elf.specs.declared.elf.engine.Encoding.{Encoding}
 use Rattle.linker_elf.specs.declared.elf.engine.Step.{Step}
 use Rattle.linker_elf.specs.declared.elf.engine.TheConstants.{UNSIGNED}

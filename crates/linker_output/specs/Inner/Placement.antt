@@ -1,19 +1,14 @@
 -- What holds while stubs are placed.
 use Rattle.std.specs.Prelude.{◌≡◌, ℕ, zero, List, length, slice_index_or, true, Option, Some, None}
 use Rattle.std.specs.Prelude.{◌≢◌, ◌≤◌, ◌<◌, ◌+◌, ◌*◌, ◌%◌, ◌⊎◌, suc, ⊤}
-use Rattle.std.specs.List.{sum_by}
+use Rattle.linker_output.specs.Imports.{Branch, Code, Group, Part, StubShape, sum_by}
 use Rattle.linker_output.specs.Placement.{Reaches, at, branch_at, stub_at, group_at}
 use Rattle.linker_output.specs.Placement.{passed, stubs_in, size_of, place_of}
 use Rattle.linker_output.specs.Placement.{part_of, HasPart, AreTwo, ReachesAt, target_place}
 use Rattle.linker_output.specs.Placement.{AreOfTwo, HasNoFar, HasSpare, IsFar, IsFarFrom, IsFirst}
-use Rattle.linker_output.specs.declared.placement.Branch.{Branch}
-use Rattle.linker_output.specs.declared.placement.Code.{Code}
-use Rattle.linker_output.specs.declared.placement.Group.{Group}
-use Rattle.linker_output.specs.declared.placement.Part.{Part}
 use Rattle.linker_output.specs.declared.placement.Part.TheVariants.{Front, Middle, Back}
 use Rattle.linker_output.specs.declared.placement.State.{State}
 use Rattle.linker_output.specs.declared.placement.StubAt.{StubAt}
-use Rattle.linker_output.specs.declared.placement.StubShape.{StubShape}
 use Rattle.linker_output.specs.declared.placement.Sweep.{Sweep}
 use Rattle.linker_output.specs.declared.placement.Sweep.TheVariants.{Settled, Changed, Stuck}
 use Rattle.linker_output.specs.declared.placement.Visit.{Visit}

@@ -1,10 +1,7 @@
 -- How the code writes properties.
 use Rattle.std.specs.Prelude.{◌≡◌, ◌≤◌, ◌<◌, ◌^◌, ℕ, ◌+◌, ◌*◌, ◌++◌, length, take, drop, true}
 use Rattle.std.specs.Prelude.{List, [], ◌∷◌, Some, Err}
-use Rattle.linker_output.specs.declared.properties.Property.{Property}
-use Rattle.linker_elf.specs.declared.elf.architecture.Architecture.{Architecture}
-use Rattle.linker_output.specs.declared.properties.PropertyRule.{PropertyRule}
-use Rattle.linker_output.specs.declared.properties.PropertyError.{PropertyError}
+use Rattle.linker_output.specs.Imports.{Architecture, Property, PropertyError, PropertyRule}
 use Rattle.linker_output.specs.Properties.{rule_of, fits, words_from, bytes_of}
 
 -- what stands after properties are written where there is room

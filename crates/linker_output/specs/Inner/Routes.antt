@@ -1,9 +1,6 @@
 -- What parts of `route` return.
 use Rattle.std.specs.Prelude.{◌≡◌, ℕ, Option, Some, None, true, false, ⊤}
-use Rattle.linker_elf.specs.declared.elf.RowInfo.{RowInfo}
-use Rattle.linker_section.specs.Needed.{may_use_stub}
-use Rattle.linker_elf.specs.Architectures.{IsRow}
-use Rattle.linker_elf.specs.declared.elf.architecture.Architecture.{Architecture}
+use Rattle.linker_output.specs.Imports.{Architecture, IsRow, RowInfo, may_use_stub}
 
 -- no stub may serve it
 abbrev pub IsUnserved : Option RowInfo → Type 0

@@ -1,5 +1,6 @@
 -- The encodings of instructions, as the code has them.
-use Rattle.std.specs.Prelude.{ℕ, List, [], ◌∷◌, Option, None, Some}
+use Rattle.linker_reading.specs.Imports.{List, None, Option, Some, [], ℕ}
+use Rattle.std.specs.Prelude.{◌∷◌}
 use Rattle.linker_reading.specs.Opcodes.{Encoding}
 use Rattle.linker_reading.specs.declared.operands.Base.{Base}
 use Rattle.linker_reading.specs.declared.operands.Base.TheVariants as bases

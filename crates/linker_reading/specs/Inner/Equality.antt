@@ -1,8 +1,8 @@
 -- `==` of rewrites and of relocations' names is true of one value exactly.
-use Rattle.std.proofs.Common.{◌≡◌, ℕ, zero, suc, List, [], ◌∷◌, Bool, true, false, ◌&&◌, ◌⊎◌}
-use Rattle.std.proofs.Common.{inl, inr, ◌↔◌, refl, sym, ap}
+use Rattle.linker_reading.specs.Imports.{Bool, IsTrue, List, [], false, true, ℕ, ⊤}
+use Rattle.std.proofs.Common.{◌≡◌, zero, suc, ◌∷◌, ◌&&◌, ◌⊎◌, inl, inr, ◌↔◌, refl, sym, ap}
 use Rattle.std.proofs.lemmas.Bool.{and_parts, false≢true}
-use Rattle.std.specs.Prelude.{IsTrue, ⊤, ◌==◌}
+use Rattle.std.specs.Prelude.{◌==◌}
 use Rattle.std.specs.Cmp.{unsigned_Decides}
 use denote.Struct.Field.{Field}
 use denote.Enum.Bare.{Bare, sameb, same_true, true_same}

@@ -1,15 +1,11 @@
 -- What was found of the first choices of a table.
-use Rattle.std.specs.Prelude.{◌≡◌, ◌↔◌, ◌<◌, ℕ, List, [], ◌∷◌, Option, None, Some, length}
-use Rattle.std.specs.Prelude.{slice_get}
-use Rattle.std.specs.Prelude.{slice_index_or}
-use Rattle.linker_elf.specs.Choices.{choice}
-use Rattle.linker_elf.specs.declared.elf.choice.Choice.{Choice}
+use Rattle.linker_reading.specs.Imports.{Choice, FieldBits, List, None, Option, Recognised, Some}
+use Rattle.linker_reading.specs.Imports.{[], choice, length, relaxation_matches, slice_get}
+use Rattle.linker_reading.specs.Imports.{slice_index_or, ℕ}
+use Rattle.std.specs.Prelude.{◌≡◌, ◌↔◌, ◌<◌, ◌∷◌}
 use Rattle.linker_elf.specs.declared.elf.choice_table.ChoiceEntry.{ChoiceEntry}
 use Rattle.linker_reading.specs.Recognised.{Recogniser, IsMade, IsOneOf, IsFirstPlace}
 use Rattle.linker_reading.specs.Windows.{IsRecognisable}
-use Rattle.linker_reading.specs.declared.recognise.engine.Recognised.{Recognised}
-use Rattle.linker_reading.specs.declared.recognise.fields.FieldBits.{FieldBits}
-use Rattle.linker_utils.specs.Relaxations.{relaxation_matches}
 
 -- that of an entry of the code
 abbrev pub choice_in : {O K R : Type 0} → ChoiceEntry O K R → Choice K R

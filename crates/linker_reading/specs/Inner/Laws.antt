@@ -1,13 +1,11 @@
 -- What an architecture's relocations keep.
-use Rattle.std.specs.Prelude.{◌≡◌, ℕ, List, Bool, Option}
+use Rattle.linker_reading.specs.Imports.{Bool, Choice, List, Option, RowInfo, relaxation_matches, ℕ}
+use Rattle.std.specs.Prelude.{◌≡◌}
 use Rattle.std.proofs.Common.{refl}
 use Rattle.linker_elf.specs.Inner.ChoiceTables.{Tables, IsChoice}
-use Rattle.linker_elf.specs.declared.elf.RowInfo.{RowInfo}
-use Rattle.linker_elf.specs.declared.elf.choice.Choice.{Choice}
 use Rattle.linker_elf.specs.declared.elf.choice.LinkFacts.{LinkFacts}
 use Rattle.linker_reading.specs.Inner.Equality.{IsEquality}
 use Rattle.linker_reading.specs.Recognised.{Recogniser, IsChosen}
-use Rattle.linker_utils.specs.Relaxations.{relaxation_matches}
 
 -- what is chosen is meant for what is there
 abbrev pub ChosenMatches : {K R : Type 0} → Recogniser K R → Type 0

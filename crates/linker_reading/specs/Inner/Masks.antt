@@ -1,16 +1,10 @@
 -- The bits that a write of a row may change, as masks.
-use Rattle.std.specs.Prelude.{ℕ, ◌-◌, ◌*◌, ◌^◌, List, bit_and, min}
-use Rattle.linker_base.specs.Form.{window_of}
-use Rattle.linker_elf.specs.Elf.{relocation_form}
+use Rattle.linker_reading.specs.Imports.{AbsoluteAdditionWord6, AbsoluteSetWord6}
+use Rattle.linker_reading.specs.Imports.{AbsoluteSubtractionWord6, BitMasking, ByteSize, List}
+use Rattle.linker_reading.specs.Imports.{RelocationKind, RowInfo, RowSize, bit_and, bits_at}
+use Rattle.linker_reading.specs.Imports.{insn_at, min, relocation_form, window_of, ℕ}
+use Rattle.std.specs.Prelude.{◌-◌, ◌*◌, ◌^◌}
 use Rattle.linker_elf.specs.Forms.{instruction_mask}
-use Rattle.linker_elf.specs.Relocate.{insn_at, bits_at}
-use Rattle.linker_elf.specs.declared.elf.RelocationKind.{RelocationKind}
-use Rattle.linker_elf.specs.declared.elf.RelocationKind.TheVariants.{AbsoluteSetWord6}
-use Rattle.linker_elf.specs.declared.elf.RelocationKind.TheVariants.{AbsoluteAdditionWord6}
-use Rattle.linker_elf.specs.declared.elf.RelocationKind.TheVariants.{AbsoluteSubtractionWord6}
-use Rattle.linker_elf.specs.declared.elf.RowInfo.{RowInfo}
-use Rattle.linker_elf.specs.declared.elf.RowSize.{RowSize}
-use Rattle.linker_elf.specs.declared.elf.RowSize.TheVariants.{ByteSize, BitMasking}
 
 abbrev pub bytes_mask : ℕ → ℕ
 bytes_mask n = 2 ^ (8 * min n 8) - 1

@@ -1,8 +1,7 @@
 -- Words, and runs of bytes, that differ in some bits only.
-use Rattle.std.specs.Prelude.{◌≡◌, ℕ, ◌+◌, ◌*◌, ◌<◌, ◌||◌, false, List, slice_index}
-use Rattle.std.specs.Int.{bit_at}
+use Rattle.linker_reading.specs.Imports.{FieldBits, List, bit_at, false, slice_index, ℕ}
+use Rattle.std.specs.Prelude.{◌≡◌, ◌+◌, ◌*◌, ◌<◌, ◌||◌}
 use Rattle.linker_reading.specs.FieldsOfBytes.{is_in, is_in_one, IsSameBut}
-use Rattle.linker_reading.specs.declared.recognise.fields.FieldBits.{FieldBits}
 
 -- Each bit of two words at a byte of a window that isn't one of a field or of others is the same.
 abbrev pub IsSameWordBut : FieldBits → List FieldBits → ℕ → ℕ → ℕ → Type 0

@@ -3,7 +3,7 @@ use Rattle.std.specs.Prelude.{◌≡◌, ℕ, ◌==◌, ◌||◌, ◌&&◌, ◌�
 use Rattle.std.specs.Prelude.{None, List, slice_get}
 use Rattle.linker_rewriting.specs.Imports.{AArch64, Architecture, NotRelaxable, Phase, Ppc64}
 use Rattle.linker_rewriting.specs.Imports.{PreLayout, Rela, Scope, SymbolFacts, aarch64_name}
-use Rattle.linker_rewriting.specs.Imports.{r_type_of, ppc64_name}
+use Rattle.linker_rewriting.specs.Imports.{ppc64_name, r_type_of}
 use Rattle.linker_elf.specs.declared.aarch64.relocations.AArch64Relocation.TheVariants as aarch64
 use Rattle.linker_elf.specs.declared.ppc64.relocations.Ppc64Relocation.TheVariants as ppc64
 use Rattle.linker_rewriting.specs.Facts.{may_change_toc}

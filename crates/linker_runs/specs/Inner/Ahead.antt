@@ -1,9 +1,7 @@
 -- What a walk through relocations knows of those after the one where it stands.
-use Rattle.std.specs.Prelude.{ℕ, ◌≤◌, ◌⊎◌, List, ⊤}
+use Rattle.linker_runs.specs.Imports.{List, LoongArch64, Machine, Relocation, RiscV, ℕ, ⊤}
+use Rattle.std.specs.Prelude.{◌≤◌, ◌⊎◌}
 use Rattle.linker_runs.specs.RiscVItems.{IsNextAlignment}
-use Rattle.linker_runs.specs.declared.items.Relocation.{Relocation}
-use Rattle.linker_runs.specs.declared.packing.Machine.{Machine}
-use Rattle.linker_runs.specs.declared.packing.Machine.TheVariants.{RiscV, LoongArch64}
 
 abbrev pub IsAhead : Machine → List Relocation → ℕ → ℕ → Type 0
 IsAhead (RiscV is_32) relocations i known = IsNextAlignment relocations i known

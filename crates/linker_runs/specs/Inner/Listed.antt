@@ -1,8 +1,6 @@
 -- The items of a section that was rewritten, listed so far.
-use Rattle.std.specs.Prelude.{ℕ, ◌+◌, ◌<◌, ◌≤◌, List, length, take, map, All}
-use Rattle.linker_runs.specs.declared.relaxation.Item.{Item}
-use Rattle.linker_runs.specs.declared.items.Relocation.{Relocation}
-use Rattle.linker_runs.specs.declared.packing.Machine.{Machine}
+use Rattle.linker_runs.specs.Imports.{All, Item, List, Machine, Relocation, length, map, take, ℕ}
+use Rattle.std.specs.Prelude.{◌+◌, ◌<◌, ◌≤◌}
 use Rattle.linker_runs.specs.SectionItems.{Makes}
 use Rattle.linker_runs.specs.RewrittenItems.{AreListed, deleted_at}
 

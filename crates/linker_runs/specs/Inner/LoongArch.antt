@@ -1,6 +1,5 @@
 -- What sites of LoongArch become, by their kinds.
-use Rattle.std.specs.Prelude.{ℕ, List, take, drop}
-use Rattle.linker_elf.specs.Value.{sum_64}
+use Rattle.linker_runs.specs.Imports.{List, drop, sum_64, take, ℕ}
 use Rattle.linker_runs.specs.Sites.{Template, IsRelocated, IsOutOfReach}
 use Rattle.linker_runs.specs.LoongArchSites.{IsCall36At, IsPcalaAt, destination, branch_template}
 use Rattle.linker_runs.specs.LoongArchSites.{pcaddi_template, call_template, high_template}

@@ -1,12 +1,10 @@
 -- What holds while items are written.
-use Rattle.std.specs.Prelude.{◌≡◌, ℕ, ◌+◌, ◌<◌, List, length, take, drop, IsTrue, slice_index}
-use Rattle.std.specs.Prelude.{false}
-use Rattle.linker_base.specs.Deletions.{is_kept}
-use Rattle.linker_runs.specs.declared.relaxation.Item.{Item}
+use Rattle.linker_runs.specs.Imports.{IsTrue, Item, List, Machine, drop, false, is_kept, length}
+use Rattle.linker_runs.specs.Imports.{slice_index, take, ℕ}
+use Rattle.std.specs.Prelude.{◌≡◌, ◌+◌, ◌<◌}
 use Rattle.linker_runs.specs.Relaxing.{item_at, offset_of}
 use Rattle.linker_runs.specs.Packing.{Section, IsNotIn, CanWrite, is_fixed, kept_len}
 use Rattle.linker_runs.specs.Packing.{ItemBecomes, packed_offset}
-use Rattle.linker_runs.specs.declared.packing.Machine.{Machine}
 
 -- the first items can be written
 abbrev pub AreReady : Machine → Section → List Item → ℕ → Type 0

@@ -1,10 +1,9 @@
 -- What is written of an item.
-use Rattle.std.specs.Prelude.{◌≡◌, ℕ, ◌%◌, List, [], length, true, false, Some, ⊤}
-use Rattle.linker_runs.specs.declared.relaxation.Item.{Item}
+use Rattle.linker_runs.specs.Imports.{Item, List, Machine, Some, [], false, length, true, ℕ, ⊤}
+use Rattle.std.specs.Prelude.{◌≡◌, ◌%◌}
 use Rattle.linker_runs.specs.Sites.{Template}
 use Rattle.linker_runs.specs.Packing.{Section, is_fixed, kept_len, KeepsFirst, ItemBecomes, nops}
 use Rattle.linker_runs.specs.Packing.{nop_len}
-use Rattle.linker_runs.specs.declared.packing.Machine.{Machine}
 use Rattle.linker_runs.specs.declared.packing.Piece.{Piece}
 use Rattle.linker_runs.specs.declared.packing.Piece.TheVariants.{Nothing, Nops, Code as Instruction}
 use Rattle.linker_runs.specs.declared.packing.code.Code.{Code}

@@ -1,6 +1,6 @@
 -- What holds while a run is relaxed.
-use Rattle.std.specs.Prelude.{◌≡◌, ℕ, ◌+◌, ◌<◌, ◌≤◌, ◌⊎◌, List, length, slice_index_or, true, Bool}
-use Rattle.linker_runs.specs.declared.relaxation.Item.{Item}
+use Rattle.linker_runs.specs.Imports.{Bool, Item, List, length, slice_index_or, true, ℕ}
+use Rattle.std.specs.Prelude.{◌≡◌, ◌+◌, ◌<◌, ◌≤◌, ◌⊎◌}
 use Rattle.linker_runs.specs.Relaxing.{place_of, target_of, item_at, is_in_reach, item_reaches}
 use Rattle.linker_runs.specs.Relaxing.{choice_of}
 use Rattle.linker_runs.specs.Choosing.{cautious_before, IsInReachCautiously, AreNotLonger}

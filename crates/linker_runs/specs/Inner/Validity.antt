@@ -1,8 +1,6 @@
 -- What proofs use of runs that can be relaxed.
-use Rattle.std.specs.Prelude.{◌≡◌, ℕ, ◌+◌, ◌-◌, ◌%◌, ◌<◌, ◌≤◌, ◌⊎◌, List, length}
-use Rattle.linker_runs.specs.declared.relaxation.Shapes.{Shapes}
-use Rattle.linker_runs.specs.declared.relaxation.Item.{Item}
-use Rattle.linker_runs.specs.declared.relaxation.Item.TheVariants.{Site, Aligned}
+use Rattle.linker_runs.specs.Imports.{Aligned, Item, List, Shapes, Site, length, ℕ}
+use Rattle.std.specs.Prelude.{◌≡◌, ◌+◌, ◌-◌, ◌%◌, ◌<◌, ◌≤◌, ◌⊎◌}
 use Rattle.linker_runs.specs.Relaxing.{shape_len, short_shape, item_at, place_of, offset_of}
 use Rattle.linker_runs.specs.Choosing.{least_len, AlignmentFits, IsStill}
 

@@ -2,13 +2,9 @@
 -- field tells whether another overlaps one of them.
 use Rattle.std.specs.Prelude.{◌≡◌, ◌⊎◌, ℕ, ◌+◌, ◌-◌, ◌<◌, ◌≤◌, ◌==◌, ◌&&◌, ◌||◌, Bool, true, false}
 use Rattle.std.specs.Prelude.{nat_le, if◌then◌else◌, List}
-use Rattle.linker_elf.specs.Relocate.{window_len}
-use Rattle.linker_elf.specs.declared.elf.RelocationKind.{RelocationKind}
-use Rattle.linker_elf.specs.declared.elf.RowInfo.{RowInfo}
+use Rattle.linker_section.specs.Imports.{Architecture, Field, RelocationKind, RowInfo, window_len}
 use Rattle.linker_section.specs.Fields.{IsField, is_of_pair, continues, field_end}
 use Rattle.linker_section.specs.Values.{offset_at}
-use Rattle.linker_section.specs.declared.fields.Field.{Field}
-use Rattle.linker_elf.specs.declared.elf.architecture.Architecture.{Architecture}
 
 abbrev pub continues_at : Field → Field → Bool
 continues_at field last = field.len == last.len && continues last.kind field.kind

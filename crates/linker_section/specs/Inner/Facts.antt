@@ -1,34 +1,24 @@
 -- What the facts of a row say: what the relocation requires, and how its value is found.
 use Rattle.std.specs.Prelude.{◌≡◌, ℕ, ℤ, pos, ◌/◌, ◌%◌, ◌^◌, ◌==◌, ◌&&◌, ◌||◌, not, nat_lt}
 use Rattle.std.specs.Prelude.{if◌then◌else◌, Bool, true, false, List, Option, Some, None}
-use Rattle.std.specs.Int.{w64, cast_signed, cast_unsigned}
-use Rattle.linker_elf.specs.Entries.{is_branch}
+use Rattle.linker_section.specs.Imports.{Address, Addresses, Architecture, Descriptor, Entry}
+use Rattle.linker_section.specs.Imports.{EntryClass, Length, Module, ModuleOffset, Operands}
+use Rattle.linker_section.specs.Imports.{Requirements, RowInfo, ThreadOffset, cast_signed}
+use Rattle.linker_section.specs.Imports.{cast_unsigned, difference_64, is_branch, is_offset}
+use Rattle.linker_section.specs.Imports.{loads_plt_word, sum_64, value_of, w64, window_len}
 use Rattle.linker_elf.specs.Facts.{facts_of, way_of}
-use Rattle.linker_elf.specs.Relocate.{window_len}
-use Rattle.linker_elf.specs.Value.{sum_64, difference_64, value_of, is_offset, loads_plt_word}
 use Rattle.linker_elf.specs.declared.elf.RelocationKind.TheVariants as kinds
-use Rattle.linker_elf.specs.declared.elf.RowInfo.{RowInfo}
 use Rattle.linker_elf.specs.declared.elf.facts.EntryUse.{EntryUse}
 use Rattle.linker_elf.specs.declared.elf.facts.EntryUse.TheVariants as entries
-use Rattle.linker_elf.specs.declared.elf.facts.Length.{Length}
 use Rattle.linker_elf.specs.declared.elf.facts.Length.TheVariants as lengths
 use Rattle.linker_elf.specs.declared.elf.facts.RowFacts.{RowFacts}
 use Rattle.linker_elf.specs.declared.elf.facts.Way.{Way}
 use Rattle.linker_elf.specs.declared.elf.facts.Way.TheVariants as ways
-use Rattle.linker_elf.specs.declared.elf.value.Operands.{Operands}
 use Rattle.linker_section.specs.Conditions.{shows_length, is_tp_off}
 use Rattle.linker_section.specs.Fields.{is_of_pair}
 use Rattle.linker_section.specs.Needed.{needs_of}
 use Rattle.linker_section.specs.Values.{has_value, names_label, is_ppc64_branch}
 use Rattle.linker_section.specs.Values.{origin_of, is_high_part, low_operands}
-use Rattle.linker_section.specs.declared.facts.Addresses.{Addresses}
-use Rattle.linker_section.specs.declared.needed.Entry.{Entry}
-use Rattle.linker_section.specs.declared.needed.EntryClass.{EntryClass}
-use Rattle.linker_section.specs.declared.needed.EntryClass.TheVariants.{Address, ThreadOffset}
-use Rattle.linker_section.specs.declared.needed.EntryClass.TheVariants.{ModuleOffset, Module}
-use Rattle.linker_section.specs.declared.needed.EntryClass.TheVariants.{Descriptor}
-use Rattle.linker_section.specs.declared.needed.Requirements.{Requirements}
-use Rattle.linker_elf.specs.declared.elf.architecture.Architecture.{Architecture}
 use Rattle.linker_elf.specs.declared.elf.architecture.Architecture.TheVariants as architectures
 
 -- the class of an entry; LoongArch's low half is of an address or of two words for TLS

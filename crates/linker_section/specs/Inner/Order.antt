@@ -1,16 +1,12 @@
 -- Indexes of relocations, sorted by offset, and what is known of fields that are gone through so.
 use Rattle.std.specs.Prelude.{◌≡◌, ◌⊎◌, ℕ, ◌+◌, ◌*◌, ◌/◌, ◌^◌, ◌<◌, ◌≤◌, List, length, slice_index}
 use Rattle.std.specs.Prelude.{drop, Option, Some, None}
-use Rattle.linker_elf.specs.declared.elf.RowInfo.{RowInfo}
+use Rattle.linker_section.specs.Imports.{Architecture, Field, IsRow, Rela, RowInfo}
 use Rattle.linker_section.specs.Fields.{IsField, IsOverlapped, Overlap, Composes}
 use Rattle.linker_section.specs.Fields.{field_end, field_len}
 use Rattle.linker_section.specs.Inner.Claims.{AreClaimed, HasField}
 use Rattle.linker_section.specs.Relocations.{relocation_at, relocation_in}
 use Rattle.linker_section.specs.Values.{offset_at}
-use Rattle.linker_section.specs.declared.fields.Field.{Field}
-use Rattle.linker_section.specs.declared.relocations.Rela.{Rela}
-use Rattle.linker_elf.specs.Architectures.{IsRow}
-use Rattle.linker_elf.specs.declared.elf.architecture.Architecture.{Architecture}
 
 -- ---- sorted indexes
 

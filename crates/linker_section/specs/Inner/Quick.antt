@@ -1,23 +1,17 @@
 -- Values that are found by the facts of rows, with few tests.
 use Rattle.std.specs.Prelude.{◌≡◌, ◌<◌, ℕ, true, false}
 use Rattle.std.specs.Prelude.{ℤ, List, slice_get, Option, Some, Ok}
-use Rattle.linker_elf.specs.Relocate.{window_len}
-use Rattle.linker_elf.specs.Value.{difference_64, value_of}
-use Rattle.linker_elf.specs.declared.elf.RelocationKind.TheVariants.{RelativeRiscVLow12}
-use Rattle.linker_elf.specs.declared.elf.RowInfo.{RowInfo}
-use Rattle.linker_elf.specs.declared.elf.value.Operands.{Operands}
+use Rattle.linker_section.specs.Imports.{Addresses, Architecture, Operands, Rela}
+use Rattle.linker_section.specs.Imports.{RelativeRiscVLow12, RowInfo, Symbol, difference_64}
+use Rattle.linker_section.specs.Imports.{value_of, window_len}
 use Rattle.linker_section.specs.Conditions.{is_tp_off}
 use Rattle.linker_section.specs.Fields.{is_of_pair}
 use Rattle.linker_section.specs.Inner.Facts.{low_result}
 use Rattle.linker_section.specs.Resolved.{Lookup, resolved_operands}
 use Rattle.linker_section.specs.Sections.{HasValue, IsValued, Values}
 use Rattle.linker_section.specs.Values.{has_value, low_operands, operands_of, IsHighPart}
-use Rattle.linker_section.specs.declared.facts.Addresses.{Addresses}
-use Rattle.linker_section.specs.declared.facts.Symbol.{Symbol}
 use Rattle.linker_section.specs.declared.quick.HighPart.{HighPart}
-use Rattle.linker_section.specs.declared.relocations.Rela.{Rela}
 use Rattle.linker_section.specs.declared.resolved.Resolved.{Resolved}
-use Rattle.linker_elf.specs.declared.elf.architecture.Architecture.{Architecture}
 
 -- the operands of a relocation give a value
 pub record IsPlainValue (architecture : Architecture) (addresses : Addresses)

@@ -1,12 +1,10 @@
 -- Values that are found by a look-up with few tests.
 use Rattle.std.specs.Prelude.{◌≡◌, ℕ, ℤ, List, true}
-use Rattle.linker_elf.specs.declared.elf.RowInfo.{RowInfo}
-use Rattle.linker_elf.specs.declared.elf.architecture.Architecture.{Architecture}
+use Rattle.linker_section.specs.Imports.{Addresses, Architecture, RowInfo}
 use Rattle.linker_section.specs.Inner.Facts.{is_high}
 use Rattle.linker_section.specs.Inner.Quick.{IsQuickAt, IsResolvedHigh}
 use Rattle.linker_section.specs.Resolved.{Lookup, by_lookup}
 use Rattle.linker_section.specs.Values.{offset_at}
-use Rattle.linker_section.specs.declared.facts.Addresses.{Addresses}
 
 -- the value of the relocation at an index, which low parts take if it is a high part
 pub record IsQuickResolved (architecture : Architecture) (addresses : Addresses) (bytes : List ℕ)

@@ -1,13 +1,9 @@
 -- Bytes of a section that are kept in memory of the caller's until all values are written.
 use Rattle.std.specs.Prelude.{◌≡◌, ℕ, zero, suc, ◌+◌, ◌-◌, nat_le, if◌then◌else◌, List}
 use Rattle.std.specs.Prelude.{◌++◌, length, take, drop, slice_index, Option, Some, None}
-use Rattle.std.specs.Int.{w64, to_le_bytes}
-use Rattle.linker_elf.specs.Value.{sum_64}
-use Rattle.linker_elf.specs.declared.elf.RowInfo.{RowInfo}
+use Rattle.linker_section.specs.Imports.{Architecture, IsRow, RowInfo, sum_64, to_le_bytes, w64}
 use Rattle.linker_section.specs.Fields.{ends_pair}
 use Rattle.linker_section.specs.Relocations.{relocation_in}
-use Rattle.linker_elf.specs.Architectures.{IsRow}
-use Rattle.linker_elf.specs.declared.elf.architecture.Architecture.{Architecture}
 
 -- the 8 bytes from an offset on, or fewer at the end
 abbrev pub bytes_at : ℕ → List ℕ → List ℕ

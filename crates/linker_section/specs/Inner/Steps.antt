@@ -2,10 +2,9 @@
 use Rattle.std.specs.Prelude.{◌≡◌, ℕ, ◌≢◌, ◌+◌, ◌/◌, ◌<◌, ◌≤◌, ◌==◌, ◌||◌, Bool, not, ℤ, List}
 use Rattle.std.specs.Prelude.{length}
 use Rattle.std.specs.Prelude.{drop, set, ◌⊎◌, ⊤, true, false, Option, Some, None, Result, Ok, Err}
-use Rattle.linker_base.specs.declared.utils.Uleb128Error.{Uleb128Error}
-use Rattle.linker_elf.specs.Relocate.{window_len}
-use Rattle.linker_elf.specs.declared.elf.RowInfo.{RowInfo}
-use Rattle.linker_elf.specs.declared.elf.relocate.RelocateError.TheVariants.{TooShort}
+use Rattle.linker_section.specs.Imports.{Addresses, Architecture, Field, IsRow, Overlaps, RowInfo}
+use Rattle.linker_section.specs.Imports.{SectionError, TooShort, Uleb128, Uleb128Error, Value}
+use Rattle.linker_section.specs.Imports.{ValueError, Write, window_len}
 use Rattle.linker_section.specs.Fields.{AreApart, IsOverlapped, begins_pair, ends_pair, field_len}
 use Rattle.linker_section.specs.Fields.{IsField, field_end, is_of_pair}
 use Rattle.linker_section.specs.Inner.Claims.{AreClaimed, is_clear_of}
@@ -17,16 +16,8 @@ use Rattle.linker_section.specs.Sections.{IsWritten}
 use Rattle.linker_section.specs.Sections.{AreRelocated, AreAllRelocatedBy, IsInside, IsValued}
 use Rattle.linker_section.specs.Sections.{Outcome, Values}
 use Rattle.linker_section.specs.Values.{has_value, offset_at}
-use Rattle.linker_section.specs.declared.facts.Addresses.{Addresses}
-use Rattle.linker_section.specs.declared.fields.Field.{Field}
-use Rattle.linker_section.specs.declared.sections.RelocationError.TheVariants.{Value, Overlaps}
-use Rattle.linker_section.specs.declared.sections.RelocationError.TheVariants.{Uleb128, Write}
-use Rattle.linker_section.specs.declared.sections.SectionError.{SectionError}
 use Rattle.linker_section.specs.declared.sections.Step.{Step}
 use Rattle.linker_section.specs.declared.sections.Stopped.{Stopped}
-use Rattle.linker_section.specs.declared.values.ValueError.{ValueError}
-use Rattle.linker_elf.specs.Architectures.{IsRow}
-use Rattle.linker_elf.specs.declared.elf.architecture.Architecture.{Architecture}
 
 -- the field of a relocation of a row at an offset
 abbrev pub field_of_row : RowInfo → ℕ → List ℕ → Field

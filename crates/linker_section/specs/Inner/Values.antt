@@ -1,10 +1,7 @@
 -- High parts of RISC-V with their indexes.
 use Rattle.std.specs.Prelude.{◌≡◌, ℕ, List}
-use Rattle.linker_elf.specs.declared.elf.RelocationKind.{RelocationKind}
-use Rattle.linker_elf.specs.declared.elf.RowInfo.{RowInfo}
-use Rattle.linker_elf.specs.declared.elf.architecture.Architecture.{Architecture}
+use Rattle.linker_section.specs.Imports.{Architecture, Rela, RelocationKind, RowInfo}
 use Rattle.linker_section.specs.Values.{IsHighPart}
-use Rattle.linker_section.specs.declared.relocations.Rela.{Rela}
 
 -- what is found is a high part at an offset, of low parts of a kind, and its index
 abbrev pub IsHighPartOf : Architecture → List ℕ → RelocationKind → ℕ

@@ -1,14 +1,12 @@
 -- The instructions that the entries of AArch64's tables of choices are for.
-use Rattle.std.specs.Prelude.{◌+◌, ℕ, List}
-use Rattle.linker_elf.specs.Inner.ChoiceTables.{Tables}
-use Rattle.linker_elf.specs.Originals.{HasWord}
+use Rattle.linker_utils.specs.Imports.{AArch64Relocation, HasWord, List, Tables, ℕ}
+use Rattle.std.specs.Prelude.{◌+◌}
 use Rattle.linker_utils.specs.AArch64Rewrites.{IsEntryLoad, IsOfDescriptor, IsBranch, IsCall}
 use Rattle.linker_utils.specs.AArch64Rewrites.{aarch64_matches, aarch64_entries, HasPattern}
 use Rattle.linker_utils.specs.declared.aarch64.choices.Pattern.{Pattern}
 use Rattle.linker_utils.specs.declared.aarch64.choices.Pattern.TheVariants as originals
 use Rattle.linker_utils.specs.declared.aarch64.rewrites.RewriteKind.{RewriteKind}
 use Rattle.linker_utils.specs.declared.aarch64.rewrites.RewriteKind.TheVariants as kinds
-use Rattle.linker_elf.specs.declared.aarch64.relocations.AArch64Relocation.{AArch64Relocation}
 
 -- what an entry with a rewrite is for is at an offset of a section
 abbrev pub MatchesPattern : Pattern → RewriteKind → List ℕ → ℕ → Type 0

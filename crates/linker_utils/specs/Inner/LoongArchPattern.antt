@@ -1,6 +1,5 @@
 -- The instructions that an entry of the code's table of choices is for.
-use Rattle.std.specs.Prelude.{ℕ, List}
-use Rattle.linker_elf.specs.Inner.ChoiceTables.{Tables}
+use Rattle.linker_utils.specs.Imports.{List, LoongArch64Relocation, Tables, ℕ}
 use Rattle.linker_utils.specs.LoongArchRewrites.{IsAfter, IsSingle, IsPageOfDescriptor}
 use Rattle.linker_utils.specs.LoongArchRewrites.{IsLowOfDescriptor, IsLoadOfDescriptor}
 use Rattle.linker_utils.specs.LoongArchRewrites.{IsCallOfDescriptor, IsPcalau12i, IsPair}
@@ -11,7 +10,6 @@ use Rattle.linker_utils.specs.declared.loongarch64.choices.Pattern.{Pattern}
 use Rattle.linker_utils.specs.declared.loongarch64.choices.Pattern.TheVariants as pattern
 use Rattle.linker_utils.specs.declared.loongarch64.rewrites.RewriteKind.{RewriteKind}
 use Rattle.linker_utils.specs.declared.loongarch64.rewrites.RewriteKind.TheVariants as kinds
-use Rattle.linker_elf.specs.declared.loongarch64.relocations.LoongArch64Relocation.{LoongArch64Relocation}
 
 abbrev pub matches_pattern : Pattern → RewriteKind → List ℕ → ℕ → Type 0
 matches_pattern pattern.OfRewrite kind = loongarch_matches kind

@@ -1,6 +1,6 @@
 -- The rewrite that leaves the instruction as it is keeps the law of rewrites.
-use Rattle.std.proofs.Common.{◌≡◌, None, ap}
-use Rattle.linker_base.specs.declared.relaxation.RelocationModifier.TheVariants.{Normal}
+use Rattle.linker_utils.specs.Imports.{None, Normal, Relaxation}
+use Rattle.std.proofs.Common.{◌≡◌, ap}
 use Rattle.linker_utils.specs.AArch64Rewrites.{aarch64_rewrite, aarch64_modifier}
 use Rattle.linker_utils.specs.LoongArchRewrites.{loongarch_rewrite, loongarch_modifier}
 use Rattle.linker_utils.specs.Ppc64Rewrites.{ppc64_rewrite, ppc64_modifier}
@@ -8,7 +8,6 @@ use Rattle.linker_utils.specs.RiscVRewrites.{riscv_rewrite, riscv_modifier}
 use Rattle.linker_utils.specs.X86Rewrites.{x86_64_rewrite, x86_64_modifier}
 use Rattle.linker_utils.specs.Relaxations.{relaxation_rewrite, relaxation_modifier}
 use Rattle.linker_utils.specs.Relaxations.{relaxation_no_op}
-use Rattle.linker_utils.specs.declared.architecture.Relaxation.{Relaxation}
 use Rattle.linker_utils.specs.declared.architecture.Relaxation.TheVariants.{AArch64, RiscV}
 use Rattle.linker_utils.specs.declared.architecture.Relaxation.TheVariants.{LoongArch64, Ppc64}
 use Rattle.linker_utils.specs.declared.architecture.Relaxation.TheVariants.{X86_64}

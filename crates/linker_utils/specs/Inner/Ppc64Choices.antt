@@ -1,7 +1,5 @@
 -- The tables of choices of PowerPC64, and the instructions that their entries are for.
-use Rattle.std.specs.Prelude.{ℕ, List}
-use Rattle.linker_elf.specs.Inner.ChoiceTables.{Tables}
-use Rattle.linker_elf.specs.declared.ppc64.relocations.Ppc64Relocation.{Ppc64Relocation}
+use Rattle.linker_utils.specs.Imports.{List, Ppc64Relocation, Tables, ℕ}
 use Rattle.linker_utils.specs.Ppc64Rewrites.{ppc64_matches, ppc64_entries}
 use Rattle.linker_utils.specs.declared.ppc64.choices.Pattern.{Pattern}
 use Rattle.linker_utils.specs.declared.ppc64.rewrites.RewriteKind.{RewriteKind}

@@ -1,12 +1,10 @@
 -- What the rows of rewrites mean.
-use Rattle.std.specs.Prelude.{ℕ, zero, suc, List, [], ◌∷◌, ◌≡◌, ◌≢◌, ◌≤◌, ◌+◌, ◌-◌, ◌*◌, ◌/◌, ◌^◌}
-use Rattle.std.specs.Prelude.{◌⊎◌, ⊤, length, drop}
-use Rattle.std.specs.Prelude.{Option, None, Some, bit_and, bit_or, IsTrue, not, nat_le, ◌&&◌, ◌||◌}
-use Rattle.std.specs.Prelude.{◌==◌}
-use Rattle.std.specs.Prelude.{◌%◌, if◌then◌else◌, Bool, true, false, IfSome}
-use Rattle.std.specs.Int.{w16, w32, w64, from_le_bytes, to_le_bytes}
-use Rattle.linker_base.specs.Bits.{field}
-use Rattle.linker_base.specs.Rewrite.{Rewrite, replaces, CanRewrite}
+use Rattle.linker_utils.specs.Imports.{Bool, CanRewrite, IfSome, IsTrue, List, None, Option}
+use Rattle.linker_utils.specs.Imports.{Rewrite, Some, [], bit_and, bit_or, drop, false, field}
+use Rattle.linker_utils.specs.Imports.{from_le_bytes, length, nat_le, not, replaces, suc}
+use Rattle.linker_utils.specs.Imports.{to_le_bytes, true, w16, w32, w64, zero, ℕ, ⊤}
+use Rattle.std.specs.Prelude.{◌∷◌, ◌≡◌, ◌≢◌, ◌≤◌, ◌+◌, ◌-◌, ◌*◌, ◌/◌, ◌^◌, ◌⊎◌, ◌&&◌, ◌||◌, ◌==◌}
+use Rattle.std.specs.Prelude.{◌%◌, if◌then◌else◌}
 use Rattle.linker_base.specs.RewriteWindow.{window_of_rewrite}
 use Rattle.linker_utils.specs.Ppc64Rewrites.{by_displacement, by_word_displacement, direct, to_move}
 use Rattle.linker_utils.specs.RiscVRewrites.{adds_low12}

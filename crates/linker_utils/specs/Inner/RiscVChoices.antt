@@ -1,7 +1,5 @@
 -- The instructions that the entries of RISC-V's tables of choices are for.
-use Rattle.std.specs.Prelude.{ℕ, List}
-use Rattle.linker_elf.specs.Inner.ChoiceTables.{Tables}
-use Rattle.linker_elf.specs.Originals.{HasWord}
+use Rattle.linker_utils.specs.Imports.{HasWord, List, RiscVRelocation, Tables, ℕ}
 use Rattle.linker_utils.specs.RiscVRewrites.{riscv_matches, IsLui, IsAuipc, IsLd, IsAddTp}
 use Rattle.linker_utils.specs.RiscVRewrites.{IsAddiToA0, IsLowOverOther, HasPattern}
 use Rattle.linker_utils.specs.RiscVRewrites.{riscv_entries}
@@ -9,7 +7,6 @@ use Rattle.linker_utils.specs.declared.riscv64.choices.Pattern.{Pattern}
 use Rattle.linker_utils.specs.declared.riscv64.choices.Pattern.TheVariants as originals
 use Rattle.linker_utils.specs.declared.riscv64.rewrites.RewriteKind.{RewriteKind}
 use Rattle.linker_utils.specs.declared.riscv64.rewrites.RewriteKind.TheVariants as kinds
-use Rattle.linker_elf.specs.declared.riscv64.relocations.RiscVRelocation.{RiscVRelocation}
 
 -- what an entry with a rewrite is for is at an offset of a section
 abbrev pub IsThere : Pattern → RewriteKind → List ℕ → ℕ → Type 0

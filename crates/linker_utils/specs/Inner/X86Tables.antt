@@ -1,15 +1,13 @@
 -- x86-64: the instructions that the entries of the code are for.
-use Rattle.std.specs.Prelude.{ℕ, ◌≡◌, ⊤, List, [], ◌∷◌}
+use Rattle.linker_utils.specs.Imports.{List, RewriteKind, Tables, X86_64Relocation, [], ℕ, ⊤}
+use Rattle.std.specs.Prelude.{◌≡◌, ◌∷◌}
 use Rattle.std.proofs.Common.{subst, refl}
-use Rattle.linker_elf.specs.Inner.ChoiceTables.{Tables}
 use Rattle.linker_utils.specs.X86Rewrites.{HasPattern, Table, x86_64_table, x86_64_after}
 use Rattle.linker_utils.specs.X86Rewrites.{opcode_at}
 use Rattle.linker_utils.specs.X86Rewrites.{Original, original, legacy, lea_of_descriptor}
 use Rattle.linker_utils.specs.declared.x86_64.choices.Pattern.{Pattern}
 use Rattle.linker_utils.specs.declared.x86_64.choices.Pattern.TheVariants as pattern
-use Rattle.linker_utils.specs.declared.x86_64.rewrites.RewriteKind.{RewriteKind}
 use Rattle.linker_utils.specs.declared.x86_64.rewrites.RewriteKind.TheVariants as kinds
-use Rattle.linker_elf.specs.declared.x86_64.relocations.X86_64Relocation.{X86_64Relocation}
 use Rattle.linker_elf.specs.declared.x86_64.relocations.X86_64Relocation.TheVariants as r
 
 abbrev pub pattern_instructions : Pattern → List Original

@@ -1,7 +1,4 @@
-use Rattle.std.proofs.Common.{ℕ, ◌≡◌, ◌+◌, ◌-◌, ◌∙◌, get_or, map, ap, sym, arith, length, min, take, drop}
-use Rattle.std.proofs.lemmas.List.{get_or-map, length-map}
-use Rattle.linker_base.specs.Deltas.{deletion_of}
-use Rattle.linker_base.specs.declared.relaxation.RelaxDelta.{RelaxDelta}
+use Rattle.linker_base.proofs.Imports.{RelaxDelta, ap, arith, deletion_of, drop, get_or, get_or-map, length, length-map, map, min, sym, take, ℕ, ◌+◌, ◌-◌, ◌∙◌, ◌≡◌}
 use Rattle.linker_base.proofs.Copied.{copied_first, copied_step, copied_end, begin_above}
 use Rattle.linker_base.proofs.packing.copy_kept.Goals as goal
 

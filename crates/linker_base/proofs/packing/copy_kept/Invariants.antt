@@ -1,8 +1,4 @@
-use Rattle.std.proofs.Common.{◌≡◌, ◌+◌, ◌-◌, ◌≤◌, length}
-use Rattle.linker_base.specs.Deletions.{rank}
-use Rattle.linker_base.specs.Deltas.{deletions_of}
-use Rattle.linker_base.specs.Listed.{AreValidDeltas}
-use Rattle.linker_base.specs.Inner.Packing.{IsCopied}
+use Rattle.linker_base.proofs.Imports.{AreValidDeltas, IsCopied, deletions_of, length, rank, ◌+◌, ◌-◌, ◌≡◌, ◌≤◌}
 use Rattle.linker_base.proofs.packing.copy_kept.Given as goal
 
 abbrev pub invariant-loop-index : goal.invariant-loop-index

@@ -1,7 +1,4 @@
-use Rattle.std.proofs.Common.{◌-◌, arith}
-use Rattle.std.proofs.lemmas.List.{length-map}
-use Rattle.linker_base.specs.Deltas.{deletion_of}
-use Rattle.linker_base.specs.Inner.Packing.{no_delta}
+use Rattle.linker_base.proofs.Imports.{arith, deletion_of, length-map, no_delta, ◌-◌}
 use Rattle.linker_base.proofs.Search.{deletion_at}
 use Rattle.linker_base.proofs.packing.count_begun.Goals as goal
 

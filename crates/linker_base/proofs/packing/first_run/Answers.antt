@@ -1,7 +1,4 @@
-use Rattle.std.proofs.Common.{ℕ, ◌-◌, ap, arith, map}
-use Rattle.std.proofs.lemmas.List.{length-map, get_or-map}
-use Rattle.linker_base.specs.Deltas.{deletion_of}
-use Rattle.linker_base.specs.Inner.Packing.{no_delta}
+use Rattle.linker_base.proofs.Imports.{ap, arith, deletion_of, get_or-map, length-map, map, no_delta, ℕ, ◌-◌}
 use Rattle.linker_base.proofs.Copied.{begin_below, begin_above, run_from_base, run_from_end}
 use Rattle.linker_base.proofs.packing.first_run.Goals as goal
 

@@ -1,6 +1,4 @@
-use Rattle.std.proofs.Common.{◌≤◌, ◌<◌, ◌-◌, length}
-use Rattle.linker_base.specs.Listed.{AreValidDeltas}
-use Rattle.linker_base.specs.Inner.Packing.{IsPosition, delta_at}
+use Rattle.linker_base.proofs.Imports.{AreValidDeltas, IsPosition, delta_at, length, ◌-◌, ◌<◌, ◌≤◌}
 use Rattle.linker_base.proofs.packing.position_from.Given as goal
 
 -- the deltas that are passed begin below the offset

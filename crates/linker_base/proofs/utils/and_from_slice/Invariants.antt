@@ -1,4 +1,4 @@
-use Rattle.std.proofs.Common.{◌≡◌, ℕ, ◌<◌, ◌≤◌, length, drop, get_or, bit_and}
+use Rattle.linker_base.proofs.Imports.{bit_and, drop, get_or, length, ℕ, ◌<◌, ◌≡◌, ◌≤◌}
 use Rattle.linker_base.proofs.utils.and_from_slice.Given as goal
 
 abbrev pub invariant-loop-i : goal.invariant-loop-i

@@ -1,5 +1,4 @@
-use Rattle.std.proofs.Common.{◌≤◌}
-use Rattle.linker_base.specs.Uleb.{AllContinue}
+use Rattle.linker_base.proofs.Imports.{AllContinue, ◌≤◌}
 use Rattle.linker_base.proofs.utils.last_of_uleb128.Given as goal
 
 abbrev pub invariant-loop-i : goal.invariant-loop-i

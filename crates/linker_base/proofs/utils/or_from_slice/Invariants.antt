@@ -1,4 +1,4 @@
-use Rattle.std.proofs.Common.{◌≡◌, ℕ, ◌<◌, ◌≤◌, length, drop, get_or, bit_or}
+use Rattle.linker_base.proofs.Imports.{bit_or, drop, get_or, length, ℕ, ◌<◌, ◌≡◌, ◌≤◌}
 use Rattle.linker_base.proofs.utils.or_from_slice.Given as goal
 
 abbrev pub invariant-loop-i : goal.invariant-loop-i

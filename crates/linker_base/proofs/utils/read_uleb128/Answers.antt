@@ -1,4 +1,4 @@
-use Rattle.std.proofs.Common.{◌≡◌, ◌≤◌, arith, slice_index, below_more, add-one, ap, Ok}
+use Rattle.linker_base.proofs.Imports.{Ok, add-one, ap, arith, below_more, slice_index, ◌≡◌, ◌≤◌}
 use Rattle.linker_base.proofs.UlebLemmas.{groups_or, is_read, one_reading}
 use Rattle.linker_base.proofs.utils.read_uleb128.Goals as goal
 use Rattle.linker_base.proofs.utils.read_uleb128.Goals.{else-i-eq9-via-then-i-eq9+else-byte-gt1, else-i-eq9-via-else-i-eq9}

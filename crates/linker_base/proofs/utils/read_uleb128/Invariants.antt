@@ -1,5 +1,4 @@
-use Rattle.std.proofs.Common.{◌≡◌, ◌≤◌}
-use Rattle.linker_base.specs.Uleb.{AllContinue}
+use Rattle.linker_base.proofs.Imports.{AllContinue, ◌≡◌, ◌≤◌}
 use Rattle.linker_base.proofs.UlebLemmas.{low_groups}
 use Rattle.linker_base.proofs.utils.read_uleb128.Given as goal
 

@@ -1,7 +1,5 @@
-use Rattle.std.proofs.Common.{◌≡◌, ◌+◌, ◌*◌, ◌/◌, ◌^◌, ◌<◌, drop, slice_set, arith, refl, ◌∙◌}
-use Rattle.std.proofs.lemmas.List.{drop-set-lt, get_or-set_other, get_or-set_same, length-set}
+use Rattle.linker_base.proofs.Imports.{arith, drop, drop-set-lt, get_or-set_other, get_or-set_same, length-set, refl, slice_set, uleb_number, ◌*◌, ◌+◌, ◌/◌, ◌<◌, ◌^◌, ◌∙◌, ◌≡◌}
 use Rattle.linker_base.proofs.UlebLemmas.{above_shift, is_written, pow_128}
-use Rattle.linker_base.specs.Uleb.{uleb_number}
 use Rattle.linker_base.proofs.utils.write_uleb128.Goals as goal
 use Rattle.linker_base.proofs.utils.write_uleb128.Goals.{else-last-lt9-via-else-last-lt9, else-last-lt9-via-then-last-lt9+else-value-last-ne0}
 

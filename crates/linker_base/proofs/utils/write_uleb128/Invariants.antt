@@ -1,4 +1,4 @@
-use Rattle.std.proofs.Common.{◌≡◌, ℕ, ◌+◌, ◌*◌, ◌/◌, ◌%◌, ◌^◌, ◌<◌, drop, get_or}
+use Rattle.linker_base.proofs.Imports.{drop, get_or, ℕ, ◌%◌, ◌*◌, ◌+◌, ◌/◌, ◌<◌, ◌^◌, ◌≡◌}
 use Rattle.linker_base.proofs.utils.write_uleb128.Given as goal
 
 abbrev pub invariant-loop-i : goal.invariant-loop-i

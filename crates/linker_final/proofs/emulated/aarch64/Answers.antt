@@ -1,6 +1,5 @@
 -- The words of AArch64: by computation.
-use Rattle.linker_final.proofs.Imports.{AllPass, made_high, refl}
-use Rattle.linker_base.specs.Form.{place_sum}
+use Rattle.linker_final.proofs.Imports.{AllPass, made_high, place_sum, refl}
 use Rattle.linker_final.proofs.Noise.{all_pass, quick_high}
 use Rattle.linker_final.specs.AArch64Executed.{passes}
 use Rattle.linker_final.specs.AArch64Steps.{aarch64_groups}

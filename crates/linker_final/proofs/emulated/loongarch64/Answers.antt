@@ -1,6 +1,5 @@
 -- The words of LoongArch: by computation.
-use Rattle.linker_final.proofs.Imports.{AllPass, Numbers, if◌then◌else◌, nat_le, nat_lt, refl, ℕ, ◌&&◌, ◌*◌, ◌+◌, ◌==◌}
-use Rattle.linker_base.specs.Form.{place_sum}
+use Rattle.linker_final.proofs.Imports.{AllPass, Numbers, if◌then◌else◌, nat_le, nat_lt, place_sum, refl, ℕ, ◌&&◌, ◌*◌, ◌+◌, ◌==◌}
 use Rattle.linker_final.proofs.Noise.{all_pass, noise_256, quick_low}
 use Rattle.linker_final.specs.LoongArchExecuted.{made, passes}
 use Rattle.linker_final.specs.LoongArchSteps.{loongarch_groups}

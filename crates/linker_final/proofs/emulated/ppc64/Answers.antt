@@ -1,6 +1,5 @@
 -- The words of PowerPC64: by computation.
-use Rattle.linker_final.proofs.Imports.{AllPass, made_low, refl}
-use Rattle.linker_base.specs.Form.{place_sum}
+use Rattle.linker_final.proofs.Imports.{AllPass, made_low, place_sum, refl}
 use Rattle.linker_final.proofs.Noise.{all_pass, quick_low}
 use Rattle.linker_final.specs.Ppc64Executed.{passes}
 use Rattle.linker_final.specs.Ppc64Steps.{ppc64_groups}

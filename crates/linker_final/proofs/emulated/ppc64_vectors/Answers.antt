@@ -1,6 +1,5 @@
 -- PowerPC64's vector registers: by computation.
-use Rattle.linker_final.proofs.Imports.{refl}
-use Rattle.linker_base.specs.Form.{place_sum}
+use Rattle.linker_final.proofs.Imports.{place_sum, refl}
 use Rattle.linker_final.specs.Ppc64Steps.{ppc64_vector_groups}
 use Rattle.linker_final.proofs.emulated.ppc64_vectors.Goals as goal
 

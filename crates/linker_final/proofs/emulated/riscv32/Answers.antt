@@ -1,10 +1,7 @@
 -- The steps of RV32: by computation.
-use Rattle.linker_final.proofs.Imports.{ℕ, ◌+◌, ◌*◌, ◌%◌, ◌^◌, ◌==◌, if◌then◌else◌, refl, AllPass, Numbers, at, pc}
-use Rattle.std.proofs.Common.{nat_lt}
-use Rattle.linker_base.specs.Form.{place_sum}
+use Rattle.linker_final.proofs.Imports.{AllPass, Numbers, at, if◌then◌else◌, m0, nat_lt, pc, place_sum, refl, ℕ, ◌%◌, ◌*◌, ◌+◌, ◌==◌, ◌^◌}
 use Rattle.linker_final.specs.RiscV32Executed.{made_32, passes_32}
 use Rattle.linker_final.specs.RiscV32Steps.{riscv32_groups}
-use Rattle.linker_final.specs.Steps.{m0}
 use Rattle.linker_final.proofs.Noise.{all_pass, noise_64}
 use Rattle.linker_final.proofs.emulated.riscv32.Goals as goal
 

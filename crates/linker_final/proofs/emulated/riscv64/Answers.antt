@@ -1,6 +1,5 @@
 -- The words of RISC-V: by computation.
-use Rattle.linker_final.proofs.Imports.{AllPass, Numbers, if◌then◌else◌, refl, ℕ, ◌==◌}
-use Rattle.linker_base.specs.Form.{place_sum}
+use Rattle.linker_final.proofs.Imports.{AllPass, Numbers, if◌then◌else◌, place_sum, refl, ℕ, ◌==◌}
 use Rattle.linker_final.proofs.Noise.{all_pass, quick_high}
 use Rattle.linker_final.specs.RiscVExecuted.{made, passes}
 use Rattle.linker_final.specs.RiscVSteps.{riscv_groups}

@@ -1,7 +1,7 @@
-use Rattle.linker_final.proofs.Imports.{one}
+use Rattle.linker_laws.specs.Chains.{one}
 use Rattle.linker_final.proofs.AArch64.{are_in, rewrites_are_groups}
 use Rattle.linker_final.proofs.SectionRuns.{each_place, runs_are_followed}
-use Rattle.linker_final.specs.AArch64Section.{rewriting}
+use Rattle.linker_final.proofs.Imports.{rewriting}
 use Rattle.linker_final.proofs.laws.aarch64_sections.Goals as goal
 
 pub returns : goal.returns

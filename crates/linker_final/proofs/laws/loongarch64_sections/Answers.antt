@@ -1,4 +1,4 @@
-use Rattle.linker_final.proofs.Imports.{one}
+use Rattle.linker_laws.specs.Chains.{one}
 use Rattle.linker_final.proofs.LoongArch.{are_in, relocations_are_left, rewrites_are_groups}
 use Rattle.linker_final.proofs.SectionRuns.{each_place, runs_are_followed}
 use Rattle.linker_final.specs.LoongArchSection.{rewriting}

@@ -1,4 +1,5 @@
-use Rattle.linker_final.proofs.Imports.{one, rewriting}
+use Rattle.linker_laws.specs.Chains.{one}
+use Rattle.linker_final.specs.X86Section.{rewriting}
 use Rattle.linker_final.proofs.SectionRuns.{each_place, runs_are_followed}
 use Rattle.linker_final.proofs.X86.{are_in, offsets, rewrites_are_groups}
 use Rattle.linker_final.proofs.laws.x86_64_sections.Goals as goal

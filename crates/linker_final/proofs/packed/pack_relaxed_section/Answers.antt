@@ -1,4 +1,5 @@
-use Rattle.linker_final.proofs.Imports.{IfErr, IsPackCause, deletions_of, deletions_of_run, items_in, length, packed_offset, refl, section_of, subst, sym, ◌+◌, ◌∙◌, ◌≡◌}
+use Rattle.linker_final.proofs.Imports.{IfErr, IsPackCause, deletions_of, deletions_of_run, length, packed_offset, refl, section_of, subst, sym, ◌+◌, ◌∙◌, ◌≡◌}
+use Rattle.linker_runs.specs.Relaxing.{items_in}
 use Rattle.linker_final.proofs.PackedBytes.{listed_deltas, packed_run}
 use Rattle.std.proofs.lemmas.Result.{on_ok_weaker}
 use Rattle.linker_final.proofs.packed.pack_relaxed_section.Goals as goal

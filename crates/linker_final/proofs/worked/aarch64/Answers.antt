@@ -1,7 +1,6 @@
-use Rattle.linker_final.proofs.Imports.{refl}
+use Rattle.linker_final.proofs.Imports.{refl, rewriting}
 use Rattle.linker_final.proofs.AArch64Worked.{has_groups, new_is_final}
 use Rattle.linker_final.proofs.SectionRuns.{of_calls}
-use Rattle.linker_final.specs.AArch64Section.{rewriting}
 use Rattle.linker_final.proofs.worked.aarch64.Goals as goal
 
 pub returns : goal.returns

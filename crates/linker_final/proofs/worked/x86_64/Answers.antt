@@ -1,4 +1,5 @@
-use Rattle.linker_final.proofs.Imports.{refl, rewriting}
+use Rattle.linker_final.proofs.Imports.{refl}
+use Rattle.linker_final.specs.X86Section.{rewriting}
 use Rattle.linker_final.proofs.SectionRuns.{of_calls}
 use Rattle.linker_final.proofs.worked.x86_64.Goals as goal
 

@@ -1,11 +1,10 @@
 -- The laws of AArch64.
-use Rattle.linker_laws.proofs.Imports.{refl, ap, arith, Some, ◌≡◌, ℕ, ◌^◌, ◌<◌, w64, cast_signed, cast_unsigned, sum_64, difference_64, Operands, aarch64_rows, bit_bounds, LdrRegister, Signed, AreAddresses, Premise, none, of_values, symbol_address, place}
+use Rattle.linker_laws.proofs.Imports.{AreAddresses, LdrRegister, Operands, Premise, Signed, Some, aarch64_rows, ap, arith, bit_bounds, cast_signed, cast_unsigned, difference_64, got_page, none, of_values, place, refl, sum_64, symbol_address, w64, ℕ, ◌<◌, ◌^◌, ◌≡◌}
 use Rattle.linker_elf.specs.declared.aarch64.relocations.AArch64Relocation.TheVariants as names
 use Rattle.linker_laws.proofs.Fields.{holds_distance}
 use Rattle.linker_laws.proofs.Instructions.{entry_and_addend_from_place, symbol_from_got, adds, symbol_from_place, plt_from_place, entry_from_place, entry_from_got, entry_from, symbol_from_tls, symbol_itself, symbol_small, entry_sum_small, entry_is, relative, same_distance}
 use Rattle.linker_laws.proofs.AArch64WideMoves.{moves1, moves2, moves3, moves4, movz_first, movn_first, movn_highest, movz_highest}
 use Rattle.linker_laws.proofs.AArch64Pages.{add_is, got_page_small, high_and_low_parts, IsUnsigned, ldst_is, pages}
-use Rattle.linker_laws.specs.AArch64RelocationLaws.{got_page}
 use Rattle.linker_laws.proofs.relocations.aarch64.Goals as goal
 
 ldr_is : IsUnsigned LdrRegister

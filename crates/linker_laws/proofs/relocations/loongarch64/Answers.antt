@@ -1,5 +1,5 @@
 -- The laws of LoongArch.
-use Rattle.linker_laws.proofs.Imports.{refl, ap, sym, ◌∙◌, arith, true, not, ◌≡◌, ◌^◌, ◌<◌, ℕ, bits_from, w64, cast_signed, window_of, loongarch_form, Shift10, sum_64, difference_64, Operands, is_jirl, loongarch_rows, symbol_address, entry_and_addend, tls_base, place, AreAddresses, none, of_words}
+use Rattle.linker_laws.proofs.Imports.{AreAddresses, Operands, Shift10, ap, arith, bits_from, cast_signed, difference_64, entry_and_addend, is_jirl, loongarch_form, loongarch_rows, none, not, of_words, place, refl, sum_64, sym, symbol_address, tls_base, true, w64, window_of, ℕ, ◌<◌, ◌^◌, ◌∙◌, ◌≡◌}
 use Rattle.linker_laws.specs.Schemes.{zero}
 use Rattle.linker_elf.specs.declared.loongarch64.relocations.LoongArch64Relocation.TheVariants.{R_LARCH_B16, R_LARCH_PCALA_LO12}
 use Rattle.linker_laws.proofs.Applied.{reads, value_is, aligned_low}

@@ -1,5 +1,5 @@
 -- The laws of PowerPC64.
-use Rattle.linker_laws.proofs.Imports.{◌≡◌, refl, ap, arith, Some, w64, cast_signed, sum_64, difference_64, Operands, symbol_address, got_base, tls_base, place, AreAddresses, plt_address, entry_address}
+use Rattle.linker_laws.proofs.Imports.{AreAddresses, Operands, Some, ap, arith, cast_signed, difference_64, entry_address, got_base, place, plt_address, refl, sum_64, symbol_address, tls_base, w64, ◌≡◌}
 use Rattle.linker_laws.proofs.Fields.{holds_distance}
 use Rattle.linker_laws.proofs.Instructions.{adds, symbol_from_place, symbol_from_got, symbol_from_tls, symbol_itself, entry_from_place, entry_from_got, entry_sum, place_small, got_small, plt_from_got, plt_from_place, tls_small, same_distance, relative, entry_is}
 use Rattle.linker_laws.proofs.Ppc64Halves.{adjusted_halves, high_half, unadjusted_halves, d_reads, ds_reads}

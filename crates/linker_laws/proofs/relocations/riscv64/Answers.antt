@@ -1,5 +1,5 @@
 -- The laws of RISC-V.
-use Rattle.linker_laws.proofs.Imports.{refl, arith, UType, IType, SType, CluiType}
+use Rattle.linker_laws.proofs.Imports.{CluiType, IType, SType, UType, arith, refl}
 use Rattle.linker_laws.proofs.Fields.{holds_distance}
 use Rattle.linker_laws.proofs.Instructions.{adds, symbol_from_place, plt_from_place, entry_and_addend_from_place, symbol_from_tls, symbol_itself}
 use Rattle.linker_laws.proofs.Differences.{adds_distance, sets_distance, sets_distance_6}

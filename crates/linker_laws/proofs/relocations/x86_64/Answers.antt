@@ -1,6 +1,5 @@
 -- The laws of x86-64.
-use Rattle.std.proofs.Common.{refl}
-use Rattle.linker_base.specs.Form.{unsigned, twos_complement}
+use Rattle.linker_laws.proofs.Imports.{refl, twos_complement, unsigned}
 use Rattle.linker_laws.proofs.Fields.{field_adds, field_adds_within, whole_field_adds}
 use Rattle.linker_laws.proofs.Instructions.{symbol_from_place, plt_from_place, symbol_from_tls, entry_and_addend_from_place, symbol_itself, entry_and_addend_from_got, symbol_from_got, plt_from_got, size_itself}
 use Rattle.linker_laws.proofs.relocations.x86_64.Goals as goal

@@ -1,7 +1,5 @@
 -- The laws of AArch64.
-use Rattle.linker_laws.proofs.Imports.{◌≡◌, ℕ, ◌+◌, refl, ◌∙◌, ap, arith, drop, take, length, ◌++◌, subst, Some, ◌-◌, List, length-take-le, append_assoc, Rewrite, ReplaceWithNop, MovzXnLsl16, MovkXn, LdrToAdd, place_sum, rewrite_window, NoOp, MovzX0Lsl16, MovkX0, AdrpToAdr, AdrpX0, LdrX0, AddToAdr, LdrToAdr, AdrpAddToNopAdr}
-use Rattle.std.proofs.Math.Seq.{drop-append_seam, take-append_seam}
-use Rattle.linker_laws.specs.AArch64RewriteLaws.{BeginsRewrittenAt}
+use Rattle.linker_laws.proofs.Imports.{AddToAdr, AdrpAddToNopAdr, AdrpToAdr, AdrpX0, BeginsRewrittenAt, LdrToAdd, LdrToAdr, LdrX0, List, MovkX0, MovkXn, MovzX0Lsl16, MovzXnLsl16, NoOp, ReplaceWithNop, Rewrite, Some, ap, append_assoc, arith, drop, drop-append_seam, length, length-take-le, place_sum, refl, rewrite_window, subst, take, take-append_seam, ℕ, ◌++◌, ◌+◌, ◌-◌, ◌∙◌, ◌≡◌}
 use Rattle.linker_laws.specs.AArch64RewriteLaws as aarch64_laws
 use Rattle.linker_laws.proofs.rewrites.aarch64.Goals as goal
 

@@ -1,8 +1,7 @@
 -- The examples of RISC-V.
-use Rattle.std.proofs.Common.{refl, pos, negsuc}
-use Rattle.linker_base.specs.Form.{place_sum}
+use Rattle.linker_laws.proofs.Imports.{adds, auipc, jal, jumps, negsuc, place_sum, pos, refl, sums}
 use Rattle.linker_laws.specs.RiscVExamples.{some_hart}
-use Rattle.linker_laws.specs.RiscVMachine.{auipc, jal, sums, adds, jumps, executed}
+use Rattle.linker_laws.specs.RiscVMachine.{executed}
 use Rattle.linker_laws.proofs.rewrites.riscv64.Goals as goal
 
 pub returns-clause-words : goal.returns-clause-words

@@ -1,5 +1,5 @@
 -- Examples of what x86-64's instructions do.
-use Rattle.std.proofs.Common.{refl}
+use Rattle.linker_laws.proofs.Imports.{refl}
 use Rattle.linker_laws.proofs.rewrites.x86_64.Goals as goal
 
 pub returns-clause-decoding : goal.returns-clause-decoding

@@ -2,8 +2,8 @@ use Rattle.linker_laws.proofs.AArch64AdrGroups.{are_add_to_adr, are_adr_and_nop,
 use Rattle.linker_laws.proofs.AArch64DescriptorGroups.{are_to_initial_exec, are_to_local_exec}
 use Rattle.linker_laws.proofs.AArch64Groups.{are_loads, are_high_halves, are_low_halves, are_branches}
 use Rattle.linker_laws.proofs.Agreement.{others_agree}
-use Rattle.linker_laws.proofs.Imports.{refl}
-use Rattle.linker_laws.specs.AArch64Groups.{does, link}
+use Rattle.linker_laws.proofs.Imports.{link, refl}
+use Rattle.linker_laws.specs.AArch64Groups.{does}
 use Rattle.linker_laws.proofs.simulation.aarch64.Goals as goal
 
 pub returns : goal.returns

@@ -1,5 +1,4 @@
-use Rattle.linker_laws.specs.Chains.{of_chain}
-use Rattle.linker_laws.specs.Simulation.{of_link}
+use Rattle.linker_laws.proofs.Imports.{of_chain, of_link}
 use Rattle.linker_laws.proofs.CoveredRuns.{simulates, composes}
 use Rattle.linker_laws.proofs.simulation.runs.Goals as goal
 

@@ -1,4 +1,4 @@
-use Rattle.std.proofs.Common.{◌≡◌, drop}
+use Rattle.linker_output.proofs.Imports.{drop, ◌≡◌}
 use Rattle.linker_output.specs.Addresses.{entry_in}
 use Rattle.linker_output.proofs.addresses.entry_in.Given as goal
 

@@ -1,4 +1,4 @@
-use Rattle.linker_output.proofs.Imports.{◌≡◌, drop, view_list}
+use Rattle.linker_output.proofs.Imports.{drop, view_list, ◌≡◌}
 use Rattle.linker_output.specs.Dynamic.{name_in}
 use Rattle.linker_output.proofs.dynamic.name_in.Given as goal
 

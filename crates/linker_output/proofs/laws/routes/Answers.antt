@@ -1,4 +1,4 @@
-use Rattle.linker_output.proofs.Imports.{◌≡◌, ◌≢◌, ℕ, Bool, true, false, refl, sym, subst, ne_eqb, ◌==◌, ◌&&◌, ◌||◌, ◌/◌, not, nat_lt, if◌then◌else◌, has_toc, has_no_toc, by_jump, by_reach, loses_toc, stub_target}
+use Rattle.linker_output.proofs.Imports.{Bool, by_jump, by_reach, false, has_no_toc, has_toc, if◌then◌else◌, loses_toc, nat_lt, ne_eqb, not, refl, stub_target, subst, sym, true, ℕ, ◌&&◌, ◌/◌, ◌==◌, ◌||◌, ◌≡◌, ◌≢◌}
 use Rattle.linker_output.proofs.laws.routes.Goals as goal
 
 never : (a : Bool) → a && false ≡ false

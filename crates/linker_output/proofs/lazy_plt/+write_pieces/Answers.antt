@@ -1,4 +1,4 @@
-use Rattle.linker_output.proofs.Imports.{◌≡◌, ◌+◌, ◌++◌, ◌∷◌, ◌≤◌, sym, subst, arith, rules, refl, length, take, drop, length-take-le, WritesPieces, IsPiece, piece_len, pieces_len}
+use Rattle.linker_output.proofs.Imports.{IsPiece, WritesPieces, arith, drop, length, length-take-le, piece_len, pieces_len, refl, rules, subst, sym, take, ◌++◌, ◌+◌, ◌∷◌, ◌≡◌, ◌≤◌}
 use Rattle.linker_output.proofs.LazyCode.{placed}
 use Rattle.linker_output.proofs.lazy_plt.+write_pieces.Goals as goal
 

@@ -1,4 +1,4 @@
-use Rattle.std.proofs.Common.{length}
+use Rattle.linker_output.proofs.Imports.{length}
 use Rattle.linker_output.proofs.lazy_plt.+write_pieces.Given as goal
 
 abbrev pub decreases-write_pieces : goal.decreases-write_pieces

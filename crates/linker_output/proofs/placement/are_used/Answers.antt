@@ -1,4 +1,4 @@
-use Rattle.linker_output.proofs.Imports.{arith, false, sym, ◌∙◌, false≢true, get_or_read}
+use Rattle.linker_output.proofs.Imports.{arith, false, false≢true, get_or_read, sym, ◌∙◌}
 use Rattle.linker_output.proofs.placement.are_used.Goals as goal
 
 pub returns-clause-used : goal.returns-clause-used

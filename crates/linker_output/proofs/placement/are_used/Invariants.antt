@@ -1,4 +1,4 @@
-use Rattle.linker_output.proofs.Imports.{◌≡◌, ◌<◌, ℕ, length, true, None, Some, false, slice_index_or}
+use Rattle.linker_output.proofs.Imports.{None, Some, false, length, slice_index_or, true, ℕ, ◌<◌, ◌≡◌}
 use Rattle.linker_output.proofs.placement.are_used.Given as goal
 
 abbrev pub invariant-loop-stub : goal.invariant-loop-stub

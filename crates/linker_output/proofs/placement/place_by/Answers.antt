@@ -1,4 +1,4 @@
-use Rattle.linker_output.proofs.Imports.{◌≡◌, ◌≤◌, ◌∙◌, ℕ, List, length, refl, sym, subst, arith, Vec, with_items_is, Code, Layout, Placement, State, AllGo, IsCode, IsLaidOut, IsLayout, ArePlaces, AreServed, AreStubsOf, IsState, IsStuckIn}
+use Rattle.linker_output.proofs.Imports.{AllGo, ArePlaces, AreServed, AreStubsOf, Code, IsCode, IsLaidOut, IsLayout, IsState, IsStuckIn, Layout, List, Placement, State, Vec, arith, length, refl, subst, sym, with_items_is, ℕ, ◌∙◌, ◌≡◌, ◌≤◌}
 use Rattle.std.specs.Vec.{with_items}
 use Rattle.linker_output.proofs.Apart.{layout_is}
 use Rattle.linker_output.proofs.Bounds.{few_stubs}

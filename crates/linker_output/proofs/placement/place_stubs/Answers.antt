@@ -1,4 +1,4 @@
-use Rattle.linker_output.proofs.Imports.{◌≡◌, inl, inr, length, subst, arith, refl, IfOk-weaker, AreUsed}
+use Rattle.linker_output.proofs.Imports.{AreUsed, IfOk-weaker, arith, inl, inr, length, refl, subst, ◌≡◌}
 use Rattle.linker_output.proofs.placement.place_stubs.Goals as goal
 
 pub returns-then-branch-clause-ok : goal.returns-then-branch-clause-ok

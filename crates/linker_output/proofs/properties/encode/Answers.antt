@@ -1,4 +1,4 @@
-use Rattle.linker_output.proofs.Imports.{arith, ◌≡◌, ◌+◌, ◌++◌, ◌∷◌, [], length, drop, get_or, subst, drop_more, length-append, property_words, Property}
+use Rattle.linker_output.proofs.Imports.{Property, [], arith, drop, drop_more, get_or, length, length-append, property_words, subst, ◌++◌, ◌+◌, ◌∷◌, ◌≡◌}
 use Rattle.linker_output.proofs.WrittenProperties.{Words, none_yet, one_more, word_count, puts_none, puts_append}
 use Rattle.linker_output.proofs.properties.encode.Goals as goal
 

@@ -1,4 +1,4 @@
-use Rattle.linker_output.proofs.Imports.{◌≡◌, ◌≤◌, ◌+◌, ◌*◌, List, ℕ, length, drop, Puts}
+use Rattle.linker_output.proofs.Imports.{List, Puts, drop, length, ℕ, ◌*◌, ◌+◌, ◌≡◌, ◌≤◌}
 use Rattle.linker_output.proofs.WrittenProperties.{Words}
 use Rattle.linker_output.proofs.properties.encode.Given as goal
 

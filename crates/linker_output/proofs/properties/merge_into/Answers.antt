@@ -1,4 +1,4 @@
-use Rattle.linker_output.proofs.Imports.{arith, ◌≡◌, ◌≤◌, ◌+◌, ◌∷◌, ◌++◌, ◌∙◌, [], List, Some, None, Ok, refl, sym, set, length, length-append, merged_kind, merged, of_kind, put_all, Property}
+use Rattle.linker_output.proofs.Imports.{List, None, Ok, Property, Some, [], arith, length, length-append, merged, merged_kind, of_kind, put_all, refl, set, sym, ◌++◌, ◌+◌, ◌∙◌, ◌∷◌, ◌≡◌, ◌≤◌}
 use Rattle.linker_output.proofs.MergedProperties.{SoFar, skip, begun, with, without, merged_is, put_more, whole}
 use Rattle.linker_output.proofs.properties.merge_into.Goals as goal
 use Rattle.linker_output.proofs.properties.merge_into.Goals.{in-Some+in_ok-merged+in-Some-merged, in-Some+in_ok-merged+in_default-merged, in_default}

@@ -1,4 +1,4 @@
-use Rattle.linker_output.proofs.Imports.{◌-◌, ◌≡◌, ◌≤◌, ◌^◌, List, length, put_all, Property}
+use Rattle.linker_output.proofs.Imports.{List, Property, length, put_all, ◌-◌, ◌^◌, ◌≡◌, ◌≤◌}
 use Rattle.linker_output.proofs.MergedProperties.{SoFar}
 use Rattle.linker_output.proofs.properties.merge_into.Given as goal
 

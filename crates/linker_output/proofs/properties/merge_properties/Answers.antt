@@ -1,4 +1,4 @@
-use Rattle.linker_output.proofs.Imports.{◌≤◌, arith, length, ◌∙◌, sym, ap, IfOk-weaker, WritesMerged}
+use Rattle.linker_output.proofs.Imports.{IfOk-weaker, WritesMerged, ap, arith, length, sym, ◌∙◌, ◌≤◌}
 use Rattle.linker_output.proofs.MergedProperties.{put_within, one_merged}
 use Rattle.linker_output.proofs.MergingLaws.{commutative, associative}
 use Rattle.linker_output.proofs.properties.merge_properties.Goals as goal

@@ -1,4 +1,4 @@
-use Rattle.linker_output.proofs.Imports.{◌≡◌, drop, of_kind}
+use Rattle.linker_output.proofs.Imports.{drop, of_kind, ◌≡◌}
 use Rattle.linker_output.proofs.properties.of_kind.Given as goal
 
 abbrev pub invariant-loop-property : goal.invariant-loop-property

@@ -1,4 +1,4 @@
-use Rattle.linker_output.proofs.Imports.{arith, length, [], ◌∷◌, ◌≡◌, ◌+◌, ◌*◌, ◌^◌, sym, subst, ap, Puts, value_words, size_of}
+use Rattle.linker_output.proofs.Imports.{Puts, [], ap, arith, length, size_of, subst, sym, value_words, ◌*◌, ◌+◌, ◌^◌, ◌∷◌, ◌≡◌}
 use Rattle.linker_output.proofs.WrittenProperties.{puts_append, other_words}
 use Rattle.linker_output.proofs.properties.put_property.Goals as goal
 

@@ -1,5 +1,4 @@
-use Rattle.std.proofs.Common.{arith, ◌∙◌, ap, append_assoc, length, take, drop, ◌+◌, ◌++◌, ◌<◌}
-use Rattle.linker_output.specs.Properties.{bytes_of}
+use Rattle.linker_output.proofs.Imports.{ap, append_assoc, arith, bytes_of, drop, length, take, ◌++◌, ◌+◌, ◌<◌, ◌∙◌}
 use Rattle.linker_output.proofs.properties.put_word.Goals as goal
 use Rattle.linker_output.proofs.properties.put_word.Goals.{then-note-ge8+then-at-note, else-note-ge8, else-note-ge8-via-then-note-ge8+else-at-note, else-note-ge8-via-else-note-ge8}
 

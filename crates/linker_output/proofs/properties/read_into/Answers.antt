@@ -1,4 +1,4 @@
-use Rattle.linker_output.proofs.Imports.{arith, refl, ◌≡◌, ◌∙◌, sym, ◌++◌, ◌∷◌, [], Ok, Err, length, set, length-append, err_from_is_err_and, visit, put_all}
+use Rattle.linker_output.proofs.Imports.{Err, Ok, [], arith, err_from_is_err_and, length, length-append, put_all, refl, set, sym, visit, ◌++◌, ◌∙◌, ◌∷◌, ◌≡◌}
 use Rattle.linker_output.proofs.MergedProperties.{put_more}
 use Rattle.linker_output.proofs.ReadProperties.{inside, nothing_read, with_one, with_none, with_error, all_read}
 use Rattle.linker_output.proofs.properties.read_into.Goals as goal

@@ -1,4 +1,4 @@
-use Rattle.linker_output.proofs.Imports.{length, ◌-◌, ◌≡◌, ◌≤◌, List, put_all, Property}
+use Rattle.linker_output.proofs.Imports.{List, Property, length, put_all, ◌-◌, ◌≡◌, ◌≤◌}
 use Rattle.linker_output.proofs.ReadProperties.{Reads}
 use Rattle.linker_output.proofs.properties.read_into.Given as goal
 

@@ -1,4 +1,4 @@
-use Rattle.linker_output.proofs.Imports.{◌≡◌, ◌≤◌, arith, length, ◌∙◌, sym, ap, inl, inr, IfOk-weaker, err_from_is_err_and, WritesRead}
+use Rattle.linker_output.proofs.Imports.{IfOk-weaker, WritesRead, ap, arith, err_from_is_err_and, inl, inr, length, sym, ◌∙◌, ◌≡◌, ◌≤◌}
 use Rattle.linker_output.proofs.MergedProperties.{put_within}
 use Rattle.linker_output.proofs.properties.read_properties.Goals as goal
 

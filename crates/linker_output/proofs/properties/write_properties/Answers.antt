@@ -1,4 +1,4 @@
-use Rattle.linker_output.proofs.Imports.{arith, ◌≡◌, ◌+◌, ◌*◌, ◌^◌, ◌∙◌, ◌++◌, ◌∷◌, [], length, drop, subst, sym, ap, inr, rules, nat_tests, bytes_of, note_words, Puts}
+use Rattle.linker_output.proofs.Imports.{Puts, [], ap, arith, bytes_of, drop, inr, length, nat_tests, note_words, rules, subst, sym, ◌*◌, ◌++◌, ◌+◌, ◌^◌, ◌∙◌, ◌∷◌, ◌≡◌}
 use Rattle.linker_output.proofs.WrittenProperties.{with_header, header_put, empty_note}
 use Rattle.linker_output.specs.declared.properties.PropertyError.TheVariants as PropertyError
 use Rattle.linker_output.proofs.ReadBack.{read_back, nothing_back}

@@ -1,4 +1,4 @@
-use Rattle.linker_output.proofs.Imports.{◌+◌, length, drop, arith, get_or, ◌∷◌, subst, Fits-lt-pow, drop_more, capped, relocated, word_fault}
+use Rattle.linker_output.proofs.Imports.{Fits-lt-pow, arith, capped, drop, drop_more, get_or, length, relocated, subst, word_fault, ◌+◌, ◌∷◌}
 use Rattle.linker_output.specs.Inner.Relr.{put_all}
 use Rattle.linker_output.proofs.RelrLists.{Reads, reads_address, reads_bitmap}
 use Rattle.linker_output.proofs.relr.decode.Goals as goal

@@ -1,4 +1,4 @@
-use Rattle.linker_output.proofs.Imports.{◌+◌, ◌*◌, ◌≤◌, ◌^◌, length, drop, capped, relocated, word_fault}
+use Rattle.linker_output.proofs.Imports.{capped, drop, length, relocated, word_fault, ◌*◌, ◌+◌, ◌^◌, ◌≤◌}
 use Rattle.linker_output.specs.Inner.Relr.{put_all}
 use Rattle.linker_output.proofs.RelrLists.{Reads}
 use Rattle.linker_output.proofs.relr.decode.Given as goal

@@ -1,4 +1,4 @@
-use Rattle.linker_output.proofs.Imports.{◌≡◌, ◌+◌, ◌∙◌, sym, subst, arith, drop, length, get_or, ◌∷◌, [], false, None, nat_tests, at_drop_more, at_drop_all, words_from, words_of, capped, Leaves, is_past, address_fault}
+use Rattle.linker_output.proofs.Imports.{Leaves, None, [], address_fault, arith, at_drop_all, at_drop_more, capped, drop, false, get_or, is_past, length, nat_tests, subst, sym, words_from, words_of, ◌+◌, ◌∙◌, ◌∷◌, ◌≡◌}
 use Rattle.linker_output.specs.Inner.Relr.{put_all}
 use Rattle.linker_output.proofs.RelrWords.{Ready, Placed, past_ready, near_placed, far_placed}
 use Rattle.linker_output.proofs.relr.encode.Goals as goal

@@ -1,4 +1,4 @@
-use Rattle.linker_output.proofs.Imports.{◌≡◌, ◌+◌, ◌≤◌, ◌<◌, ◌^◌, length, drop, words_from, words_of, capped, Leaves, address_fault}
+use Rattle.linker_output.proofs.Imports.{Leaves, address_fault, capped, drop, length, words_from, words_of, ◌+◌, ◌<◌, ◌^◌, ◌≡◌, ◌≤◌}
 use Rattle.linker_output.specs.Inner.Relr.{put_all}
 use Rattle.linker_output.proofs.relr.encode.Given as goal
 

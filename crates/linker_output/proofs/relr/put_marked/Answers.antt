@@ -1,4 +1,4 @@
-use Rattle.linker_output.proofs.Imports.{◌≡◌, ◌≢◌, ◌+◌, ◌∙◌, sym, arith, refl, shr_and_one, bit_at}
+use Rattle.linker_output.proofs.Imports.{arith, bit_at, refl, shr_and_one, sym, ◌+◌, ◌∙◌, ◌≡◌, ◌≢◌}
 use Rattle.linker_output.proofs.RelrLists.{marks_none, marks_without, marks_with, marked_wraps}
 use Rattle.linker_output.proofs.relr.put_marked.Goals as goal
 use Rattle.linker_output.proofs.relr.put_marked.Goals.{then-bitmap-bit-eq1+else-address, else-bitmap-bit-eq1}

@@ -1,4 +1,4 @@
-use Rattle.linker_output.proofs.Imports.{arith, length, ◌∙◌, IfOk-weaker, err_from_is_err_and, relocated, Unpacks}
+use Rattle.linker_output.proofs.Imports.{IfOk-weaker, Unpacks, arith, err_from_is_err_and, length, relocated, ◌∙◌}
 use Rattle.linker_output.proofs.RelrLists.{refused, put_first}
 use Rattle.linker_output.proofs.relr.read_relr.Goals as goal
 

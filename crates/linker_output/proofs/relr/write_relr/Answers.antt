@@ -1,4 +1,4 @@
-use Rattle.linker_output.proofs.Imports.{◌≡◌, true, arith, length, ◌∙◌, Fits-lt-pow, IfOk-weaker, err_from_is_err_and, are_addresses, WritesPacked, words_of}
+use Rattle.linker_output.proofs.Imports.{Fits-lt-pow, IfOk-weaker, WritesPacked, are_addresses, arith, err_from_is_err_and, length, true, words_of, ◌∙◌, ◌≡◌}
 use Rattle.linker_output.proofs.RelrPacked.{packs, rejected, few_words}
 use Rattle.linker_output.proofs.RelrLists.{all_fit, put_first}
 use Rattle.linker_output.proofs.relr.write_relr.Goals as goal

@@ -1,4 +1,4 @@
-use Rattle.linker_output.proofs.Imports.{rules, ◌≡◌, ◌≤◌, ℕ, ℤ, List, length, drop, subst, arith, IfNone, IfSome, Option, Some, None, take_rest, w64, cast_signed, cast_unsigned, IsAccepted, IsCause, RowInfo, RelocateError, IsObstacle}
+use Rattle.linker_output.proofs.Imports.{IfNone, IfSome, IsAccepted, IsCause, IsObstacle, List, None, Option, RelocateError, RowInfo, Some, arith, cast_signed, cast_unsigned, drop, length, rules, subst, take_rest, w64, ℕ, ℤ, ◌≡◌, ◌≤◌}
 use Rattle.linker_output.proofs.routes.obstacle.Goals as goal
 
 obstacle_is : (row : RowInfo) (v : ℤ) (offset : ℕ) (section : List ℕ)

@@ -1,4 +1,4 @@
-use Rattle.linker_output.proofs.Imports.{rules, ◌≡◌, take, subst, w64, cast_signed, cast_unsigned, IsAccepted, IsCause}
+use Rattle.linker_output.proofs.Imports.{IsAccepted, IsCause, cast_signed, cast_unsigned, rules, subst, take, w64, ◌≡◌}
 use Rattle.linker_output.proofs.Writable.{accepted_of_front, cause_of_front}
 use Rattle.linker_output.proofs.routes.obstacle_in.Goals as goal
 

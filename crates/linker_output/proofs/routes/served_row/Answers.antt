@@ -1,4 +1,4 @@
-use Rattle.std.proofs.Common.{◌∙◌, ap, false, pos, sym}
+use Rattle.linker_output.proofs.Imports.{ap, false, pos, sym, ◌∙◌}
 use Rattle.linker_elf.specs.declared.elf.facts.RowFacts.{RowFacts}
 use Rattle.linker_section.proofs.RowFacts.{says}
 use Rattle.linker_section.specs.declared.needed.Requirements.{Requirements}

@@ -1,4 +1,4 @@
-use Rattle.linker_output.proofs.Imports.{Some, ◌≡◌, ◌∙◌, subst, sym, ap, rules, w64, cast_signed, cast_unsigned, value_of, IsRow}
+use Rattle.linker_output.proofs.Imports.{IsRow, Some, ap, cast_signed, cast_unsigned, rules, subst, sym, value_of, w64, ◌∙◌, ◌≡◌}
 use Rattle.linker_output.proofs.StubFields.{not_allowed, field_written, field_rejected}
 use Rattle.linker_output.proofs.stubs.write_field.Goals as goal
 

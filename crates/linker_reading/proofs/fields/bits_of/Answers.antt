@@ -1,4 +1,4 @@
-use Rattle.std.proofs.Common.{arith}
+use Rattle.linker_reading.proofs.Imports.{arith}
 use Rattle.linker_reading.proofs.Ranges.{no_bits, none_above, all_above}
 use Rattle.linker_reading.proofs.fields.bits_of.Goals as goal
 

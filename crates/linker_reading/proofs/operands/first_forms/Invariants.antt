@@ -1,4 +1,4 @@
-use Rattle.std.proofs.Common.{◌≡◌, drop}
+use Rattle.linker_reading.proofs.Imports.{drop, ◌≡◌}
 use Rattle.linker_reading.specs.Opcodes.{first_forms}
 use Rattle.linker_reading.specs.Inner.Encodings.{encodings_of}
 use Rattle.linker_reading.proofs.operands.first_forms.Given as goal

@@ -1,5 +1,4 @@
-use Rattle.std.proofs.Common.{◌↔◌, drop}
-use Rattle.linker_reading.specs.Recognised.{IsOneOf}
+use Rattle.linker_reading.proofs.Imports.{IsOneOf, drop, ◌↔◌}
 use Rattle.linker_reading.proofs.operands.is_one_of.Given as goal
 
 -- none of the forms so far is it

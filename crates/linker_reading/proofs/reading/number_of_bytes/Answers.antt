@@ -1,6 +1,4 @@
-use Rattle.std.proofs.Common.{◌≡◌, ap, subst, ◌∙◌, ◌++◌, take, drop, replicate}
-use Rattle.std.specs.Int.{w64, from_le_bytes}
-use Rattle.std.proofs.lemmas.List.{drop-replicate}
+use Rattle.linker_reading.proofs.Imports.{ap, drop, drop-replicate, from_le_bytes, replicate, subst, take, w64, ◌++◌, ◌∙◌, ◌≡◌}
 use Rattle.linker_reading.proofs.reading.number_of_bytes.Goals as goal
 
 pub returns : goal.returns

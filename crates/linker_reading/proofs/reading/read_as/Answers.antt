@@ -1,8 +1,5 @@
-use Rattle.std.proofs.Common.{sym, ◌∙◌, ap, subst, ◌≡◌, true, Some}
-use Rattle.linker_elf.specs.Elf.{IsWithin}
+use Rattle.linker_reading.proofs.Imports.{IsOfValue, IsProper, IsReadBack, IsWithin, Some, ap, field_read, holds_field, subst, sym, true, with_reach, ◌∙◌, ◌≡◌}
 use Rattle.linker_elf.specs.Reach.{reach_of}
-use Rattle.linker_reading.specs.Fields.{IsProper, IsOfValue}
-use Rattle.linker_reading.specs.Reading.{field_read, with_reach, holds_field, IsReadBack}
 use Rattle.linker_reading.proofs.Proper.{proper_field, proper_in_reach, proper_aligned}
 use Rattle.linker_reading.proofs.Written.{field_written, some_alignment}
 use Rattle.linker_reading.proofs.reading.read_as.Goals as goal

@@ -1,9 +1,6 @@
-use Rattle.std.proofs.Common.{◌≡◌, ◌≤◌, ◌-◌, ◌^◌, ◌∙◌, ap, arith, refl, sym, subst}
-use Rattle.linker_reading.proofs.Imports.{w64, cast_unsigned, mod_below, pow_pos, mod_mod}
-use Rattle.std.proofs.lemmas.Int.{to_z-of_z}
+use Rattle.linker_reading.proofs.Imports.{IsOfValue, ap, arith, cast_unsigned, mod_below, mod_mod, pow_pos, refl, subst, sym, to_z-of_z, w64, ◌-◌, ◌^◌, ◌∙◌, ◌≡◌, ◌≤◌}
 use Rattle.linker_reading.proofs.Ranges.{moved_fits}
 use Rattle.linker_reading.proofs.Reached.{reach_leaves}
-use Rattle.linker_reading.specs.Fields.{IsOfValue}
 use Rattle.linker_reading.proofs.reading.up_to_sign.Goals as goal
 
 pub overflow_mul-result : goal.overflow_mul-result

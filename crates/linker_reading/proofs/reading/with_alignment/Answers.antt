@@ -1,4 +1,4 @@
-use Rattle.std.proofs.Common.{arith, sym, ◌∙◌, ap, ◌%◌}
+use Rattle.linker_reading.proofs.Imports.{ap, arith, sym, ◌%◌, ◌∙◌}
 use Rattle.linker_reading.proofs.Aligned.{alignment_leaves}
 use Rattle.linker_reading.proofs.Ranges.{moved_fits}
 use Rattle.linker_reading.proofs.reading.with_alignment.Goals as goal

@@ -1,5 +1,4 @@
-use Rattle.std.proofs.Common.{subst, Some, ◌≡◌, to_z, of_z, w64, rules}
-use Rattle.linker_elf.specs.Elf.{IsWithin}
+use Rattle.linker_reading.proofs.Imports.{IsWithin, Some, of_z, rules, subst, to_z, w64, ◌≡◌}
 use Rattle.linker_reading.proofs.reading.with_reach.Goals as goal
 
 pub returns-then-leaves_one-clause-known : goal.returns-then-leaves_one-clause-known

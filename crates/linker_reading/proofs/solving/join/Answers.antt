@@ -1,5 +1,4 @@
-use Rattle.std.proofs.Common.{◌≡◌, ℕ, ◌<◌, ◌^◌, ◌-◌, ◌*◌, ◌+◌, ◌%◌, arith, rules, subst, true, ap, ◌∙◌}
-use Rattle.linker_reading.proofs.Imports.{◌==◌, ◌&&◌, eq-eqb, mod_below, pow_pos, subst_below}
+use Rattle.linker_reading.proofs.Imports.{ap, arith, eq-eqb, mod_below, pow_pos, rules, subst, subst_below, true, ℕ, ◌%◌, ◌&&◌, ◌*◌, ◌+◌, ◌-◌, ◌<◌, ◌==◌, ◌^◌, ◌∙◌, ◌≡◌}
 use Rattle.linker_reading.proofs.Ranges.{moved_fits}
 use Rattle.linker_reading.proofs.Shifts.{bits_below, joined_halves, above}
 use Rattle.linker_reading.proofs.solving.join.Goals as goal

@@ -1,7 +1,4 @@
-use Rattle.std.proofs.Common.{◌≡◌, ◌≤◌, ◌↔◌, true, false, Some, sym, ◌∙◌, ap, subst}
-use Rattle.linker_reading.proofs.Imports.{not, ◌&&◌, ◌==◌, nat_lt, if◌then◌else◌, field, page_if, difference_64, sum_64, bias_number}
-use Rattle.linker_reading.specs.Fields.{FieldHolds}
-use Rattle.linker_reading.specs.Solving.{is_paged, is_solvable, terms_of, base, has_base}
+use Rattle.linker_reading.proofs.Imports.{FieldHolds, Some, ap, base, bias_number, difference_64, false, field, has_base, if◌then◌else◌, is_paged, is_solvable, nat_lt, not, page_if, subst, sum_64, sym, terms_of, true, ◌&&◌, ◌==◌, ◌↔◌, ◌∙◌, ◌≡◌, ◌≤◌}
 use Rattle.linker_reading.proofs.Formulas.{solves, rounding_after, known_above}
 use Rattle.linker_reading.proofs.solving.solve.Goals.{else-paged-via-then-paged+else-field-lt12, else-paged-via-else-paged}
 use Rattle.linker_reading.proofs.solving.solve.Goals as goal

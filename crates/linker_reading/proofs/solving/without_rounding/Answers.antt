@@ -1,5 +1,4 @@
-use Rattle.std.proofs.Common.{◌≡◌, ◌-◌, ◌<◌, ◌^◌, arith, rules, subst}
-use Rattle.std.proofs.lemmas.Nat.{mod_below, pow_pos}
+use Rattle.linker_reading.proofs.Imports.{arith, mod_below, pow_pos, rules, subst, ◌-◌, ◌<◌, ◌^◌, ◌≡◌}
 use Rattle.linker_reading.proofs.Shifts.{taken_off}
 use Rattle.linker_reading.proofs.solving.without_rounding.Goals as goal
 

@@ -1,10 +1,7 @@
-use Rattle.std.proofs.Common.{◌≡◌, ◌-◌, ◌<◌, slice_get, take, drop, refl, ap, sym, subst, ◌∙◌, ⊎_elim, arith}
-use Rattle.linker_reading.proofs.Imports.{cases_lt, false≢true, length-take, same_Some}
+use Rattle.linker_reading.proofs.Imports.{IsOneOf, IsRecognisable, ap, arith, cases_lt, choices_at, drop, false≢true, length-take, refl, same_Some, slice_get, subst, sym, take, ⊎_elim, ◌-◌, ◌<◌, ◌∙◌, ◌≡◌}
 use Rattle.linker_reading.proofs.Found.{one_of, place_in}
 use Rattle.linker_reading.proofs.Parts.{part_by}
 use Rattle.linker_reading.proofs.Tables.{following, taken_at}
-use Rattle.linker_reading.specs.Recognised.{IsOneOf, choices_at}
-use Rattle.linker_reading.specs.Windows.{IsRecognisable}
 use Rattle.linker_reading.proofs.windows.has_each.Goals as goal
 
 pub returns-then-not-is_there : goal.returns-then-not-is_there

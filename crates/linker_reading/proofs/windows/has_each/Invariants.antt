@@ -1,7 +1,4 @@
-use Rattle.std.proofs.Common.{◌≡◌, ℕ, ◌<◌, Some, slice_get, take}
-use Rattle.linker_elf.specs.declared.elf.choice.Choice.{Choice}
-use Rattle.linker_reading.specs.Recognised.{IsOneOf, choices_at}
-use Rattle.linker_reading.specs.Windows.{IsRecognisable}
+use Rattle.linker_reading.proofs.Imports.{Choice, IsOneOf, IsRecognisable, Some, choices_at, slice_get, take, ℕ, ◌<◌, ◌≡◌}
 use Rattle.linker_reading.proofs.windows.has_each.Given as goal
 
 -- those before the index are there, if they are listed

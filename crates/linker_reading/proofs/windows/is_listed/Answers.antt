@@ -1,5 +1,4 @@
-use Rattle.std.proofs.Common.{◌≡◌, ◌<◌, length, Some, get_or, slice_get, take, refl, ap, sym, ◌∙◌, ⊎_elim, arith, rules}
-use Rattle.linker_reading.proofs.Imports.{both_ways, cases_lt, false≢true, same_Some, slice_get-get_or}
+use Rattle.linker_reading.proofs.Imports.{Some, ap, arith, both_ways, cases_lt, false≢true, get_or, length, refl, rules, same_Some, slice_get, slice_get-get_or, sym, take, ⊎_elim, ◌<◌, ◌∙◌, ◌≡◌}
 use Rattle.linker_reading.proofs.Found.{one_of, place_in}
 use Rattle.linker_reading.proofs.Tables.{following, taken_at, taken_few, equal_choices}
 use Rattle.linker_reading.proofs.windows.is_listed.Goals as goal

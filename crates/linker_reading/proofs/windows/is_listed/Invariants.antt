@@ -1,4 +1,4 @@
-use Rattle.std.proofs.Common.{◌≡◌, ℕ, ◌<◌, Some, slice_get}
+use Rattle.linker_reading.proofs.Imports.{Some, slice_get, ℕ, ◌<◌, ◌≡◌}
 use Rattle.linker_reading.proofs.windows.is_listed.Given as goal
 
 abbrev pub invariant-loop-index : goal.invariant-loop-index

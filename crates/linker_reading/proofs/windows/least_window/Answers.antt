@@ -1,7 +1,5 @@
-use Rattle.std.proofs.Common.{◌≡◌, length, sym, subst, ◌∙◌, ⊎_elim, arith}
-use Rattle.std.proofs.lemmas.Bool.{cases_lt, false≢true}
+use Rattle.linker_reading.proofs.Imports.{HasEach, arith, cases_lt, false≢true, length, subst, sym, ⊎_elim, ◌∙◌, ◌≡◌}
 use Rattle.linker_reading.proofs.Parts.{whole, further, least}
-use Rattle.linker_reading.specs.Windows.{HasEach}
 use Rattle.linker_reading.proofs.windows.least_window.Goals.{then-loop-begin-test+else-not-has_each, else-loop-begin-test, then-loop-end-test+else-not-has_each-2, else-loop-end-test}
 use Rattle.linker_reading.proofs.windows.least_window.Goals as goal
 

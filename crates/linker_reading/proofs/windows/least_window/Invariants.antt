@@ -1,5 +1,4 @@
-use Rattle.std.proofs.Common.{◌-◌, ◌≤◌, ◌<◌, ℕ, length}
-use Rattle.linker_reading.specs.Windows.{HasEach}
+use Rattle.linker_reading.proofs.Imports.{HasEach, length, ℕ, ◌-◌, ◌<◌, ◌≤◌}
 use Rattle.linker_reading.proofs.windows.least_window.Given as goal
 
 abbrev pub invariant-loop-begin : goal.invariant-loop-begin

@@ -1,10 +1,7 @@
-use Rattle.std.proofs.Common.{◌≡◌, ◌≤◌, ◌<◌, ◌+◌, Some, length, slice_get, ap, sym, subst, ◌∙◌, arith, rules}
-use Rattle.linker_reading.proofs.Imports.{false≢true, length-take, Choice}
+use Rattle.linker_reading.proofs.Imports.{Choice, IsRecognisable, Some, ap, arith, choices_at, false≢true, length, length-take, rules, slice_get, subst, sym, ◌+◌, ◌<◌, ◌∙◌, ◌≡◌, ◌≤◌}
 use Rattle.linker_reading.proofs.Found.{one_of}
 use Rattle.linker_reading.proofs.Kept.{AreKept, none_kept, one_kept, not_kept, all_kept}
 use Rattle.linker_reading.proofs.Tables.{following, taken_few}
-use Rattle.linker_reading.specs.Recognised.{choices_at}
-use Rattle.linker_reading.specs.Windows.{IsRecognisable}
 use Rattle.linker_reading.proofs.windows.those_there.Goals.{then-is_there, else-is_there}
 use Rattle.linker_reading.proofs.windows.those_there.Goals as goal
 

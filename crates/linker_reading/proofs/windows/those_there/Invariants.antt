@@ -1,8 +1,5 @@
-use Rattle.std.proofs.Common.{◌≤◌}
-use Rattle.linker_elf.specs.declared.elf.choice.Choice.{Choice}
+use Rattle.linker_reading.proofs.Imports.{Choice, IsRecognisable, choices_at, ◌≤◌}
 use Rattle.linker_reading.proofs.Kept.{AreKept}
-use Rattle.linker_reading.specs.Recognised.{choices_at}
-use Rattle.linker_reading.specs.Windows.{IsRecognisable}
 use Rattle.linker_reading.proofs.windows.those_there.Given as goal
 
 abbrev pub invariant-loop-index : goal.invariant-loop-index

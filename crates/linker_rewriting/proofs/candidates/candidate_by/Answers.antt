@@ -1,9 +1,5 @@
-use Rattle.std.proofs.Common.{None, Some, inl, inr, subst, sym, eq-eqb}
-use Rattle.linker_rewriting.proofs.Imports.{IsUnchanged, eqb-true, relaxation_skipped}
+use Rattle.linker_rewriting.proofs.Imports.{IsCandidateWith, IsTaken, IsUnchanged, IsWhole, None, Some, context_of, eq-eqb, eqb-true, inl, inr, relaxation_skipped, subst, sym}
 use Rattle.linker_rewriting.proofs.SequenceMembers.{whole_so}
-use Rattle.linker_rewriting.specs.Candidates.{IsCandidateWith, IsTaken}
-use Rattle.linker_rewriting.specs.Facts.{context_of}
-use Rattle.linker_rewriting.specs.Sequences.{IsWhole}
 use Rattle.linker_rewriting.proofs.candidates.candidate_by.Goals as goal
 
 pub returns-then-is_unchanged-clause-candidate : goal.returns-then-is_unchanged-clause-candidate

@@ -1,11 +1,6 @@
-use Rattle.std.proofs.Common.{ℕ, ◌<◌, ◌≤◌, ◌/◌, ◌∙◌, length, map, ap, sym, subst, arith}
-use Rattle.linker_rewriting.specs.Numbers.{decision_in}
+use Rattle.linker_rewriting.proofs.Imports.{IsCovered, IsPlaceBeside, ap, arith, below_more, decision_in, end_at, length, map, offset_at, start_at, subst, sym, ℕ, ◌/◌, ◌<◌, ◌∙◌, ◌≤◌}
 use Rattle.linker_rewriting.proofs.Places.{are_bounded, at_most, clear_at, covered_at}
-use Rattle.linker_rewriting.specs.Decisions.{IsCovered, start_at, end_at}
-use Rattle.linker_rewriting.specs.Inner.Places.{IsPlaceBeside}
-use Rattle.linker_rewriting.proofs.Imports.{offset_at}
 use Rattle.linker_rewriting.proofs.covered.first_covered.Goals as goal
-use borrow.Author.Count.{below_more}
 
 no_end : (start end : ℕ) → start < end → end ≤ 0 → ⊥
 no_end start end some none = omega arith

@@ -1,7 +1,4 @@
-use Rattle.std.proofs.Common.{ℕ, ◌<◌, ◌/◌, length, map}
-use Rattle.linker_rewriting.specs.Numbers.{decision_in}
-use Rattle.linker_rewriting.specs.Decisions.{IsCovered}
-use Rattle.linker_rewriting.specs.Inner.Places.{IsPlace}
+use Rattle.linker_rewriting.proofs.Imports.{IsCovered, IsPlace, decision_in, length, map, ℕ, ◌/◌, ◌<◌}
 use Rattle.linker_rewriting.proofs.covered.first_covered.Given as goal
 
 abbrev pub invariant-loop-index : goal.invariant-loop-index

@@ -1,5 +1,4 @@
-use Rattle.std.proofs.Common.{◌<◌, ◌≤◌, ◌/◌, length, map, subst, arith}
-use Rattle.linker_rewriting.specs.Numbers.{decision_in}
+use Rattle.linker_rewriting.proofs.Imports.{arith, decision_in, length, map, subst, ◌/◌, ◌<◌, ◌≤◌}
 use Rattle.linker_rewriting.proofs.Places.{below_last}
 use Rattle.linker_rewriting.proofs.covered.place_before.Goals as goal
 

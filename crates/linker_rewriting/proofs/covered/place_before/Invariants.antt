@@ -1,4 +1,4 @@
-use Rattle.std.proofs.Common.{◌≤◌}
+use Rattle.linker_rewriting.proofs.Imports.{◌≤◌}
 use Rattle.linker_rewriting.proofs.covered.place_before.Given as goal
 
 abbrev pub invariant-loop-at : goal.invariant-loop-at

@@ -1,10 +1,6 @@
-use Rattle.std.proofs.Common.{◌≢◌, ℕ, ◌<◌, ◌≤◌, ◌/◌, ◌∙◌, length, map, ap, sym, subst, arith}
-use Rattle.linker_rewriting.specs.Numbers.{decision_in}
+use Rattle.linker_rewriting.proofs.Imports.{AreAbove, IsWindow, ap, arith, below_more, decision_in, end_at, length, map, start_at, subst, sym, ℕ, ◌/◌, ◌<◌, ◌∙◌, ◌≢◌, ◌≤◌}
 use Rattle.linker_rewriting.proofs.Places.{above_window, below_window, no_more, no_window}
-use Rattle.linker_rewriting.specs.Decisions.{start_at, end_at}
-use Rattle.linker_rewriting.specs.Inner.Places.{IsWindow, AreAbove}
 use Rattle.linker_rewriting.proofs.covered.place_from.Goals as goal
-use borrow.Author.Count.{below_more}
 
 pub loop-at-preserved-in-Kept : goal.loop-at-preserved-in-Kept
 loop-at-preserved-in-Kept c =

@@ -1,7 +1,4 @@
-use Rattle.std.proofs.Common.{◌≢◌, ℕ, ◌<◌, ◌≤◌, map}
-use Rattle.linker_rewriting.specs.Numbers.{decision_in}
-use Rattle.linker_rewriting.specs.Decisions.{end_at}
-use Rattle.linker_rewriting.specs.Inner.Places.{IsWindow, AreBelow}
+use Rattle.linker_rewriting.proofs.Imports.{AreBelow, IsWindow, decision_in, end_at, map, ℕ, ◌<◌, ◌≢◌, ◌≤◌}
 use Rattle.linker_rewriting.proofs.covered.place_from.Given as goal
 
 abbrev pub invariant-loop-at : goal.invariant-loop-at

@@ -1,8 +1,6 @@
-use Rattle.std.proofs.Common.{◌≡◌, ◌-◌, drop, subst}
+use Rattle.linker_rewriting.proofs.Imports.{drop, field_len, offset_at, subst, ◌-◌, ◌≡◌}
 use Rattle.linker_rewriting.proofs.Places.{is_far}
 use Rattle.linker_section.proofs.Sized.{field_short}
-use Rattle.linker_section.specs.Fields.{field_len}
-use Rattle.linker_rewriting.proofs.Imports.{offset_at}
 use Rattle.linker_rewriting.proofs.covered.reaches.Goals as goal
 
 pub returns-then-distance-ge-LONGEST-clause-no : goal.returns-then-distance-ge-LONGEST-clause-no

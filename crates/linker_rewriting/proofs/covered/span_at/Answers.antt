@@ -1,6 +1,4 @@
-use Rattle.std.proofs.Common.{◌≤◌, map, sym, subst, arith}
-use Rattle.linker_rewriting.specs.Numbers.{decision_in}
-use Rattle.linker_rewriting.specs.Decisions.{decision_at, end_by}
+use Rattle.linker_rewriting.proofs.Imports.{arith, decision_at, decision_in, end_by, map, subst, sym, ◌≤◌}
 use Rattle.linker_rewriting.proofs.covered.span_at.Goals as goal
 
 pub span_of-requires : goal.span_of-requires

@@ -1,9 +1,4 @@
-use Rattle.std.proofs.Common.{◌≡◌, ◌∙◌, sym, subst, refl, false, Some}
-use Rattle.linker_rewriting.specs.Candidates.{IsCandidate}
-use Rattle.linker_rewriting.specs.Decisions.{IsGroupDecision, IsMatchedDecision}
-use Rattle.linker_rewriting.specs.Groups.{IsScopeIn, group_stays}
-use Rattle.linker_rewriting.specs.Facts.{context_of}
-use Rattle.linker_rewriting.proofs.Imports.{Grouped, IfGroupMatches, Independent, Rewritten}
+use Rattle.linker_rewriting.proofs.Imports.{Grouped, IfGroupMatches, Independent, IsCandidate, IsGroupDecision, IsMatchedDecision, IsScopeIn, Rewritten, Some, context_of, false, group_stays, refl, subst, sym, ◌∙◌, ◌≡◌}
 use Rattle.linker_rewriting.proofs.decisions.decide.Goals as goal
 use Rattle.linker_rewriting.proofs.decisions.decide.Goals.{in-Grouped+else-group_stays, in-IfGroupMatches+else-group_stays-2, in-Independent}
 

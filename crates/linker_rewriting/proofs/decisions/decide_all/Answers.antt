@@ -1,5 +1,4 @@
-use Rattle.std.proofs.Common.{arith}
-use Rattle.std.proofs.lemmas.Grind.{common_steps}
+use Rattle.linker_rewriting.proofs.Imports.{arith, common_steps}
 use Rattle.linker_rewriting.proofs.decisions.decide_all.Goals as goal
 
 pub returns-then-not-lists_any-clause-decided : goal.returns-then-not-lists_any-clause-decided

@@ -1,8 +1,4 @@
-use Rattle.std.proofs.Common.{inl, refl, subst, sym}
-use Rattle.linker_rewriting.proofs.Imports.{Decision, IfSome, Rewritten}
-use Rattle.linker_rewriting.specs.Decisions.{IsThere}
-use Rattle.linker_rewriting.specs.Facts.{context_of}
-use Rattle.linker_rewriting.specs.RiscVPcrelGroups.{IsHighOf, IsLabelCandidate, IsLabelNote}
+use Rattle.linker_rewriting.proofs.Imports.{Decision, IfSome, IsHighOf, IsLabelCandidate, IsLabelNote, IsThere, Rewritten, context_of, inl, refl, subst, sym}
 use Rattle.linker_rewriting.proofs.LabelGroups.{rewritten_label, never_kept, either_label, noted_high}
 use Rattle.linker_rewriting.proofs.decisions.decide_label.Goals as goal
 

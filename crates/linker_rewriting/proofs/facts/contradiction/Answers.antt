@@ -1,6 +1,4 @@
-use Rattle.std.proofs.Common.{◌≡◌, ◌∙◌, sym, subst, ap, arith, true, false, below_more}
-use Rattle.linker_rewriting.specs.Agreement.{contradict_at}
-use Rattle.linker_rewriting.proofs.Imports.{relocation_in}
+use Rattle.linker_rewriting.proofs.Imports.{ap, arith, below_more, contradict_at, false, relocation_in, subst, sym, true, ◌∙◌, ◌≡◌}
 use Rattle.linker_rewriting.proofs.facts.contradiction.Goals as goal
 
 pub loop-index-preserved : goal.loop-index-preserved

@@ -1,4 +1,4 @@
-use Rattle.linker_rewriting.specs.Agreement.{AgreeBelow}
+use Rattle.linker_rewriting.proofs.Imports.{AgreeBelow}
 use Rattle.linker_rewriting.proofs.facts.contradiction.Given as goal
 
 abbrev pub invariant-loop-index : goal.invariant-loop-index

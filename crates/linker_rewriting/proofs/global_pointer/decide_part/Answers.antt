@@ -1,8 +1,5 @@
-use Rattle.std.proofs.Common.{ℕ, ◌≤◌, ◌∙◌, length, None, Some, refl, subst, sym}
+use Rattle.linker_rewriting.proofs.Imports.{IsThere, IsWithin, None, Some, context_of, length, part_end, part_start, refl, subst, sym, ℕ, ◌∙◌, ◌≤◌}
 use Rattle.linker_rewriting.proofs.GlobalPointer.{expected, of_member, part_bytes, part_decided, part_ends, part_kept, part_made, part_matches, part_undecided}
-use Rattle.linker_rewriting.specs.Decisions.{IsThere, IsWithin}
-use Rattle.linker_rewriting.specs.GlobalPointer.{part_start, part_end}
-use Rattle.linker_rewriting.specs.Facts.{context_of}
 use Rattle.linker_rewriting.proofs.global_pointer.decide_part.Goals as goal
 
 pub returns-in_default-clause-decision : goal.returns-in_default-clause-decision

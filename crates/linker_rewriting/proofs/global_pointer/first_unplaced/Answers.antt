@@ -1,6 +1,4 @@
-use Rattle.std.proofs.Common.{◌≡◌, ◌∙◌, sym, subst, arith, true, false, below_more}
-use Rattle.linker_rewriting.specs.GlobalPointer.{is_placed}
-use Rattle.linker_rewriting.proofs.Imports.{relocation_in}
+use Rattle.linker_rewriting.proofs.Imports.{arith, below_more, false, is_placed, relocation_in, subst, sym, true, ◌∙◌, ◌≡◌}
 use Rattle.linker_rewriting.proofs.global_pointer.first_unplaced.Goals as goal
 
 pub loop-index-preserved : goal.loop-index-preserved

@@ -1,6 +1,4 @@
-use Rattle.std.proofs.Common.{◌≡◌, ℕ, ◌<◌, true}
-use Rattle.linker_rewriting.specs.GlobalPointer.{is_placed}
-use Rattle.linker_rewriting.proofs.Imports.{relocation_in}
+use Rattle.linker_rewriting.proofs.Imports.{is_placed, relocation_in, true, ℕ, ◌<◌, ◌≡◌}
 use Rattle.linker_rewriting.proofs.global_pointer.first_unplaced.Given as goal
 
 abbrev pub invariant-loop-index : goal.invariant-loop-index

@@ -1,6 +1,4 @@
-use Rattle.std.proofs.Common.{◌≡◌, ◌∙◌, None, Some, if◌then◌else◌, refl, subst, sym}
-use Rattle.linker_rewriting.specs.GlobalPointer.{IsMember}
-use Rattle.linker_rewriting.specs.Facts.{context_of}
+use Rattle.linker_rewriting.proofs.Imports.{IsMember, None, Some, context_of, if◌then◌else◌, refl, subst, sym, ◌∙◌, ◌≡◌}
 use Rattle.linker_rewriting.proofs.global_pointer.keeping_symbol.Goals as goal
 
 pub returns-in_default : goal.returns-in_default

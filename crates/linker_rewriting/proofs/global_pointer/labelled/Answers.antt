@@ -1,6 +1,4 @@
-use Rattle.std.proofs.Common.{◌∙◌, None, Some, sym, subst}
-use Rattle.linker_rewriting.specs.GlobalPointer.{relative_high}
-use Rattle.linker_rewriting.specs.RiscVPcrelGroups.{IsHighAt, IsHighFrom}
+use Rattle.linker_rewriting.proofs.Imports.{IsHighAt, IsHighFrom, None, Some, relative_high, subst, sym, ◌∙◌}
 use Rattle.linker_rewriting.proofs.global_pointer.labelled.Goals as goal
 
 pub returns-in-Some-high_at : goal.returns-in-Some-high_at

@@ -1,13 +1,7 @@
-use Rattle.std.proofs.Common.{◌/◌, length, map, arith, inl, rules, None}
-use Rattle.std.proofs.lemmas.Result.{err_from_is_err_and}
-use Rattle.linker_rewriting.specs.Numbers.{decision_in}
-use Rattle.linker_rewriting.proofs.Imports.{length-map, relocation_in}
+use Rattle.linker_rewriting.proofs.Imports.{ArePartsRejected, DecidesPart, IsPartDecided, IsRejectedBy, None, arith, context_of, decision_in, err_from_is_err_and, inl, length, length-map, map, part_end, part_start, relocation_in, rules, ◌/◌}
 use Rattle.linker_rewriting.proofs.GlobalPointer.{whole, means_unsurveyed}
 use Rattle.linker_rewriting.proofs.Rejected.{rejected_first, rejected_with}
-use Rattle.linker_rewriting.specs.Decisions.{IsRejectedBy}
-use Rattle.linker_rewriting.specs.GlobalPointer.{ArePartsRejected, DecidesPart, IsPartDecided, part_start, part_end}
 use Rattle.linker_rewriting.proofs.Listing.{all_fit}
-use Rattle.linker_rewriting.specs.Facts.{context_of}
 use Rattle.linker_rewriting.proofs.global_pointer.rewrite_global_pointer.Goals as goal
 
 pub list_deletions-requires-clause-fit : goal.list_deletions-requires-clause-fit

@@ -1,7 +1,5 @@
-use Rattle.std.proofs.Common.{◌≡◌, ◌<◌, ◌/◌, ◌∙◌, length, ap, sym, subst, arith, rules}
+use Rattle.linker_rewriting.proofs.Imports.{ap, arith, based_relocation, based_section, is_placed, length, relocation_in, rules, subst, sym, ◌/◌, ◌<◌, ◌∙◌, ◌≡◌}
 use Rattle.linker_rewriting.proofs.GlobalPointer.{turned_next, same_placed, based_next}
-use Rattle.linker_rewriting.specs.GlobalPointer.{based_relocation, based_section, is_placed}
-use Rattle.linker_rewriting.proofs.Imports.{relocation_in}
 use Rattle.linker_rewriting.proofs.global_pointer.set_bases.Goals as goal
 
 pub set_base-based-requires : goal.set_base-based-requires

@@ -1,6 +1,5 @@
-use Rattle.std.proofs.Common.{◌≡◌, ◌/◌, length}
+use Rattle.linker_rewriting.proofs.Imports.{based_relocation, length, section_based, ◌/◌, ◌≡◌}
 use Rattle.linker_rewriting.proofs.GlobalPointer.{AreTurned}
-use Rattle.linker_rewriting.specs.GlobalPointer.{based_relocation, section_based}
 use Rattle.linker_rewriting.proofs.global_pointer.set_bases.Given as goal
 
 abbrev pub invariant-loop-index : goal.invariant-loop-index

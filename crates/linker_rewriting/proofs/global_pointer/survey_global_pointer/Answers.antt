@@ -1,7 +1,5 @@
-use Rattle.std.proofs.Common.{subst}
+use Rattle.linker_rewriting.proofs.Imports.{IsKeepingSymbol, KeepsSymbol, context_of, subst}
 use Rattle.linker_rewriting.proofs.WordsNoted.{more_words}
-use Rattle.linker_rewriting.specs.Facts.{context_of}
-use Rattle.linker_rewriting.specs.GlobalPointer.{IsKeepingSymbol, KeepsSymbol}
 use Rattle.linker_rewriting.proofs.global_pointer.survey_global_pointer.Goals as goal
 
 pub loop-index-preserved : goal.loop-index-preserved

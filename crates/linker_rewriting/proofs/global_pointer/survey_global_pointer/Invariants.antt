@@ -1,5 +1,4 @@
-use Rattle.linker_rewriting.specs.Facts.{context_of}
-use Rattle.linker_rewriting.specs.GlobalPointer.{AreSymbolsSurveyed}
+use Rattle.linker_rewriting.proofs.Imports.{AreSymbolsSurveyed, context_of}
 use Rattle.linker_rewriting.proofs.global_pointer.survey_global_pointer.Given as goal
 
 abbrev pub invariant-loop-index : goal.invariant-loop-index

@@ -1,9 +1,5 @@
-use Rattle.std.proofs.Common.{◌≡◌, ◌<◌, ◌/◌, List, length, map, sym, subst, arith, rules}
-use Rattle.linker_rewriting.specs.Numbers.{decision_in}
-use Rattle.linker_rewriting.proofs.Imports.{Decision}
+use Rattle.linker_rewriting.proofs.Imports.{Decision, List, arith, decision_at, decision_in, length, map, relocation_by, rules, subst, sym, ◌/◌, ◌<◌, ◌≡◌}
 use Rattle.linker_rewriting.proofs.GlobalPointer.{turned_next}
-use Rattle.linker_rewriting.specs.Decisions.{decision_at}
-use Rattle.linker_rewriting.specs.GlobalPointer.{relocation_by}
 use Rattle.linker_rewriting.proofs.global_pointer.turn_all.Goals as goal
 
 pub loop-index-preserved : goal.loop-index-preserved

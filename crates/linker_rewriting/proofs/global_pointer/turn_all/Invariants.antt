@@ -1,8 +1,5 @@
-use Rattle.std.proofs.Common.{◌/◌, length, map}
-use Rattle.linker_rewriting.specs.Numbers.{decision_in}
+use Rattle.linker_rewriting.proofs.Imports.{decision_at, decision_in, length, map, relocation_by, ◌/◌}
 use Rattle.linker_rewriting.proofs.GlobalPointer.{AreTurned}
-use Rattle.linker_rewriting.specs.Decisions.{decision_at}
-use Rattle.linker_rewriting.specs.GlobalPointer.{relocation_by}
 use Rattle.linker_rewriting.proofs.global_pointer.turn_all.Given as goal
 
 abbrev pub invariant-loop-index : goal.invariant-loop-index

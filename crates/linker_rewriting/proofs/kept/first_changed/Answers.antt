@@ -1,6 +1,4 @@
-use Rattle.std.proofs.Common.{◌≡◌, subst, inl, inr, arith}
-use Rattle.linker_rewriting.proofs.Imports.{cases_lt, relocation_in}
-use Rattle.linker_rewriting.specs.Kept.{IsAsKept}
+use Rattle.linker_rewriting.proofs.Imports.{IsAsKept, arith, cases_lt, inl, inr, relocation_in, subst, ◌≡◌}
 use Rattle.linker_rewriting.proofs.kept.first_changed.Goals as goal
 
 pub loop-index-preserved : goal.loop-index-preserved

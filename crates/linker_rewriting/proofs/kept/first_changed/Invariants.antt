@@ -1,4 +1,4 @@
-use Rattle.linker_rewriting.specs.Kept.{AreAsKept}
+use Rattle.linker_rewriting.proofs.Imports.{AreAsKept}
 use Rattle.linker_rewriting.proofs.kept.first_changed.Given as goal
 
 abbrev pub invariant-loop-index : goal.invariant-loop-index

@@ -1,6 +1,4 @@
-use Rattle.std.proofs.Common.{◌≡◌, ◌∙◌, sym, subst, arith, true, false, below_more}
-use Rattle.linker_rewriting.specs.Kept.{lacks_stub}
-use Rattle.linker_rewriting.proofs.Imports.{relocation_in}
+use Rattle.linker_rewriting.proofs.Imports.{arith, below_more, false, lacks_stub, relocation_in, subst, sym, true, ◌∙◌, ◌≡◌}
 use Rattle.linker_rewriting.proofs.kept.first_without_stub.Goals as goal
 
 pub loop-index-preserved : goal.loop-index-preserved

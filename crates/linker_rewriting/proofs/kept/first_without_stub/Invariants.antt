@@ -1,4 +1,4 @@
-use Rattle.linker_rewriting.specs.Kept.{HaveStubs}
+use Rattle.linker_rewriting.proofs.Imports.{HaveStubs}
 use Rattle.linker_rewriting.proofs.kept.first_without_stub.Given as goal
 
 abbrev pub invariant-loop-index : goal.invariant-loop-index

@@ -1,6 +1,4 @@
-use Rattle.std.proofs.Common.{◌≡◌, ◌<◌, ℕ, length}
-use Rattle.linker_rewriting.proofs.Imports.{slice_get}
-use Rattle.linker_rewriting.specs.Kept.{facts_now}
+use Rattle.linker_rewriting.proofs.Imports.{facts_now, length, slice_get, ℕ, ◌<◌, ◌≡◌}
 use Rattle.linker_rewriting.proofs.kept.snapshot_facts.Given as goal
 
 abbrev pub invariant-loop-index : goal.invariant-loop-index

@@ -1,7 +1,4 @@
-use Rattle.std.proofs.Common.{◌≡◌, ℕ, ◌+◌, ◌-◌, ◌*◌, ◌≤◌, ◌/◌, ◌∙◌, List, length, take, drop, ap, sym, subst, arith, true, None, Some, nat_lt}
-use Rattle.linker_rewriting.proofs.Imports.{Rela, cond-true, length-take-le, relocation_at, relocation_in}
-use Rattle.std.proofs.lemmas.List.{length-drop, take-take}
-use Rattle.linker_section.specs.Relocations.{relocation_of}
+use Rattle.linker_rewriting.proofs.Imports.{List, None, Rela, Some, ap, arith, cond-true, drop, length, length-drop, length-take-le, nat_lt, relocation_at, relocation_in, relocation_of, subst, sym, take, take-take, true, ℕ, ◌*◌, ◌+◌, ◌-◌, ◌/◌, ◌∙◌, ◌≡◌, ◌≤◌}
 use Rattle.linker_rewriting.proofs.relocations.relocation_in.Goals as goal
 
 same_some : (x y : Rela) → Some x ≡ Some y → x ≡ y

@@ -1,9 +1,4 @@
-use Rattle.std.proofs.Common.{◌≡◌, ◌<◌, ◌+◌, ◌/◌, ◌∙◌, length, map, slice_set, ap, sym, subst, arith, false}
-use Rattle.linker_rewriting.specs.Numbers.{decision_in}
-use Rattle.linker_rewriting.proofs.Imports.{drop-set-lt, length-map, map-set}
-use Rattle.linker_rewriting.specs.Facts.{context_of}
-use Rattle.linker_rewriting.specs.RiscVPcrelGroups.{IsInLabel}
-use Rattle.linker_rewriting.specs.Notes.{IsNoteOf}
+use Rattle.linker_rewriting.proofs.Imports.{IsInLabel, IsNoteOf, ap, arith, context_of, decision_in, drop-set-lt, false, length, length-map, map, map-set, slice_set, subst, sym, ◌+◌, ◌/◌, ◌<◌, ◌∙◌, ◌≡◌}
 use Rattle.linker_rewriting.proofs.LabelGroups.{AreCopied, more_copied, same_copied}
 use Rattle.linker_rewriting.proofs.riscv_pcrel_groups.copy_notes.Goals as goal
 

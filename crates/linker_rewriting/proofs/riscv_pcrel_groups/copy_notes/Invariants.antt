@@ -1,7 +1,5 @@
-use Rattle.std.proofs.Common.{◌≡◌, ◌/◌, length, map, drop}
-use Rattle.linker_rewriting.specs.Numbers.{decision_in}
+use Rattle.linker_rewriting.proofs.Imports.{context_of, decision_in, drop, length, map, ◌/◌, ◌≡◌}
 use Rattle.linker_rewriting.proofs.LabelGroups.{AreCopied}
-use Rattle.linker_rewriting.specs.Facts.{context_of}
 use Rattle.linker_rewriting.proofs.riscv_pcrel_groups.copy_notes.Given as goal
 
 abbrev pub invariant-loop-index : goal.invariant-loop-index

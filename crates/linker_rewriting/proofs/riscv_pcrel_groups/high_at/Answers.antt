@@ -1,7 +1,5 @@
-use Rattle.std.proofs.Common.{◌≡◌, ◌≤◌, ◌<◌, ◌⊎◌, inl, inr, ℕ, subst, arith, false, below_more}
-use Rattle.linker_rewriting.specs.RiscVPcrelGroups.{is_high}
+use Rattle.linker_rewriting.proofs.Imports.{arith, below_more, false, inl, inr, is_high, relocation_in, subst, ℕ, ◌<◌, ◌≡◌, ◌≤◌, ◌⊎◌}
 use Rattle.linker_rewriting.proofs.LabelGroups.{isnt_r_type, found, none_at, none_searched}
-use Rattle.linker_rewriting.proofs.Imports.{relocation_in}
 use Rattle.linker_rewriting.proofs.riscv_pcrel_groups.high_at.Goals as goal
 
 inside : {index end len count : ℕ} → index < end → end ≤ len → len ≡ count → index < count

@@ -1,6 +1,4 @@
-use Rattle.std.proofs.Common.{subst}
-use Rattle.linker_rewriting.specs.Facts.{context_of}
-use Rattle.linker_rewriting.specs.RiscVPcrelGroups.{IsInLabel, IsHighOf, IsLabelCandidate}
+use Rattle.linker_rewriting.proofs.Imports.{IsHighOf, IsInLabel, IsLabelCandidate, context_of, subst}
 use Rattle.linker_rewriting.proofs.LabelGroups.{unlabelled_lacks, rewritten_lacks}
 use Rattle.linker_rewriting.proofs.riscv_pcrel_groups.lacking.Goals as goal
 

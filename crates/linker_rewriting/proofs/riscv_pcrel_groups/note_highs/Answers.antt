@@ -1,9 +1,4 @@
-use Rattle.std.proofs.Common.{◌≡◌, ◌<◌, ◌+◌, ◌/◌, ◌∙◌, length, map, slice_set, ap, sym, subst, arith, Some, None}
-use Rattle.linker_rewriting.specs.Numbers.{decision_in}
-use Rattle.linker_rewriting.proofs.Imports.{Consumed, IfSome, drop-set-lt, length-map, map-set}
-use Rattle.linker_rewriting.specs.Facts.{context_of}
-use Rattle.linker_rewriting.specs.RiscVPcrelGroups.{IsLacking}
-use Rattle.linker_rewriting.specs.Notes.{AreHighsNoted}
+use Rattle.linker_rewriting.proofs.Imports.{AreHighsNoted, Consumed, IfSome, IsLacking, None, Some, ap, arith, context_of, decision_in, drop-set-lt, length, length-map, map, map-set, slice_set, subst, sym, ◌+◌, ◌/◌, ◌<◌, ◌∙◌, ◌≡◌}
 use Rattle.linker_rewriting.proofs.LabelGroups.{more_noted, same_noted}
 use Rattle.linker_rewriting.proofs.riscv_pcrel_groups.note_highs.Goals as goal
 

@@ -1,7 +1,4 @@
-use Rattle.std.proofs.Common.{◌≡◌, ◌/◌, length, map, drop}
-use Rattle.linker_rewriting.specs.Numbers.{decision_in}
-use Rattle.linker_rewriting.specs.Facts.{context_of}
-use Rattle.linker_rewriting.specs.Notes.{AreHighsNoted}
+use Rattle.linker_rewriting.proofs.Imports.{AreHighsNoted, context_of, decision_in, drop, length, map, ◌/◌, ◌≡◌}
 use Rattle.linker_rewriting.proofs.riscv_pcrel_groups.note_highs.Given as goal
 
 abbrev pub invariant-loop-index : goal.invariant-loop-index

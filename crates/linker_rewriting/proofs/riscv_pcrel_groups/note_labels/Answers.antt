@@ -1,6 +1,4 @@
-use Rattle.std.proofs.Common.{◌∙◌, map, sym}
-use Rattle.linker_rewriting.specs.Numbers.{decision_in}
-use Rattle.linker_rewriting.specs.Facts.{context_of}
+use Rattle.linker_rewriting.proofs.Imports.{context_of, decision_in, map, sym, ◌∙◌}
 use Rattle.linker_rewriting.proofs.LabelGroups.{no_labels}
 use Rattle.linker_rewriting.proofs.riscv_pcrel_groups.note_labels.Goals as goal
 

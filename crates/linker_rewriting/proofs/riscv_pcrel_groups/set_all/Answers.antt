@@ -1,7 +1,4 @@
-use Rattle.std.proofs.Common.{◌≡◌, ◌<◌, ◌/◌, ◌∙◌, length, map, take, slice_set, ap, subst, arith, inl, inr}
-use Rattle.linker_rewriting.specs.Numbers.{decision_in, IsWrittenDecision}
-use Rattle.linker_rewriting.proofs.Imports.{All, Kept, cases_lt, drop-set-lt, get_or-set_other, get_or-set_same, length-map, map-set, written_more}
-use Rattle.linker_rewriting.specs.Decisions.{decision_at}
+use Rattle.linker_rewriting.proofs.Imports.{All, IsWrittenDecision, Kept, ap, arith, cases_lt, decision_at, decision_in, drop-set-lt, get_or-set_other, get_or-set_same, inl, inr, length, length-map, map, map-set, slice_set, subst, take, written_more, ◌/◌, ◌<◌, ◌∙◌, ◌≡◌}
 use Rattle.linker_rewriting.proofs.riscv_pcrel_groups.set_all.Goals as goal
 
 pub loop-index-preserved : goal.loop-index-preserved

@@ -1,7 +1,4 @@
-use Rattle.std.proofs.Common.{◌≡◌, ℕ, ◌<◌, ◌/◌, length, map, take, drop}
-use Rattle.linker_rewriting.specs.Numbers.{decision_in, IsWrittenDecision}
-use Rattle.linker_rewriting.proofs.Imports.{All}
-use Rattle.linker_rewriting.specs.Decisions.{decision_at}
+use Rattle.linker_rewriting.proofs.Imports.{All, IsWrittenDecision, decision_at, decision_in, drop, length, map, take, ℕ, ◌/◌, ◌<◌, ◌≡◌}
 use Rattle.linker_rewriting.proofs.riscv_pcrel_groups.set_all.Given as goal
 
 abbrev pub invariant-loop-index : goal.invariant-loop-index

@@ -1,9 +1,5 @@
-use Rattle.std.proofs.Common.{◌≡◌, ℕ, ◌<◌, ◌≤◌, ◌+◌, ◌/◌, ◌∙◌, length, map, take, slice_set, ap, sym, subst, arith, Some, None, inl, inr}
-use Rattle.linker_rewriting.specs.Numbers.{decision_in, IsWrittenDecision}
-use Rattle.linker_rewriting.proofs.Imports.{All, Decision, IfNone, IfSome, Kept, drop-set-lt, length-map, map-set, written_more}
+use Rattle.linker_rewriting.proofs.Imports.{All, Decision, IfNone, IfSome, IsEndAfter, IsMadeBy, IsWrittenDecision, Kept, None, Some, ap, arith, decision_in, drop-set-lt, inl, inr, is_note, length, length-map, map, map-set, slice_set, subst, sym, take, written_more, ℕ, ◌+◌, ◌/◌, ◌<◌, ◌∙◌, ◌≡◌, ◌≤◌}
 use Rattle.linker_rewriting.proofs.Deciding.{AreDecidedTo, IsGrown, all_decided, bytes_apart, more_decided, more_kept, overlapping}
-use Rattle.linker_rewriting.specs.Decisions.{IsEndAfter, IsMadeBy}
-use Rattle.linker_rewriting.specs.Notes.{is_note}
 use Rattle.linker_rewriting.proofs.rules.decide_by.Goals as goal
 
 pub returns-in_default-clause-rejected : goal.returns-in_default-clause-rejected

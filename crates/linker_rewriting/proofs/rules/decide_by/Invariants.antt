@@ -1,9 +1,5 @@
-use Rattle.std.proofs.Common.{◌≡◌, ◌/◌, length, map, take, drop}
-use Rattle.linker_rewriting.specs.Numbers.{decision_in, IsWrittenDecision}
-use Rattle.linker_rewriting.proofs.Imports.{All}
+use Rattle.linker_rewriting.proofs.Imports.{All, IsMadeBy, IsWrittenDecision, decision_in, drop, is_note, length, map, take, ◌/◌, ◌≡◌}
 use Rattle.linker_rewriting.proofs.Deciding.{AreDecidedTo}
-use Rattle.linker_rewriting.specs.Decisions.{IsMadeBy}
-use Rattle.linker_rewriting.specs.Notes.{is_note}
 use Rattle.linker_rewriting.proofs.rules.decide_by.Given as goal
 
 abbrev pub invariant-loop-index : goal.invariant-loop-index

@@ -1,5 +1,4 @@
-use Rattle.std.proofs.Common.{◌≡◌}
-use Rattle.linker_rewriting.specs.Decisions.{bytes_number}
+use Rattle.linker_rewriting.proofs.Imports.{bytes_number, ◌≡◌}
 use Rattle.linker_rewriting.proofs.sections.bytes_number.Given as goal
 
 abbrev pub invariant-loop-index : goal.invariant-loop-index

@@ -1,9 +1,6 @@
-use Rattle.linker_rewriting.specs.Numbers.{decision_in, number_of, of_fate}
-use Rattle.linker_rewriting.proofs.Imports.{get_or, get_or-map, length-map, relocation_in}
-use Rattle.std.proofs.Common.{◌≡◌, ◌<◌, ◌≤◌, ◌/◌, ◌∙◌, length, map, sym, subst, arith, None, Some}
+use Rattle.linker_rewriting.proofs.Imports.{IsEndAfter, None, Some, StillFits, arith, decision_in, end_by, get_or, get_or-map, length, length-map, map, number_of, of_fate, relocation_in, start_by, subst, sym, ◌/◌, ◌<◌, ◌∙◌, ◌≡◌, ◌≤◌}
 use Rattle.linker_rewriting.proofs.Makeable.{more_checked, kept_checked, overlaps}
 use Rattle.linker_rewriting.proofs.Deciding.{IsGrown, ends_within}
-use Rattle.linker_rewriting.specs.Decisions.{IsEndAfter, StillFits, start_by, end_by}
 use Rattle.linker_rewriting.proofs.sections.check_decisions.Goals as goal
 
 pub loop-index-preserved-in-Kept : goal.loop-index-preserved-in-Kept

@@ -1,5 +1,4 @@
-use Rattle.std.proofs.Common.{map}
-use Rattle.linker_rewriting.specs.Numbers.{decision_in, number_of}
+use Rattle.linker_rewriting.proofs.Imports.{decision_in, map, number_of}
 use Rattle.linker_rewriting.proofs.Makeable.{AreChecked}
 use Rattle.linker_rewriting.proofs.sections.check_decisions.Given as goal
 

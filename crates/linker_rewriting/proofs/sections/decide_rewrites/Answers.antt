@@ -1,8 +1,4 @@
-use Rattle.std.proofs.Common.{◌∙◌, ◌/◌, length, map, sym, subst}
-use Rattle.std.proofs.lemmas.Result.{err_from_is_err_and}
-use Rattle.linker_rewriting.specs.Numbers.{decision_in}
-use Rattle.linker_rewriting.specs.Decisions.{AreAllDecided, IsDecidedAfter, start_by, end_by}
-use Rattle.linker_rewriting.specs.Facts.{pre_layout}
+use Rattle.linker_rewriting.proofs.Imports.{AreAllDecided, IsDecidedAfter, decision_in, end_by, err_from_is_err_and, length, map, pre_layout, start_by, subst, sym, ◌/◌, ◌∙◌}
 use Rattle.linker_rewriting.proofs.Noted.{means_unsurveyed}
 use Rattle.linker_rewriting.proofs.Whole.{whole}
 use Rattle.linker_rewriting.proofs.sections.decide_rewrites.Goals as goal

@@ -1,9 +1,5 @@
-use Rattle.linker_rewriting.specs.Numbers.{decision_in, number_of, is_kept, of_fate, IsKeptDecision, IsWrittenDecision}
-use Rattle.linker_rewriting.proofs.Imports.{CanRewrite, Kept, Rewritten, get_or, get_or-map, relaxation_rewrite, relocation_in, window_of_rewrite}
-use Rattle.std.proofs.Common.{◌≡◌, ◌<◌, ◌/◌, ◌∙◌, length, map, take, ap, sym, subst, arith}
-use Rattle.std.specs.Prelude.{All}
+use Rattle.linker_rewriting.proofs.Imports.{All, CanBeMade, CanRewrite, IsKeptDecision, IsWrittenDecision, KeepsBytes, Kept, Rewritten, ap, arith, decision_at, decision_in, get_or, get_or-map, is_kept, length, map, number_of, of_fate, relaxation_rewrite, relocation_in, subst, sym, take, window_number, window_of_rewrite, ◌/◌, ◌<◌, ◌∙◌, ◌≡◌}
 use Rattle.linker_rewriting.proofs.KeptBytes.{keeps_none, written_at, replaced, passed, unchanged_at}
-use Rattle.linker_rewriting.specs.Decisions.{CanBeMade, KeepsBytes, decision_at, window_number}
 use Rattle.linker_rewriting.proofs.sections.keep_bytes.Goals as goal
 
 pub loop-index-preserved : goal.loop-index-preserved

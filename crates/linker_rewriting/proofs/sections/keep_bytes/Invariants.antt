@@ -1,4 +1,4 @@
-use Rattle.linker_rewriting.specs.Numbers.{decision_in, number_of, IsKeptDecision}
+use Rattle.linker_rewriting.proofs.Imports.{IsKeptDecision, decision_in, number_of}
 use Rattle.linker_rewriting.proofs.KeptBytes.{AreKeptTo}
 use Rattle.linker_rewriting.proofs.sections.keep_bytes.Given as goal
 

@@ -1,7 +1,4 @@
-use Rattle.std.proofs.Common.{◌≡◌, ◌<◌, ◌≤◌, ◌/◌, ◌∙◌, ◌+◌, length, map, ap, sym, subst, arith, Some}
-use Rattle.linker_rewriting.specs.Numbers.{decision_in}
-use Rattle.linker_rewriting.proofs.Imports.{drop-set-lt, drop_more_same, length-map, map-set, relocation_in}
-use Rattle.linker_rewriting.specs.Decisions.{decision_at, deleted_of, deleted_end, pair_of, pairs_in}
+use Rattle.linker_rewriting.proofs.Imports.{Some, ap, arith, decision_at, decision_in, deleted_end, deleted_of, drop-set-lt, drop_more_same, length, length-map, map, map-set, pair_of, pairs_in, relocation_in, subst, sym, ◌+◌, ◌/◌, ◌<◌, ◌∙◌, ◌≡◌, ◌≤◌}
 use Rattle.linker_rewriting.specs.declared.decisions.Deletion.{Deletion}
 use Rattle.linker_rewriting.proofs.Listing.{AreListed, nothing_more, one_more, no_room}
 use Rattle.linker_rewriting.proofs.Untouched.{none_deleted}

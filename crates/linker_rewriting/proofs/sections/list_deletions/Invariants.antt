@@ -1,6 +1,4 @@
-use Rattle.std.proofs.Common.{◌≡◌, map, drop}
-use Rattle.linker_rewriting.specs.Numbers.{decision_in}
-use Rattle.linker_rewriting.specs.Decisions.{pairs_in}
+use Rattle.linker_rewriting.proofs.Imports.{decision_in, drop, map, pairs_in, ◌≡◌}
 use Rattle.linker_rewriting.proofs.Listing.{AreListed}
 use Rattle.linker_rewriting.proofs.sections.list_deletions.Given as goal
 

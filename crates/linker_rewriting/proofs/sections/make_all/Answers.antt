@@ -1,8 +1,4 @@
-use Rattle.std.proofs.Common.{◌≡◌, ◌<◌, ◌/◌, ◌∙◌, length, map, ap, refl, sym, subst, arith, rules}
-use Rattle.linker_rewriting.specs.Numbers.{decision_in}
-use Rattle.linker_rewriting.proofs.Imports.{relocation_in}
-use Rattle.linker_rewriting.specs.Decisions.{CanBeMade}
-use Rattle.linker_rewriting.specs.Rewritten.{section_after, relocation_after, IsDone}
+use Rattle.linker_rewriting.proofs.Imports.{CanBeMade, IsDone, ap, arith, decision_in, length, map, refl, relocation_after, relocation_in, rules, section_after, subst, sym, ◌/◌, ◌<◌, ◌∙◌, ◌≡◌}
 use Rattle.linker_rewriting.proofs.Making.{made_next, kept_next, can_next, windows_apart}
 use Rattle.linker_rewriting.proofs.sections.make_all.Goals as goal
 

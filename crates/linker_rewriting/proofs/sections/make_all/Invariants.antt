@@ -1,5 +1,4 @@
-use Rattle.std.proofs.Common.{◌/◌, length, map}
-use Rattle.linker_rewriting.specs.Numbers.{decision_in}
+use Rattle.linker_rewriting.proofs.Imports.{decision_in, length, map, ◌/◌}
 use Rattle.linker_rewriting.proofs.Making.{AreMade}
 use Rattle.linker_rewriting.proofs.sections.make_all.Given as goal
 

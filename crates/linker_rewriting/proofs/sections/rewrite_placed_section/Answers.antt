@@ -1,8 +1,4 @@
-use Rattle.std.proofs.Common.{◌/◌, length, map, rules}
-use Rattle.std.proofs.lemmas.Result.{err_from_is_err_and}
-use Rattle.linker_rewriting.specs.Numbers.{decision_in}
-use Rattle.linker_rewriting.specs.Decisions.{IsDecidedAfter, IsRejectedIn, IsRejectedWith}
-use Rattle.linker_rewriting.specs.Facts.{context_of}
+use Rattle.linker_rewriting.proofs.Imports.{IsDecidedAfter, IsRejectedIn, IsRejectedWith, context_of, decision_in, err_from_is_err_and, length, map, rules, ◌/◌}
 use Rattle.linker_rewriting.proofs.Listing.{all_fit}
 use Rattle.linker_rewriting.proofs.Noted.{means_unsurveyed}
 use Rattle.linker_rewriting.proofs.Rejected.{rejected_first, rejected_with}

@@ -1,7 +1,4 @@
-use Rattle.std.proofs.Common.{◌/◌, length, map}
-use Rattle.std.proofs.lemmas.Result.{err_from_is_err_and}
-use Rattle.linker_rewriting.specs.Numbers.{decision_in}
-use Rattle.linker_rewriting.specs.Facts.{pre_layout}
+use Rattle.linker_rewriting.proofs.Imports.{decision_in, err_from_is_err_and, length, map, pre_layout, ◌/◌}
 use Rattle.linker_rewriting.proofs.Noted.{means_unsurveyed}
 use Rattle.linker_rewriting.proofs.Whole.{whole}
 use Rattle.linker_rewriting.proofs.sections.rewrite_section.Goals as goal

@@ -1,4 +1,4 @@
-use Rattle.std.proofs.Common.{◌∙◌, sym, true, false}
+use Rattle.linker_rewriting.proofs.Imports.{false, sym, true, ◌∙◌}
 use Rattle.linker_rewriting.proofs.SequenceMembers.{members_left, no_member}
 use Rattle.linker_rewriting.proofs.sequences.are_members.Goals as goal
 

@@ -1,5 +1,4 @@
-use Rattle.std.proofs.Common.{◌≡◌, drop}
-use Rattle.linker_rewriting.specs.Sequences.{are_members}
+use Rattle.linker_rewriting.proofs.Imports.{are_members, drop, ◌≡◌}
 use Rattle.linker_rewriting.proofs.sequences.are_members.Given as goal
 
 -- what is left to find

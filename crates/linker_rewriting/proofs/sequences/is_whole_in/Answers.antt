@@ -1,4 +1,4 @@
-use Rattle.std.proofs.Common.{◌∙◌, sym, true, false}
+use Rattle.linker_rewriting.proofs.Imports.{false, sym, true, ◌∙◌}
 use Rattle.linker_rewriting.proofs.SequenceMembers.{places_left, no_member}
 use Rattle.linker_rewriting.proofs.sequences.is_whole_in.Goals as goal
 

@@ -1,5 +1,4 @@
-use Rattle.std.proofs.Common.{◌≡◌, drop}
-use Rattle.linker_rewriting.specs.Sequences.{is_whole_in}
+use Rattle.linker_rewriting.proofs.Imports.{drop, is_whole_in, ◌≡◌}
 use Rattle.linker_rewriting.proofs.sequences.is_whole_in.Given as goal
 
 -- the places that are left

@@ -1,8 +1,5 @@
-use Rattle.std.proofs.Common.{◌≤◌, ◌∙◌, arith, subst, sym}
-use Rattle.linker_rewriting.specs.Inner.RelocationTypes.{KeepsNone}
-use Rattle.linker_rewriting.proofs.Imports.{relocation_in}
+use Rattle.linker_rewriting.proofs.Imports.{KeepsNone, arith, below_more, relocation_in, subst, sym, ◌∙◌, ◌≤◌}
 use Rattle.linker_rewriting.proofs.surveys.next_in.Goals as goal
-use borrow.Author.Count.{below_more}
 
 pub loop-index-preserved : goal.loop-index-preserved
 loop-index-preserved c =

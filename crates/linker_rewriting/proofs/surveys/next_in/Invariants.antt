@@ -1,6 +1,4 @@
-use Rattle.std.proofs.Common.{ℕ, ◌≤◌, ◌<◌}
-use Rattle.linker_rewriting.specs.Inner.RelocationTypes.{KeepsNone}
-use Rattle.linker_rewriting.proofs.Imports.{relocation_in}
+use Rattle.linker_rewriting.proofs.Imports.{KeepsNone, relocation_in, ℕ, ◌<◌, ◌≤◌}
 use Rattle.linker_rewriting.proofs.surveys.next_in.Given as goal
 
 abbrev pub invariant-loop-index : goal.invariant-loop-index

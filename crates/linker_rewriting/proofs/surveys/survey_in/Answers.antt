@@ -1,8 +1,6 @@
-use Rattle.std.proofs.Common.{◌+◌, subst}
+use Rattle.linker_rewriting.proofs.Imports.{AreKeptToo, IsGroupOf, IsKeeping, IsUnmarked, context_of, subst, ◌+◌}
 use Rattle.linker_rewriting.proofs.Surveying.{more_surveyed, none_surveyed}
 use Rattle.linker_rewriting.proofs.Untouched.{left_between}
-use Rattle.linker_rewriting.specs.Facts.{context_of}
-use Rattle.linker_rewriting.specs.Surveys.{AreKeptToo, IsGroupOf, IsKeeping, IsUnmarked}
 use Rattle.linker_rewriting.proofs.surveys.survey_in.Goals as goal
 
 pub loop-index-preserved : goal.loop-index-preserved

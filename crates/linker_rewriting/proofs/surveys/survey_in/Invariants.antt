@@ -1,6 +1,4 @@
-use Rattle.std.proofs.Common.{◌≤◌, ◌/◌, ◌-◌, length}
-use Rattle.linker_rewriting.specs.Facts.{context_of}
-use Rattle.linker_rewriting.specs.Surveys.{IsSurveyedIn}
+use Rattle.linker_rewriting.proofs.Imports.{IsSurveyedIn, context_of, length, ◌-◌, ◌/◌, ◌≤◌}
 use Rattle.linker_rewriting.proofs.surveys.survey_in.Given as goal
 
 abbrev pub invariant-loop-index : goal.invariant-loop-index

@@ -1,7 +1,4 @@
-use Rattle.std.proofs.Common.{◌∙◌, ap, subst, false}
-use Rattle.linker_rewriting.specs.Candidates.{IsCandidateWith}
-use Rattle.linker_rewriting.specs.Facts.{context_of, link_facts}
-use Rattle.linker_rewriting.proofs.Imports.{relocation_in}
+use Rattle.linker_rewriting.proofs.Imports.{IsCandidateWith, ap, context_of, false, link_facts, relocation_in, subst, ◌∙◌}
 use Rattle.linker_rewriting.proofs.toc_indirection.load_candidate.Goals as goal
 
 pub returns-clause-candidate : goal.returns-clause-candidate

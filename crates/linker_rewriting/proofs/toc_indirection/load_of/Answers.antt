@@ -1,6 +1,4 @@
-use Rattle.std.proofs.Common.{◌∙◌, inr, None, sym, subst}
-use Rattle.linker_rewriting.specs.RiscVPcrelGroups.{IsHighAt, IsHighFrom}
-use Rattle.linker_rewriting.specs.TocIndirection.{word_r_type}
+use Rattle.linker_rewriting.proofs.Imports.{IsHighAt, IsHighFrom, None, inr, subst, sym, word_r_type, ◌∙◌}
 use Rattle.linker_rewriting.proofs.toc_indirection.load_of.Goals as goal
 
 pub returns-in-None-clause-load : goal.returns-in-None-clause-load

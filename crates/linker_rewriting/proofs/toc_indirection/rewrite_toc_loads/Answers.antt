@@ -1,11 +1,6 @@
-use Rattle.std.proofs.Common.{◌/◌, length, map, arith}
-use Rattle.std.proofs.lemmas.Result.{err_from_is_err_and}
-use Rattle.linker_rewriting.specs.Numbers.{decision_in}
-use Rattle.linker_rewriting.proofs.Imports.{length-map}
+use Rattle.linker_rewriting.proofs.Imports.{AreLoadsRejected, arith, context_of, decision_in, err_from_is_err_and, length, length-map, map, ◌/◌}
 use Rattle.linker_rewriting.proofs.Rejected.{rejected_first}
 use Rattle.linker_rewriting.proofs.WholeWords.{whole, means_unsurveyed}
-use Rattle.linker_rewriting.specs.Facts.{context_of}
-use Rattle.linker_rewriting.specs.TocIndirection.{AreLoadsRejected}
 use Rattle.linker_rewriting.proofs.toc_indirection.rewrite_toc_loads.Goals as goal
 
 pub returns : goal.returns

@@ -1,7 +1,5 @@
-use Rattle.std.proofs.Common.{subst}
+use Rattle.linker_rewriting.proofs.Imports.{IsKeepingWord, KeepsWord, context_of, subst}
 use Rattle.linker_rewriting.proofs.WordsNoted.{more_words}
-use Rattle.linker_rewriting.specs.Facts.{context_of}
-use Rattle.linker_rewriting.specs.TocIndirection.{IsKeepingWord, KeepsWord}
 use Rattle.linker_rewriting.proofs.toc_indirection.survey_toc_loads.Goals as goal
 
 pub loop-index-preserved : goal.loop-index-preserved

@@ -1,5 +1,4 @@
-use Rattle.linker_rewriting.specs.Facts.{context_of}
-use Rattle.linker_rewriting.specs.TocIndirection.{AreLoadsSurveyed}
+use Rattle.linker_rewriting.proofs.Imports.{AreLoadsSurveyed, context_of}
 use Rattle.linker_rewriting.proofs.toc_indirection.survey_toc_loads.Given as goal
 
 abbrev pub invariant-loop-index : goal.invariant-loop-index

@@ -1,6 +1,4 @@
-use Rattle.std.proofs.Common.{◌+◌, ◌-◌, ◌<◌, ◌≤◌, arith, length, rules, subst}
-use borrow.Rule.Slice.PartMut.{put_mid}
-use Rattle.linker_riscv64.specs.RiscVCalls.{JumpsAndLinks}
+use Rattle.linker_riscv64.proofs.Imports.{JumpsAndLinks, arith, length, put_mid, rules, subst, ◌+◌, ◌-◌, ◌<◌, ◌≤◌}
 use Rattle.linker_riscv64.proofs.CallSites.{four_of, register_small}
 use Rattle.linker_riscv64.proofs.Jumps.{jal_jumps}
 use Rattle.linker_riscv64.proofs.calls.jal_site_with.Goals as goal

@@ -1,6 +1,4 @@
-use Rattle.std.proofs.Common.{◌+◌, ◌≤◌, arith, length, rules, w64, FitsSigned}
-use Rattle.std.proofs.lemmas.Int.{ints}
-use Rattle.linker_base.specs.Deltas.{deletions_of}
+use Rattle.linker_riscv64.proofs.Imports.{FitsSigned, arith, deletions_of, ints, length, rules, w64, ◌+◌, ◌≤◌}
 use Rattle.linker_riscv64.proofs.CallSites.{distance_is, four_of}
 use Rattle.linker_riscv64.proofs.calls.jump_of.Goals as goal
 

@@ -1,5 +1,5 @@
 -- What `relax_call_over` says, of the view's deletions.
-use Rattle.std.proofs.Common.{sym}
+use Rattle.linker_riscv64.proofs.Imports.{sym}
 use Rattle.linker_riscv64.proofs.calls.relax_call.Goals as goal
 
 pub returns : goal.returns

@@ -1,10 +1,4 @@
-use Rattle.std.proofs.Common.{◌≡◌, ◌+◌, ◌≤◌, ◌∙◌, ℤ, arith, length, rules, subst, Err, IsOk, ◌↔◌, w64, FitsSigned, to_z, of_z}
-use Rattle.std.specs.Prelude.{OnOk}
-use Rattle.std.proofs.lemmas.Int.{ints, to_z-of_z}
-use Rattle.linker_base.specs.Deltas.{deletions_of}
-use Rattle.linker_riscv64.specs.RiscVCalls.{IsEven, IsJalDistance, JumpsAt}
-use Rattle.linker_riscv64.specs.declared.calls.CallError.TheVariants.{OddDistance, SiteDeleted, TooFar}
-use Rattle.linker_riscv64.specs.declared.calls.LinkRegister.TheVariants.{OfAuipc}
+use Rattle.linker_riscv64.proofs.Imports.{Err, FitsSigned, IsEven, IsJalDistance, IsOk, JumpsAt, OddDistance, OfAuipc, OnOk, SiteDeleted, TooFar, arith, deletions_of, ints, length, of_z, rules, subst, to_z, to_z-of_z, w64, ℤ, ◌+◌, ◌↔◌, ◌∙◌, ◌≡◌, ◌≤◌}
 use Rattle.linker_riscv64.proofs.Packed.{jal_rejected}
 use Rattle.linker_riscv64.proofs.calls.relax_call_over.Goals as goal
 

@@ -1,8 +1,4 @@
-use Rattle.std.proofs.Common.{◌+◌, subst}
-use Rattle.std.specs.Prelude.{◌↔◌, IsTrue}
-use Rattle.std.proofs.lemmas.List.{map-id}
-use Rattle.linker_base.proofs.Merging.{none_decides}
-use Rattle.linker_riscv64.specs.Packing.{AreApart}
+use Rattle.linker_riscv64.proofs.Imports.{AreApart, IsTrue, map-id, none_decides, subst, ◌+◌, ◌↔◌}
 use Rattle.linker_riscv64.proofs.Packed.{apart_take}
 use Rattle.linker_riscv64.proofs.packing.calls_apart.Goals as goal
 

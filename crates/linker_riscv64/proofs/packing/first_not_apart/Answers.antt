@@ -1,5 +1,4 @@
-use Rattle.std.proofs.Common.{◌≡◌, ◌-◌, ◌<◌, ◌∙◌, ap, sym, arith, length, map, get_or}
-use Rattle.std.proofs.lemmas.List.{get_or-map, length-map}
+use Rattle.linker_riscv64.proofs.Imports.{ap, arith, get_or, get_or-map, length, length-map, map, sym, ◌-◌, ◌<◌, ◌∙◌, ◌≡◌}
 use Rattle.linker_riscv64.proofs.Packed.{apart_more, apart_taken, not_apart}
 use Rattle.linker_riscv64.proofs.packing.first_not_apart.Goals as goal
 

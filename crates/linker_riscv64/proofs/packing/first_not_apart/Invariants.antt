@@ -1,5 +1,4 @@
-use Rattle.std.proofs.Common.{map}
-use Rattle.linker_riscv64.specs.Inner.Packing.{AreApartTo}
+use Rattle.linker_riscv64.proofs.Imports.{AreApartTo, map}
 use Rattle.linker_riscv64.proofs.packing.first_not_apart.Given as goal
 
 abbrev pub invariant-loop-index : goal.invariant-loop-index

@@ -1,7 +1,4 @@
-use Rattle.std.proofs.Common.{◌≡◌, ◌+◌, ◌-◌, ◌∙◌, ap, arith, length, map, refl}
-use Rattle.linker_base.specs.Blocks.{View}
-use Rattle.linker_base.specs.Deletions.{rank}
-use Rattle.linker_base.specs.Deltas.{deletions_of}
+use Rattle.linker_riscv64.proofs.Imports.{View, ap, arith, deletions_of, length, map, rank, refl, ◌+◌, ◌-◌, ◌∙◌, ◌≡◌}
 use Rattle.linker_riscv64.proofs.Packed.{packed_over}
 use Rattle.linker_riscv64.proofs.packing.pack_into.Goals as goal
 

@@ -1,12 +1,4 @@
-use Rattle.std.proofs.Common.{◌≡◌, ◌+◌, ◌-◌, ◌++◌, ◌∙◌, ap, arith, drop, get_or, length, map, refl, subst, sym, take}
-use Rattle.std.specs.Prelude.{All}
-use Rattle.std.proofs.lemmas.List.{map-id, take_at}
-use Rattle.linker_base.specs.Deletions.{rank}
-use Rattle.linker_base.specs.Deltas.{deletions_of}
-use Rattle.linker_base.specs.Inner.Packing.{IsFilled}
-use Rattle.linker_base.specs.Listed.{AreValidDeltas}
-use Rattle.linker_riscv64.specs.Packing.{AreApart, CanJump, IsPacked, IsRejected}
-use Rattle.linker_riscv64.specs.declared.calls.LinkRegister.TheVariants.{OfAuipc}
+use Rattle.linker_riscv64.proofs.Imports.{All, AreApart, AreValidDeltas, CanJump, IsFilled, IsPacked, IsRejected, OfAuipc, ap, arith, deletions_of, drop, get_or, length, map, map-id, rank, refl, subst, sym, take, take_at, ◌++◌, ◌+◌, ◌-◌, ◌∙◌, ◌≡◌}
 use Rattle.linker_riscv64.proofs.packing.pack_section.Goals as goal
 
 pub unreachable-requires : goal.unreachable-requires

@@ -1,11 +1,5 @@
-use Rattle.std.proofs.Common.{◌≡◌, ◌+◌, ◌-◌, ◌≤◌, ◌∙◌, ap, take, drop, length, refl, arith, rules, sym, subst, w64, FitsSigned, to_z, of_z}
-use Rattle.std.proofs.lemmas.Bool.{false≢true}
-use Rattle.std.proofs.lemmas.Int.{ints, to_z-of_z}
-use Rattle.std.proofs.lemmas.List.{length-take, length-drop}
+use Rattle.linker_riscv64.proofs.Imports.{FitsSigned, IsEven, IsJalDistance, JumpsAndLinks, ap, arith, call_len, deletions_of, drop, false≢true, ints, length, length-drop, length-take, link_register, of_z, rank, refl, rules, subst, sym, take, to_z, to_z-of_z, w64, ◌+◌, ◌-◌, ◌∙◌, ◌≡◌, ◌≤◌}
 use Rattle.std.proofs.lemmas.Result.{err_from_is_err_and}
-use Rattle.linker_base.specs.Deletions.{rank}
-use Rattle.linker_base.specs.Deltas.{deletions_of}
-use Rattle.linker_riscv64.specs.RiscVCalls.{call_len, link_register, IsEven, IsJalDistance, JumpsAndLinks}
 use Rattle.linker_riscv64.proofs.CallSites.{four_of, site_fits}
 use Rattle.linker_riscv64.proofs.Packed.{jal_rejected, jump_put}
 use Rattle.linker_riscv64.proofs.packing.put_call.Goals as goal

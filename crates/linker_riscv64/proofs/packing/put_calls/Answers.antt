@@ -1,7 +1,4 @@
-use Rattle.std.proofs.Common.{◌≡◌, ℕ, ◌<◌, ◌∙◌, ap, sym, subst, arith, length, map, get_or}
-use Rattle.std.proofs.lemmas.List.{get_or-map, length-map, get_or-take, get_or_default, length-take}
-use Rattle.linker_base.specs.Deltas.{deletions_of}
-use Rattle.linker_riscv64.specs.Packing.{CanJump, IsRejected}
+use Rattle.linker_riscv64.proofs.Imports.{CanJump, IsRejected, ap, arith, deletions_of, get_or, get_or-map, get_or-take, get_or_default, length, length-map, length-take, map, subst, sym, ℕ, ◌<◌, ◌∙◌, ◌≡◌}
 use Rattle.linker_riscv64.proofs.Packed.{calls_more, calls_start, calls_step, calls_end}
 use Rattle.linker_riscv64.proofs.packing.put_calls.Goals as goal
 

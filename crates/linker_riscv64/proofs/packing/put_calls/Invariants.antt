@@ -1,10 +1,4 @@
-use Rattle.std.proofs.Common.{ℕ, ◌≡◌, ◌<◌, map, length, get_or}
-use Rattle.linker_base.specs.Blocks.{IsValidView}
-use Rattle.linker_base.specs.Deletions.{rank}
-use Rattle.linker_base.specs.Deltas.{deletions_of}
-use Rattle.linker_base.specs.Inner.Packing.{IsFilled}
-use Rattle.linker_riscv64.specs.Packing.{AreApart, CanJump}
-use Rattle.linker_riscv64.specs.Inner.Packing.{IsPackedTo}
+use Rattle.linker_riscv64.proofs.Imports.{AreApart, CanJump, IsFilled, IsPackedTo, IsValidView, deletions_of, get_or, length, map, rank, ℕ, ◌<◌, ◌≡◌}
 use Rattle.linker_riscv64.proofs.packing.put_calls.Given as goal
 
 -- the calls so far can become jumps, and they are jumps

@@ -1,5 +1,4 @@
-use Rattle.std.proofs.Common.{◌≡◌, ℕ, ◌+◌, ◌-◌, ◌<◌, ◌≤◌, ◌∙◌, ap, sym, subst, arith, length, map, get_or}
-use Rattle.std.proofs.lemmas.List.{get_or-map, length-map}
+use Rattle.linker_riscv64.proofs.Imports.{ap, arith, get_or, get_or-map, length, length-map, map, subst, sym, ℕ, ◌+◌, ◌-◌, ◌<◌, ◌∙◌, ◌≡◌, ◌≤◌}
 use Rattle.linker_riscv64.proofs.Shrunk.{none_around}
 use Rattle.linker_riscv64.proofs.shrinking.call_around.Goals as goal
 

@@ -1,4 +1,4 @@
-use Rattle.std.proofs.Common.{nat_lt, arith, rules}
+use Rattle.linker_riscv64.proofs.Imports.{arith, nat_lt, rules}
 use Rattle.std.proofs.lemmas.List.Sorted.{IsPartitionPoint-from_clause, IsPartitionedBy-ltb}
 use Rattle.linker_riscv64.proofs.Shrunk.{sites_rise, split_by_test}
 use Rattle.linker_riscv64.proofs.shrinking.calls_below.Goals as goal

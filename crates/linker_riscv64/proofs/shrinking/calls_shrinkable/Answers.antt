@@ -1,11 +1,4 @@
-use Rattle.std.proofs.Common.{◌+◌, subst, sym}
-use Rattle.std.specs.Prelude.{◌↔◌, IsTrue}
-use Rattle.std.proofs.lemmas.List.{map-id}
-use Rattle.linker_base.specs.Deletions.{IsValid}
-use Rattle.linker_base.specs.Deltas.{RecordsDeletions, deletions_of}
-use Rattle.linker_base.specs.Listed.{AreValidDeltas}
-use Rattle.linker_base.proofs.Merging.{none_decides}
-use Rattle.linker_riscv64.specs.Shrinking.{AreShrinkable}
+use Rattle.linker_riscv64.proofs.Imports.{AreShrinkable, AreValidDeltas, IsTrue, IsValid, RecordsDeletions, deletions_of, map-id, none_decides, subst, sym, ◌+◌, ◌↔◌}
 use Rattle.linker_riscv64.proofs.Shrunk.{shrinkable_taken}
 use Rattle.linker_riscv64.proofs.shrinking.calls_shrinkable.Goals as goal
 

@@ -1,6 +1,4 @@
-use Rattle.std.proofs.Common.{◌<◌, arith, length, subst}
-use Rattle.std.specs.Prelude.{All}
-use Rattle.std.proofs.lemmas.List.{take_all}
+use Rattle.linker_riscv64.proofs.Imports.{All, arith, length, subst, take_all, ◌<◌}
 use Rattle.linker_riscv64.proofs.Shrunk.{chosen_more, written_more}
 use Rattle.linker_riscv64.proofs.shrinking.choose_all.Goals as goal
 

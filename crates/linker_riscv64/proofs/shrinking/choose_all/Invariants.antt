@@ -1,6 +1,4 @@
-use Rattle.std.proofs.Common.{ℕ, ◌<◌, map, take}
-use Rattle.std.specs.Prelude.{All}
-use Rattle.linker_riscv64.specs.Shrinking.{IsChosen}
+use Rattle.linker_riscv64.proofs.Imports.{All, IsChosen, map, take, ℕ, ◌<◌}
 use Rattle.linker_riscv64.proofs.shrinking.choose_all.Given as goal
 
 abbrev pub invariant-loop-choice : goal.invariant-loop-choice

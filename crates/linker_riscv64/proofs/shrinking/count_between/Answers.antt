@@ -1,6 +1,4 @@
-use Rattle.std.proofs.Common.{◌≡◌, ◌-◌, ◌<◌, ◌∙◌, ap, sym, arith, false, length, map, get_or, take, drop}
-use Rattle.std.proofs.lemmas.List.{get_or-map, length-map, take-map, drop-map, take_all}
-use Rattle.linker_riscv64.specs.Inner.Shrinking.{chosen_count}
+use Rattle.linker_riscv64.proofs.Imports.{ap, arith, chosen_count, drop, drop-map, false, get_or, get_or-map, length, length-map, map, sym, take, take-map, take_all, ◌-◌, ◌<◌, ◌∙◌, ◌≡◌}
 use Rattle.linker_riscv64.proofs.Shrunk.{count_more}
 use Rattle.linker_riscv64.proofs.shrinking.count_between.Goals as goal
 

@@ -1,5 +1,4 @@
-use Rattle.std.proofs.Common.{◌≡◌, map, take}
-use Rattle.linker_riscv64.specs.Inner.Shrinking.{chosen_count}
+use Rattle.linker_riscv64.proofs.Imports.{chosen_count, map, take, ◌≡◌}
 use Rattle.linker_riscv64.proofs.shrinking.count_between.Given as goal
 
 abbrev pub invariant-loop-choice : goal.invariant-loop-choice

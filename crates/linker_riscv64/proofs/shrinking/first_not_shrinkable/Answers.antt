@@ -1,8 +1,4 @@
-use Rattle.std.proofs.Common.{◌≡◌, ◌<◌, ◌≤◌, sym, subst, arith, length, map, take}
-use Rattle.std.proofs.lemmas.List.{length-map, take-map, take_all}
-use Rattle.linker_base.specs.Deltas.{deletions_of}
-use Rattle.linker_riscv64.specs.Shrinking.{AreShrinkable}
-use Rattle.linker_riscv64.specs.Inner.Shrinking.{AreEightApart}
+use Rattle.linker_riscv64.proofs.Imports.{AreEightApart, AreShrinkable, arith, deletions_of, length, length-map, map, subst, sym, take, take-map, take_all, ◌<◌, ◌≡◌, ◌≤◌}
 use Rattle.linker_riscv64.proofs.Shrunk.{shrinkable_first, not_shrinkable_next}
 use Rattle.linker_riscv64.proofs.shrinking.first_not_shrinkable.Goals as goal
 

@@ -1,6 +1,4 @@
-use Rattle.std.proofs.Common.{◌≡◌, ◌-◌, ◌<◌, ◌∙◌, ap, sym, arith, length, map, get_or}
-use Rattle.std.proofs.lemmas.Bool.{le-leb, leb-true}
-use Rattle.std.proofs.lemmas.List.{get_or-map, get_or_default, length-map}
+use Rattle.linker_riscv64.proofs.Imports.{ap, arith, get_or, get_or-map, get_or_default, le-leb, leb-true, length, length-map, map, sym, ◌-◌, ◌<◌, ◌∙◌, ◌≡◌}
 use Rattle.linker_riscv64.proofs.shrinking.is_apart.Goals as goal
 
 pub returns : goal.returns

@@ -1,11 +1,4 @@
-use Rattle.std.proofs.Common.{◌≡◌, ◌-◌, ◌<◌, ◌≤◌, ◌∙◌, ap, sym, refl, arith, false, length, map, get_or, rules}
-use Rattle.std.specs.Prelude.{min, max}
-use Rattle.std.proofs.lemmas.Bool.{both_ways, false≢true}
-use Rattle.std.proofs.lemmas.List.{get_or-map, length-map}
-use Rattle.linker_base.specs.Blocks.{View}
-use Rattle.linker_base.specs.Deletions.{rank}
-use Rattle.linker_base.specs.Deltas.{deletions_of}
-use Rattle.linker_riscv64.specs.Inner.Shrinking.{distance_over}
+use Rattle.linker_riscv64.proofs.Imports.{View, ap, arith, both_ways, deletions_of, distance_over, false, false≢true, get_or, get_or-map, length, length-map, map, max, min, rank, refl, rules, sym, ◌-◌, ◌<◌, ◌∙◌, ◌≡◌, ◌≤◌}
 use Rattle.linker_riscv64.proofs.Shrunk.{at_index, distance_over-is, near_enough, too_far}
 use Rattle.linker_riscv64.proofs.shrinking.is_in_reach.Goals as goal
 

@@ -1,5 +1,4 @@
-use Rattle.std.proofs.Common.{arith}
-use Rattle.std.proofs.lemmas.List.{length-map}
+use Rattle.linker_riscv64.proofs.Imports.{arith, length-map}
 use Rattle.linker_riscv64.proofs.shrinking.shrink_calls_into.Goals as goal
 
 pub loop-runs-preserved : goal.loop-runs-preserved

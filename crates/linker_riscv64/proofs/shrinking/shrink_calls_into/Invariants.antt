@@ -1,9 +1,4 @@
-use Rattle.std.proofs.Common.{◌≡◌, Bool, List, length, map}
-use Rattle.std.specs.Prelude.{All}
-use Rattle.linker_base.specs.Deltas.{deletions_of}
-use Rattle.linker_base.specs.Listed.{AreValidDeltas}
-use Rattle.linker_riscv64.specs.Shrinking.{AreInReach, IsPartOf}
-use Rattle.linker_riscv64.specs.Inner.Shrinking.{AreRunsOf, chosen_count}
+use Rattle.linker_riscv64.proofs.Imports.{All, AreInReach, AreRunsOf, AreValidDeltas, Bool, IsPartOf, List, chosen_count, deletions_of, length, map, ◌≡◌}
 use Rattle.linker_riscv64.proofs.shrinking.shrink_calls_into.Given as goal
 
 abbrev pub invariant-loop-runs : goal.invariant-loop-runs

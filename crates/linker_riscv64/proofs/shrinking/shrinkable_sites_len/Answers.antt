@@ -1,7 +1,4 @@
-use Rattle.std.proofs.Common.{◌≡◌, ◌<◌, ◌∙◌, ap, sym, arith, length, map, get_or, rules, true, false}
-use Rattle.std.proofs.lemmas.Bool.{both_ways}
-use Rattle.std.proofs.lemmas.List.{get_or-map, length-map}
-use Rattle.linker_base.specs.Deltas.{deletions_of}
+use Rattle.linker_riscv64.proofs.Imports.{ap, arith, both_ways, deletions_of, false, get_or, get_or-map, length, length-map, map, rules, sym, true, ◌<◌, ◌∙◌, ◌≡◌}
 use Rattle.linker_riscv64.proofs.Shrunk.{sites_more, apart_there, kept_there, beside_there}
 use Rattle.linker_riscv64.proofs.shrinking.shrinkable_sites_len.Goals as goal
 use Rattle.linker_riscv64.proofs.shrinking.shrinkable_sites_len.Goals.{then-not-is_apart-via-then-not-is_apart, then-not-is_apart-via-else-not-is_apart+then-not-is_shrinkable_site}

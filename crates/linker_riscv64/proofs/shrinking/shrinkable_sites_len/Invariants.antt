@@ -1,7 +1,4 @@
-use Rattle.std.proofs.Common.{map, take}
-use Rattle.linker_base.specs.Deltas.{deletions_of}
-use Rattle.linker_base.specs.Listed.{AreValidDeltas}
-use Rattle.linker_riscv64.specs.Inner.Shrinking.{HaveShrinkableSites}
+use Rattle.linker_riscv64.proofs.Imports.{AreValidDeltas, HaveShrinkableSites, deletions_of, map, take}
 use Rattle.linker_riscv64.proofs.shrinking.shrinkable_sites_len.Given as goal
 
 abbrev pub invariant-loop-index : goal.invariant-loop-index

@@ -1,7 +1,4 @@
-use Rattle.std.proofs.Common.{◌≡◌, ◌<◌, ◌≤◌, ◌∙◌, ap, sym, subst, arith, length, map, get_or, ℕ}
-use Rattle.std.specs.Prelude.{min, max}
-use Rattle.std.proofs.lemmas.List.{get_or-map, length-map}
-use Rattle.linker_riscv64.specs.Inner.Shrinking.{AreClear}
+use Rattle.linker_riscv64.proofs.Imports.{AreClear, ap, arith, get_or, get_or-map, length, length-map, map, max, min, subst, sym, ℕ, ◌<◌, ◌∙◌, ◌≡◌, ◌≤◌}
 use Rattle.linker_riscv64.proofs.Shrunk.{clear_more, clear_on, hit_more, targets_first, not_targets}
 use Rattle.linker_riscv64.proofs.shrinking.shrinkable_targets_len.Goals as goal
 use Rattle.linker_riscv64.proofs.shrinking.shrinkable_targets_len.Goals.{in-Some, in_default}

@@ -1,5 +1,4 @@
-use Rattle.std.proofs.Common.{◌<◌, ◌≤◌, length, map}
-use Rattle.linker_riscv64.specs.Inner.Shrinking.{AreEightApart, AreClear, HaveHit}
+use Rattle.linker_riscv64.proofs.Imports.{AreClear, AreEightApart, HaveHit, length, map, ◌<◌, ◌≤◌}
 use Rattle.linker_riscv64.proofs.shrinking.shrinkable_targets_len.Given as goal
 
 abbrev pub invariant-loop-index : goal.invariant-loop-index

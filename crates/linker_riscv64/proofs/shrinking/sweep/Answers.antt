@@ -1,10 +1,4 @@
-use Rattle.std.proofs.Common.{◌≡◌, ◌+◌, ◌-◌, ◌<◌, ◌∙◌, ℕ, ap, sym, subst, arith, false, true, cond, length, map, get_or, inl, inr}
-use Rattle.std.specs.Prelude.{Bool, List, ◌⊎◌}
-use Rattle.std.proofs.lemmas.Bool.{both_ways, cases_lt, false≢true}
-use Rattle.std.proofs.lemmas.List.{get_or-map, length-map}
-use Rattle.linker_base.specs.Deltas.{deletions_of}
-use Rattle.linker_riscv64.specs.Shrinking.{IsChosen}
-use Rattle.linker_riscv64.specs.Inner.Shrinking.{chosen_count, HadTurn, IsInReachAt, KeepsOthers}
+use Rattle.linker_riscv64.proofs.Imports.{Bool, HadTurn, IsChosen, IsInReachAt, KeepsOthers, List, ap, arith, both_ways, cases_lt, chosen_count, cond, deletions_of, false, false≢true, get_or, get_or-map, inl, inr, length, length-map, map, subst, sym, true, ℕ, ◌+◌, ◌-◌, ◌<◌, ◌∙◌, ◌≡◌, ◌⊎◌}
 use Rattle.linker_riscv64.proofs.Shrunk.{drop_keeps, count_dropped}
 use Rattle.linker_riscv64.proofs.shrinking.sweep.Goals as goal
 use Rattle.linker_riscv64.proofs.shrinking.sweep.Goals.{then-down, else-down, then-as_choice+then-not-is_in_reach, else-as_choice, else-as_choice-via-then-as_choice+else-not-is_in_reach, else-as_choice-via-else-as_choice}

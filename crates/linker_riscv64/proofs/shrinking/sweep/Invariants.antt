@@ -1,9 +1,4 @@
-use Rattle.std.proofs.Common.{◌≡◌, ℕ, ◌<◌, ◌≤◌, true, false, length, map}
-use Rattle.std.specs.Prelude.{All}
-use Rattle.linker_base.specs.Deltas.{deletions_of}
-use Rattle.linker_base.specs.Listed.{AreValidDeltas}
-use Rattle.linker_riscv64.specs.Shrinking.{AreShrinkable, IsChosen}
-use Rattle.linker_riscv64.specs.Inner.Shrinking.{AreRunsOf, chosen_count, HadTurn, IsInReachAt, KeepsOthers}
+use Rattle.linker_riscv64.proofs.Imports.{All, AreRunsOf, AreShrinkable, AreValidDeltas, HadTurn, IsChosen, IsInReachAt, KeepsOthers, chosen_count, deletions_of, false, length, map, true, ℕ, ◌<◌, ◌≡◌, ◌≤◌}
 use Rattle.linker_riscv64.proofs.shrinking.sweep.Given as goal
 
 abbrev pub invariant-loop-turn : goal.invariant-loop-turn

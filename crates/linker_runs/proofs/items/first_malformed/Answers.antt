@@ -1,4 +1,4 @@
-use Rattle.linker_runs.proofs.Imports.{map, subst, sym, below_more, arith, both_ways, length-map, relocation_at}
+use Rattle.linker_runs.proofs.Imports.{arith, below_more, both_ways, length-map, map, relocation_at, subst, sym}
 use Rattle.linker_runs.specs.SectionItems.{IsFormed}
 use Rattle.linker_runs.proofs.items.first_malformed.Goals as goal
 

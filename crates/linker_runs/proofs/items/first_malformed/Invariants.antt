@@ -1,4 +1,4 @@
-use Rattle.linker_runs.proofs.Imports.{map, AreWellFormed}
+use Rattle.linker_runs.proofs.Imports.{AreWellFormed, map}
 use Rattle.linker_runs.specs.SectionItems.{IsFormed}
 use Rattle.linker_runs.proofs.items.first_malformed.Given as goal
 

@@ -1,4 +1,4 @@
-use Rattle.linker_runs.proofs.Imports.{◌∙◌, ap, sym, get_or-map, no_relocation}
+use Rattle.linker_runs.proofs.Imports.{ap, get_or-map, no_relocation, sym, ◌∙◌}
 use Rattle.linker_runs.proofs.items.relocation_at.Goals as goal
 
 pub returns : goal.returns

@@ -1,8 +1,4 @@
-use Rattle.linker_runs.proofs.Imports.{ℕ, List, ◌∙◌, ◌++◌, ◌∷◌, [], map_push, ap, map, arith, subst, inl, MatchOption, Item, Relocation, Makes}
-use Rattle.std.specs.Prelude.{All}
-use Rattle.std.proofs.Common.{sym}
-use Rattle.std.proofs.lemmas.List.Elements.{All-append, All-cons, All-nil}
-use Rattle.linker_runs.specs.Relaxing.{item_of, items_in, HasKind}
+use Rattle.linker_runs.proofs.Imports.{All, All-append, All-cons, All-nil, HasKind, Item, List, Makes, MatchOption, Relocation, [], ap, arith, inl, item_of, items_in, map, map_push, subst, sym, ℕ, ◌++◌, ◌∙◌, ◌∷◌}
 use Rattle.linker_runs.proofs.Alignments.{ahead_on}
 use Rattle.linker_runs.proofs.Made.{made_none, made_less, made_more}
 use Rattle.linker_runs.proofs.items.section_items.Goals as goal

@@ -1,6 +1,4 @@
-use Rattle.linker_runs.proofs.Imports.{map, MayBeAhead, AreMade, Makes}
-use Rattle.std.specs.Prelude.{All}
-use Rattle.linker_runs.specs.Relaxing.{items_in, HasKind}
+use Rattle.linker_runs.proofs.Imports.{All, AreMade, HasKind, Makes, MayBeAhead, items_in, map}
 use Rattle.linker_runs.proofs.items.section_items.Given as goal
 
 -- the items so far are those of the relocations so far

@@ -1,5 +1,4 @@
-use Rattle.linker_runs.proofs.Imports.{ℕ, inl, List, map, arith, subst, sym, MatchOption, Item, Relocation, Makes}
-use Rattle.linker_runs.specs.Relaxing.{item_of, HasKind}
+use Rattle.linker_runs.proofs.Imports.{HasKind, Item, List, Makes, MatchOption, Relocation, arith, inl, item_of, map, subst, sym, ℕ}
 use Rattle.linker_runs.proofs.Alignments.{ahead_on}
 use Rattle.linker_runs.proofs.Made.{put_none, put_less, put_more}
 use Rattle.linker_runs.proofs.items.section_items_into.Goals as goal

@@ -1,5 +1,4 @@
-use Rattle.linker_runs.proofs.Imports.{map, MayBeAhead, Makes}
-use Rattle.linker_runs.specs.Relaxing.{item_of, HasKind}
+use Rattle.linker_runs.proofs.Imports.{HasKind, Makes, MayBeAhead, item_of, map}
 use Rattle.linker_runs.proofs.Made.{ArePut}
 use Rattle.linker_runs.proofs.items.section_items_into.Given as goal
 

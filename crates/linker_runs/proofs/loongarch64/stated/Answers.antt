@@ -1,4 +1,4 @@
-use Rattle.linker_runs.proofs.Imports.{◌≡◌, ◌-◌, ◌*◌, ◌≤◌, ◌<◌, ◌^◌, ◌/◌, ◌%◌, ℕ, Bool, true, rules, arith, subst, sym, ap, ◌∙◌, pow_mono, mod-eq_of_lt, AreStated}
+use Rattle.linker_runs.proofs.Imports.{AreStated, Bool, ap, arith, mod-eq_of_lt, pow_mono, rules, subst, sym, true, ℕ, ◌%◌, ◌*◌, ◌-◌, ◌/◌, ◌<◌, ◌^◌, ◌∙◌, ◌≡◌, ◌≤◌}
 use Rattle.linker_runs.proofs.loongarch64.stated.Goals as goal
 use Rattle.linker_runs.proofs.loongarch64.stated.Goals.{then-exponent-lt2-via-then-exponent-lt2, then-exponent-lt2-via-else-exponent-lt2+then-exponent-gt32}
 

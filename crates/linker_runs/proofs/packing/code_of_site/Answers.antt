@@ -1,4 +1,4 @@
-use Rattle.linker_runs.proofs.Imports.{◌≡◌, ◌+◌, ◌-◌, ◌∙◌, ◌%◌, ◌^◌, ℕ, List, Result, Ok, Err, OnOk, IfOk, IfErr, ap, sym, subst, deletions_of, IsPosition, rank, RiscVBecomes, RiscVAccepts, RiscVCause, LoongArchBecomes, LoongArchAccepts, LoongArchCause, section_of, Section, CodeCause, SiteBecomes, SiteAccepts, SiteCause, address_of, code_bytes, ItemError, NotItsInstructions, Machine, RiscV, LoongArch64}
+use Rattle.linker_runs.proofs.Imports.{CodeCause, Err, IfErr, IfOk, IsPosition, ItemError, List, LoongArch64, LoongArchAccepts, LoongArchBecomes, LoongArchCause, Machine, NotItsInstructions, Ok, OnOk, Result, RiscV, RiscVAccepts, RiscVBecomes, RiscVCause, Section, SiteAccepts, SiteBecomes, SiteCause, address_of, ap, code_bytes, deletions_of, rank, section_of, subst, sym, ℕ, ◌%◌, ◌+◌, ◌-◌, ◌^◌, ◌∙◌, ◌≡◌}
 use Rattle.std.proofs.lemmas.Result.{IfErr-weaker}
 use Rattle.linker_base.specs.declared.packing.Position.{Position}
 use Rattle.linker_base.specs.declared.relaxation.RelaxDelta.{RelaxDelta}

@@ -1,4 +1,4 @@
-use Rattle.linker_runs.proofs.Imports.{[], sym, ◌∙◌, arith, false≢true, RiscV, LoongArch64, ◌≡◌, ℕ, ◌+◌, ◌-◌, ◌≤◌, ◌↔◌, Bool, false, List, length, subst, IsTrue, Item, Site, HasShapes, HasItsInstructions, section_of, IsInside, Machine}
+use Rattle.linker_runs.proofs.Imports.{Bool, HasItsInstructions, HasShapes, IsInside, IsTrue, Item, List, LoongArch64, Machine, RiscV, Site, [], arith, false, false≢true, length, section_of, subst, sym, ℕ, ◌+◌, ◌-◌, ◌↔◌, ◌∙◌, ◌≡◌, ◌≤◌}
 use Rattle.linker_runs.proofs.packing.has_its_instructions.Goals as goal
 use Rattle.linker_runs.proofs.packing.has_its_instructions.Goals.{then-site-ne8-via-then-site-ne8, then-site-ne8-via-else-site-ne8+then-not-is_inside}
 use Rattle.linker_runs.specs.declared.relaxation.Site.{Site as sites}

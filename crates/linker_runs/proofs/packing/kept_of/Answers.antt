@@ -1,4 +1,4 @@
-use Rattle.linker_runs.proofs.Imports.{◌≡◌, ◌+◌, ◌∙◌, ap, arith, deletions_of, rank_steps, rank, offset_of, len_of, end_of, kept_len}
+use Rattle.linker_runs.proofs.Imports.{ap, arith, deletions_of, end_of, kept_len, len_of, offset_of, rank, rank_steps, ◌+◌, ◌∙◌, ◌≡◌}
 use Rattle.linker_runs.proofs.packing.kept_of.Goals as goal
 
 pub returns-then-kept-len-clause-none : goal.returns-then-kept-len-clause-none

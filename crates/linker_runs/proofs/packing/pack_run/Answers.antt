@@ -1,4 +1,4 @@
-use Rattle.linker_runs.proofs.Imports.{subst, deletions_of, AreMoved, section_of}
+use Rattle.linker_runs.proofs.Imports.{AreMoved, deletions_of, section_of, subst}
 use Rattle.linker_runs.proofs.packing.pack_run.Goals as goal
 
 pub returns-clause-moved : goal.returns-clause-moved

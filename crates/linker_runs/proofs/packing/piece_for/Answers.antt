@@ -1,4 +1,4 @@
-use Rattle.linker_runs.proofs.Imports.{◌%◌, ◌∙◌, ap, sym, subst, deletions_of, section_of, nops, nop_len, ItemBecomes}
+use Rattle.linker_runs.proofs.Imports.{ItemBecomes, ap, deletions_of, nop_len, nops, section_of, subst, sym, ◌%◌, ◌∙◌}
 use Rattle.linker_runs.proofs.Nops.{nops_length}
 use Rattle.linker_runs.proofs.packing.piece_for.Goals as goal
 

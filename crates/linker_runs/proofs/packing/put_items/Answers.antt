@@ -1,4 +1,4 @@
-use Rattle.linker_runs.proofs.Imports.{◌≡◌, ◌+◌, ◌-◌, ◌∙◌, false, [], ap, sym, subst, arith, length, both_ways, deletions_of, rank-mono, rank, item_at, offset_of, end_of, section_of, is_fixed, IsInside, IsUnwritable, piece_bytes, IsPieceOf}
+use Rattle.linker_runs.proofs.Imports.{IsInside, IsPieceOf, IsUnwritable, [], ap, arith, both_ways, deletions_of, end_of, false, is_fixed, item_at, length, offset_of, piece_bytes, rank, rank-mono, section_of, subst, sym, ◌+◌, ◌-◌, ◌∙◌, ◌≡◌}
 use Rattle.linker_runs.proofs.PackedItems.{writable_excludes, written_start, written_step, written_end, piece_len, piece_whole, piece_becomes}
 use Rattle.linker_runs.proofs.packing.put_items.Goals as goal
 

@@ -1,4 +1,4 @@
-use Rattle.linker_runs.proofs.Imports.{◌≡◌, ◌+◌, ◌<◌, ◌≤◌, length, deletions_of, AreValidDeltas, IsPosition, IsFilled, item_at, offset_of, section_of, packed_offset, AreReady, IsWrittenTo}
+use Rattle.linker_runs.proofs.Imports.{AreReady, AreValidDeltas, IsFilled, IsPosition, IsWrittenTo, deletions_of, item_at, length, offset_of, packed_offset, section_of, ◌+◌, ◌<◌, ◌≡◌, ◌≤◌}
 use Rattle.linker_runs.proofs.packing.put_items.Given as goal
 
 -- the walk isn't past the next item, and the items so far are written

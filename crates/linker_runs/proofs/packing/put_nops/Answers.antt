@@ -1,4 +1,4 @@
-use Rattle.linker_runs.proofs.Imports.{◌≡◌, ℕ, List, ◌+◌, ◌-◌, ◌*◌, ◌^◌, ◌/◌, ◌%◌, ◌++◌, ◌∙◌, [], ◌∷◌, take, drop, refl, ap, sym, arith, repeated, nops}
+use Rattle.linker_runs.proofs.Imports.{List, [], ap, arith, drop, nops, refl, repeated, sym, take, ℕ, ◌%◌, ◌*◌, ◌++◌, ◌+◌, ◌-◌, ◌/◌, ◌^◌, ◌∙◌, ◌∷◌, ◌≡◌}
 use Rattle.linker_runs.proofs.Nops.{repeated_length, put_more, nops_two}
 use Rattle.linker_runs.proofs.packing.put_nops.Goals as goal
 

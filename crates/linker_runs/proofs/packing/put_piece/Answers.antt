@@ -1,4 +1,4 @@
-use Rattle.linker_runs.proofs.Imports.{◌≡◌, ◌+◌, ◌%◌, ◌++◌, ◌∙◌, length, take, drop, ap, sym, subst, arith, nops, nop_len, piece_bytes, IsWhole}
+use Rattle.linker_runs.proofs.Imports.{IsWhole, ap, arith, drop, length, nop_len, nops, piece_bytes, subst, sym, take, ◌%◌, ◌++◌, ◌+◌, ◌∙◌, ◌≡◌}
 use Rattle.linker_runs.proofs.Nops.{nops_length}
 use Rattle.linker_runs.proofs.packing.put_piece.Goals as goal
 

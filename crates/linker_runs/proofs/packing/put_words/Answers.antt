@@ -1,4 +1,4 @@
-use Rattle.linker_runs.proofs.Imports.{◌+◌, ◌*◌, ◌++◌, ◌∙◌, take, drop, ap, sym, arith, repeated}
+use Rattle.linker_runs.proofs.Imports.{ap, arith, drop, repeated, sym, take, ◌*◌, ◌++◌, ◌+◌, ◌∙◌}
 use Rattle.linker_runs.proofs.Nops.{repeated_none, repeated_more, repeated_length, put_more, put_nothing}
 use Rattle.linker_runs.proofs.packing.put_words.Goals as goal
 

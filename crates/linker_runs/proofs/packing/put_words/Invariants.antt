@@ -1,4 +1,4 @@
-use Rattle.linker_runs.proofs.Imports.{◌≡◌, ◌+◌, ◌*◌, ◌++◌, take, drop, repeated}
+use Rattle.linker_runs.proofs.Imports.{drop, repeated, take, ◌*◌, ◌++◌, ◌+◌, ◌≡◌}
 use Rattle.linker_runs.proofs.packing.put_words.Given as goal
 
 abbrev pub invariant-loop-index : goal.invariant-loop-index

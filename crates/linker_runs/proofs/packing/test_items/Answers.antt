@@ -1,4 +1,4 @@
-use Rattle.linker_runs.proofs.Imports.{◌≡◌, ◌∙◌, ap, false, List, zero, suc, ◌+◌, ◌<◌, ◌≤◌, ℕ, length, [], inl, inr, sym, subst, arith, below_more, refl, both_ways, deletions_of, Item, item_at, offset_of, end_of, AreReady, section_of, gap_start, is_fixed, IsApart, IsInside, IsUnwritable, IsWritable, StayWhole, KeepsGap, CanWrite}
+use Rattle.linker_runs.proofs.Imports.{AreReady, CanWrite, IsApart, IsInside, IsUnwritable, IsWritable, Item, KeepsGap, List, StayWhole, [], ap, arith, below_more, both_ways, deletions_of, end_of, false, gap_start, inl, inr, is_fixed, item_at, length, offset_of, refl, section_of, subst, suc, sym, zero, ℕ, ◌+◌, ◌<◌, ◌∙◌, ◌≡◌, ◌≤◌}
 use Rattle.linker_runs.proofs.PackedItems.{cause_of, gap_below, gap_next, apart_from}
 use Rattle.linker_runs.proofs.packing.test_items.Goals as goal
 

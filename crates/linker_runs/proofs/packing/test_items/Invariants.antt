@@ -1,4 +1,4 @@
-use Rattle.linker_runs.proofs.Imports.{◌≡◌, ℕ, List, ◌+◌, ◌<◌, ◌≤◌, length, deletions_of, AreValidDeltas, IsPosition, item_at, end_of, section_of, gap_start, AreReady}
+use Rattle.linker_runs.proofs.Imports.{AreReady, AreValidDeltas, IsPosition, List, deletions_of, end_of, gap_start, item_at, length, section_of, ℕ, ◌+◌, ◌<◌, ◌≡◌, ◌≤◌}
 use Rattle.linker_runs.proofs.packing.test_items.Given as goal
 
 -- the items so far lie in the section and can be written, and the walk stands after them

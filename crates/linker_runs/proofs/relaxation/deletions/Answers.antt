@@ -1,4 +1,4 @@
-use Rattle.linker_runs.proofs.Imports.{◌+◌, ◌-◌, ◌++◌, ◌∷◌, [], ◌∙◌, get_or, ap, sym, subst, arith, append-nil, IsValid, item_at, offset_of, len_of, AreInOrder, deletions_before}
+use Rattle.linker_runs.proofs.Imports.{AreInOrder, IsValid, [], ap, append-nil, arith, deletions_before, get_or, item_at, len_of, offset_of, subst, sym, ◌++◌, ◌+◌, ◌-◌, ◌∙◌, ◌∷◌}
 use Rattle.linker_runs.proofs.Deletions.{deletions_none, deletions_next, deletion_some, deletion_none, deletions_valid}
 use Rattle.linker_runs.proofs.relaxation.deletions.Goals as goal
 use Rattle.linker_runs.proofs.relaxation.deletions.Goals.{then-kept-index+in_ok-push, else-kept-index}

@@ -1,4 +1,4 @@
-use Rattle.linker_runs.proofs.Imports.{◌≡◌, deletions_before}
+use Rattle.linker_runs.proofs.Imports.{deletions_before, ◌≡◌}
 use Rattle.linker_runs.proofs.relaxation.deletions.Given as goal
 
 abbrev pub invariant-loop-index : goal.invariant-loop-index

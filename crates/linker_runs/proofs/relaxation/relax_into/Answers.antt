@@ -1,4 +1,4 @@
-use Rattle.linker_runs.proofs.Imports.{ℕ, get_or, inl, inr, sym, subst, List, Item, choice_of, AreRelaxed, AreFreed, AreItems, IsRelaxation, AreChosen, AreTooFewRounds, IsGreatestCautious, IsInReachExactly, HaveNoAlignment, AreNotLonger, AreForced}
+use Rattle.linker_runs.proofs.Imports.{AreChosen, AreForced, AreFreed, AreItems, AreNotLonger, AreRelaxed, AreTooFewRounds, HaveNoAlignment, IsGreatestCautious, IsInReachExactly, IsRelaxation, Item, List, choice_of, get_or, inl, inr, subst, sym, ℕ}
 use Rattle.linker_runs.proofs.Choices.{relaxed_exact, cautious_exactly, exactly_cautious}
 use Rattle.linker_runs.proofs.Frees.{all_exact}
 use Rattle.linker_runs.proofs.relaxation.relax_into.Goals as goal

@@ -1,4 +1,4 @@
-use Rattle.linker_runs.proofs.Imports.{◌≡◌, ◌-◌, ◌%◌, bit_and, subst, sym, and_mask}
+use Rattle.linker_runs.proofs.Imports.{and_mask, bit_and, subst, sym, ◌%◌, ◌-◌, ◌≡◌}
 use Rattle.linker_runs.proofs.relaxation.remainder.Goals as goal
 
 pub returns-then-is_power_of_two : goal.returns-then-is_power_of_two

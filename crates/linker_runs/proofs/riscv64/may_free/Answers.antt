@@ -1,4 +1,4 @@
-use Rattle.linker_runs.proofs.Imports.{◌≡◌, ◌+◌, ◌-◌, ◌<◌, ◌%◌, ℕ, List, IsTrue, nat_eq, ⊎_elim, ap, sym, subst, arith, rules, ◌∙◌, map, ◌⊎◌, pos, IsNextPowerOfTwo, cases_order, length-map, Relocation, relocation_at, IsNextAlignment, AreEnoughAt, MayFree}
+use Rattle.linker_runs.proofs.Imports.{AreEnoughAt, IsNextAlignment, IsNextPowerOfTwo, IsTrue, List, MayFree, Relocation, ap, arith, cases_order, length-map, map, nat_eq, pos, relocation_at, rules, subst, sym, ℕ, ⊎_elim, ◌%◌, ◌+◌, ◌-◌, ◌<◌, ◌∙◌, ◌≡◌, ◌⊎◌}
 use Rattle.linker_runs.proofs.Addresses.{next_unique}
 use Rattle.linker_runs.proofs.riscv64.may_free.Goals as goal
 

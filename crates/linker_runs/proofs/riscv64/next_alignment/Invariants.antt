@@ -1,4 +1,4 @@
-use Rattle.linker_runs.proofs.Imports.{◌<◌, ℕ, map, relocation_at, Aligns}
+use Rattle.linker_runs.proofs.Imports.{Aligns, map, relocation_at, ℕ, ◌<◌}
 use Rattle.linker_runs.proofs.riscv64.next_alignment.Given as goal
 
 abbrev pub invariant-loop-next : goal.invariant-loop-next

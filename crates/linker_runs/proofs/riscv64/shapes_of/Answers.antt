@@ -1,4 +1,4 @@
-use Rattle.linker_runs.proofs.Imports.{inl, refl, ap, sym, subst, true, ◌≡◌, ◌∙◌, rules, links_short}
+use Rattle.linker_runs.proofs.Imports.{ap, inl, links_short, refl, rules, subst, sym, true, ◌∙◌, ◌≡◌}
 use Rattle.linker_runs.proofs.riscv64.shapes_of.Goals as goal
 
 pub returns-then-may_free : goal.returns-then-may_free

@@ -1,4 +1,4 @@
-use Rattle.linker_runs.proofs.Imports.{Bool, ℕ, ◌+◌, ⊎_elim, refl, ap, subst, arith, rules, map, Item, Site, Aligned, relocation_at, IsMarked, HasRiscVName, IsOfCall, IsCallAt, RiscVMakes, MayFree, Relocation, List}
+use Rattle.linker_runs.proofs.Imports.{Aligned, Bool, HasRiscVName, IsCallAt, IsMarked, IsOfCall, Item, List, MayFree, Relocation, RiscVMakes, Site, ap, arith, map, refl, relocation_at, rules, subst, ℕ, ⊎_elim, ◌+◌}
 use Rattle.linker_elf.specs.declared.riscv64.relocations.RiscVRelocation.TheVariants as r
 use Rattle.linker_runs.proofs.riscv64.site_at.Goals as goal
 

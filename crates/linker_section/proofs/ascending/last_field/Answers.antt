@@ -1,4 +1,4 @@
-use Rattle.linker_section.proofs.Imports.{◌≡◌, ◌-◌, ◌∙◌, refl, sym, ap, subst, arith, true≢false, Some, None, is_some, window_len, IsRow, relocation_in, offset_at, Field}
+use Rattle.linker_section.proofs.Imports.{Field, IsRow, None, Some, ap, arith, is_some, offset_at, refl, relocation_in, subst, sym, true≢false, window_len, ◌-◌, ◌∙◌, ◌≡◌}
 use Rattle.linker_section.proofs.Rows.{one_info, one_row}
 use Rattle.linker_section.proofs.ascending.last_field.Goals as goal
 

@@ -1,4 +1,4 @@
-use Rattle.linker_section.proofs.Imports.{◌≡◌, ◌<◌, ◌^◌, ◌∙◌, refl, sym, ap, subst, arith, rules, length, take, Ok, None, IfSome, IfNone, IsFront, IsQuickStep, IsSlowStep, IsStep, relocation_of}
+use Rattle.linker_section.proofs.Imports.{IfNone, IfSome, IsFront, IsQuickStep, IsSlowStep, IsStep, None, Ok, ap, arith, length, refl, relocation_of, rules, subst, sym, take, ◌<◌, ◌^◌, ◌∙◌, ◌≡◌}
 use Rattle.linker_section.proofs.Reaching.{below_first, below_kept, below_quickly, front_first, front_quickly, front_slowly, end_fits, there_is, there_isnt, rest_after, first_run, only_run}
 use Rattle.linker_section.proofs.ascending.write_ascending.Goals.{After-write_slowly, In-Ok-Some}
 use Rattle.linker_section.proofs.ascending.write_ascending.Given.{Over}

@@ -1,4 +1,4 @@
-use Rattle.linker_section.proofs.Imports.{◌≡◌, ◌-◌, ◌*◌, ◌/◌, ◌≤◌, length, drop, IfSome, AreWrittenBelow, IsFront}
+use Rattle.linker_section.proofs.Imports.{AreWrittenBelow, IfSome, IsFront, drop, length, ◌*◌, ◌-◌, ◌/◌, ◌≡◌, ◌≤◌}
 use Rattle.linker_section.proofs.ascending.write_ascending.Given as goal
 
 abbrev pub invariant-loop-entry : goal.invariant-loop-entry

@@ -1,4 +1,4 @@
-use Rattle.linker_section.proofs.Imports.{from_le_bytes, IfSome, slice_index, not, ◌||◌, cases_Bool, IsRow, get_or-drop, w64, to_z-of_z, shows_lengths, word_shows, length_of, ◌≡◌, ℕ, ◌+◌, drop, ◌<◌, ◌^◌, ◌∙◌, refl, sym, ap, subst, arith, rules, length, FitsSigned, to_z, of_z, inl, inr, IsSavedAt, IsWrittenAt, offset_at}
+use Rattle.linker_section.proofs.Imports.{FitsSigned, IfSome, IsRow, IsSavedAt, IsWrittenAt, ap, arith, cases_Bool, drop, from_le_bytes, get_or-drop, inl, inr, length, length_of, not, of_z, offset_at, refl, rules, shows_lengths, slice_index, subst, sym, to_z, to_z-of_z, w64, word_shows, ℕ, ◌+◌, ◌<◌, ◌^◌, ◌||◌, ◌∙◌, ◌≡◌}
 use Rattle.linker_section.proofs.RowFacts.{says_way}
 use Rattle.linker_section.proofs.Lengths.{unthreaded_holds, word_says}
 use Rattle.linker_section.proofs.Local.{one_local}

@@ -1,4 +1,4 @@
-use Rattle.linker_section.proofs.Imports.{◌≡◌, ◌<◌, ◌/◌, ◌∙◌, refl, subst, arith, length, IfSome, IfNone, IsQuickStep}
+use Rattle.linker_section.proofs.Imports.{IfNone, IfSome, IsQuickStep, arith, length, refl, subst, ◌/◌, ◌<◌, ◌∙◌, ◌≡◌}
 use Rattle.linker_section.proofs.Reaching.{below_kept, below_quickly, runs_written}
 use Rattle.linker_section.proofs.ascending.write_second_run.Goals as goal
 

@@ -1,4 +1,4 @@
-use Rattle.linker_section.proofs.Imports.{◌≡◌, ◌-◌, ◌/◌, ◌≤◌, List, ℕ, length, IfSome, AreWrittenBelow}
+use Rattle.linker_section.proofs.Imports.{AreWrittenBelow, IfSome, List, length, ℕ, ◌-◌, ◌/◌, ◌≡◌, ◌≤◌}
 use Rattle.linker_section.proofs.ascending.write_second_run.Given as goal
 
 abbrev pub invariant-loop-index : goal.invariant-loop-index

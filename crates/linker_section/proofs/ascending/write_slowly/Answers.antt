@@ -1,4 +1,4 @@
-use Rattle.linker_section.proofs.Imports.{sym, subst, None, IsInOrder, IsStep}
+use Rattle.linker_section.proofs.Imports.{IsInOrder, IsStep, None, subst, sym}
 use Rattle.linker_section.proofs.ascending.write_slowly.Goals as goal
 
 pub returns-in-Ok-clause-step : goal.returns-in-Ok-clause-step

@@ -1,4 +1,4 @@
-use Rattle.linker_section.proofs.Imports.{◌∙◌, arith, sym, true≢false, inl, inr, cases_Bool, cases_lt}
+use Rattle.linker_section.proofs.Imports.{arith, cases_Bool, cases_lt, inl, inr, sym, true≢false, ◌∙◌}
 use Rattle.linker_section.proofs.conditions.has_upper.Goals as goal
 
 pub returns-else-has_upper_among : goal.returns-else-has_upper_among

@@ -1,4 +1,4 @@
-use Rattle.linker_section.proofs.Imports.{◌≡◌, ◌≤◌, ◌∙◌, subst, sym, false, below_more, is_upper, relocation_in}
+use Rattle.linker_section.proofs.Imports.{below_more, false, is_upper, relocation_in, subst, sym, ◌∙◌, ◌≡◌, ◌≤◌}
 use Rattle.linker_section.proofs.conditions.has_upper_among.Goals as goal
 
 pub loop-index-preserved : goal.loop-index-preserved

@@ -1,4 +1,4 @@
-use Rattle.linker_section.proofs.Imports.{◌≡◌, ◌<◌, ◌≤◌, ℕ, false, is_upper, relocation_in}
+use Rattle.linker_section.proofs.Imports.{false, is_upper, relocation_in, ℕ, ◌<◌, ◌≡◌, ◌≤◌}
 use Rattle.linker_section.proofs.conditions.has_upper_among.Given as goal
 
 abbrev pub invariant-loop-index : goal.invariant-loop-index

@@ -1,4 +1,4 @@
-use Rattle.linker_section.proofs.Imports.{◌≡◌, ◌≤◌, ◌<◌, ◌*◌, ◌^◌, ◌%◌, ℕ, arith, ap, subst, sym, ◌∙◌, mod-eq_of_lt}
+use Rattle.linker_section.proofs.Imports.{ap, arith, mod-eq_of_lt, subst, sym, ℕ, ◌%◌, ◌*◌, ◌<◌, ◌^◌, ◌∙◌, ◌≡◌, ◌≤◌}
 use Rattle.std.proofs.Math.Pow.{pow_mono}
 use Rattle.linker_section.proofs.conditions.power.Goals as goal
 

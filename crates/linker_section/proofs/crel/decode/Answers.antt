@@ -1,5 +1,4 @@
-use Rattle.linker_section.proofs.Imports.{rules, ◌/◌, arith, refl, sym, ap, ◌∙◌, length, to_z-of_z, w64, err_from_is_err_and, relocation_in}
-use Rattle.linker_section.specs.Crel.{after}
+use Rattle.linker_section.proofs.Imports.{after, ap, arith, err_from_is_err_and, length, refl, relocation_in, rules, sym, to_z-of_z, w64, ◌/◌, ◌∙◌}
 use Rattle.linker_section.proofs.Crels.{after_next, fails, rela_of, written_more}
 use Rattle.linker_section.proofs.crel.decode.Goals as goal
 use Rattle.linker_section.proofs.crel.decode.Goals.{then-index-relocations_len, else-index-relocations_len}

@@ -1,4 +1,4 @@
-use Rattle.linker_section.proofs.Imports.{◌≡◌, ◌≤◌, ◌/◌, length, Ok, after}
+use Rattle.linker_section.proofs.Imports.{Ok, after, length, ◌/◌, ◌≡◌, ◌≤◌}
 use Rattle.linker_section.proofs.Crels.{AreWritten}
 use Rattle.linker_section.proofs.crel.decode.Given as goal
 

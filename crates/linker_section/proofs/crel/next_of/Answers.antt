@@ -1,4 +1,4 @@
-use Rattle.linker_section.proofs.Imports.{◌≡◌, ◌%◌, ◌/◌, arith, sym, ap, ◌∙◌, rules, ◌==◌, ◌&&◌, if◌then◌else◌, flags_of}
+use Rattle.linker_section.proofs.Imports.{ap, arith, flags_of, if◌then◌else◌, rules, sym, ◌%◌, ◌&&◌, ◌/◌, ◌==◌, ◌∙◌, ◌≡◌}
 use Rattle.linker_section.proofs.Crels.{next_is}
 use Rattle.linker_section.proofs.crel.next_of.Goals as goal
 use Rattle.linker_section.proofs.crel.next_of.Goals.{then-header, else-header, then-header-2, else-header-2}

@@ -1,4 +1,4 @@
-use Rattle.linker_section.proofs.Imports.{◌≡◌, ◌<◌, ◌-◌, arith, slice_index, length, drop, take, sym, ap, ◌∙◌, add-one, below_more, inl, inr, ◌⊎◌, false, refl, groups_or, low_groups}
+use Rattle.linker_section.proofs.Imports.{add-one, ap, arith, below_more, drop, false, groups_or, inl, inr, length, low_groups, refl, slice_index, sym, take, ◌-◌, ◌<◌, ◌∙◌, ◌≡◌, ◌⊎◌}
 use Rattle.linker_section.proofs.Crels.{cut_off, short_number, short_negative, long_fault, long_number, whole, most_of}
 use Rattle.linker_section.proofs.crel.number_at.Goals as goal
 use Rattle.linker_section.proofs.crel.number_at.Goals.{then-is_signed+then-byte-ge64, else-is_signed, else-is_signed-via-then-is_signed+else-byte-ge64, else-is_signed-via-else-is_signed, then-is_signed-2, else-is_signed-2, else-last-ne0-via-then-last-ne0+else-last-most, else-last-ne0-via-else-last-ne0}

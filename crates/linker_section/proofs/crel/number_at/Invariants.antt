@@ -1,4 +1,4 @@
-use Rattle.linker_section.proofs.Imports.{◌≡◌, AllContinue, low_groups}
+use Rattle.linker_section.proofs.Imports.{AllContinue, low_groups, ◌≡◌}
 use Rattle.linker_section.proofs.crel.number_at.Given as goal
 
 abbrev pub invariant-loop-i : goal.invariant-loop-i

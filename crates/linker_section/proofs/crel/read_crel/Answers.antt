@@ -1,4 +1,4 @@
-use Rattle.linker_section.proofs.Imports.{◌≡◌, ◌*◌, arith, refl, sym, ◌∙◌, inr, length, drop, length-take-le, length-append, length-drop, drop_at, err_from_is_err_and}
+use Rattle.linker_section.proofs.Imports.{arith, drop, drop_at, err_from_is_err_and, inr, length, length-append, length-drop, length-take-le, refl, sym, ◌*◌, ◌∙◌, ◌≡◌}
 use Rattle.linker_section.proofs.Crels.{in_front}
 use Rattle.linker_section.proofs.crel.read_crel.Goals as goal
 

@@ -1,4 +1,4 @@
-use Rattle.std.proofs.Common.{◌+◌, ◌∙◌, ap, sym, arith}
+use Rattle.linker_section.proofs.Imports.{ap, arith, sym, ◌+◌, ◌∙◌}
 use Rattle.linker_section.proofs.Ulebs.{uleb_ends, uleb_goes_on}
 use Rattle.linker_section.proofs.fields.uleb_len.Goals as goal
 

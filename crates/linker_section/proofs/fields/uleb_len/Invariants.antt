@@ -1,4 +1,4 @@
-use Rattle.linker_section.proofs.Imports.{◌≡◌, ◌+◌, ◌-◌, ◌≤◌, take, drop, length, uleb_len}
+use Rattle.linker_section.proofs.Imports.{drop, length, take, uleb_len, ◌+◌, ◌-◌, ◌≡◌, ◌≤◌}
 use Rattle.linker_section.proofs.fields.uleb_len.Given as goal
 
 abbrev pub invariant-loop-len : goal.invariant-loop-len

@@ -1,4 +1,4 @@
-use Rattle.linker_section.proofs.Imports.{◌∙◌, ap, refl, subst, Some, None, to_z, of_z, to_z-of_z, w64, IsRow, requirements_by, needs_in}
+use Rattle.linker_section.proofs.Imports.{IsRow, None, Some, ap, needs_in, of_z, refl, requirements_by, subst, to_z, to_z-of_z, w64, ◌∙◌}
 use Rattle.linker_section.proofs.RowFacts.{says}
 use Rattle.linker_section.proofs.needed.needs.Goals as goal
 

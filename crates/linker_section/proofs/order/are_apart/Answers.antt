@@ -1,4 +1,4 @@
-use Rattle.linker_section.proofs.Imports.{◌≡◌, ◌∙◌, ◌<◌, ◌≤◌, length, sym, arith, false, slice_index, is_clear_of}
+use Rattle.linker_section.proofs.Imports.{arith, false, is_clear_of, length, slice_index, sym, ◌<◌, ◌∙◌, ◌≡◌, ◌≤◌}
 use Rattle.linker_section.proofs.Sorted.{swept_without, swept_clear, swept_pair, swept_overlapped, swept_all, last_is}
 use Rattle.linker_section.proofs.order.are_apart.Goals as goal
 use Rattle.linker_section.proofs.order.are_apart.Goals.{then-is_clear_of, else-is_clear_of+else-not-is_second_of}

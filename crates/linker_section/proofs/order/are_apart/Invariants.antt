@@ -1,4 +1,4 @@
-use Rattle.linker_section.specs.Inner.Order.{AreSwept}
+use Rattle.linker_section.proofs.Imports.{AreSwept}
 use Rattle.linker_section.proofs.order.are_apart.Given as goal
 
 abbrev pub invariant-loop-place : goal.invariant-loop-place

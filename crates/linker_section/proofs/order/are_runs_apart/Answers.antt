@@ -1,4 +1,4 @@
-use Rattle.linker_section.proofs.Imports.{◌+◌, ◌∙◌, sym, subst, arith, eqb-true, ArePast, IsPast, IsOfRuns}
+use Rattle.linker_section.proofs.Imports.{ArePast, IsOfRuns, IsPast, arith, eqb-true, subst, sym, ◌+◌, ◌∙◌}
 use Rattle.linker_section.proofs.Runs.{past_first, past_second, past_end, past_none, past_all}
 use Rattle.linker_section.proofs.order.are_runs_apart.Goals as goal
 use Rattle.linker_section.proofs.order.are_runs_apart.Goals.{then-second-len-2+else-not-is_past-2, else-second-len-2}

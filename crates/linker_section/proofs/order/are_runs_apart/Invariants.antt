@@ -1,4 +1,4 @@
-use Rattle.linker_section.proofs.Imports.{◌-◌, ◌≤◌, List, ℕ, AreSmall, ArePast, IsOfRuns}
+use Rattle.linker_section.proofs.Imports.{ArePast, AreSmall, IsOfRuns, List, ℕ, ◌-◌, ◌≤◌}
 use Rattle.linker_section.proofs.order.are_runs_apart.Given as goal
 
 abbrev pub invariant-loop-first : goal.invariant-loop-first

@@ -1,4 +1,4 @@
-use Rattle.linker_section.proofs.Imports.{◌≡◌, ◌∙◌, ℕ, sym, ap, subst, arith, drop, Some, false, cond-false, IsRow, field_len, field_of_row, relocation_in, has_value, offset_at}
+use Rattle.linker_section.proofs.Imports.{IsRow, Some, ap, arith, cond-false, drop, false, field_len, field_of_row, has_value, offset_at, relocation_in, subst, sym, ℕ, ◌∙◌, ◌≡◌}
 use Rattle.linker_section.proofs.Rows.{one_row, one_info}
 use Rattle.linker_section.proofs.Valued.{none_is_some}
 use Rattle.linker_section.proofs.order.field_in.Goals as goal

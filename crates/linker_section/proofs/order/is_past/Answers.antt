@@ -1,4 +1,4 @@
-use Rattle.linker_section.proofs.Imports.{◌≡◌, ◌-◌, ◌∙◌, false, sym, ap, subst, arith, leb-true, window_len, IsRow, is_of_pair}
+use Rattle.linker_section.proofs.Imports.{IsRow, ap, arith, false, is_of_pair, leb-true, subst, sym, window_len, ◌-◌, ◌∙◌, ◌≡◌}
 use Rattle.linker_section.proofs.Rows.{one_info}
 use Rattle.linker_section.proofs.Runs.{len_within}
 use Rattle.linker_section.proofs.order.is_past.Goals as goal

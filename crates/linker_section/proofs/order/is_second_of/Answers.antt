@@ -1,4 +1,4 @@
-use Rattle.linker_section.proofs.Imports.{◌∙◌, sym, subst, Some, IsRow}
+use Rattle.linker_section.proofs.Imports.{IsRow, Some, subst, sym, ◌∙◌}
 use Rattle.linker_section.proofs.Rows.{one_row}
 use Rattle.linker_section.proofs.Valued.{none_is_some}
 use Rattle.linker_section.proofs.Claims.{begun_of}

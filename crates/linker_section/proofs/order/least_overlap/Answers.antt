@@ -1,4 +1,4 @@
-use Rattle.linker_section.proofs.Imports.{arith, subst, inl, inr, cases_eq, IsOverlapped}
+use Rattle.linker_section.proofs.Imports.{IsOverlapped, arith, cases_eq, inl, inr, subst}
 use Rattle.linker_section.proofs.order.least_overlap.Goals as goal
 
 pub returns-then-are_apart : goal.returns-then-are_apart

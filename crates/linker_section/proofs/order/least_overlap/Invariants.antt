@@ -1,4 +1,4 @@
-use Rattle.linker_section.proofs.Imports.{◌<◌, ◌≤◌, ◌-◌, ◌/◌, length, AreApart, IsOverlappedBelow}
+use Rattle.linker_section.proofs.Imports.{AreApart, IsOverlappedBelow, length, ◌-◌, ◌/◌, ◌<◌, ◌≤◌}
 use Rattle.linker_section.proofs.order.least_overlap.Given as goal
 
 abbrev pub invariant-loop-high : goal.invariant-loop-high

@@ -1,4 +1,4 @@
-use Rattle.linker_section.proofs.Imports.{◌≡◌, ℕ, ◌<◌, length, slice_index}
+use Rattle.linker_section.proofs.Imports.{length, slice_index, ℕ, ◌<◌, ◌≡◌}
 use Rattle.linker_section.proofs.order.list_indexes.Given as goal
 
 abbrev pub invariant-loop-index : goal.invariant-loop-index

@@ -1,4 +1,4 @@
-use Rattle.linker_section.proofs.Imports.{◌∙◌, ◌<◌, ◌^◌, length, rules, arith, IsNonDecreasingBy-from_sort_by_key, place_of}
+use Rattle.linker_section.proofs.Imports.{IsNonDecreasingBy-from_sort_by_key, arith, length, place_of, rules, ◌<◌, ◌^◌, ◌∙◌}
 use Rattle.linker_section.proofs.Sorted.{order_sorted}
 use Rattle.linker_section.proofs.order.sort_indexes.Goals as goal
 

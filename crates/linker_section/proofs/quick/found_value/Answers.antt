@@ -1,4 +1,4 @@
-use Rattle.linker_section.proofs.Imports.{◌≡◌, ◌∙◌, sym, ap, true, ◌&&◌, not, is_plain_way, is_offset_way, is_low_way, is_plain, is_low}
+use Rattle.linker_section.proofs.Imports.{ap, is_low, is_low_way, is_offset_way, is_plain, is_plain_way, not, sym, true, ◌&&◌, ◌∙◌, ◌≡◌}
 use Rattle.linker_section.proofs.RowFacts.{says, says_way}
 use Rattle.linker_section.proofs.QuickValues.{if_some, plain_quick, low_quick}
 use Rattle.linker_section.proofs.quick.found_value.Goals as goal

@@ -1,4 +1,4 @@
-use Rattle.linker_section.proofs.Imports.{◌≡◌, ◌∙◌, sym, ap, subst, rules, refl, FitsSigned, Ok, w64, to_z-of_z, slice_get_read, length, slice_get, Some, entry_of, entry_address, operands_by, operands_in, operands_of}
+use Rattle.linker_section.proofs.Imports.{FitsSigned, Ok, Some, ap, entry_address, entry_of, length, operands_by, operands_in, operands_of, refl, rules, slice_get, slice_get_read, subst, sym, to_z-of_z, w64, ◌∙◌, ◌≡◌}
 use Rattle.linker_section.proofs.QuickValues.{plain_some}
 use Rattle.linker_section.proofs.quick.plain_value.Goals as goal
 

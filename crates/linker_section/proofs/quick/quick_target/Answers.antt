@@ -1,4 +1,4 @@
-use Rattle.linker_section.proofs.Imports.{◌≡◌, ◌∙◌, sym, false, arith, eqb-true, not-false}
+use Rattle.linker_section.proofs.Imports.{arith, eqb-true, false, not-false, sym, ◌∙◌, ◌≡◌}
 use Rattle.linker_section.proofs.QuickValues.{own_target}
 use Rattle.linker_section.proofs.quick.quick_target.Goals.{then-symbol-ne0, else-symbol-ne0}
 use Rattle.linker_section.proofs.quick.quick_target.Goals as goal

@@ -1,4 +1,4 @@
-use Rattle.linker_section.proofs.Imports.{ℕ, ◌≤◌, ◌<◌, ◌-◌, ◌/◌, length, offset_at, IsAscending}
+use Rattle.linker_section.proofs.Imports.{IsAscending, length, offset_at, ℕ, ◌-◌, ◌/◌, ◌<◌, ◌≤◌}
 use Rattle.linker_section.proofs.relocations.first_from.Given as goal
 
 abbrev pub invariant-loop-low : goal.invariant-loop-low

@@ -1,4 +1,4 @@
-use Rattle.linker_section.proofs.Imports.{◌-◌, sym, arith, true≢false, inl, inr, cases_eq}
+use Rattle.linker_section.proofs.Imports.{arith, cases_eq, inl, inr, sym, true≢false, ◌-◌}
 use Rattle.linker_section.proofs.relocations.is_ascending.Goals as goal
 
 pub returns-then-offset-least : goal.returns-then-offset-least

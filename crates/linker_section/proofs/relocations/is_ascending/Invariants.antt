@@ -1,4 +1,4 @@
-use Rattle.linker_section.proofs.Imports.{◌≡◌, ℕ, ◌+◌, ◌≤◌, ◌<◌, offset_at}
+use Rattle.linker_section.proofs.Imports.{offset_at, ℕ, ◌+◌, ◌<◌, ◌≡◌, ◌≤◌}
 use Rattle.linker_section.proofs.relocations.is_ascending.Given as goal
 
 abbrev pub invariant-loop-index : goal.invariant-loop-index

@@ -1,4 +1,4 @@
-use Rattle.linker_section.proofs.Imports.{rules, ◌≡◌, ◌≢◌, ℕ, ◌+◌, ◌-◌, ◌*◌, ◌<◌, ◌≤◌, ◌⊎◌, inl, inr, ap, arith, List, length, take, drop, ◌++◌, ◌∙◌, append_assoc, sym, drop-drop, length-append, length-drop, length-take-le, relocation_of, relocation_in}
+use Rattle.linker_section.proofs.Imports.{List, ap, append_assoc, arith, drop, drop-drop, inl, inr, length, length-append, length-drop, length-take-le, relocation_in, relocation_of, rules, sym, take, ℕ, ◌*◌, ◌++◌, ◌+◌, ◌-◌, ◌<◌, ◌∙◌, ◌≡◌, ◌≢◌, ◌≤◌, ◌⊎◌}
 use Rattle.linker_section.proofs.Windows.{IsReplaced, in_window, below_window, above_window}
 use Rattle.linker_section.proofs.relocations.set_relocation.Goals as goal
 use borrow.Rule.Slice.PartMut.{put_mid}

@@ -1,4 +1,4 @@
-use Rattle.linker_section.proofs.Imports.{◌∙◌, sym, ap, subst, true, Some, ◌&&◌, not, IsRow, is_plain_way, is_offset_way, is_low_way, needs_upper, IsPlainResolved, lacks_resolved_stub}
+use Rattle.linker_section.proofs.Imports.{IsPlainResolved, IsRow, Some, ap, is_low_way, is_offset_way, is_plain_way, lacks_resolved_stub, needs_upper, not, subst, sym, true, ◌&&◌, ◌∙◌}
 use Rattle.linker_section.proofs.QuickResolved.{plain_resolved, low_resolved}
 use Rattle.linker_section.proofs.QuickValues.{if_some}
 use Rattle.linker_section.proofs.RowFacts.{says, says_way}

@@ -1,4 +1,4 @@
-use Rattle.linker_section.proofs.Imports.{ℕ, ◌<◌, rules, slice_index, by_lookup}
+use Rattle.linker_section.proofs.Imports.{by_lookup, rules, slice_index, ℕ, ◌<◌}
 use Rattle.linker_section.proofs.Outcomes.{exact_of, fault_of, fields_of}
 use Rattle.linker_section.proofs.ResolvedOnce.{unique_by_lookup}
 use Rattle.linker_section.proofs.resolved.relocate_resolved.Goals as goal

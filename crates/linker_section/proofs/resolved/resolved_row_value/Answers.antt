@@ -1,4 +1,4 @@
-use Rattle.linker_section.proofs.Imports.{◌≡◌, ◌∙◌, ap, refl, rules, subst, sym, true, false, true≢false, FitsSigned, to_z, of_z, Ok, Err, Some, None, w64, to_z-of_z, IsRow, IsInReach, is_filled, relocation_in, IsResolvedBy, IsResolvedIn, IsResolvedUnless, IsUnresolved, by_lookup, is_skipped, lacks_resolved_stub, Outcome, names_label, NotAligned}
+use Rattle.linker_section.proofs.Imports.{Err, FitsSigned, IsInReach, IsResolvedBy, IsResolvedIn, IsResolvedUnless, IsRow, IsUnresolved, None, NotAligned, Ok, Outcome, Some, ap, by_lookup, false, is_filled, is_skipped, lacks_resolved_stub, names_label, of_z, refl, relocation_in, rules, subst, sym, to_z, to_z-of_z, true, true≢false, w64, ◌∙◌, ◌≡◌}
 use Rattle.linker_section.proofs.RowFacts.{says}
 use Rattle.linker_section.proofs.resolved.resolved_row_value.Given.{Over}
 use Rattle.linker_section.proofs.resolved.resolved_row_value.Goals.{After-value_by}

@@ -1,4 +1,4 @@
-use Rattle.linker_section.proofs.Imports.{◌≡◌, ◌∙◌, refl, sym, ap, subst, true, Ok, Err, Some, None, IfNone, difference_64, value_of, IsLowResolved, IsResolvedBy, resolved_operands, IsHighPart, IsHighPartAt, is_high_part, low_by, names_label, NoHighPart}
+use Rattle.linker_section.proofs.Imports.{Err, IfNone, IsHighPart, IsHighPartAt, IsLowResolved, IsResolvedBy, NoHighPart, None, Ok, Some, ap, difference_64, is_high_part, low_by, names_label, refl, resolved_operands, subst, sym, true, value_of, ◌∙◌, ◌≡◌}
 use Rattle.linker_section.proofs.resolved.value_by.Given.{Over}
 use Rattle.linker_section.proofs.resolved.value_by.Goals.{In-Some, In-Some-indexed_high_part}
 use Rattle.linker_section.proofs.resolved.value_by.Goals as goal

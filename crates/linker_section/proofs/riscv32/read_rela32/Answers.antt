@@ -1,4 +1,4 @@
-use Rattle.linker_section.proofs.Imports.{◌≡◌, ◌∙◌, ◌*◌, ◌++◌, ap, below_more, drop, length, subst, arith, drop_at, length-append, length-drop, length-take-le, relocation_in, relocation32_in}
+use Rattle.linker_section.proofs.Imports.{ap, arith, below_more, drop, drop_at, length, length-append, length-drop, length-take-le, relocation32_in, relocation_in, subst, ◌*◌, ◌++◌, ◌∙◌, ◌≡◌}
 use Rattle.linker_section.proofs.Crels.{in_front}
 use Rattle.linker_section.proofs.riscv32.read_rela32.Goals as goal
 

@@ -1,4 +1,4 @@
-use Rattle.linker_section.proofs.Imports.{◌≡◌, ℕ, ◌<◌, relocation_in, relocation32_in}
+use Rattle.linker_section.proofs.Imports.{relocation32_in, relocation_in, ℕ, ◌<◌, ◌≡◌}
 use Rattle.linker_section.proofs.riscv32.read_rela32.Given as goal
 
 -- the relocations below the index are copied

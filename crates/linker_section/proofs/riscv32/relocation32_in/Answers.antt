@@ -1,4 +1,4 @@
-use Rattle.linker_section.proofs.Imports.{◌*◌, refl, drop, arith, take_rest, length-drop, length-take-le}
+use Rattle.linker_section.proofs.Imports.{arith, drop, length-drop, length-take-le, refl, take_rest, ◌*◌}
 use Rattle.linker_section.proofs.riscv32.relocation32_in.Goals as goal
 
 pub returns : goal.returns

@@ -1,4 +1,4 @@
-use Rattle.linker_section.proofs.Imports.{◌≡◌, ◌*◌, ◌++◌, ◌∙◌, ap, below_more, drop, length, sym, subst, take, arith, drop_at, length-append, length-drop, length-take-le, take-append-drop, relocation_in, IsWrapped, Rela}
+use Rattle.linker_section.proofs.Imports.{IsWrapped, Rela, ap, arith, below_more, drop, drop_at, length, length-append, length-drop, length-take-le, relocation_in, subst, sym, take, take-append-drop, ◌*◌, ◌++◌, ◌∙◌, ◌≡◌}
 use Rattle.linker_section.proofs.Crels.{in_front}
 use Rattle.linker_section.proofs.riscv32.wrap_addends.Goals as goal
 

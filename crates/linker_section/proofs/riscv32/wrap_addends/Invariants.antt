@@ -1,4 +1,4 @@
-use Rattle.linker_section.proofs.Imports.{◌≡◌, ℕ, ◌/◌, ◌<◌, ◌≤◌, length, relocation_in, IsWrapped}
+use Rattle.linker_section.proofs.Imports.{IsWrapped, length, relocation_in, ℕ, ◌/◌, ◌<◌, ◌≡◌, ◌≤◌}
 use Rattle.linker_section.proofs.riscv32.wrap_addends.Given as goal
 
 -- the relocations below the index are wrapped, and the others are as they were

@@ -1,5 +1,4 @@
-use Rattle.linker_section.proofs.Imports.{suc, ◌≡◌, ◌+◌, ◌-◌, ◌%◌, ◌^◌, ◌<◌, ◌∙◌, ap, sym, subst, refl, ℕ, ℤ, pos, negsuc, ◌+ℤ◌, FitsSigned, arith, int_rem_euclid_is, ints, to_z-of_z, to_z_pos, cast_unsigned, int_rem_euclid, IsLeastFrom}
-use Rattle.std.proofs.Common.{w64}
+use Rattle.linker_section.proofs.Imports.{FitsSigned, IsLeastFrom, ap, arith, cast_unsigned, int_rem_euclid, int_rem_euclid_is, ints, negsuc, pos, refl, subst, suc, sym, to_z-of_z, to_z_pos, w64, ℕ, ℤ, ◌%◌, ◌+ℤ◌, ◌+◌, ◌-◌, ◌<◌, ◌^◌, ◌∙◌, ◌≡◌}
 use Rattle.linker_section.proofs.riscv32.wrapped.Goals as goal
 
 -- modulo 2^32 a number is its bits

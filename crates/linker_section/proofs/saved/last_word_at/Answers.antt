@@ -1,4 +1,4 @@
-use Rattle.linker_section.proofs.Imports.{◌∙◌, ◌++◌, ◌-◌, ap, arith, length, take, drop, replicate, w64, from_le_bytes, take_rest, length-drop}
+use Rattle.linker_section.proofs.Imports.{ap, arith, drop, from_le_bytes, length, length-drop, replicate, take, take_rest, w64, ◌++◌, ◌-◌, ◌∙◌}
 use Rattle.linker_section.proofs.Saving.{saved_last}
 use Rattle.linker_section.proofs.saved.last_word_at.Goals as goal
 

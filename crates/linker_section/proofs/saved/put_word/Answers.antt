@@ -1,4 +1,4 @@
-use Rattle.std.proofs.Common.{◌≡◌, ◌+◌, ◌-◌, ◌∙◌, ◌++◌, ap, ap₂, take, drop, arith}
+use Rattle.linker_section.proofs.Imports.{ap, ap₂, arith, drop, take, ◌++◌, ◌+◌, ◌-◌, ◌∙◌, ◌≡◌}
 use Rattle.linker_section.proofs.Saving.{put_is}
 use Rattle.linker_section.proofs.saved.put_word.Goals as goal
 

@@ -1,4 +1,4 @@
-use Rattle.linker_section.proofs.Imports.{◌≡◌, ◌-◌, ◌∙◌, suc, ap, sym, subst, arith, slice_index, IsRow, Restores, with_word, saved_place, relocation_in}
+use Rattle.linker_section.proofs.Imports.{IsRow, Restores, ap, arith, relocation_in, saved_place, slice_index, subst, suc, sym, with_word, ◌-◌, ◌∙◌, ◌≡◌}
 use Rattle.linker_section.proofs.Rows.{one_row}
 use Rattle.linker_section.proofs.saved.restore.Goals as goal
 

@@ -1,4 +1,4 @@
-use Rattle.linker_section.proofs.Imports.{ℕ, List, ◌≤◌, Restores}
+use Rattle.linker_section.proofs.Imports.{List, Restores, ℕ, ◌≤◌}
 use Rattle.linker_section.proofs.saved.restore.Given as goal
 
 abbrev pub invariant-loop-index : goal.invariant-loop-index

@@ -1,4 +1,4 @@
-use Rattle.linker_section.proofs.Imports.{◌≡◌, ◌∙◌, ℕ, ◌+◌, ap, arith, drop, field_len, offset_at}
+use Rattle.linker_section.proofs.Imports.{ap, arith, drop, field_len, offset_at, ℕ, ◌+◌, ◌∙◌, ◌≡◌}
 use Rattle.linker_section.proofs.Rows.{one_info}
 use Rattle.linker_section.proofs.sections.field_len.Goals as goal
 

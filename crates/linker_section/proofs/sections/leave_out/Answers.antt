@@ -1,4 +1,4 @@
-use Rattle.linker_section.proofs.Imports.{◌≡◌, ◌+◌, ◌≤◌, ◌∙◌, ℕ, List, length, drop, refl, sym, ap, subst, arith, inl, inr, true, false, IfNone, RelocationKind, RowInfo, IsField, field_end, field_len, is_of_pair, HasField, next_field, IsInOrder, clear_in, field_of_row, has_value, offset_at, Field}
+use Rattle.linker_section.proofs.Imports.{Field, HasField, IfNone, IsField, IsInOrder, List, RelocationKind, RowInfo, ap, arith, clear_in, drop, false, field_end, field_len, field_of_row, has_value, inl, inr, is_of_pair, length, next_field, offset_at, refl, subst, sym, true, ℕ, ◌+◌, ◌∙◌, ◌≡◌, ◌≤◌}
 use Rattle.linker_section.proofs.Rows.{one_info}
 use Rattle.linker_section.proofs.Stepping.{alone_field, apart_next, field_valued, left_order, len_alone, mark_order, next_some, overlap_now}
 use Rattle.linker_section.proofs.sections.leave_out.Goals.{In-Some}

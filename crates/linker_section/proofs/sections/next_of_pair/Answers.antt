@@ -1,4 +1,4 @@
-use Rattle.linker_section.proofs.Imports.{◌≡◌, ◌+◌, ◌∙◌, sym, ap, subst, true≢false, Some, ends_pair, relocation_in, IsRow}
+use Rattle.linker_section.proofs.Imports.{IsRow, Some, ap, ends_pair, relocation_in, subst, sym, true≢false, ◌+◌, ◌∙◌, ◌≡◌}
 use Rattle.linker_section.proofs.Rows.{one_row, one_info}
 use Rattle.linker_section.proofs.Valued.{none_is_some}
 use Rattle.linker_section.proofs.sections.next_of_pair.Goals as goal

@@ -1,4 +1,4 @@
-use Rattle.linker_section.proofs.Imports.{subst, sym, arith, w64, to_z-of_z, drop_all, take_rest, cast_unsigned, first_role}
+use Rattle.linker_section.proofs.Imports.{arith, cast_unsigned, drop_all, first_role, subst, sym, take_rest, to_z-of_z, w64}
 use Rattle.linker_elf.specs.Uleb128.{IsPairNumber}
 use Rattle.linker_section.proofs.sections.number_of_pair.Goals as goal
 

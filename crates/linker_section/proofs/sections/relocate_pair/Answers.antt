@@ -1,4 +1,4 @@
-use Rattle.linker_section.proofs.Imports.{◌≡◌, ◌+◌, ◌≤◌, ◌++◌, ◌∙◌, ℕ, ℤ, List, length, take, refl, sym, ap, subst, true, true≢false, inr, drop, rules, FitsSigned, to_z, of_z, Ok, RowInfo, w64, to_z-of_z, IsUlebWritten, IsUlebCause, Architecture, begins_pair, ends_pair, relocation_in, IsPair, IsNumberOfPair, IsNumberWrittenAt, BeginsPair, IsValued, Values, Addresses, IsOutcome, or_right}
+use Rattle.linker_section.proofs.Imports.{Addresses, Architecture, BeginsPair, FitsSigned, IsNumberOfPair, IsNumberWrittenAt, IsOutcome, IsPair, IsUlebCause, IsUlebWritten, IsValued, List, Ok, RowInfo, Values, ap, begins_pair, drop, ends_pair, inr, length, of_z, or_right, refl, relocation_in, rules, subst, sym, take, to_z, to_z-of_z, true, true≢false, w64, ℕ, ℤ, ◌++◌, ◌+◌, ◌∙◌, ◌≡◌, ◌≤◌}
 use Rattle.linker_section.proofs.Rows.{one_info}
 use Rattle.linker_section.proofs.sections.relocate_pair.Goals as goal
 

@@ -1,4 +1,4 @@
-use Rattle.linker_section.proofs.Imports.{ℕ, ◌<◌, rules, slice_index, by_index}
+use Rattle.linker_section.proofs.Imports.{by_index, rules, slice_index, ℕ, ◌<◌}
 use Rattle.linker_section.proofs.Exact.{unique_by_index}
 use Rattle.linker_section.proofs.Outcomes.{exact_of, fault_of, fields_of}
 use Rattle.linker_section.proofs.sections.relocate_section.Goals as goal

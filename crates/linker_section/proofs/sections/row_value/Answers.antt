@@ -1,4 +1,4 @@
-use Rattle.linker_section.proofs.Imports.{sym, ap, subst, refl, ◌∙◌, rules, true≢false, FitsSigned, Some, None, Ok, w64, to_z-of_z, IsRow, IsInReach, HasValue, IsValueless, IsValue, IsValueIn}
+use Rattle.linker_section.proofs.Imports.{FitsSigned, HasValue, IsInReach, IsRow, IsValue, IsValueIn, IsValueless, None, Ok, Some, ap, refl, rules, subst, sym, to_z-of_z, true≢false, w64, ◌∙◌}
 use Rattle.linker_section.proofs.RowFacts.{says}
 use Rattle.linker_section.proofs.sections.row_value.Goals as goal
 

@@ -1,4 +1,4 @@
-use Rattle.linker_section.proofs.Imports.{◌≡◌, ◌∙◌, sym, ap, true≢false, begins_pair}
+use Rattle.linker_section.proofs.Imports.{ap, begins_pair, sym, true≢false, ◌∙◌, ◌≡◌}
 use Rattle.linker_section.proofs.Rows.{one_info}
 use Rattle.linker_section.proofs.sections.second_of_pair.Goals as goal
 

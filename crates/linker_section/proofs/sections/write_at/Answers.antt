@@ -1,4 +1,4 @@
-use Rattle.linker_section.proofs.Imports.{◌∙◌, refl, subst, sym, true≢false, to_z, of_z, w64, to_z-of_z, HoldsOffset, IsWrittenAt}
+use Rattle.linker_section.proofs.Imports.{HoldsOffset, IsWrittenAt, of_z, refl, subst, sym, to_z, to_z-of_z, true≢false, w64, ◌∙◌}
 use Rattle.linker_section.proofs.Lengths.{offset_of, offset_beyond}
 use Rattle.linker_section.proofs.sections.write_at.Goals as goal
 

@@ -1,4 +1,4 @@
-use Rattle.linker_section.proofs.Imports.{rules, refl, ◌+◌, ◌-◌, ◌≤◌, length, drop, subst, arith, sym, ◌∙◌, w64, OnOk, IfErr, to_z-of_z, take_all, take_rest, WritesRow, RejectsValue, take-put_mid}
+use Rattle.linker_section.proofs.Imports.{IfErr, OnOk, RejectsValue, WritesRow, arith, drop, length, refl, rules, subst, sym, take-put_mid, take_all, take_rest, to_z-of_z, w64, ◌+◌, ◌-◌, ◌∙◌, ◌≤◌}
 use Rattle.linker_section.proofs.Writing.{written_at}
 use Rattle.linker_section.proofs.sections.write_held_at.Goals as goal
 

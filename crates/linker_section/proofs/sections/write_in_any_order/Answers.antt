@@ -1,4 +1,4 @@
-use Rattle.linker_section.proofs.Imports.{◌∙◌, refl, subst, arith, Some, IsStep}
+use Rattle.linker_section.proofs.Imports.{IsStep, Some, arith, refl, subst, ◌∙◌}
 use Rattle.linker_section.proofs.Reaching.{reached_first, reached_all}
 use Rattle.linker_section.proofs.sections.write_in_any_order.Goals as goal
 

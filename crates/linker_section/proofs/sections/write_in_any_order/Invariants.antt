@@ -1,4 +1,4 @@
-use Rattle.linker_section.proofs.Imports.{◌≡◌, ◌-◌, ◌/◌, length, Some, Reached}
+use Rattle.linker_section.proofs.Imports.{Reached, Some, length, ◌-◌, ◌/◌, ◌≡◌}
 use Rattle.linker_section.proofs.sections.write_in_any_order.Given as goal
 
 abbrev pub invariant-loop-index : goal.invariant-loop-index

@@ -1,4 +1,4 @@
-use Rattle.linker_section.proofs.Imports.{◌≡◌, ◌+◌, ◌∙◌, sym, ap, subst, arith, length, rules, FitsSigned, to_z, of_z, inl, inr, refl, true, true≢false, Ok, Err, ◌≤◌, ◌<◌, ◌^◌, set, List, ℕ, to_z-of_z, w64, IfNone, IfSome, sum_64, HasLength, next_field, IsSavedAt, clear_in, field_of_row, AreWrittenBelow, IsInOrder, IsOutcome, IsPairOutcome, IsStopped, IsUnvalued, Reached, relocation_in, IsInside, IsValued, AreRelocated, IsWrittenAt, IsFirstRejectedBy, BeginsPair, has_value, offset_at, Value, Overlaps, OtherLength, Write}
+use Rattle.linker_section.proofs.Imports.{AreRelocated, AreWrittenBelow, BeginsPair, Err, FitsSigned, HasLength, IfNone, IfSome, IsFirstRejectedBy, IsInOrder, IsInside, IsOutcome, IsPairOutcome, IsSavedAt, IsStopped, IsUnvalued, IsValued, IsWrittenAt, List, Ok, OtherLength, Overlaps, Reached, Value, Write, ap, arith, clear_in, field_of_row, has_value, inl, inr, length, next_field, of_z, offset_at, refl, relocation_in, rules, set, subst, sum_64, sym, to_z, to_z-of_z, true, true≢false, w64, ℕ, ◌+◌, ◌<◌, ◌^◌, ◌∙◌, ◌≡◌, ◌≤◌}
 use Rattle.linker_section.proofs.Lengths.{length_of, other_length}
 use Rattle.linker_section.proofs.Local.{pair_local}
 use Rattle.linker_section.proofs.Stepping.{left_step, mark_order, no_field, mark_restores, one_order, one_restores, pair_order, pair_restores, apart_now, apart_next, overlap_now, stop, stop_at, set_above}

@@ -1,4 +1,4 @@
-use Rattle.linker_section.proofs.Imports.{◌≡◌, ◌∙◌, ◌/◌, length, sym, ap, subst, arith, true, Some, None, refl, cond-true, lt-ltb, IsRow, relocation_in, is_high_part}
+use Rattle.linker_section.proofs.Imports.{IsRow, None, Some, ap, arith, cond-true, is_high_part, length, lt-ltb, refl, relocation_in, subst, sym, true, ◌/◌, ◌∙◌, ◌≡◌}
 use Rattle.linker_section.proofs.values.high_part_in.Goals as goal
 
 pub returns-then-is_high_part-clause-found : goal.returns-then-is_high_part-clause-found

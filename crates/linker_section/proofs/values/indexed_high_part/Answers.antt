@@ -1,4 +1,4 @@
-use Rattle.linker_section.proofs.Imports.{subst, below_more, IfNone, relocation_in, IsNoHighPart}
+use Rattle.linker_section.proofs.Imports.{IfNone, IsNoHighPart, below_more, relocation_in, subst}
 use Rattle.linker_section.proofs.values.indexed_high_part.Goals as goal
 
 pub loop-index-preserved : goal.loop-index-preserved

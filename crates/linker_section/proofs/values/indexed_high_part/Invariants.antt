@@ -1,4 +1,4 @@
-use Rattle.linker_section.proofs.Imports.{ℕ, ◌<◌, relocation_in, IsNoHighPart}
+use Rattle.linker_section.proofs.Imports.{IsNoHighPart, relocation_in, ℕ, ◌<◌}
 use Rattle.linker_section.proofs.values.indexed_high_part.Given as goal
 
 abbrev pub invariant-loop-index : goal.invariant-loop-index

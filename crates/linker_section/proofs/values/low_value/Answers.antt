@@ -1,4 +1,4 @@
-use Rattle.linker_section.proofs.Imports.{subst, Some, IfSome, IsRow}
+use Rattle.linker_section.proofs.Imports.{IfSome, IsRow, Some, subst}
 use Rattle.linker_section.proofs.RowFacts.{says}
 use Rattle.linker_section.proofs.values.low_value.Goals as goal
 

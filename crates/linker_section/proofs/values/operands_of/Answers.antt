@@ -1,4 +1,4 @@
-use Rattle.linker_section.proofs.Imports.{◌≡◌, refl, slice_get_read, length, slice_get, Some}
+use Rattle.linker_section.proofs.Imports.{Some, length, refl, slice_get, slice_get_read, ◌≡◌}
 use Rattle.linker_section.proofs.values.operands_of.Goals as goal
 
 pub returns : goal.returns

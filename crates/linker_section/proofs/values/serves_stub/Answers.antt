@@ -1,4 +1,4 @@
-use Rattle.linker_section.proofs.Imports.{ap, false, ◌∙◌, pos}
+use Rattle.linker_section.proofs.Imports.{ap, false, pos, ◌∙◌}
 use Rattle.linker_section.proofs.values.serves_stub.Goals as goal
 
 pub returns : goal.returns

@@ -1,4 +1,4 @@
-use Rattle.linker_section.proofs.Imports.{subst, IsRow}
+use Rattle.linker_section.proofs.Imports.{IsRow, subst}
 use Rattle.linker_section.proofs.RowFacts.{says}
 use Rattle.linker_section.proofs.values.value.Goals as goal
 

@@ -1,7 +1,4 @@
-use Rattle.std.proofs.Common.{◌∙◌, IfSome, subst, sym}
-use Rattle.linker_elf.specs.Agrees.{RowAgrees, RowFits}
-use Rattle.linker_elf.specs.Readings.{RowReadsNoOther}
-use Rattle.linker_utils.specs.Upstream.{IsUpstream}
+use Rattle.linker_utils.proofs.Imports.{IfSome, IsUpstream, RowAgrees, RowFits, RowReadsNoOther, subst, sym, ◌∙◌}
 use Rattle.linker_utils.proofs.Upstream.{upstream_form, upstream_has, aarch64_upstream}
 use Rattle.linker_utils.proofs.aarch64.relocation_type_from_raw.Goals as goal
 

@@ -1,4 +1,4 @@
-use Rattle.std.proofs.Common.{refl}
+use Rattle.linker_utils.proofs.Imports.{refl}
 use Rattle.linker_utils.proofs.architecture.choose.Goals as goal
 
 pub returns-in-AArch64-by_architecture-clause-chosen : goal.returns-in-AArch64-by_architecture-clause-chosen

@@ -1,5 +1,4 @@
-use Rattle.std.proofs.Common.{◌∙◌, IfSome, subst, sym}
-use Rattle.linker_utils.specs.Upstream.{IsUpstream}
+use Rattle.linker_utils.proofs.Imports.{IfSome, IsUpstream, subst, sym, ◌∙◌}
 use Rattle.linker_utils.proofs.Upstream.{upstream_is}
 use Rattle.linker_utils.proofs.elf.upstream.Goals as goal
 

@@ -1,7 +1,4 @@
-use Rattle.std.proofs.Common.{◌∙◌, IfSome, subst, sym}
-use Rattle.linker_elf.specs.Agrees.{LoongArchRowAgrees, RowFits}
-use Rattle.linker_elf.specs.Readings.{LoongArchRowReadsNoOther}
-use Rattle.linker_utils.specs.Upstream.{IsUpstream}
+use Rattle.linker_utils.proofs.Imports.{IfSome, IsUpstream, LoongArchRowAgrees, LoongArchRowReadsNoOther, RowFits, subst, sym, ◌∙◌}
 use Rattle.linker_utils.proofs.Upstream.{upstream_form, upstream_has, loongarch_upstream}
 use Rattle.linker_utils.proofs.loongarch64.relocation_type_from_raw.Goals as goal
 

@@ -1,4 +1,4 @@
-use Rattle.std.proofs.Common.{◌∙◌}
+use Rattle.linker_utils.proofs.Imports.{◌∙◌}
 use Rattle.linker_utils.proofs.RewriteRows.{second_of_window}
 use Rattle.linker_utils.proofs.rewrite_rows.word_of.Goals as goal
 

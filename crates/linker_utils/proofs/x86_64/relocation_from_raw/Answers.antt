@@ -1,5 +1,4 @@
-use Rattle.std.proofs.Common.{◌∙◌, IfSome, subst, sym}
-use Rattle.linker_utils.specs.Upstream.{IsUpstream}
+use Rattle.linker_utils.proofs.Imports.{IfSome, IsUpstream, subst, sym, ◌∙◌}
 use Rattle.linker_utils.proofs.Upstream.{upstream_form, x86_64_upstream}
 use Rattle.linker_utils.proofs.x86_64.relocation_from_raw.Goals as goal
 

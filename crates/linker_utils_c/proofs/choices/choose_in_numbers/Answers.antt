@@ -1,4 +1,4 @@
-use Rattle.std.proofs.Common.{refl}
+use Rattle.linker_utils_c.proofs.Imports.{refl}
 use Rattle.linker_elf.specs.Choices.{choice}
 use Rattle.linker_utils.specs.declared.architecture.Relaxation.TheVariants as relaxations
 use Rattle.linker_utils_c.proofs.choices.choose_in_numbers.Goals as goal

@@ -1,7 +1,4 @@
-use Rattle.std.proofs.Common.{◌<◌, length, sym, arith}
-use Rattle.std.proofs.lemmas.List.{length-map, length-set}
-use Rattle.linker_base.proofs.Listed.{taken_up_to, RecordsDeletions-set}
-use Rattle.linker_utils_c.specs.Deltas.{pair_of, pairs_in}
+use Rattle.linker_utils_c.proofs.Imports.{RecordsDeletions-set, arith, length, length-map, length-set, pair_of, pairs_in, sym, taken_up_to, ◌<◌}
 use Rattle.linker_utils_c.proofs.DeltaLists.{pair_at}
 use Rattle.linker_utils_c.proofs.deltas.fill.Goals as goal
 

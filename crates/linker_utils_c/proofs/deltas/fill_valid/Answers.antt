@@ -1,12 +1,5 @@
-use Rattle.std.proofs.Common.{◌≡◌, ℕ, ◌+◌, ◌^◌, ◌<◌, ◌≤◌, List, max, length, get_or, take, sym, ap, arith}
-use Rattle.std.proofs.lemmas.List.{length-map, length-set, take_more}
-use Rattle.std.proofs.lemmas.List.Sums.{sum_by_more}
-use Rattle.linker_base.specs.Deletions.{EndFits, bytes_of}
-use Rattle.linker_base.specs.Inner.Listed.{IsRun}
+use Rattle.linker_utils_c.proofs.Imports.{EndFits, IsRun, List, RecordsDeletions-set, ap, arith, bytes_fit, bytes_of, get_or, length, length-map, length-set, max, pair_of, pairs_in, sum_by_more, sym, take, take_more, ℕ, ◌+◌, ◌<◌, ◌^◌, ◌≡◌, ◌≤◌}
 use Rattle.linker_base.proofs.Batches.{IsRun-push}
-use Rattle.linker_base.proofs.Listed.{RecordsDeletions-set}
-use Rattle.linker_base.proofs.OutputOffsets.{bytes_fit}
-use Rattle.linker_utils_c.specs.Deltas.{pair_of, pairs_in}
 use Rattle.linker_utils_c.proofs.DeltaLists.{pair_at}
 use Rattle.linker_utils_c.proofs.deltas.fill_valid.Goals as goal
 

@@ -1,8 +1,4 @@
-use Rattle.std.proofs.Common.{◌≡◌, length, take}
-use Rattle.linker_base.specs.Deletions.{bytes_of}
-use Rattle.linker_base.specs.Deltas.{RecordsDeletions}
-use Rattle.linker_base.specs.Inner.Listed.{IsRun}
-use Rattle.linker_utils_c.specs.Deltas.{pairs_in}
+use Rattle.linker_utils_c.proofs.Imports.{IsRun, RecordsDeletions, bytes_of, length, pairs_in, take, ◌≡◌}
 use Rattle.linker_utils_c.proofs.deltas.fill_valid.Given as goal
 
 abbrev pub invariant-loop-at : goal.invariant-loop-at

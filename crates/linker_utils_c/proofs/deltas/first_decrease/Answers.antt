@@ -1,8 +1,5 @@
-use Rattle.std.proofs.Common.{◌≡◌, ℕ, ◌+◌, ◌-◌, ◌<◌, ◌≤◌, List, length, get_or, take, inl, inr, arith}
-use Rattle.std.specs.List.Sorted.{IsNonDecreasing}
+use Rattle.linker_utils_c.proofs.Imports.{IsNonDecreasing, IsNonDecreasingBy-push, IsNonDecreasingBy-short, List, arith, get_or, get_or-take, get_or_default, inl, inr, length, length-take, take, take_all, take_more, ℕ, ◌+◌, ◌-◌, ◌<◌, ◌≡◌, ◌≤◌}
 use Rattle.std.proofs.lemmas.Bool.{cases_lt}
-use Rattle.std.proofs.lemmas.List.{get_or-take, get_or_default, length-take, take_all, take_more}
-use Rattle.std.proofs.lemmas.List.Sorted.{IsNonDecreasingBy-push, IsNonDecreasingBy-short}
 use Rattle.linker_utils_c.proofs.deltas.first_decrease.Goals as goal
 
 -- one number ascends

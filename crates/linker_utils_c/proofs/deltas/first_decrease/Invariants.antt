@@ -1,5 +1,4 @@
-use Rattle.std.proofs.Common.{◌-◌, ◌≤◌, ◌<◌, length, take}
-use Rattle.std.specs.List.Sorted.{IsNonDecreasing}
+use Rattle.linker_utils_c.proofs.Imports.{IsNonDecreasing, length, take, ◌-◌, ◌<◌, ◌≤◌}
 use Rattle.linker_utils_c.proofs.deltas.first_decrease.Given as goal
 
 abbrev pub invariant-loop-at : goal.invariant-loop-at

@@ -1,6 +1,4 @@
-use Rattle.std.proofs.Common.{◌+◌}
-use Rattle.linker_base.proofs.Listed.{IsValid-take}
-use Rattle.linker_utils_c.specs.Deltas.{pairs_in}
+use Rattle.linker_utils_c.proofs.Imports.{IsValid-take, pairs_in, ◌+◌}
 use Rattle.linker_utils_c.proofs.deltas.linker_utils_deletions_valid_nonnull.Goals as goal
 
 pub returns-in-Some-clause-valid : goal.returns-in-Some-clause-valid

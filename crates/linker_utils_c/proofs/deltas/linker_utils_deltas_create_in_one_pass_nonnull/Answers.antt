@@ -1,6 +1,4 @@
-use Rattle.std.proofs.Common.{◌≡◌, length, ◌∙◌, arith}
-use Rattle.linker_base.specs.Deletions.{IsValid}
-use Rattle.linker_utils_c.specs.Deltas.{pairs_in}
+use Rattle.linker_utils_c.proofs.Imports.{IsValid, arith, length, pairs_in, ◌∙◌, ◌≡◌}
 use Rattle.linker_utils_c.proofs.deltas.linker_utils_deltas_create_in_one_pass_nonnull.Goals as goal
 use Rattle.linker_utils_c.proofs.deltas.linker_utils_deltas_create_in_one_pass_nonnull.Goals.{else-deltas-deletions-via-then-deltas-deletions+else-fill_valid, else-deltas-deletions-via-else-deltas-deletions}
 

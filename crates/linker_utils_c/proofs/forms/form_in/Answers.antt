@@ -1,5 +1,4 @@
-use Rattle.std.proofs.Common.{refl}
-use Rattle.linker_utils_c.specs.declared.status.Status.TheVariants.{UnknownArchitecture}
+use Rattle.linker_utils_c.proofs.Imports.{UnknownArchitecture, refl}
 use Rattle.linker_utils_c.proofs.forms.form_in.Goals as goal
 
 pub returns-in-X86_64 : goal.returns-in-X86_64

@@ -1,5 +1,4 @@
-use Rattle.std.proofs.Common.{◌∙◌, refl, sym}
-use Rattle.linker_utils_c.specs.declared.status.Status.TheVariants.{UnknownArchitecture}
+use Rattle.linker_utils_c.proofs.Imports.{UnknownArchitecture, refl, sym, ◌∙◌}
 use Rattle.linker_utils_c.proofs.forms.form_of.Goals as goal
 
 pub returns-in-None : goal.returns-in-None

@@ -1,6 +1,4 @@
-use Rattle.std.proofs.Common.{◌≡◌, ℕ, List, [], ◌∷◌, ◌++◌, map, get_or, take, ap, sym, ◌∙◌, arith}
-use Rattle.std.proofs.lemmas.List.{map-append}
-use Rattle.linker_utils_c.specs.Deltas.{pair_of, pair_of_key, pairs_in}
+use Rattle.linker_utils_c.proofs.Imports.{List, [], ap, arith, get_or, map, map-append, pair_of, pair_of_key, pairs_in, sym, take, ℕ, ◌++◌, ◌∙◌, ◌∷◌, ◌≡◌}
 use Rattle.linker_utils_c.proofs.DeltaLists.{no_deletion, take_more_map}
 use Rattle.linker_utils_c.proofs.merges.keys.Goals as goal
 

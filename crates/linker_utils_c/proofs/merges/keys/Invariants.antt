@@ -1,6 +1,4 @@
-use Rattle.std.proofs.Common.{◌≡◌, length, map, take, vec_len}
-use Rattle.std.specs.Vec.{vec_capacity}
-use Rattle.linker_utils_c.specs.Deltas.{pair_of_key, pairs_in}
+use Rattle.linker_utils_c.proofs.Imports.{length, map, pair_of_key, pairs_in, take, vec_capacity, vec_len, ◌≡◌}
 use Rattle.linker_utils_c.proofs.merges.keys.Given as goal
 
 abbrev pub invariant-loop-deletion : goal.invariant-loop-deletion

@@ -1,6 +1,4 @@
-use Rattle.std.proofs.Common.{◌+◌, rules}
-use Rattle.linker_base.proofs.Listed.{IsValid-take}
-use Rattle.linker_base.specs.Deltas.{deletions_of}
+use Rattle.linker_utils_c.proofs.Imports.{IsValid-take, deletions_of, rules, ◌+◌}
 use Rattle.linker_utils_c.proofs.merges.linker_utils_deletions_mergeable_nonnull.Goals as goal
 
 pub returns-in-Some-clause-mergeable : goal.returns-in-Some-clause-mergeable

@@ -1,10 +1,4 @@
-use Rattle.std.proofs.Common.{◌++◌, ◌+◌, inl, inr, rules, refl}
-use Rattle.linker_base.specs.Deletions.{AreDisjoint, IsValid}
-use Rattle.linker_base.specs.Deltas.{deletions_of}
-use Rattle.linker_base.specs.Listed.{IsFirstInvalid, IsFirstOverlapping}
-use Rattle.linker_base.proofs.Listed.{IsValid-take}
-use Rattle.linker_base.proofs.Merging.{overlapping_denies}
-use Rattle.linker_utils_c.specs.Deltas.{pairs_in}
+use Rattle.linker_utils_c.proofs.Imports.{AreDisjoint, IsFirstInvalid, IsFirstOverlapping, IsValid, IsValid-take, deletions_of, inl, inr, overlapping_denies, pairs_in, refl, rules, ◌++◌, ◌+◌}
 use Rattle.linker_utils_c.proofs.merges.linker_utils_deltas_merge_nonnull.Goals as goal
 
 pub returns-in-Ok-clause-outcome : goal.returns-in-Ok-clause-outcome

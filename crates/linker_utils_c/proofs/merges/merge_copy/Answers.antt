@@ -1,12 +1,5 @@
-use Rattle.std.proofs.Common.{◌++◌, ◌+◌, map, arith}
-use Rattle.std.proofs.lemmas.List.{length-map}
-use Rattle.std.proofs.lemmas.List.Sorted.{length_permutation}
-use Rattle.linker_base.specs.Deletions.{IsValid, IsSortedUnion}
-use Rattle.linker_base.specs.Deltas.{deletions_of}
-use Rattle.linker_base.specs.Listed.{AreValidTogether}
-use Rattle.linker_base.proofs.Merging.{disjoint_back}
+use Rattle.linker_utils_c.proofs.Imports.{AreValidTogether, IsSortedUnion, IsValid, arith, deletions_of, disjoint_back, length-map, length_permutation, map, pair_of, pairs_in, ◌++◌, ◌+◌}
 use Rattle.linker_base.proofs.Unions.{disjoint_moved, union_moved, valid_from_disjoint}
-use Rattle.linker_utils_c.specs.Deltas.{pair_of, pairs_in}
 use Rattle.linker_utils_c.proofs.merges.merge_copy.Goals as goal
 use Rattle.linker_utils_c.proofs.merges.merge_copy.Goals.{then-not-can_merge_ascending+in_default, else-not-can_merge_ascending}
 

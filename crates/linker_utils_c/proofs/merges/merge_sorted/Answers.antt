@@ -1,8 +1,4 @@
-use Rattle.std.proofs.Common.{map, subst, sym, ◌∙◌, rules}
-use Rattle.std.specs.List.Sorted.{IsPermutation, IsNonDecreasingBy}
-use Rattle.std.proofs.lemmas.List.{map-id}
-use Rattle.std.proofs.lemmas.List.Sorted.{IsPermutation-map, IsNonDecreasingBy-from_sort_by_key}
-use Rattle.linker_utils_c.specs.Deltas.{pair_of_key, pairs_in}
+use Rattle.linker_utils_c.proofs.Imports.{IsNonDecreasingBy, IsNonDecreasingBy-from_sort_by_key, IsPermutation, IsPermutation-map, map, map-id, pair_of_key, pairs_in, rules, subst, sym, ◌∙◌}
 use Rattle.linker_utils_c.proofs.DeltaLists.{keys_rise}
 use Rattle.linker_utils_c.proofs.merges.merge_sorted.Goals as goal
 

@@ -1,4 +1,4 @@
-use Rattle.std.proofs.Common.{◌≡◌, ℕ, List, get_or, refl, ap, ◌∙◌, arith}
+use Rattle.linker_utils_c.proofs.Imports.{List, ap, arith, get_or, refl, ℕ, ◌∙◌, ◌≡◌}
 use Rattle.linker_utils_c.proofs.DeltaLists.{take_more_map}
 use Rattle.linker_utils_c.proofs.merges.pairs.Goals as goal
 

@@ -1,5 +1,4 @@
-use Rattle.std.proofs.Common.{◌≡◌, length, map, take, vec_len}
-use Rattle.std.specs.Vec.{vec_capacity}
+use Rattle.linker_utils_c.proofs.Imports.{length, map, take, vec_capacity, vec_len, ◌≡◌}
 use Rattle.linker_utils_c.proofs.merges.pairs.Given as goal
 
 abbrev pub invariant-loop-deletion : goal.invariant-loop-deletion

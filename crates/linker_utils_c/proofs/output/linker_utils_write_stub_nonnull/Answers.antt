@@ -1,4 +1,4 @@
-use Rattle.std.proofs.Common.{sym, ◌∙◌, subst}
+use Rattle.linker_utils_c.proofs.Imports.{subst, sym, ◌∙◌}
 use Rattle.linker_utils_c.specs.Output.{stub_kind_of, stub_in, IsStubWritten}
 use Rattle.linker_utils_c.proofs.output.linker_utils_write_stub_nonnull.Goals as goal
 

@@ -1,6 +1,4 @@
-use Rattle.std.proofs.Common.{◌≡◌, ◌∙◌, ap, refl, Some, None, slice_get, arith, length}
-use Rattle.std.specs.Prelude.{option_map}
-use Rattle.std.proofs.lemmas.Option.{slice_get_past, slice_get_read}
+use Rattle.linker_utils_c.proofs.Imports.{None, Some, ap, arith, length, option_map, refl, slice_get, slice_get_past, slice_get_read, ◌∙◌, ◌≡◌}
 use Rattle.linker_utils_c.proofs.Provided.{symbols_at, view_symbol}
 use Rattle.linker_utils_c.proofs.output.put_symbol.Goals as goal
 

@@ -1,7 +1,4 @@
-use Rattle.std.proofs.Common.{◌≡◌, ◌∙◌, ap, sym, refl, Some, None, slice_get, arith, length}
-use Rattle.std.specs.Prelude.{option_map}
-use Rattle.std.proofs.lemmas.Option.{slice_get_past, slice_get_read}
-use Rattle.linker_output.specs.View.{view_run}
+use Rattle.linker_utils_c.proofs.Imports.{None, Some, ap, arith, length, option_map, refl, slice_get, slice_get_past, slice_get_read, sym, view_run, ◌∙◌, ◌≡◌}
 use Rattle.linker_utils_c.proofs.Provided.{runs_at}
 use Rattle.linker_utils_c.proofs.output.put_word.Goals as goal
 

@@ -1,4 +1,4 @@
-use Rattle.std.proofs.Common.{rules}
+use Rattle.linker_utils_c.proofs.Imports.{rules}
 use Rattle.linker_utils_c.proofs.pack_runs.pack.Goals as goal
 
 pub returns-in-Err : goal.returns-in-Err

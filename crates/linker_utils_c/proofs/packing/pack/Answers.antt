@@ -1,6 +1,5 @@
-use Rattle.std.proofs.Common.{◌+◌, rules}
+use Rattle.linker_utils_c.proofs.Imports.{calls_in, rules, ◌+◌}
 use Rattle.linker_riscv64.proofs.Packed.{apart_take}
-use Rattle.linker_utils_c.specs.Packing.{calls_in}
 use Rattle.linker_utils_c.proofs.packing.pack.Goals as goal
 
 pub returns-in-Some : goal.returns-in-Some

@@ -1,6 +1,5 @@
-use Rattle.std.proofs.Common.{refl}
+use Rattle.linker_utils_c.proofs.Imports.{Arrays, refl}
 use Rattle.linker_utils_c.proofs.Placing.{of_different, of_short, of_placed}
-use Rattle.linker_utils_c.specs.Placement.{Arrays}
 use Rattle.linker_utils_c.proofs.placement.linker_utils_place_stubs_nonnull.Goals as goal
 
 pub returns-then-not-have_lengths : goal.returns-then-not-have_lengths

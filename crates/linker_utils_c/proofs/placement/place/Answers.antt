@@ -1,5 +1,4 @@
-use Rattle.std.proofs.Common.{◌∙◌, inl, refl, subst, arith}
-use Rattle.linker_utils_c.specs.Placement.{AreWays}
+use Rattle.linker_utils_c.proofs.Imports.{AreWays, arith, inl, refl, subst, ◌∙◌}
 use Rattle.linker_utils_c.proofs.placement.place.Goals as goal
 
 pub returns-in-Ok : goal.returns-in-Ok

@@ -1,5 +1,4 @@
-use Rattle.std.proofs.Common.{◌≡◌, ◌≤◌, ◌<◌, ℕ, length}
-use Rattle.linker_utils_c.specs.Placement.{placed_at, placed_stub}
+use Rattle.linker_utils_c.proofs.Imports.{length, placed_at, placed_stub, ℕ, ◌<◌, ◌≡◌, ◌≤◌}
 use Rattle.linker_utils_c.proofs.placement.put_stubs.Given as goal
 
 abbrev pub invariant-loop-index : goal.invariant-loop-index

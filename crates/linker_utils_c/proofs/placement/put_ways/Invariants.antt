@@ -1,6 +1,5 @@
-use Rattle.std.proofs.Common.{◌≡◌, ◌<◌, ℕ, length, get_or, None}
+use Rattle.linker_utils_c.proofs.Imports.{None, get_or, length, way_number, ℕ, ◌<◌, ◌≡◌}
 use Rattle.linker_output.specs.Placement.{at}
-use Rattle.linker_utils_c.specs.Placement.{way_number}
 use Rattle.linker_utils_c.proofs.placement.put_ways.Given as goal
 
 abbrev pub invariant-loop-index : goal.invariant-loop-index

@@ -1,7 +1,6 @@
 -- The bytes that follow the number that was read.
-use Rattle.std.proofs.Common.{◌≡◌, ◌+◌, ◌-◌, ◌∙◌, ℕ, List, length, drop, ap, sym, subst, arith, refl}
+use Rattle.linker_utils_c.proofs.Imports.{List, ap, arith, drop, length, length-drop, refl, subst, sym, ℕ, ◌+◌, ◌-◌, ◌∙◌, ◌≡◌}
 use Rattle.linker_base.specs.Uleb.{Uleb}
-use Rattle.std.proofs.lemmas.List.{length-drop}
 use Rattle.linker_utils_c.proofs.readers.linker_utils_read_uleb128_nonnull.Goals as goal
 
 taken : (bytes rest : List ℕ) (n : ℕ) → Uleb bytes n rest → drop (length bytes - length rest) bytes ≡ rest

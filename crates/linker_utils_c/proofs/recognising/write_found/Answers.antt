@@ -1,5 +1,4 @@
-use Rattle.std.proofs.Common.{◌≡◌, ◌≢◌, ◌∙◌, rules, arith, get_or, get_or-set_other, Some, None}
-use Rattle.std.proofs.lemmas.List.{length-set}
+use Rattle.linker_utils_c.proofs.Imports.{None, Some, arith, get_or, get_or-set_other, length-set, rules, ◌∙◌, ◌≡◌, ◌≢◌}
 use Rattle.linker_utils_c.proofs.Found.{found_more, none_more}
 use Rattle.linker_utils_c.proofs.recognising.write_found.Goals.{in-Some, in_default}
 use Rattle.linker_utils_c.proofs.recognising.write_found.Goals as goal

@@ -1,6 +1,4 @@
-use Rattle.std.proofs.Common.{◌≡◌, ◌≤◌, ℕ, length, take, get_or}
-use Rattle.linker_utils_c.specs.Recognising.{AreInNumbers, present}
-use Rattle.linker_utils_c.specs.declared.recognising.RecognisedNumbers.{RecognisedNumbers}
+use Rattle.linker_utils_c.proofs.Imports.{AreInNumbers, RecognisedNumbers, get_or, length, present, take, ℕ, ◌≡◌, ◌≤◌}
 use Rattle.linker_utils_c.proofs.recognising.write_found.Given as goal
 
 abbrev pub invariant-loop-index : goal.invariant-loop-index

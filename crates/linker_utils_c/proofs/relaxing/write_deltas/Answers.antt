@@ -1,11 +1,4 @@
-use Rattle.std.proofs.Common.{◌≡◌, ◌≢◌, ◌+◌, ◌-◌, ◌<◌, ◌≤◌, ◌∙◌, ◌∷◌, [], ℕ, length, get_or, take, refl, ap, sym, subst, arith, length-append, get_or-set_other}
-use Rattle.std.proofs.lemmas.List.{length-map, length-set}
-use Rattle.linker_base.specs.Deletions.{IsValid, bytes_of}
-use Rattle.linker_base.specs.Deltas.{deletion_of, RecordsDeletions}
-use Rattle.linker_runs.specs.Relaxing.{offset_of, len_of, item_at, AreInOrder}
-use Rattle.linker_runs.specs.Deleting.{deletions_before}
-use Rattle.linker_runs.proofs.Deletions.{deletions_none, deletions_valid}
-use Rattle.linker_runs.specs.Relaxing.{item_of, items_in}
+use Rattle.linker_utils_c.proofs.Imports.{AreInOrder, IsValid, RecordsDeletions, [], ap, arith, bytes_of, deletion_of, deletions_before, deletions_none, deletions_valid, get_or, get_or-set_other, item_at, item_of, items_in, len_of, length, length-append, length-map, length-set, offset_of, refl, subst, sym, take, ℕ, ◌+◌, ◌-◌, ◌<◌, ◌∙◌, ◌∷◌, ◌≡◌, ◌≢◌, ◌≤◌}
 use Rattle.linker_utils_c.proofs.RunItems.{no_numbers, item_in, offset_in, len_in, run_next, run_same, run_sum, run_listed, run_none}
 use Rattle.linker_utils_c.proofs.relaxing.write_deltas.Goals as goal
 use Rattle.linker_utils_c.proofs.relaxing.write_deltas.Goals.{then-stay-from, else-stay-from}

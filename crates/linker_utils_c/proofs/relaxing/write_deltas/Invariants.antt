@@ -1,10 +1,4 @@
-use Rattle.std.proofs.Common.{◌≡◌, ◌≤◌, ℕ, length, take, get_or}
-use Rattle.linker_base.specs.declared.relaxation.RelaxDelta.{RelaxDelta}
-use Rattle.linker_base.specs.Deletions.{bytes_of}
-use Rattle.linker_base.specs.Deltas.{RecordsDeletions}
-use Rattle.linker_runs.specs.Relaxing.{AreInOrder}
-use Rattle.linker_runs.specs.Deleting.{deletions_before}
-use Rattle.linker_runs.specs.Relaxing.{items_in}
+use Rattle.linker_utils_c.proofs.Imports.{AreInOrder, RecordsDeletions, RelaxDelta, bytes_of, deletions_before, get_or, items_in, length, take, ℕ, ◌≡◌, ◌≤◌}
 use Rattle.linker_utils_c.proofs.relaxing.write_deltas.Given as goal
 
 abbrev pub invariant-loop-index : goal.invariant-loop-index

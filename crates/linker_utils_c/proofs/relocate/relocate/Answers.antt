@@ -1,7 +1,4 @@
-use Rattle.std.proofs.Common.{subst}
-use Rattle.std.specs.Int.{w64}
-use Rattle.std.proofs.lemmas.Int.{to_z-of_z}
-use Rattle.linker_utils_c.specs.Relocate.{IsRelocatedAs}
+use Rattle.linker_utils_c.proofs.Imports.{IsRelocatedAs, subst, to_z-of_z, w64}
 use Rattle.linker_utils_c.proofs.relocate.relocate.Goals as goal
 
 pub returns : goal.returns

@@ -1,9 +1,4 @@
-use Rattle.std.proofs.Common.{rules, take, get_or, subst, arith, pos, FitsSigned}
-use Rattle.std.specs.Int.{w64}
-use Rattle.std.proofs.lemmas.Int.{to_z-of_z}
-use Rattle.std.proofs.lemmas.List.{take_more, get_or_default}
-use Rattle.linker_utils_c.specs.Relocate.{IsRelocatedAt, IsApplied}
-use Rattle.linker_utils_c.specs.declared.relocate.Relocation.{Relocation}
+use Rattle.linker_utils_c.proofs.Imports.{FitsSigned, IsApplied, IsRelocatedAt, Relocation, arith, get_or, get_or_default, pos, rules, subst, take, take_more, to_z-of_z, w64}
 use Rattle.linker_utils_c.proofs.Relocating.{one_more}
 use Rattle.linker_utils_c.proofs.relocate.relocate_all.Goals as goal
 

@@ -1,5 +1,4 @@
-use Rattle.std.proofs.Common.{◌≡◌, ◌-◌, ◌≤◌, length, take}
-use Rattle.linker_utils_c.specs.Relocate.{AreRelocated}
+use Rattle.linker_utils_c.proofs.Imports.{AreRelocated, length, take, ◌-◌, ◌≡◌, ◌≤◌}
 use Rattle.linker_utils_c.proofs.relocate.relocate_all.Given as goal
 
 abbrev pub invariant-loop-at : goal.invariant-loop-at

@@ -1,9 +1,5 @@
-use Rattle.std.proofs.Common.{rules, refl, ◌≡◌, ◌+◌, ◌-◌, length, take, drop, subst, arith, sym, ◌∙◌}
-use Rattle.std.specs.Int.{w64}
-use Rattle.std.proofs.lemmas.Int.{to_z-of_z}
-use Rattle.std.proofs.lemmas.List.{take_all, length-drop}
+use Rattle.linker_utils_c.proofs.Imports.{IsRelocated, arith, drop, length, length-drop, refl, rules, subst, sym, take, take_all, to_z-of_z, w64, ◌+◌, ◌-◌, ◌∙◌, ◌≡◌}
 use Rattle.std.proofs.lemmas.Slice.{take-put_mid}
-use Rattle.linker_utils_c.specs.Relocate.{IsRelocated}
 use Rattle.linker_utils_c.proofs.relocate.relocate_at.Goals as goal
 
 pub returns : goal.returns

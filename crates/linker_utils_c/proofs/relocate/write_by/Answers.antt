@@ -1,7 +1,4 @@
-use Rattle.std.proofs.Common.{subst}
-use Rattle.std.specs.Int.{w64}
-use Rattle.std.proofs.lemmas.Int.{to_z-of_z}
-use Rattle.linker_utils_c.specs.Relocate.{IsOutcome}
+use Rattle.linker_utils_c.proofs.Imports.{IsOutcome, subst, to_z-of_z, w64}
 use Rattle.linker_utils_c.proofs.Relocating.{outcome_of}
 use Rattle.linker_utils_c.proofs.relocate.write_by.Goals as goal
 

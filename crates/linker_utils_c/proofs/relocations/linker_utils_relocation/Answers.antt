@@ -1,6 +1,5 @@
-use Rattle.std.proofs.Common.{◌∙◌, sym, subst, Some, refl}
+use Rattle.linker_utils_c.proofs.Imports.{InNumbers, Some, refl, subst, sym, ◌∙◌}
 use Rattle.linker_elf.specs.Architectures.{IsRow}
-use Rattle.linker_utils_c.specs.Relocations.{InNumbers}
 use Rattle.linker_utils_c.proofs.RelocationNumbers.{are_numbers}
 use Rattle.linker_utils_c.proofs.relocations.linker_utils_relocation.Goals as goal
 

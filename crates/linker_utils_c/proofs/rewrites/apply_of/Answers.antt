@@ -1,6 +1,5 @@
 -- What `apply_by` says, of the rewrite with the number.
-use Rattle.std.proofs.Common.{◌∙◌, Some, ap, sym}
-use Rattle.linker_utils.specs.Relaxations.{relaxation_rewrite}
+use Rattle.linker_utils_c.proofs.Imports.{Some, ap, relaxation_rewrite, sym, ◌∙◌}
 use Rattle.linker_utils_c.specs.Rewrites.{IsApplied}
 use Rattle.linker_utils_c.proofs.Named.{of_named}
 use Rattle.linker_utils_c.proofs.rewrites.apply_of.Goals as goal

@@ -1,5 +1,4 @@
-use Rattle.std.proofs.Common.{◌≡◌, ◌∙◌, sym, refl, Some, None, slice_get, arith, length}
-use Rattle.std.proofs.lemmas.Option.{slice_get_past, slice_get_read}
+use Rattle.linker_utils_c.proofs.Imports.{None, Some, arith, length, refl, slice_get, slice_get_past, slice_get_read, sym, ◌∙◌, ◌≡◌}
 use Rattle.linker_utils_c.proofs.routes.route_at.Goals as goal
 
 pub returns-in_default-get : goal.returns-in_default-get

@@ -1,7 +1,4 @@
-use Rattle.std.proofs.Common.{◌+◌, arith}
-use Rattle.linker_base.specs.Deltas.{deletions_of}
-use Rattle.linker_riscv64.proofs.Shrunk.{shrinkable_taken}
-use Rattle.linker_utils_c.specs.Packing.{calls_in}
+use Rattle.linker_utils_c.proofs.Imports.{arith, calls_in, deletions_of, shrinkable_taken, ◌+◌}
 use Rattle.linker_utils_c.proofs.shrinking.linker_utils_calls_shrinkable_nonnull.Goals as goal
 
 pub returns-in-Some-clause-shrinkable : goal.returns-in-Some-clause-shrinkable

@@ -1,7 +1,4 @@
-use Rattle.std.proofs.Common.{◌+◌, rules}
-use Rattle.linker_base.specs.Deltas.{deletions_of}
-use Rattle.linker_riscv64.proofs.Shrunk.{shrinkable_taken}
-use Rattle.linker_utils_c.specs.Packing.{calls_in}
+use Rattle.linker_utils_c.proofs.Imports.{calls_in, deletions_of, rules, shrinkable_taken, ◌+◌}
 use Rattle.linker_utils_c.proofs.shrinking.linker_utils_shrink_calls_nonnull.Goals as goal
 
 pub returns-in-Some-clause-not_shrinkable : goal.returns-in-Some-clause-not_shrinkable

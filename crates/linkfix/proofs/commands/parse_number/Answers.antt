@@ -1,6 +1,5 @@
-use Rattle.std.proofs.Common.{◌+◌, ◌*◌, ◌<◌, suc, length, drop, get_or, arith, drop-cons}
+use Rattle.linkfix.proofs.Imports.{arith, digit_value, drop, drop-cons, get_or, length, suc, ◌*◌, ◌+◌, ◌<◌}
 use Rattle.std.proofs.lemmas.Str.{digit_value_digit}
-use Rattle.std.specs.Char.{digit_value}
 use Rattle.linkfix.proofs.Digits.{digits_value_after-grows}
 use Rattle.linkfix.proofs.commands.parse_number.Goals as goal
 

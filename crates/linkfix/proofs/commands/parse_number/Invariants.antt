@@ -1,5 +1,4 @@
-use Rattle.std.proofs.Common.{◌≡◌, ◌<◌, ◌^◌, drop}
-use Rattle.std.specs.Str.Parse.{AllDigits, digits_value, digits_value_after}
+use Rattle.linkfix.proofs.Imports.{AllDigits, digits_value, digits_value_after, drop, ◌<◌, ◌^◌, ◌≡◌}
 use Rattle.linkfix.proofs.commands.parse_number.Given as goal
 
 -- the digits so far write the value, and the word is one of digits where its rest is

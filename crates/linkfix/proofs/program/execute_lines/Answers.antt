@@ -1,7 +1,4 @@
-use Rattle.std.proofs.Common.{◌≡◌, Err, ap, refl, inl, inr}
-use Rattle.std.proofs.lemmas.Result.{err_from_is_err_and}
-use Rattle.linkfix.specs.Execution.{Rejects}
-use Rattle.linkfix.specs.declared.program.RunError.TheVariants.{Reported}
+use Rattle.linkfix.proofs.Imports.{Err, Rejects, Reported, ap, err_from_is_err_and, inl, inr, refl, ◌≡◌}
 use Rattle.linkfix.proofs.Execution.{ends_at_line, ends_at_section, ends_without_memory, input_memory, is_begun, not_rejected, next_blank, next_executed, reported_cause, reported_silent, run_begins, run_ends}
 use Rattle.linkfix.proofs.program.execute_lines.Goals as goal
 

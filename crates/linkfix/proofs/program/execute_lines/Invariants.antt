@@ -1,4 +1,4 @@
-use Rattle.linkfix.specs.RemainingInput.{remaining_bytes, max_remaining}
+use Rattle.linkfix.proofs.Imports.{max_remaining, remaining_bytes}
 use Rattle.linkfix.proofs.Execution.{IsRunSoFar}
 use Rattle.linkfix.proofs.program.execute_lines.Given as goal
 

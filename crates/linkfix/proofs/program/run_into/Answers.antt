@@ -1,4 +1,4 @@
-use Rattle.std.proofs.Common.{◌∙◌, Err, ap}
+use Rattle.linkfix.proofs.Imports.{Err, ap, ◌∙◌}
 use Rattle.linkfix.proofs.Execution.{ends_with_its_line}
 use Rattle.linkfix.proofs.program.run_into.Goals as goal
 

@@ -1,10 +1,8 @@
-use Rattle.std.proofs.Common.{◌≡◌, Some, arith, ap}
-use Rattle.std.proofs.lemmas.Result.{IfOk-weaker}
+use Rattle.linkfix.proofs.Imports.{IfOk-weaker, Some, ap, arith, decoded_hex, ◌≡◌}
 use Rattle.std.specs.Result.{result_ok}
 use Rattle.std.specs.String.{string_bytes}
 use Rattle.hex.specs.Hex.{IsBytes, encode_lower}
 use Rattle.hex.proofs.HexLemmas.{decode_of-encode_lower}
-use Rattle.linkfix.specs.DecodedHex.{decoded_hex}
 use Rattle.linkfix.proofs.sections.show_section.Goals as goal
 
 pub returns-clause-read_back : goal.returns-clause-read_back

@@ -1,5 +1,4 @@
-use Rattle.std.proofs.Common.{◌<◌, ◌%◌, ◌^◌}
-use Rattle.std.proofs.lemmas.Nat.{mod_below, pow_pos}
+use Rattle.linker_base.proofs.Imports.{mod_below, pow_pos, ◌%◌, ◌<◌, ◌^◌}
 use Rattle.linker_base.proofs.Bits.{signed_bits}
 use Rattle.linker_base.proofs.bit_misc.U64BitExtraction.low_bits_signed.Goals as goal
 

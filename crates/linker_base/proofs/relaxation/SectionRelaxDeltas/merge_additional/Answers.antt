@@ -1,5 +1,4 @@
-use Rattle.std.proofs.Common.{◌∙◌, ap, map, map-id}
-use Rattle.linker_base.specs.Deltas.{deletion_of}
+use Rattle.linker_base.proofs.Imports.{ap, deletion_of, map, map-id, ◌∙◌}
 use Rattle.linker_base.proofs.Merging.{disjoint_back}
 use Rattle.linker_base.proofs.Unions.{disjoint_moved, union_moved_ok}
 use Rattle.linker_base.proofs.relaxation.SectionRelaxDeltas.merge_additional.Goals as goal

@@ -1,5 +1,4 @@
-use Rattle.std.proofs.Common.{◌∙◌, ap, map}
-use Rattle.linker_base.specs.Deltas.{deletion_of, pairs_of}
+use Rattle.linker_base.proofs.Imports.{ap, deletion_of, map, pairs_of, ◌∙◌}
 use Rattle.linker_base.proofs.Merging.{disjoint_back}
 use Rattle.linker_base.proofs.Unions.{disjoint_moved, union_moved_ok}
 use Rattle.linker_base.proofs.relaxation.SectionRelaxDeltas.merge_all.Goals as goal

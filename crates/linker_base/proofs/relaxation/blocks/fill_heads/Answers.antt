@@ -1,7 +1,4 @@
-use Rattle.std.proofs.Common.{◌≡◌, ◌<◌, length, inl, inr, arith}
-use Rattle.std.proofs.lemmas.Bool.{cases_lt}
-use Rattle.std.proofs.lemmas.Bool.Decides.{nat_tests}
-use Rattle.linker_base.specs.Blocks.{blocks_of}
+use Rattle.linker_base.proofs.Imports.{arith, blocks_of, cases_lt, inl, inr, length, nat_tests, ◌<◌, ◌≡◌}
 use Rattle.linker_base.proofs.relaxation.blocks.fill_heads.Goals as goal
 
 pub returns : goal.returns

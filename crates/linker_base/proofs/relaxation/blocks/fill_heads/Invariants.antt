@@ -1,7 +1,4 @@
-use Rattle.std.proofs.Common.{◌≡◌, ◌*◌, ◌<◌, ◌≤◌, ℕ, length, get_or, vec_len, vec_capacity}
-use Rattle.linker_base.specs.declared.relaxation.RelaxDelta.{RelaxDelta}
-use Rattle.linker_base.specs.declared.relaxation.blocks.BlockHead.{BlockHead}
-use Rattle.linker_base.specs.Blocks.{blocks_of, head_of}
+use Rattle.linker_base.proofs.Imports.{BlockHead, RelaxDelta, blocks_of, get_or, head_of, length, vec_capacity, vec_len, ℕ, ◌*◌, ◌<◌, ◌≡◌, ◌≤◌}
 use Rattle.linker_base.proofs.relaxation.blocks.fill_heads.Given as goal
 
 abbrev pub invariant-loop-block : goal.invariant-loop-block

@@ -1,6 +1,4 @@
-use Rattle.std.proofs.Common.{◌≡◌, ◌+◌, ◌<◌, length, arith}
-use Rattle.linker_base.specs.Inner.Search.{list_subject}
-use Rattle.linker_base.specs.declared.relaxation.search.Test.TheVariants.{BeginsBelow}
+use Rattle.linker_base.proofs.Imports.{BeginsBelow, arith, length, list_subject, ◌+◌, ◌<◌, ◌≡◌}
 use Rattle.linker_base.proofs.Search.{blank, list_heads_agree, same_listed, parted_from_point, rank_at_last, rank_at_none}
 use Rattle.linker_base.proofs.relaxation.blocks.input_to_output_counted.Goals as goal
 

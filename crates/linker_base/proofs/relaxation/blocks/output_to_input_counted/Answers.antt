@@ -1,8 +1,4 @@
-use Rattle.std.proofs.Common.{◌≡◌, ◌+◌, map, take, arith}
-use Rattle.linker_base.specs.Deletions.{bytes_of}
-use Rattle.linker_base.specs.Deltas.{deletion_of}
-use Rattle.linker_base.specs.Inner.Search.{list_subject}
-use Rattle.linker_base.specs.declared.relaxation.search.Test.TheVariants.{IsPlacedUpTo}
+use Rattle.linker_base.proofs.Imports.{IsPlacedUpTo, arith, bytes_of, deletion_of, list_subject, map, take, ◌+◌, ◌≡◌}
 use Rattle.linker_base.proofs.Search.{blank, list_heads_agree, same_listed, searched}
 use Rattle.linker_base.proofs.relaxation.blocks.output_to_input_counted.Goals as goal
 

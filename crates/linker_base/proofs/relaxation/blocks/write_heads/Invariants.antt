@@ -1,7 +1,4 @@
-use Rattle.std.proofs.Common.{◌≡◌, ◌*◌, ◌<◌, ℕ, get_or}
-use Rattle.linker_base.specs.declared.relaxation.RelaxDelta.{RelaxDelta}
-use Rattle.linker_base.specs.declared.relaxation.blocks.BlockHead.{BlockHead}
-use Rattle.linker_base.specs.Blocks.{head_of}
+use Rattle.linker_base.proofs.Imports.{BlockHead, RelaxDelta, get_or, head_of, ℕ, ◌*◌, ◌<◌, ◌≡◌}
 use Rattle.linker_base.proofs.relaxation.blocks.write_heads.Given as goal
 
 abbrev pub invariant-loop-block : goal.invariant-loop-block

@@ -1,8 +1,4 @@
-use Rattle.std.proofs.Common.{◌≡◌, ◌+◌, map, take, get_or, inl, inr, arith}
-use Rattle.std.proofs.lemmas.Bool.{cases_eq, false≢true}
-use Rattle.std.proofs.lemmas.List.{get_or_default}
-use Rattle.linker_base.specs.Deletions.{bytes_of}
-use Rattle.linker_base.specs.Deltas.{deletion_of}
+use Rattle.linker_base.proofs.Imports.{arith, bytes_of, cases_eq, deletion_of, false≢true, get_or, get_or_default, inl, inr, map, take, ◌+◌, ◌≡◌}
 use Rattle.linker_base.proofs.Search.{blank, bytes_up_to}
 use Rattle.linker_base.proofs.relaxation.delta_slice.have_sums.Goals as goal
 use Rattle.linker_base.proofs.relaxation.delta_slice.have_sums.Goals.{then-delta-sum-via-then-delta-sum, then-delta-sum-via-else-delta-sum+then-delta-sum-2}

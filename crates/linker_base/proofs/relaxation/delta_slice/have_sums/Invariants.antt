@@ -1,7 +1,4 @@
-use Rattle.std.proofs.Common.{◌≡◌, ◌+◌, ◌<◌, ℕ, get_or, map, take}
-use Rattle.linker_base.specs.declared.relaxation.RelaxDelta.{RelaxDelta}
-use Rattle.linker_base.specs.Deletions.{bytes_of}
-use Rattle.linker_base.specs.Deltas.{deletion_of}
+use Rattle.linker_base.proofs.Imports.{RelaxDelta, bytes_of, deletion_of, get_or, map, take, ℕ, ◌+◌, ◌<◌, ◌≡◌}
 use Rattle.linker_base.proofs.relaxation.delta_slice.have_sums.Given as goal
 
 abbrev pub invariant-loop-delta : goal.invariant-loop-delta

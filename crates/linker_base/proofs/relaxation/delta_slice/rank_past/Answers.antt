@@ -1,4 +1,4 @@
-use Rattle.std.proofs.Common.{◌≡◌, ◌+◌, ◌%◌, ◌^◌, arith}
+use Rattle.linker_base.proofs.Imports.{arith, ◌%◌, ◌+◌, ◌^◌, ◌≡◌}
 use Rattle.linker_base.proofs.Search.{rank_at_last, rank_at_none}
 use Rattle.linker_base.proofs.relaxation.delta_slice.rank_past.Goals as goal
 

@@ -1,5 +1,4 @@
-use Rattle.std.proofs.Common.{rules}
-use Rattle.std.proofs.lemmas.List.Sorted.{answers_always}
+use Rattle.linker_base.proofs.Imports.{answers_always, rules}
 use Rattle.linker_base.proofs.Sections.{searched_at, searched_gap}
 use Rattle.linker_base.proofs.relaxation.map.search.Goals as goal
 

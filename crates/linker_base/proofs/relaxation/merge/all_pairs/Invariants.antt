@@ -1,5 +1,4 @@
-use Rattle.std.proofs.Common.{◌≡◌, take}
-use Rattle.linker_base.specs.Deltas.{pairs_of}
+use Rattle.linker_base.proofs.Imports.{pairs_of, take, ◌≡◌}
 use Rattle.linker_base.proofs.relaxation.merge.all_pairs.Given as goal
 
 abbrev pub invariant-loop-batch : goal.invariant-loop-batch

@@ -1,6 +1,4 @@
-use Rattle.std.proofs.Common.{◌∙◌, vec_len, refl, arith, rules}
-use Rattle.std.proofs.lemmas.List.{take-append-le}
-use Rattle.linker_base.specs.Deletions.{IsValid}
+use Rattle.linker_base.proofs.Imports.{IsValid, arith, refl, rules, take-append-le, vec_len, ◌∙◌}
 use Rattle.linker_base.proofs.Listed.{taken_up_to, RecordsDeletions-more}
 use Rattle.linker_base.proofs.relaxation.merge.append.Goals as goal
 

@@ -1,6 +1,4 @@
-use Rattle.std.proofs.Common.{◌≡◌, ◌+◌, take, vec_len, vec_capacity}
-use Rattle.linker_base.specs.Deletions.{IsValid, bytes_of}
-use Rattle.linker_base.specs.Deltas.{RecordsDeletions}
+use Rattle.linker_base.proofs.Imports.{IsValid, RecordsDeletions, bytes_of, take, vec_capacity, vec_len, ◌+◌, ◌≡◌}
 use Rattle.linker_base.proofs.relaxation.merge.append.Given as goal
 
 abbrev pub invariant-loop-input_offset : goal.invariant-loop-input_offset

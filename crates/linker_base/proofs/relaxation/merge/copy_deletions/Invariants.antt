@@ -1,4 +1,4 @@
-use Rattle.std.proofs.Common.{◌≡◌, length, map, take, vec_len, vec_capacity}
+use Rattle.linker_base.proofs.Imports.{length, map, take, vec_capacity, vec_len, ◌≡◌}
 use Rattle.linker_base.proofs.relaxation.merge.copy_deletions.Given as goal
 
 abbrev pub invariant-loop-at : goal.invariant-loop-at

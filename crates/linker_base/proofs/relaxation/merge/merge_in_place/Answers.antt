@@ -1,9 +1,4 @@
-use Rattle.std.proofs.Common.{◌≡◌, ◌-◌, ◌++◌, ℕ, map, take, refl, sym, ap, ◌∙◌, arith}
-use Rattle.std.proofs.lemmas.Bool.Decides.{nat_tests}
-use Rattle.std.proofs.lemmas.List.{length-map, length-take, take_all}
-use Rattle.std.proofs.lemmas.List.Sums.{sum_by-append}
-use Rattle.linker_base.specs.Deletions.{bytes_of}
-use Rattle.linker_base.specs.Deltas.{deletion_of}
+use Rattle.linker_base.proofs.Imports.{ap, arith, bytes_of, deletion_of, length-map, length-take, map, nat_tests, refl, sum_by-append, sym, take, take_all, ℕ, ◌++◌, ◌-◌, ◌∙◌, ◌≡◌}
 use Rattle.linker_base.proofs.OutputOffsets.{disjoint_fit}
 use Rattle.linker_base.proofs.Merges.{merging_end, merging_old, merging_left, merging_last, spends_old, spends_left}
 use Rattle.linker_base.proofs.Search.{blank}

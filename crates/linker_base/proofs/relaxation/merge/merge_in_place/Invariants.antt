@@ -1,4 +1,4 @@
-use Rattle.std.proofs.Common.{◌+◌, take}
+use Rattle.linker_base.proofs.Imports.{take, ◌+◌}
 use Rattle.linker_base.proofs.Merges.{IsMerging}
 use Rattle.linker_base.proofs.relaxation.merge.merge_in_place.Given as goal
 

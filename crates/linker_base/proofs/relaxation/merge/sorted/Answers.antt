@@ -1,5 +1,4 @@
-use Rattle.std.proofs.Common.{rules}
-use Rattle.std.proofs.lemmas.List.Sorted.{IsNonDecreasingBy-from_sort_by_key}
+use Rattle.linker_base.proofs.Imports.{IsNonDecreasingBy-from_sort_by_key, rules}
 use Rattle.linker_base.proofs.Unions.{union_from_sort}
 use Rattle.linker_base.proofs.relaxation.merge.sorted.Goals as goal
 

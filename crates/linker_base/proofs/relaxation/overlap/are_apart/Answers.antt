@@ -1,8 +1,4 @@
-use Rattle.std.proofs.Common.{map, sym, ◌∙◌, All}
-use Rattle.std.proofs.lemmas.Bool.{false≢true}
-use Rattle.std.proofs.lemmas.List.Elements.{All-append}
-use Rattle.linker_base.specs.Deletions.{DoNotOverlap}
-use Rattle.linker_base.specs.Deltas.{pairs_of}
+use Rattle.linker_base.proofs.Imports.{All, All-append, DoNotOverlap, false≢true, map, pairs_of, sym, ◌∙◌}
 use Rattle.linker_base.proofs.Listed.{All-front, All-back}
 use Rattle.linker_base.proofs.relaxation.overlap.are_apart.Goals as goal
 

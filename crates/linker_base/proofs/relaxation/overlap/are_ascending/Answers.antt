@@ -1,6 +1,4 @@
-use Rattle.std.proofs.Common.{◌≡◌, ◌++◌, ◌∷◌, [], ◌∙◌, get_or, take, arith}
-use Rattle.std.proofs.lemmas.List.{take_more, take_all, append_assoc, append-nil}
-use Rattle.linker_base.specs.Deltas.{pairs_of}
+use Rattle.linker_base.proofs.Imports.{[], append-nil, append_assoc, arith, get_or, pairs_of, take, take_all, take_more, ◌++◌, ◌∙◌, ◌∷◌, ◌≡◌}
 use Rattle.linker_base.proofs.Apart.{pairs_more}
 use Rattle.linker_base.proofs.Together.{below_push}
 use Rattle.linker_base.proofs.relaxation.overlap.are_ascending.Goals as goal

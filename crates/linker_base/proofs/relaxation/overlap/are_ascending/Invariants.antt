@@ -1,5 +1,4 @@
-use Rattle.std.proofs.Common.{◌++◌, take}
-use Rattle.linker_base.specs.Deltas.{pairs_of}
+use Rattle.linker_base.proofs.Imports.{pairs_of, take, ◌++◌}
 use Rattle.linker_base.proofs.Together.{IsBelow}
 use Rattle.linker_base.proofs.relaxation.overlap.are_ascending.Given as goal
 

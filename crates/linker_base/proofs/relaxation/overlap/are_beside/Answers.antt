@@ -1,6 +1,4 @@
-use Rattle.std.proofs.Common.{map, rules, All, tests}
-use Rattle.std.proofs.lemmas.Iterator.{cases_from_all, YieldsList-from_slice}
-use Rattle.linker_base.specs.Deletions.{DoNotOverlap}
+use Rattle.linker_base.proofs.Imports.{All, DoNotOverlap, YieldsList-from_slice, cases_from_all, map, rules, tests}
 use Rattle.linker_base.proofs.Apart.{all_tell}
 use Rattle.linker_base.proofs.relaxation.overlap.are_beside.Goals as goal
 

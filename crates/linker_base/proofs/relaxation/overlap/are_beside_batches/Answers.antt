@@ -1,8 +1,4 @@
-use Rattle.std.proofs.Common.{ℕ, map, rules, All, tests}
-use Rattle.std.specs.Global.{Vec}
-use Rattle.std.proofs.lemmas.Iterator.{cases_from_all, YieldsList-from_slice}
-use Rattle.linker_base.specs.Deletions.{DoNotOverlap}
-use Rattle.linker_base.specs.Inner.Listed.{AreApart}
+use Rattle.linker_base.proofs.Imports.{All, AreApart, DoNotOverlap, Vec, YieldsList-from_slice, cases_from_all, map, rules, tests, ℕ}
 use Rattle.linker_base.proofs.Apart.{all_tell, all_batches}
 use Rattle.linker_base.proofs.relaxation.overlap.are_beside_batches.Goals as goal
 

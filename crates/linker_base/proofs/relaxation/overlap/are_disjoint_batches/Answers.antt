@@ -1,7 +1,4 @@
-use Rattle.std.proofs.Common.{◌+◌, take, drop, [], refl, ap, sym, ◌∙◌, arith, map-id}
-use Rattle.std.proofs.lemmas.Bool.{false≢true}
-use Rattle.std.proofs.lemmas.List.{drop_all, take_rest}
-use Rattle.linker_base.specs.Deltas.{pairs_of}
+use Rattle.linker_base.proofs.Imports.{[], ap, arith, drop, drop_all, false≢true, map-id, pairs_of, refl, sym, take, take_rest, ◌+◌, ◌∙◌}
 use Rattle.linker_base.proofs.Apart.{beside_none, pairs_from, pairs_front}
 use Rattle.linker_base.proofs.Merging.{disjoint_joined, disjoint_back, disjoint_across}
 use Rattle.linker_base.proofs.Unions.{disjoint_left, disjoint_from_valid}

@@ -1,8 +1,4 @@
-use Rattle.std.proofs.Common.{◌+◌, ◌≡◌, drop, map, arith}
-use Rattle.std.proofs.lemmas.Bool.{false≢true}
-use Rattle.std.proofs.lemmas.List.{drop-map, drop-drop, take_rest, length-drop, length-map}
-use Rattle.linker_base.specs.Deltas.{pairs_of}
-use Rattle.linker_base.specs.Inner.Listed.{AreFirstDisjoint}
+use Rattle.linker_base.proofs.Imports.{AreFirstDisjoint, arith, drop, drop-drop, drop-map, false≢true, length-drop, length-map, map, pairs_of, take_rest, ◌+◌, ◌≡◌}
 use Rattle.linker_base.proofs.Apart.{beside_drop, beside_rest}
 use Rattle.linker_base.proofs.relaxation.overlap.are_disjoint_beside.Goals as goal
 

@@ -1,6 +1,4 @@
-use Rattle.std.proofs.Common.{◌-◌, ◌≤◌, length, map, drop}
-use Rattle.linker_base.specs.Deltas.{pairs_of}
-use Rattle.linker_base.specs.Inner.Listed.{AreDisjointBeside}
+use Rattle.linker_base.proofs.Imports.{AreDisjointBeside, drop, length, map, pairs_of, ◌-◌, ◌≤◌}
 use Rattle.linker_base.proofs.relaxation.overlap.are_disjoint_beside.Given as goal
 
 abbrev pub invariant-loop-at : goal.invariant-loop-at

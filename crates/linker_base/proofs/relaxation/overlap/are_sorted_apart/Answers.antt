@@ -1,8 +1,4 @@
-use Rattle.std.proofs.Common.{◌++◌, take, drop, map, rules, sym, ◌∙◌, map-id}
-use Rattle.std.proofs.lemmas.Bool.{false≢true}
-use Rattle.std.proofs.lemmas.List.{drop-map, take_rest}
-use Rattle.std.proofs.lemmas.List.Sorted.{IsNonDecreasingBy-from_sort_by_key, IsPermutation-sym}
-use Rattle.linker_base.specs.Deltas.{pairs_of}
+use Rattle.linker_base.proofs.Imports.{IsNonDecreasingBy-from_sort_by_key, IsPermutation-sym, drop, drop-map, false≢true, map, map-id, pairs_of, rules, sym, take, take_rest, ◌++◌, ◌∙◌}
 use Rattle.linker_base.proofs.Apart.{apart_permutation_left}
 use Rattle.linker_base.proofs.Unions.{disjoint_permutation, disjoint_from_valid, valid_from_disjoint}
 use Rattle.linker_base.proofs.relaxation.overlap.are_sorted_apart.Goals as goal

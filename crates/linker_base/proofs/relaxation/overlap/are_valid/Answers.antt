@@ -1,6 +1,4 @@
-use Rattle.std.proofs.Common.{◌+◌, map}
-use Rattle.linker_base.specs.Deletions.{IsValid}
-use Rattle.linker_base.specs.Listed.{IsFirstInvalid}
+use Rattle.linker_base.proofs.Imports.{IsFirstInvalid, IsValid, map, ◌+◌}
 use Rattle.linker_base.proofs.Listed.{IsValid-take}
 use Rattle.linker_base.proofs.Merging.{none_decides}
 use Rattle.linker_base.proofs.relaxation.overlap.are_valid.Goals as goal

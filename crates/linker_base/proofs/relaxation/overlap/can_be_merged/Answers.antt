@@ -1,6 +1,4 @@
-use Rattle.std.proofs.Common.{map, sym, ◌∙◌}
-use Rattle.std.proofs.lemmas.Bool.{false≢true}
-use Rattle.linker_base.specs.Deltas.{deletion_of}
+use Rattle.linker_base.proofs.Imports.{deletion_of, false≢true, map, sym, ◌∙◌}
 use Rattle.linker_base.proofs.Merging.{merged_by, disjoint_back}
 use Rattle.linker_base.proofs.relaxation.overlap.can_be_merged.Goals as goal
 

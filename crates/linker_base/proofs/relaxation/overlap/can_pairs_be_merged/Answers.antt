@@ -1,6 +1,4 @@
-use Rattle.std.proofs.Common.{map, rules, map-id}
-use Rattle.std.proofs.lemmas.List.Sorted.{IsNonDecreasingBy-from_sort_by_key}
-use Rattle.linker_base.specs.Deltas.{deletion_of}
+use Rattle.linker_base.proofs.Imports.{IsNonDecreasingBy-from_sort_by_key, deletion_of, map, map-id, rules}
 use Rattle.linker_base.proofs.Merging.{disjoint_back}
 use Rattle.linker_base.proofs.Unions.{disjoint_moved, valid_from_disjoint}
 use Rattle.linker_base.proofs.relaxation.overlap.can_pairs_be_merged.Goals as goal

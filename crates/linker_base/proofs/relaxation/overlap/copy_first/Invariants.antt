@@ -1,4 +1,4 @@
-use Rattle.std.proofs.Common.{◌≡◌, length, map, take}
+use Rattle.linker_base.proofs.Imports.{length, map, take, ◌≡◌}
 use Rattle.linker_base.proofs.relaxation.overlap.copy_first.Given as goal
 
 abbrev pub invariant-loop-at : goal.invariant-loop-at

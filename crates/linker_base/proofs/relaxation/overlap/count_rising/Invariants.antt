@@ -1,5 +1,4 @@
-use Rattle.std.proofs.Common.{ℕ, ◌+◌, ◌-◌, ◌<◌, ◌≤◌, length, map, get_or}
-use Rattle.linker_base.specs.Deletions.{IsBefore}
+use Rattle.linker_base.proofs.Imports.{IsBefore, get_or, length, map, ℕ, ◌+◌, ◌-◌, ◌<◌, ◌≤◌}
 use Rattle.linker_base.proofs.relaxation.overlap.count_rising.Given as goal
 
 abbrev pub invariant-loop-at : goal.invariant-loop-at

@@ -1,5 +1,4 @@
-use Rattle.std.proofs.Common.{map, arith}
-use Rattle.std.proofs.lemmas.List.{length-map}
+use Rattle.linker_base.proofs.Imports.{arith, length-map, map}
 use Rattle.linker_base.proofs.Apart.{disjoint_from_falling}
 use Rattle.linker_base.proofs.relaxation.overlap.falls.Goals as goal
 

@@ -1,5 +1,4 @@
-use Rattle.std.proofs.Common.{ℕ, ◌+◌, ◌<◌, map, get_or}
-use Rattle.linker_base.specs.Deletions.{IsBefore}
+use Rattle.linker_base.proofs.Imports.{IsBefore, get_or, map, ℕ, ◌+◌, ◌<◌}
 use Rattle.linker_base.proofs.relaxation.overlap.falls.Given as goal
 
 abbrev pub invariant-loop-at : goal.invariant-loop-at

@@ -1,6 +1,4 @@
-use Rattle.std.proofs.Common.{map, arith}
-use Rattle.std.proofs.lemmas.List.{length-map, take-map, drop-map, take_rest}
-use Rattle.linker_base.specs.Deltas.{pairs_of}
+use Rattle.linker_base.proofs.Imports.{arith, drop-map, length-map, map, pairs_of, take-map, take_rest}
 use Rattle.linker_base.proofs.Apart.{first_if}
 use Rattle.linker_base.proofs.Unions.{disjoint_from_valid}
 use Rattle.linker_base.proofs.relaxation.overlap.first_disjoint.Goals as goal

@@ -1,7 +1,4 @@
-use Rattle.std.proofs.Common.{◌≡◌, ◌+◌, ◌-◌, ◌<◌, ◌≤◌, length, map, get_or, sym, ◌∙◌, arith}
-use Rattle.std.proofs.lemmas.Bool.{false≢true}
-use Rattle.std.proofs.lemmas.List.{length-map, take_all}
-use Rattle.linker_base.specs.Deletions.{EndFits}
+use Rattle.linker_base.proofs.Imports.{EndFits, arith, false≢true, get_or, length, length-map, map, sym, take_all, ◌+◌, ◌-◌, ◌<◌, ◌∙◌, ◌≡◌, ◌≤◌}
 use Rattle.linker_base.proofs.Listed.{valid_from_rising, first_invalid_at}
 use Rattle.linker_base.proofs.relaxation.overlap.first_invalid.Goals as goal
 use Rattle.linker_base.proofs.relaxation.overlap.first_invalid.Goals.{else-rising-gt0-via-then-rising-gt0+else-not-end_fits, else-rising-gt0-via-else-rising-gt0}

@@ -1,7 +1,4 @@
-use Rattle.std.proofs.Common.{length, map, take, sym, ◌∙◌, inl, inr, arith}
-use Rattle.std.proofs.lemmas.Bool.{cases_lt, false≢true}
-use Rattle.std.proofs.lemmas.List.{length-map, length-take, take-map, take_all}
-use Rattle.linker_base.specs.Deltas.{deletion_of}
+use Rattle.linker_base.proofs.Imports.{arith, cases_lt, deletion_of, false≢true, inl, inr, length, length-map, length-take, map, sym, take, take-map, take_all, ◌∙◌}
 use Rattle.linker_base.proofs.Apart.{disjoint_with_none}
 use Rattle.linker_base.proofs.relaxation.overlap.first_overlapping_sorted.Goals as goal
 

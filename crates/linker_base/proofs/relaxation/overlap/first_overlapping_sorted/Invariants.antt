@@ -1,6 +1,4 @@
-use Rattle.std.proofs.Common.{◌-◌, ◌<◌, ◌≤◌, ◌++◌, length, map, take}
-use Rattle.linker_base.specs.Deletions.{AreDisjoint, IsValid}
-use Rattle.linker_base.specs.Deltas.{deletion_of}
+use Rattle.linker_base.proofs.Imports.{AreDisjoint, IsValid, deletion_of, length, map, take, ◌++◌, ◌-◌, ◌<◌, ◌≤◌}
 use Rattle.linker_base.proofs.relaxation.overlap.first_overlapping_sorted.Given as goal
 
 abbrev pub invariant-loop-high : goal.invariant-loop-high

@@ -1,4 +1,4 @@
-use Rattle.std.proofs.Common.{map-id}
+use Rattle.linker_base.proofs.Imports.{map-id}
 use Rattle.linker_base.proofs.relaxation.overlap.is_batch_beside.Goals as goal
 
 pub returns : goal.returns

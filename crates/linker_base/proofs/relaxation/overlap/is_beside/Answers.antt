@@ -1,6 +1,4 @@
-use Rattle.std.proofs.Common.{arith, rules}
-use Rattle.std.proofs.lemmas.Bool.Decides.{nat_tests}
-use Rattle.std.proofs.lemmas.List.Sorted.{IsPartitionPoint-from_clause}
+use Rattle.linker_base.proofs.Imports.{IsPartitionPoint-from_clause, arith, nat_tests, rules}
 use Rattle.linker_base.proofs.Apart.{test_is, below_first, beside_by_next}
 use Rattle.linker_base.proofs.Unions.{is_before}
 use Rattle.linker_base.proofs.relaxation.overlap.is_beside.Goals as goal

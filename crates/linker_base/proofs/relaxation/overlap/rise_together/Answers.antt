@@ -1,4 +1,4 @@
-use Rattle.std.proofs.Common.{arith}
+use Rattle.linker_base.proofs.Imports.{arith}
 use Rattle.linker_base.proofs.Together.{walked_step}
 use Rattle.linker_base.proofs.relaxation.overlap.rise_together.Goals as goal
 

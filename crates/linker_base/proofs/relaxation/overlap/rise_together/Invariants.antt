@@ -1,5 +1,4 @@
-use Rattle.std.proofs.Common.{◌+◌, ◌-◌, length, map}
-use Rattle.linker_base.specs.Deltas.{deletion_of}
+use Rattle.linker_base.proofs.Imports.{deletion_of, length, map, ◌+◌, ◌-◌}
 use Rattle.linker_base.proofs.Together.{AreWalked}
 use Rattle.linker_base.proofs.relaxation.overlap.rise_together.Given as goal
 

@@ -1,6 +1,4 @@
-use Rattle.std.proofs.Common.{◌≡◌, true, sym, ◌∙◌, arith}
-use Rattle.linker_base.specs.declared.relaxation.search.Level.TheVariants.{Heads, Deltas}
-use Rattle.linker_base.specs.Inner.Search.{passing}
+use Rattle.linker_base.proofs.Imports.{Deltas, Heads, arith, passing, sym, true, ◌∙◌, ◌≡◌}
 use Rattle.linker_base.proofs.Halving.{all_narrowed}
 use Rattle.linker_base.proofs.relaxation.search.count_passing.Goals as goal
 

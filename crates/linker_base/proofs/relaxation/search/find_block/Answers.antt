@@ -1,5 +1,4 @@
-use Rattle.std.proofs.Common.{◌-◌, ◌∙◌, inl, inr, refl, arith}
-use Rattle.std.proofs.lemmas.Bool.{cases_lt}
+use Rattle.linker_base.proofs.Imports.{arith, cases_lt, inl, inr, refl, ◌-◌, ◌∙◌}
 use Rattle.linker_base.proofs.Halving.{digits_left, heads_narrowed, block_narrowed}
 use Rattle.linker_base.proofs.relaxation.search.find_block.Goals as goal
 

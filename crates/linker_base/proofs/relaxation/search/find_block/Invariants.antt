@@ -1,7 +1,4 @@
-use Rattle.std.proofs.Common.{◌≡◌, ℕ, ◌+◌, ◌<◌, ◌≤◌, ◌^◌}
-use Rattle.linker_base.specs.Blocks.{blocks_of}
-use Rattle.linker_base.specs.declared.relaxation.search.Level.TheVariants.{Heads}
-use Rattle.linker_base.specs.Inner.Search.{IsNarrowed}
+use Rattle.linker_base.proofs.Imports.{Heads, IsNarrowed, blocks_of, ℕ, ◌+◌, ◌<◌, ◌^◌, ◌≡◌, ◌≤◌}
 use Rattle.linker_base.proofs.relaxation.search.find_block.Given as goal
 
 abbrev pub invariant-loop-count : goal.invariant-loop-count

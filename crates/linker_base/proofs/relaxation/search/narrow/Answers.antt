@@ -1,4 +1,4 @@
-use Rattle.std.proofs.Common.{pow_mono, ℕ, ◌*◌, ◌≤◌, ◌^◌, refl, arith}
+use Rattle.linker_base.proofs.Imports.{arith, pow_mono, refl, ℕ, ◌*◌, ◌^◌, ◌≤◌}
 use Rattle.std.proofs.Math.Nat.{mul-le-mul_right}
 use Rattle.linker_base.proofs.relaxation.search.narrow.Goals as goal
 

@@ -1,6 +1,4 @@
-use Rattle.std.proofs.Common.{◌∙◌, IfSome, subst, sym}
-use Rattle.linker_elf.specs.Agrees.{RowAgrees}
-use Rattle.linker_elf.specs.Readings.{RowReadsNoOther}
+use Rattle.linker_elf.proofs.Imports.{IfSome, RowAgrees, RowReadsNoOther, subst, sym, ◌∙◌}
 use Rattle.linker_elf.proofs.Readings.{aarch64_reads_no_other}
 use Rattle.linker_elf.proofs.RowsAgree.{aarch64_rows as aarch64_agree}
 use Rattle.linker_elf.proofs.RowTables.{sound_from, aarch64_rows}

@@ -1,4 +1,4 @@
-use Rattle.std.proofs.Common.{arith, ◌-◌, ◌∙◌}
+use Rattle.linker_elf.proofs.Imports.{arith, ◌-◌, ◌∙◌}
 use Rattle.linker_elf.proofs.Bounds.{negated, signed_bounds, unsigned_bounds}
 use Rattle.linker_elf.proofs.elf.AllowedRange.from_bit_size.Goals as goal
 

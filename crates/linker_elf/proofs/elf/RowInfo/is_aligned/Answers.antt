@@ -1,5 +1,4 @@
-use Rattle.std.proofs.Common.{rules, arith, ◌%◌}
-use Rattle.std.specs.Int.{w64, trailing_zeros}
+use Rattle.linker_elf.proofs.Imports.{arith, rules, trailing_zeros, w64, ◌%◌}
 use Rattle.linker_elf.proofs.Taken.{is_multiple}
 use Rattle.linker_elf.proofs.elf.RowInfo.is_aligned.Goals as goal
 

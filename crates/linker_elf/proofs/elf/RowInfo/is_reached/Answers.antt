@@ -1,7 +1,4 @@
-use Rattle.std.proofs.Common.{◌≤ℤ◌, ◌↔◌, arith, subst, sym, IsTrue}
-use Rattle.linker_elf.proofs.Imports.{w64, ints, to_z-of_z}
-use Rattle.linker_elf.specs.Reach.{reach_of}
-use Rattle.linker_elf.specs.Relocate.{IsEncoded}
+use Rattle.linker_elf.proofs.Imports.{IsEncoded, IsTrue, arith, ints, reach_of, subst, sym, to_z-of_z, w64, ◌↔◌, ◌≤ℤ◌}
 use Rattle.linker_elf.proofs.Reached.{ends_of, within_from}
 use Rattle.linker_elf.proofs.elf.RowInfo.is_reached.Goals.{then-value-tests-via-then-value-tests, then-value-tests-via-else-value-tests+then-tests-value}
 use Rattle.linker_elf.proofs.elf.RowInfo.is_reached.Goals as goal

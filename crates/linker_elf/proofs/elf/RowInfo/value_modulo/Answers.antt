@@ -1,14 +1,6 @@
-use Rattle.std.proofs.Common.{◌≡◌, ◌∙◌, ◌<◌, ◌^◌, ℕ, bit_and, rules, refl, sym, ap, subst, false, not, Ok, Err, Some, Result, inl, inr}
-use Rattle.linker_elf.proofs.Imports.{w64, cast_signed, cast_unsigned, cond-true, cond-false, to_z-of_z}
+use Rattle.linker_elf.proofs.Imports.{Err, FormulaError, Ok, Operands, PltRelGotBase, PltRelative, Result, RowInfo, Some, ap, bit_and, cast_signed, cast_unsigned, completed, cond-false, cond-true, difference_64, entry_term, false, formula, got_term, high_distance, inl, inr, is_offset, is_set, names_got_entry, not, of_entry, place_term, plt_term, refl, rules, sequence_pc, signed_in, size_term, subst, sum_64, sym, symbol_term, to_z-of_z, w64, ℕ, ◌<◌, ◌^◌, ◌∙◌, ◌≡◌}
 use Rattle.linker_elf.proofs.Terms.{HasTerm, plain_value, relative_value, without_value, offset_value, entry_given, plt_given, has_formula, symbol_found, place_found, got_found, relative_is}
-use Rattle.linker_elf.specs.Inner.RowTables.{is_set, of_entry, signed_in}
-use Rattle.linker_elf.specs.LoongArch.{high_distance}
-use Rattle.linker_elf.specs.Value.{sum_64, difference_64, symbol_term, entry_term, plt_term, size_term, place_term, got_term, sequence_pc, completed, formula, names_got_entry, is_offset}
-use Rattle.linker_elf.specs.declared.elf.RelocationKind.TheVariants.{PltRelGotBase, PltRelative}
 use Rattle.linker_elf.specs.declared.elf.value.Formula.TheVariants as formulas
-use Rattle.linker_elf.specs.declared.elf.value.FormulaError.{FormulaError}
-use Rattle.linker_elf.specs.declared.elf.RowInfo.{RowInfo}
-use Rattle.linker_elf.specs.declared.elf.value.Operands.{Operands}
 use Rattle.linker_elf.proofs.elf.RowInfo.value_modulo.Goals as goal
 
 pub returns-in-Without : goal.returns-in-Without

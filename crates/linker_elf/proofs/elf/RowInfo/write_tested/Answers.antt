@@ -1,8 +1,4 @@
-use Rattle.std.proofs.Common.{rules, refl, subst, ◌≡◌, ◌↔◌, false, IsTrue}
-use Rattle.linker_elf.proofs.Imports.{w64, to_z-of_z}
-use Rattle.linker_elf.specs.Elf.{IsWithin}
-use Rattle.linker_elf.specs.Reach.{reach_of}
-use Rattle.linker_elf.specs.Relocate.{IsEncoded, IsReached}
+use Rattle.linker_elf.proofs.Imports.{IsEncoded, IsReached, IsTrue, IsWithin, false, reach_of, refl, rules, subst, to_z-of_z, w64, ◌↔◌, ◌≡◌}
 use Rattle.linker_elf.proofs.Reached.{accepts}
 use Rattle.linker_elf.proofs.WrittenRows.{writes_row}
 use Rattle.linker_elf.proofs.elf.RowInfo.write_tested.Goals as goal

@@ -1,4 +1,4 @@
-use Rattle.std.proofs.Common.{arith, refl}
+use Rattle.linker_elf.proofs.Imports.{arith, refl}
 use Rattle.linker_elf.proofs.elf.architecture.pair_number.Goals as goal
 
 pub returns-in-Adds : goal.returns-in-Adds

@@ -1,5 +1,4 @@
-use Rattle.std.proofs.Common.{◌↔◌, IsTrue, true≢false, sym, ◌∙◌, subst}
-use Rattle.linker_elf.specs.Inner.ChoiceTables.{ValuesHold}
+use Rattle.linker_elf.proofs.Imports.{IsTrue, ValuesHold, subst, sym, true≢false, ◌↔◌, ◌∙◌}
 use Rattle.linker_elf.proofs.ChoiceTables.{without_seldom_fact, without_instructions, without_fact, without_addend, by_values}
 use Rattle.linker_elf.proofs.elf.choice_table.applies.Goals as goal
 

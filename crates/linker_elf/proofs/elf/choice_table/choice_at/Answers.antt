@@ -1,5 +1,4 @@
-use Rattle.std.proofs.Common.{sym, ◌∙◌, true≢false, arith}
-use Rattle.linker_elf.specs.Inner.ChoiceTables.{EntryApplies}
+use Rattle.linker_elf.proofs.Imports.{EntryApplies, arith, sym, true≢false, ◌∙◌}
 use Rattle.linker_elf.proofs.ChoiceTables.{item_chosen, item_not_chosen, none_at}
 use Rattle.linker_elf.proofs.elf.choice_table.choice_at.Goals.{then-index-entries+else-applies, else-index-entries}
 use Rattle.linker_elf.proofs.elf.choice_table.choice_at.Goals as goal

@@ -1,6 +1,4 @@
-use Rattle.std.proofs.Common.{subst}
-use Rattle.linker_elf.specs.Choices.{choice}
-use Rattle.linker_elf.specs.Inner.ChoiceTables.{EntryApplies, IsFirstOf}
+use Rattle.linker_elf.proofs.Imports.{EntryApplies, IsFirstOf, choice, subst}
 use Rattle.linker_elf.proofs.ChoiceTables.{first_of_table}
 use Rattle.linker_elf.proofs.elf.choice_table.choice_by.Goals as goal
 

@@ -1,5 +1,4 @@
-use Rattle.std.proofs.Common.{subst}
-use Rattle.linker_elf.specs.Inner.ChoiceTables.{EntryApplies, IsChoiceAt}
+use Rattle.linker_elf.proofs.Imports.{EntryApplies, IsChoiceAt, subst}
 use Rattle.linker_elf.proofs.ChoiceTables.{following, here, nowhere}
 use Rattle.linker_elf.proofs.elf.choice_table.first_entry.Goals as goal
 

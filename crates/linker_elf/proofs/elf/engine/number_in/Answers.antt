@@ -1,6 +1,4 @@
-use Rattle.std.proofs.Common.{◌∙◌, ap, arith}
-use Rattle.std.specs.Prelude.{bit_or}
-use Rattle.std.proofs.lemmas.List.{take_all}
+use Rattle.linker_elf.proofs.Imports.{ap, arith, bit_or, take_all, ◌∙◌}
 use Rattle.linker_elf.proofs.Steps.{taken, taken_more, read_by}
 use Rattle.linker_elf.proofs.elf.engine.number_in.Goals as goal
 

@@ -1,4 +1,4 @@
-use Rattle.std.proofs.Common.{take, ◌≡◌}
+use Rattle.linker_elf.proofs.Imports.{take, ◌≡◌}
 use Rattle.linker_elf.proofs.Steps.{taken}
 use Rattle.linker_elf.proofs.elf.engine.number_in.Given as goal
 

@@ -1,7 +1,4 @@
-use Rattle.std.proofs.Common.{◌≡◌, ◌∙◌, ap, sym, true, leb}
-use Rattle.linker_elf.proofs.Imports.{cast_unsigned, from_le_bytes, w64, place_sum, window_of}
-use Rattle.linker_elf.specs.Elf.{relocation_form}
-use Rattle.linker_elf.specs.Inner.Runs.{width_of, reads}
+use Rattle.linker_elf.proofs.Imports.{ap, cast_unsigned, from_le_bytes, leb, place_sum, reads, relocation_form, sym, true, w64, width_of, window_of, ◌∙◌, ◌≡◌}
 use Rattle.linker_elf.proofs.Codes.{coded, plain_reads}
 use Rattle.linker_elf.proofs.ReadNumbers.{value_of}
 use Rattle.linker_elf.proofs.elf.engine.read.Goals.{After-number_in-number}

@@ -1,7 +1,4 @@
-use Rattle.std.proofs.Common.{◌∙◌, ap, subst, sym, take, get_or, arith, ◌-◌, ◌^◌}
-use Rattle.std.specs.Prelude.{bit_or, bit_and}
-use Rattle.linker_elf.proofs.Imports.{take_all, BitsWritten}
-use Rattle.linker_elf.specs.declared.elf.engine.Step.{Step}
+use Rattle.linker_elf.proofs.Imports.{BitsWritten, Step, ap, arith, bit_and, bit_or, get_or, subst, sym, take, take_all, ◌-◌, ◌^◌, ◌∙◌}
 use Rattle.linker_elf.proofs.Steps.{laid, laid_more, written_by}
 use Rattle.linker_elf.proofs.elf.engine.window_with.Goals as goal
 

@@ -1,5 +1,4 @@
-use Rattle.std.proofs.Common.{take, ◌≡◌, ◌-◌, ◌^◌}
-use lib.Bits.{bit_and}
+use Rattle.linker_elf.proofs.Imports.{bit_and, take, ◌-◌, ◌^◌, ◌≡◌}
 use Rattle.linker_elf.proofs.Steps.{laid}
 use Rattle.linker_elf.proofs.elf.engine.window_with.Given as goal
 

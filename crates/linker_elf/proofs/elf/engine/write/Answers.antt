@@ -1,5 +1,4 @@
-use Rattle.std.proofs.Common.{◌∙◌, ap, sym}
-use Rattle.linker_elf.specs.Inner.Runs.{width_of}
+use Rattle.linker_elf.proofs.Imports.{ap, sym, width_of, ◌∙◌}
 use Rattle.linker_elf.proofs.Codes.{coded, plain_laid, plain_below}
 use Rattle.linker_elf.proofs.elf.engine.write.Goals as goal
 

@@ -1,6 +1,4 @@
-use Rattle.std.proofs.Common.{◌≡◌, ap, subst, ◌∙◌, ◌++◌, take, drop, replicate}
-use Rattle.std.specs.Int.{w64, from_le_bytes}
-use Rattle.std.proofs.lemmas.List.{drop-replicate}
+use Rattle.linker_elf.proofs.Imports.{ap, drop, drop-replicate, from_le_bytes, replicate, subst, take, w64, ◌++◌, ◌∙◌, ◌≡◌}
 use Rattle.linker_elf.proofs.elf.relocate.load.Goals as goal
 
 pub returns : goal.returns

@@ -1,7 +1,4 @@
-use Rattle.std.proofs.Common.{sym, ◌∙◌, ap, ◌≡◌, if◌then◌else◌, to_z, of_z, subst, FitsSigned}
-use Rattle.linker_elf.proofs.Imports.{w64, to_z-of_z, window_of, Fits, from_le_bytes}
-use Rattle.linker_elf.specs.Elf.{relocation_form}
-use Rattle.linker_elf.specs.Relocate.{insn_at, bits_at, value_at, bits_taken, low_part, InstructionWritten}
+use Rattle.linker_elf.proofs.Imports.{Fits, FitsSigned, InstructionWritten, ap, bits_at, bits_taken, from_le_bytes, if◌then◌else◌, insn_at, low_part, of_z, relocation_form, subst, sym, to_z, to_z-of_z, value_at, w64, window_of, ◌∙◌, ◌≡◌}
 use Rattle.linker_elf.proofs.Relocated.{fits_at, value_fits, window_at, low_fits}
 use Rattle.linker_elf.proofs.elf.relocate.write_bits.Goals.{then-is_low_jump, else-is_low_jump}
 use Rattle.linker_elf.proofs.elf.relocate.write_bits.Goals as goal

@@ -1,10 +1,4 @@
-use Rattle.std.proofs.Common.{refl, sym, ◌∙◌, ◌≡◌, arith}
-use Rattle.linker_elf.proofs.Imports.{w64, to_z-of_z, window_of}
-use Rattle.linker_elf.specs.LoongArch.{loongarch_form}
-use Rattle.linker_elf.specs.Ppc64.{ppc64_form}
-use Rattle.linker_elf.specs.RiscV.{riscv_form}
-use Rattle.linker_elf.specs.Relocate.{is_32_bit_move, with_bit_31_if}
-use Rattle.linker_elf.specs.declared.elf.AnyForm.TheVariants.{AArch64, RiscV, Ppc64, LoongArch64}
+use Rattle.linker_elf.proofs.Imports.{AArch64, LoongArch64, Ppc64, RiscV, arith, is_32_bit_move, loongarch_form, ppc64_form, refl, riscv_form, sym, to_z-of_z, w64, window_of, with_bit_31_if, ◌∙◌, ◌≡◌}
 use Rattle.linker_elf.proofs.AArch64Forms.{is_word}
 use Rattle.linker_elf.proofs.Clearing.{nothing_written}
 use Rattle.linker_elf.proofs.Placed.{bit_31_is_set, of_value}

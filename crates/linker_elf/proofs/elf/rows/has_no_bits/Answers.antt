@@ -1,4 +1,4 @@
-use Rattle.std.proofs.Common.{rules}
+use Rattle.linker_elf.proofs.Imports.{rules}
 use Rattle.linker_elf.proofs.PlainRows.{unit_tells}
 use Rattle.linker_elf.proofs.elf.rows.has_no_bits.Goals as goal
 

@@ -1,7 +1,4 @@
-use Rattle.std.proofs.Common.{◌≡◌, subst, sym, true}
-use Rattle.linker_elf.proofs.Imports.{w64, to_z-of_z}
-use Rattle.linker_elf.specs.Relocate.{InstructionWritten, IsWritten}
-use Rattle.linker_elf.specs.Inner.RowTables.{info_of, is_plain}
+use Rattle.linker_elf.proofs.Imports.{InstructionWritten, IsWritten, info_of, is_plain, subst, sym, to_z-of_z, true, w64, ◌≡◌}
 use Rattle.linker_elf.proofs.PlainRows.{takes, written}
 use Rattle.linker_elf.proofs.elf.rows.write_form.Goals as goal
 

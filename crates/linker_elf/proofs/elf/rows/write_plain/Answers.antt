@@ -1,9 +1,4 @@
-use Rattle.std.proofs.Common.{◌≡◌, ap, ◌∙◌, subst, sym, true}
-use Rattle.linker_elf.proofs.Imports.{w64, to_z-of_z}
-use Rattle.linker_elf.specs.Relocate.{InstructionWritten, IsWritten}
-use Rattle.linker_elf.specs.Inner.RowTables.{info_of, is_plain}
-use Rattle.linker_elf.specs.declared.elf.AnyForm.TheVariants.{AArch64}
-use Rattle.linker_elf.specs.declared.elf.RowSize.TheVariants.{BitMasking}
+use Rattle.linker_elf.proofs.Imports.{AArch64, BitMasking, InstructionWritten, IsWritten, ap, info_of, is_plain, subst, sym, to_z-of_z, true, w64, ◌∙◌, ◌≡◌}
 use Rattle.linker_elf.proofs.PlainRows.{takes, written}
 use Rattle.linker_elf.proofs.elf.rows.write_plain.Goals as goal
 

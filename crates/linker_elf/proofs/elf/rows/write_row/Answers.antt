@@ -1,7 +1,4 @@
-use Rattle.std.proofs.Common.{◌≤◌, ◌≤ℤ◌, arith, rules, subst, length}
-use Rattle.linker_elf.proofs.Imports.{w64, ints, to_z-of_z}
-use Rattle.linker_elf.specs.Relocate.{IsAligned, IsWritten}
-use Rattle.linker_elf.specs.Inner.RowTables.{info_of}
+use Rattle.linker_elf.proofs.Imports.{IsAligned, IsWritten, arith, info_of, ints, length, rules, subst, to_z-of_z, w64, ◌≤ℤ◌, ◌≤◌}
 use Rattle.linker_elf.proofs.PlainRows.{accepted_by, all_by, stored, takes}
 use Rattle.linker_elf.proofs.WrittenRows.{writes_row}
 use Rattle.linker_elf.proofs.elf.rows.write_row.Goals as goal

@@ -1,6 +1,4 @@
-use Rattle.std.proofs.Common.{◌∙◌, IfSome, subst, sym}
-use Rattle.linker_elf.specs.Agrees.{LoongArchRowAgrees}
-use Rattle.linker_elf.specs.Readings.{LoongArchRowReadsNoOther}
+use Rattle.linker_elf.proofs.Imports.{IfSome, LoongArchRowAgrees, LoongArchRowReadsNoOther, subst, sym, ◌∙◌}
 use Rattle.linker_elf.proofs.Readings.{loongarch_reads_no_other}
 use Rattle.linker_elf.proofs.RowsAgree.{loongarch_rows as loongarch_agree}
 use Rattle.linker_elf.proofs.RowTables.{sound_from, loongarch_rows}

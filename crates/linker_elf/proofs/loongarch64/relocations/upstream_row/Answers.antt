@@ -1,9 +1,4 @@
-use Rattle.std.proofs.Common.{◌∙◌, ap, subst, sym, IfSome}
-use Rattle.linker_elf.specs.Agrees.{LoongArchRowAgrees, RowFits}
-use Rattle.linker_elf.specs.Readings.{LoongArchRowReadsNoOther}
-use Rattle.linker_elf.specs.LoongArchRelocations.{loongarch_relocation, loongarch_raw_row}
-use Rattle.linker_elf.specs.Inner.RowTables.{with_raw_kind}
-use Rattle.linker_elf.specs.declared.loongarch64.relocations.LoongArch64Relocation.{LoongArch64Relocation}
+use Rattle.linker_elf.proofs.Imports.{IfSome, LoongArch64Relocation, LoongArchRowAgrees, LoongArchRowReadsNoOther, RowFits, ap, loongarch_raw_row, loongarch_relocation, subst, sym, with_raw_kind, ◌∙◌}
 use Rattle.linker_elf.specs.declared.loongarch64.relocations.LoongArch64Relocation.TheVariants as r
 use Rattle.linker_elf.proofs.Readings.{loongarch_reads_no_other}
 use Rattle.linker_elf.proofs.RowsAgree.{loongarch_rows as loongarch_agree}

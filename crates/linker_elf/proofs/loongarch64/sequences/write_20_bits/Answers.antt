@@ -1,5 +1,4 @@
-use Rattle.std.proofs.Common.{rules, ◌+◌, ◌-◌, take, drop}
-use Rattle.std.specs.Int.{w32, from_le_bytes}
+use Rattle.linker_elf.proofs.Imports.{drop, from_le_bytes, rules, take, w32, ◌+◌, ◌-◌}
 use Rattle.linker_elf.proofs.LoongArch.{shift5_field}
 use Rattle.linker_elf.proofs.LoongArchSequences.{set_at, shift5_keeps}
 use Rattle.linker_elf.proofs.loongarch64.sequences.write_20_bits.Goals as goal

@@ -1,5 +1,4 @@
-use Rattle.std.proofs.Common.{◌≡◌}
-use Rattle.linker_base.specs.Bits.{field}
+use Rattle.linker_elf.proofs.Imports.{field, ◌≡◌}
 use Rattle.linker_elf.proofs.LoongArchAddresses.{first_of_five, high_of_five}
 use Rattle.linker_elf.proofs.LoongArchSequences.{makes_address}
 use Rattle.linker_elf.proofs.loongarch64.sequences.write_address_sequence.Goals as goal

@@ -1,7 +1,4 @@
-use Rattle.std.proofs.Common.{◌∙◌, subst, sym, IfSome}
-use Rattle.linker_elf.specs.Agrees.{RowAgrees}
-use Rattle.linker_elf.specs.Readings.{RowReadsNoOther}
-use Rattle.linker_elf.specs.Ppc64Relocations.{ppc64_relocation}
+use Rattle.linker_elf.proofs.Imports.{IfSome, RowAgrees, RowReadsNoOther, ppc64_relocation, subst, sym, ◌∙◌}
 use Rattle.linker_elf.proofs.Readings.{ppc64_reads_no_other}
 use Rattle.linker_elf.proofs.RowsAgree.{ppc64_rows as ppc64_agree}
 use Rattle.linker_elf.proofs.RowTables.{sound_from, unless, ppc64_rows, ppc64_raw_rows}

@@ -1,5 +1,4 @@
-use Rattle.std.proofs.Common.{rules, ap, ◌∙◌}
-use Rattle.linker_elf.proofs.Imports.{from_le_bytes, w32, field}
+use Rattle.linker_elf.proofs.Imports.{ap, field, from_le_bytes, rules, w32, ◌∙◌}
 use Rattle.linker_elf.proofs.Ppc64Pairs.{d_kept, pair_holds}
 use Rattle.linker_elf.proofs.ppc64.sequences.write_ha_lo.Goals as goal
 

@@ -1,7 +1,4 @@
-use Rattle.std.proofs.Common.{◌∙◌, IfSome, subst, sym}
-use Rattle.linker_elf.specs.Agrees.{RowAgrees}
-use Rattle.linker_elf.specs.Readings.{RowReadsNoOther}
-use Rattle.linker_elf.specs.RiscVRelocations.{riscv_relocation}
+use Rattle.linker_elf.proofs.Imports.{IfSome, RowAgrees, RowReadsNoOther, riscv_relocation, subst, sym, ◌∙◌}
 use Rattle.linker_elf.proofs.Readings.{riscv_reads_no_other}
 use Rattle.linker_elf.proofs.RowsAgree.{riscv_rows as riscv_agree}
 use Rattle.linker_elf.proofs.RowTables.{sound_from, unless, riscv_rows, riscv_raw_rows}

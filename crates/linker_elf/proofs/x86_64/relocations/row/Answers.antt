@@ -1,4 +1,4 @@
-use Rattle.std.proofs.Common.{◌∙◌}
+use Rattle.linker_elf.proofs.Imports.{◌∙◌}
 use Rattle.linker_elf.proofs.RowTables.{sound_from, x86_64_rows}
 use Rattle.linker_elf.proofs.RowsFit.{x86_64_fits}
 use Rattle.linker_elf.proofs.x86_64.relocations.row.Goals as goal

@@ -1,4 +1,4 @@
-use Rattle.linker_output.proofs.Imports.{◌≡◌, drop, slice_get}
+use Rattle.linker_output.proofs.Imports.{drop, slice_get, ◌≡◌}
 use Rattle.linker_output.specs.Tags.{entries}
 use Rattle.linker_output.proofs.description.Target.dynamic_entry.Given as goal
 

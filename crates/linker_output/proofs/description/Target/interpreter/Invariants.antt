@@ -1,4 +1,4 @@
-use Rattle.linker_output.proofs.Imports.{◌≡◌, drop, path_in, view_paths}
+use Rattle.linker_output.proofs.Imports.{drop, path_in, view_paths, ◌≡◌}
 use Rattle.linker_output.proofs.description.Target.interpreter.Given as goal
 
 abbrev pub invariant-loop-listed : goal.invariant-loop-listed

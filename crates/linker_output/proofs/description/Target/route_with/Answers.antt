@@ -1,4 +1,4 @@
-use Rattle.linker_output.proofs.Imports.{rules, ◌≡◌, subst, w64, cast_signed, cast_unsigned, IsObstacle}
+use Rattle.linker_output.proofs.Imports.{IsObstacle, cast_signed, cast_unsigned, rules, subst, w64, ◌≡◌}
 use Rattle.linker_output.proofs.description.Target.route_with.Goals as goal
 
 pub returns : goal.returns

@@ -1,4 +1,4 @@
-use Rattle.linker_output.proofs.Imports.{◌≡◌, ◌++◌, ◌+◌, sym, subst, refl, length, take, drop, rules, WritesStub, WritesPair, operands_of, view_stub}
+use Rattle.linker_output.proofs.Imports.{WritesPair, WritesStub, drop, length, operands_of, refl, rules, subst, sym, take, view_stub, ◌++◌, ◌+◌, ◌≡◌}
 use Rattle.linker_output.proofs.StubFields.{pieces}
 use Rattle.linker_output.proofs.description.Target.write_stub.Goals as goal
 

@@ -1,4 +1,4 @@
-use Rattle.linker_output.proofs.Imports.{◌<◌, ℕ, HasTarget}
+use Rattle.linker_output.proofs.Imports.{HasTarget, ℕ, ◌<◌}
 use Rattle.linker_output.proofs.placement.Code.first_without_target.Given as goal
 
 abbrev pub invariant-loop-index : goal.invariant-loop-index

@@ -1,4 +1,4 @@
-use Rattle.linker_output.proofs.Imports.{◌≤◌, ◌<◌, length, ⊎_elim, ap, arith, cases_lt, get_or_past, Branch}
+use Rattle.linker_output.proofs.Imports.{Branch, ap, arith, cases_lt, get_or_past, length, ⊎_elim, ◌<◌, ◌≤◌}
 use Rattle.linker_output.proofs.placement.Code.has_low_branches.Goals as goal
 
 pub returns-clause-low : goal.returns-clause-low

@@ -1,4 +1,4 @@
-use Rattle.linker_output.proofs.Imports.{◌<◌, ◌^◌, ℕ, branch_at}
+use Rattle.linker_output.proofs.Imports.{branch_at, ℕ, ◌<◌, ◌^◌}
 use Rattle.linker_output.proofs.placement.Code.has_low_branches.Given as goal
 
 abbrev pub invariant-loop-branch : goal.invariant-loop-branch

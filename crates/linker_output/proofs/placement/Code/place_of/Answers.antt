@@ -1,4 +1,4 @@
-use Rattle.linker_output.proofs.Imports.{arith, ℕ, List, length, ◌≤◌, ◌<◌, ◌+◌, ◌*◌, Group, StubShape, at, group_at, stubs_in, IsLaidOut}
+use Rattle.linker_output.proofs.Imports.{Group, IsLaidOut, List, StubShape, arith, at, group_at, length, stubs_in, ℕ, ◌*◌, ◌+◌, ◌<◌, ◌≤◌}
 use Rattle.linker_output.proofs.Groups.{some_least}
 use Rattle.linker_output.proofs.Products.{le_product}
 use Rattle.linker_output.proofs.placement.Code.place_of.Goals as goal

@@ -1,4 +1,4 @@
-use Rattle.linker_output.proofs.Imports.{◌<◌, ℕ, StubReaches}
+use Rattle.linker_output.proofs.Imports.{StubReaches, ℕ, ◌<◌}
 use Rattle.linker_output.proofs.placement.Layout.first_short.Given as goal
 
 abbrev pub invariant-loop-index : goal.invariant-loop-index

@@ -1,4 +1,4 @@
-use Rattle.linker_output.proofs.Imports.{◌≡◌, ◌∙◌, ap, subst, arith, IsTrue, ◌↔◌, get_or_read, Front, Reaches, at, stub_at, target_place}
+use Rattle.linker_output.proofs.Imports.{Front, IsTrue, Reaches, ap, arith, at, get_or_read, stub_at, subst, target_place, ◌↔◌, ◌∙◌, ◌≡◌}
 use Rattle.linker_output.specs.Placement.{moved}
 use Rattle.linker_output.proofs.placement.Layout.reaches.Goals as goal
 

@@ -1,4 +1,4 @@
-use Rattle.linker_output.proofs.Imports.{◌≡◌, ◌∙◌, ◌<◌, ◌++◌, ◌∷◌, [], ap, length, set, refl, arith, rules, get_or_read, StubAt, at, group_at, branch_at, part_of, list_of, with_one, new_way}
+use Rattle.linker_output.proofs.Imports.{StubAt, [], ap, arith, at, branch_at, get_or_read, group_at, length, list_of, new_way, part_of, refl, rules, set, with_one, ◌++◌, ◌<◌, ◌∙◌, ◌∷◌, ◌≡◌}
 use Rattle.linker_output.proofs.Adding.{added}
 use Rattle.linker_output.proofs.placement.State.add.Goals as goal
 

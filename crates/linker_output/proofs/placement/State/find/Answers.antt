@@ -1,4 +1,4 @@
-use Rattle.linker_output.proofs.Imports.{◌≡◌, ◌+◌, ◌-◌, ◌<◌, ◌∙◌, ℕ, length, ap, arith, subst, sym, false≢true, get_or_read, Front, at, IsAt, IsStubAt, list_of}
+use Rattle.linker_output.proofs.Imports.{Front, IsAt, IsStubAt, ap, arith, at, false≢true, get_or_read, length, list_of, subst, sym, ℕ, ◌+◌, ◌-◌, ◌<◌, ◌∙◌, ◌≡◌}
 use Rattle.linker_output.proofs.Finding.{before_head, before_next}
 use Rattle.linker_output.proofs.placement.State.find.Goals as goal
 

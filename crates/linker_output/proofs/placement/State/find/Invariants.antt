@@ -1,4 +1,4 @@
-use Rattle.linker_output.proofs.Imports.{◌≡◌, ◌+◌, ◌<◌, ◌≤◌, ℕ, length, IsAt, list_at, list_of}
+use Rattle.linker_output.proofs.Imports.{IsAt, length, list_at, list_of, ℕ, ◌+◌, ◌<◌, ◌≡◌, ◌≤◌}
 use Rattle.linker_output.proofs.placement.State.find.Given as goal
 
 abbrev pub invariant-loop-above : goal.invariant-loop-above

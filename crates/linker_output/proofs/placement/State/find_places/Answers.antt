@@ -1,4 +1,4 @@
-use Rattle.linker_output.proofs.Imports.{◌≡◌, ◌+◌, ◌<◌, ◌∙◌, ℕ, List, [], ◌∷◌, ◌++◌, length, get_or, ap, arith, below_more, get_or_append_left, get_or_push, length-append, place_of, stub_at}
+use Rattle.linker_output.proofs.Imports.{List, [], ap, arith, below_more, get_or, get_or_append_left, get_or_push, length, length-append, place_of, stub_at, ℕ, ◌++◌, ◌+◌, ◌<◌, ◌∙◌, ◌∷◌, ◌≡◌}
 use Rattle.linker_output.proofs.placement.State.find_places.Goals as goal
 
 -- what holds of each number, and of one more after them, holds of all

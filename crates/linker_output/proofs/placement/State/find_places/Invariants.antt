@@ -1,4 +1,4 @@
-use Rattle.linker_output.proofs.Imports.{◌≡◌, ◌<◌, ℕ, length, get_or, place_of, stub_at}
+use Rattle.linker_output.proofs.Imports.{get_or, length, place_of, stub_at, ℕ, ◌<◌, ◌≡◌}
 use Rattle.linker_output.proofs.placement.State.find_places.Given as goal
 
 abbrev pub invariant-loop-stub : goal.invariant-loop-stub

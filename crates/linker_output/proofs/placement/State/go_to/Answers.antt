@@ -1,4 +1,4 @@
-use Rattle.linker_output.proofs.Imports.{subst, sym, branch_at, IsNear}
+use Rattle.linker_output.proofs.Imports.{IsNear, branch_at, subst, sym}
 use Rattle.linker_output.proofs.Finding.{new_near, out_there}
 use Rattle.linker_output.proofs.placement.State.go_to.Goals as goal
 

@@ -1,4 +1,4 @@
-use Rattle.linker_output.proofs.Imports.{◌+◌, ◌*◌, ◌<◌, ◌^◌, subst, sym, get_or_read, Front, StubAt}
+use Rattle.linker_output.proofs.Imports.{Front, StubAt, get_or_read, subst, sym, ◌*◌, ◌+◌, ◌<◌, ◌^◌}
 use Rattle.linker_output.proofs.Bounds.{index_fits}
 use Rattle.linker_output.proofs.placement.State.is_near.Goals as goal
 

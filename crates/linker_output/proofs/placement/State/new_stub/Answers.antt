@@ -1,4 +1,4 @@
-use Rattle.linker_output.proofs.Imports.{◌≡◌, ◌∙◌, ◌+◌, ◌*◌, ◌<◌, ◌^◌, ap, arith, subst, sym, get_or_read, group_at, part_of}
+use Rattle.linker_output.proofs.Imports.{ap, arith, get_or_read, group_at, part_of, subst, sym, ◌*◌, ◌+◌, ◌<◌, ◌^◌, ◌∙◌, ◌≡◌}
 use Rattle.linker_output.proofs.Bounds.{part_fits}
 use Rattle.linker_output.proofs.placement.State.new_stub.Goals as goal
 

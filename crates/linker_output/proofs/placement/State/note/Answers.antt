@@ -1,4 +1,4 @@
-use Rattle.std.proofs.Common.{rules}
+use Rattle.linker_output.proofs.Imports.{rules}
 use Rattle.linker_output.proofs.Adding.{noted}
 use Rattle.linker_output.proofs.placement.State.note.Goals as goal
 

@@ -1,4 +1,4 @@
-use Rattle.linker_output.proofs.Imports.{◌≡◌, ◌∙◌, ◌-◌, ◌<◌, ℕ, length, arith, subst, sym, true, IfOk, sum_by, IfOk-weaker, Branch, Code, Front, Back, State, branch_at, passed, IsOutAhead, IsOutThere, StaysUnshared, level, way_at}
+use Rattle.linker_output.proofs.Imports.{Back, Branch, Code, Front, IfOk, IfOk-weaker, IsOutAhead, IsOutThere, State, StaysUnshared, arith, branch_at, length, level, passed, subst, sum_by, sym, true, way_at, ℕ, ◌-◌, ◌<◌, ◌∙◌, ◌≡◌}
 use Rattle.linker_output.proofs.placement.State.raise.Goals as goal
 
 -- out of reach ahead of it, by the state before

@@ -1,4 +1,4 @@
-use Rattle.linker_output.proofs.Imports.{◌<◌, ◌+◌, ◌*◌, ◌≤◌, ◌^◌, List, sym, subst, arith, length, sum_by, Group, most_bytes, stubs_in, level}
+use Rattle.linker_output.proofs.Imports.{Group, List, arith, length, level, most_bytes, stubs_in, subst, sum_by, sym, ◌*◌, ◌+◌, ◌<◌, ◌^◌, ◌≤◌}
 use Rattle.linker_output.proofs.Bounds.{levels_most, room_for, room_most}
 use Rattle.linker_output.proofs.Near.{places_kept}
 use Rattle.linker_output.proofs.placement.State.settle.Goals as goal

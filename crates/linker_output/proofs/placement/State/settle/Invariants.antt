@@ -1,4 +1,4 @@
-use Rattle.linker_output.proofs.Imports.{◌≡◌, ◌+◌, ◌*◌, ◌-◌, length, sum_by, IsState, level}
+use Rattle.linker_output.proofs.Imports.{IsState, length, level, sum_by, ◌*◌, ◌+◌, ◌-◌, ◌≡◌}
 use Rattle.linker_output.proofs.placement.State.settle.Given as goal
 
 abbrev pub invariant-loop-passes : goal.invariant-loop-passes

@@ -1,4 +1,4 @@
-use Rattle.linker_output.proofs.Imports.{◌++◌, ◌∷◌, [], length, get_or, refl, sym, ap, inl, inr, subst, arith, below_more, None, get_or_append_left, get_or_push, get_or_read, length-append, both_ways, Direct, ReachesAt, branch_at, IsStubOf, way_at}
+use Rattle.linker_output.proofs.Imports.{Direct, IsStubOf, None, ReachesAt, [], ap, arith, below_more, both_ways, branch_at, get_or, get_or_append_left, get_or_push, get_or_read, inl, inr, length, length-append, refl, subst, sym, way_at, ◌++◌, ◌∷◌}
 use Rattle.linker_output.proofs.placement.State.stubs_of.Goals as goal
 use Rattle.linker_output.proofs.placement.State.stubs_of.Goals.{in-Direct, in-Near, in-Far+then-reaches_at, in-Far+else-reaches_at}
 

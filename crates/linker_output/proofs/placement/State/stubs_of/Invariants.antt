@@ -1,4 +1,4 @@
-use Rattle.linker_output.proofs.Imports.{◌≡◌, ◌<◌, ℕ, length, None, slice_index_or, branch_at, IsStubOf, way_at}
+use Rattle.linker_output.proofs.Imports.{IsStubOf, None, branch_at, length, slice_index_or, way_at, ℕ, ◌<◌, ◌≡◌}
 use Rattle.linker_output.proofs.placement.State.stubs_of.Given as goal
 
 abbrev pub invariant-loop-index : goal.invariant-loop-index

@@ -1,4 +1,4 @@
-use Rattle.linker_output.proofs.Imports.{◌≡◌, ◌<◌, ◌+◌, ◌∙◌, ℕ, List, true, ap, sym, subst, arith, below_more, length, sum_by, false≢true, Code, State, branch_at, SameStubs, IsServedBy, Visited, level, way_at}
+use Rattle.linker_output.proofs.Imports.{Code, IsServedBy, List, SameStubs, State, Visited, ap, arith, below_more, branch_at, false≢true, length, level, subst, sum_by, sym, true, way_at, ℕ, ◌+◌, ◌<◌, ◌∙◌, ◌≡◌}
 use Rattle.linker_output.specs.declared.placement.Visit.TheVariants.{Served, Near}
 use Rattle.linker_output.proofs.Near.{near_served, places_kept, laid_kept}
 use Rattle.linker_output.proofs.placement.State.sweep.Goals as goal

@@ -1,4 +1,4 @@
-use Rattle.linker_output.proofs.Imports.{◌≡◌, ◌<◌, ◌≤◌, ℕ, true, false, sum_by, branch_at, IsState, SameStubs, IsServedBy, level, way_at}
+use Rattle.linker_output.proofs.Imports.{IsServedBy, IsState, SameStubs, branch_at, false, level, sum_by, true, way_at, ℕ, ◌<◌, ◌≡◌, ◌≤◌}
 use Rattle.linker_output.proofs.placement.State.sweep.Given as goal
 
 abbrev pub invariant-loop-index : goal.invariant-loop-index

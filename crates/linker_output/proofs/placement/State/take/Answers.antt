@@ -1,4 +1,4 @@
-use Rattle.std.proofs.Common.{refl}
+use Rattle.linker_output.proofs.Imports.{refl}
 use Rattle.linker_output.proofs.Adding.{taken}
 use Rattle.linker_output.proofs.placement.State.take.Goals as goal
 

@@ -1,4 +1,4 @@
-use Rattle.linker_output.proofs.Imports.{◌≡◌, ◌∙◌, subst, sym, arith, branch_at, get_or_read, Direct, IsLostBy, IsServedBy, IsState, SameStubs, way_at}
+use Rattle.linker_output.proofs.Imports.{Direct, IsLostBy, IsServedBy, IsState, SameStubs, arith, branch_at, get_or_read, subst, sym, way_at, ◌∙◌, ◌≡◌}
 use Rattle.linker_output.proofs.Going.{spare_reaches}
 use Rattle.linker_output.proofs.placement.State.visit.Goals as goal
 use Rattle.linker_output.proofs.placement.State.visit.Goals.{then-late+then-not-has_spare+in_ok-raise-2+else-branch-2, else-late}

@@ -1,5 +1,4 @@
-use Rattle.std.proofs.Common.{refl}
-use Rattle.linker_output.specs.Inner.Placement.{list_of}
+use Rattle.linker_output.proofs.Imports.{list_of, refl}
 use Rattle.linker_output.proofs.placement.adding.list_of.Goals as goal
 
 pub returns-clause-list : goal.returns-clause-list

@@ -1,4 +1,4 @@
-use Rattle.linker_output.proofs.Imports.{◌≤◌, ◌<◌, length, ⊎_elim, arith, cases_lt, get_or_past}
+use Rattle.linker_output.proofs.Imports.{arith, cases_lt, get_or_past, length, ⊎_elim, ◌<◌, ◌≤◌}
 use Rattle.linker_output.proofs.placement.checking.are_low.Goals as goal
 
 pub returns-clause-low : goal.returns-clause-low

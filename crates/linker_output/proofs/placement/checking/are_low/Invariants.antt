@@ -1,4 +1,4 @@
-use Rattle.std.proofs.Common.{◌<◌, ◌^◌, ℕ, get_or}
+use Rattle.linker_output.proofs.Imports.{get_or, ℕ, ◌<◌, ◌^◌}
 use Rattle.linker_output.proofs.placement.checking.are_low.Given as goal
 
 abbrev pub invariant-loop-number : goal.invariant-loop-number

@@ -1,4 +1,4 @@
-use Rattle.std.proofs.Common.{◌<◌, ◌≤◌, ℕ, get_or}
+use Rattle.linker_output.proofs.Imports.{get_or, ℕ, ◌<◌, ◌≤◌}
 use Rattle.linker_output.proofs.placement.checking.first_descent.Given as goal
 
 abbrev pub invariant-loop-index : goal.invariant-loop-index

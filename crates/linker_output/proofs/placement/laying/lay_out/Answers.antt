@@ -1,4 +1,4 @@
-use Rattle.linker_output.proofs.Imports.{◌≡◌, ◌≢◌, ◌+◌, ◌<◌, ◌≤◌, ◌∙◌, ℕ, List, length, get_or, set, refl, rules, ap, sym, arith, below_more, get_or-set_other, get_or-set_same, mul-le-mul_left, get_or-le-sum_by, stubs_in, bytes_before}
+use Rattle.linker_output.proofs.Imports.{List, ap, arith, below_more, bytes_before, get_or, get_or-le-sum_by, get_or-set_other, get_or-set_same, length, mul-le-mul_left, refl, rules, set, stubs_in, sym, ℕ, ◌+◌, ◌<◌, ◌∙◌, ◌≡◌, ◌≢◌, ◌≤◌}
 use Rattle.linker_output.proofs.Groups.{bytes_next, bytes_none, bytes_bound, bytes_laid_out, bytes_fit}
 use Rattle.linker_output.proofs.placement.laying.lay_out.Goals as goal
 

@@ -1,4 +1,4 @@
-use Rattle.linker_output.proofs.Imports.{◌≡◌, ◌<◌, ℕ, get_or, bytes_before}
+use Rattle.linker_output.proofs.Imports.{bytes_before, get_or, ℕ, ◌<◌, ◌≡◌}
 use Rattle.linker_output.proofs.placement.laying.lay_out.Given as goal
 
 abbrev pub invariant-loop-index : goal.invariant-loop-index

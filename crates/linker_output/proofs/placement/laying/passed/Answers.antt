@@ -1,4 +1,4 @@
-use Rattle.linker_output.proofs.Imports.{arith, sym, prefix_len_is, nat_le}
+use Rattle.linker_output.proofs.Imports.{arith, nat_le, prefix_len_is, sym}
 use Rattle.linker_output.proofs.Passed.{le_true, le_false}
 use Rattle.linker_output.proofs.placement.laying.passed.Goals as goal
 

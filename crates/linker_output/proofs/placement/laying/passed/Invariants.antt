@@ -1,4 +1,4 @@
-use Rattle.std.proofs.Common.{ℕ, ◌≤◌, ◌<◌, ◌-◌, length, get_or}
+use Rattle.linker_output.proofs.Imports.{get_or, length, ℕ, ◌-◌, ◌<◌, ◌≤◌}
 use Rattle.linker_output.proofs.placement.laying.passed.Given as goal
 
 abbrev pub invariant-loop-low : goal.invariant-loop-low

@@ -1,6 +1,4 @@
-use Rattle.std.proofs.Common.{◌≡◌, ◌∙◌, ◌*◌, ◌^◌, ◌-◌, ◌%◌, ap, sym, eqb, true, false}
-use Rattle.linker_reading.proofs.Imports.{w64, bit_at, cast_unsigned, field, moved_value, shift_of}
-use Rattle.std.proofs.lemmas.Bool.{ne_eqb}
+use Rattle.linker_reading.proofs.Imports.{ap, bit_at, cast_unsigned, eqb, false, field, moved_value, ne_eqb, shift_of, sym, true, w64, ◌%◌, ◌*◌, ◌-◌, ◌^◌, ◌∙◌, ◌≡◌}
 use Rattle.linker_reading.proofs.AArch64Numbers.{moved_held}
 use Rattle.linker_reading.proofs.operands.aarch64.moved_number.Goals as goal
 

@@ -1,5 +1,4 @@
-use Rattle.std.proofs.Common.{◌∙◌, ap, ◌%◌, ◌^◌}
-use Rattle.linker_reading.proofs.Imports.{w64, cast_unsigned, from_le_bytes, field, signed}
+use Rattle.linker_reading.proofs.Imports.{ap, cast_unsigned, field, from_le_bytes, signed, w64, ◌%◌, ◌^◌, ◌∙◌}
 use Rattle.linker_reading.proofs.LoongArchNumbers.{shift5_held, shift10_held, call36_held}
 use Rattle.linker_reading.proofs.reading.loongarch64.number.Goals as goal
 

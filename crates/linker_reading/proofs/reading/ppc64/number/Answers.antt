@@ -1,4 +1,4 @@
-use Rattle.std.proofs.Common.{sym, ◌∙◌}
+use Rattle.linker_reading.proofs.Imports.{sym, ◌∙◌}
 use Rattle.linker_reading.proofs.Ppc64Numbers.{d_held, ds_held, dq_held, branch14_held, branch24_held, prefixed_held}
 use Rattle.linker_reading.proofs.reading.ppc64.number.Goals as goal
 

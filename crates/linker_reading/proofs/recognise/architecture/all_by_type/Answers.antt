@@ -1,7 +1,4 @@
-use Rattle.std.proofs.Common.{◌≡◌, ◌+◌, ◌-◌, ◌++◌, ◌<◌, ◌≤◌, None, suc, length, get_or, map, take, replicate, set, ap, sym, ◌∙◌, arith}
-use Rattle.std.proofs.lemmas.List.{append-nil, take_all}
-use Rattle.linker_reading.specs.FoundByType.{by_type}
-use Rattle.linker_elf.specs.Architectures.{of_some}
+use Rattle.linker_reading.proofs.Imports.{None, ap, append-nil, arith, by_type, get_or, length, map, of_some, replicate, set, suc, sym, take, take_all, ◌++◌, ◌+◌, ◌-◌, ◌<◌, ◌∙◌, ◌≡◌, ◌≤◌}
 use Rattle.linker_reading.proofs.Tables.{mapped_more, same_more, none_of}
 use Rattle.linker_reading.proofs.recognise.architecture.all_by_type.Goals.{then-is_some, else-is_some}
 use Rattle.linker_reading.proofs.recognise.architecture.all_by_type.Goals as goal

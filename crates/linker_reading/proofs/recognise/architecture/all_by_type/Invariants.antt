@@ -1,6 +1,4 @@
-use Rattle.std.proofs.Common.{◌≡◌, ◌-◌, ◌++◌, None, map, take, replicate}
-use Rattle.linker_reading.specs.FoundByType.{by_type}
-use Rattle.linker_elf.specs.Architectures.{of_some}
+use Rattle.linker_reading.proofs.Imports.{None, by_type, map, of_some, replicate, take, ◌++◌, ◌-◌, ◌≡◌}
 use Rattle.linker_reading.proofs.recognise.architecture.all_by_type.Given as goal
 
 -- those so far

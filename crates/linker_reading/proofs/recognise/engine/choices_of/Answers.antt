@@ -1,7 +1,4 @@
-use Rattle.std.proofs.Common.{◌≡◌, ◌+◌, ◌-◌, ◌++◌, suc, length, take, replicate, set, ap, ◌∙◌, arith}
-use Rattle.std.specs.Prelude.{slice_index_or}
-use Rattle.linker_reading.proofs.Imports.{take_all, choice}
-use Rattle.linker_reading.specs.Inner.Found.{choices_in}
+use Rattle.linker_reading.proofs.Imports.{ap, arith, choice, choices_in, length, replicate, set, slice_index_or, suc, take, take_all, ◌++◌, ◌+◌, ◌-◌, ◌∙◌, ◌≡◌}
 use Rattle.linker_reading.proofs.Tables.{filled_more, filled_all}
 use Rattle.linker_reading.proofs.recognise.engine.choices_of.Goals as goal
 

@@ -1,6 +1,4 @@
-use Rattle.std.proofs.Common.{◌≡◌, ◌-◌, ◌++◌, take, replicate}
-use Rattle.linker_reading.specs.Inner.Found.{choices_in}
-use Rattle.linker_elf.specs.Choices.{choice}
+use Rattle.linker_reading.proofs.Imports.{choice, choices_in, replicate, take, ◌++◌, ◌-◌, ◌≡◌}
 use Rattle.linker_reading.proofs.recognise.engine.choices_of.Given as goal
 
 -- those of the entries so far, and after them the other one

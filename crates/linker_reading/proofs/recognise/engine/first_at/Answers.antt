@@ -1,5 +1,4 @@
-use Rattle.std.proofs.Common.{◌≡◌, length, Some, get_or, ap, sym, ◌∙◌, ⊎_elim, arith, rules, slice_get}
-use Rattle.linker_reading.proofs.Imports.{both_ways, cases_lt, slice_get-get_or}
+use Rattle.linker_reading.proofs.Imports.{Some, ap, arith, both_ways, cases_lt, get_or, length, rules, slice_get, slice_get-get_or, sym, ⊎_elim, ◌∙◌, ◌≡◌}
 use Rattle.linker_reading.proofs.Tables.{same_got, equal_choices}
 use Rattle.linker_reading.proofs.recognise.engine.first_at.Goals as goal
 

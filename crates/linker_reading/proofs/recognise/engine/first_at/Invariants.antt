@@ -1,4 +1,4 @@
-use Rattle.std.proofs.Common.{◌≡◌, ℕ, ◌<◌, slice_get}
+use Rattle.linker_reading.proofs.Imports.{slice_get, ℕ, ◌<◌, ◌≡◌}
 use Rattle.linker_reading.proofs.recognise.engine.first_at.Given as goal
 
 abbrev pub invariant-loop-earlier : goal.invariant-loop-earlier

@@ -1,9 +1,4 @@
-use Rattle.std.proofs.Common.{◌≡◌, ◌+◌, ◌≤◌, Option, length, Some, sym, subst, ◌∙◌, arith, slice_get}
-use Rattle.std.specs.Prelude.{IfSome, IfNone}
-use Rattle.linker_elf.specs.declared.elf.choice.Choice.{Choice}
-use Rattle.linker_reading.specs.Inner.Found.{IsMeant, AreFoundOfFirst, IsRepeated}
-use Rattle.linker_reading.specs.Recognised.{choices_at}
-use Rattle.linker_reading.specs.declared.recognise.engine.Recognised.{Recognised}
+use Rattle.linker_reading.proofs.Imports.{AreFoundOfFirst, Choice, IfNone, IfSome, IsMeant, IsRepeated, Option, Recognised, Some, arith, choices_at, length, slice_get, subst, sym, ◌+◌, ◌∙◌, ◌≡◌, ◌≤◌}
 use Rattle.linker_reading.proofs.Found.{none_found, one_more, same_again, found_in_table, are_distinct, chosen_found}
 use Rattle.linker_reading.proofs.Tables.{taken_at, repeated_in, repeated_of, taken_few}
 use Rattle.linker_reading.proofs.recognise.engine.recognise.Goals.{in-Some, in_default}

@@ -1,6 +1,4 @@
-use Rattle.linker_reading.specs.Inner.Found.{IsMeant, AreFoundOfFirst}
-use Rattle.linker_reading.specs.Recognised.{choices_at}
-use Rattle.linker_reading.specs.declared.recognise.engine.Recognised.{Recognised}
+use Rattle.linker_reading.proofs.Imports.{AreFoundOfFirst, IsMeant, Recognised, choices_at}
 use Rattle.linker_reading.proofs.recognise.engine.recognise.Given as goal
 
 abbrev pub invariant-loop-index : goal.invariant-loop-index

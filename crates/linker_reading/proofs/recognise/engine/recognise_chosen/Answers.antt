@@ -1,8 +1,5 @@
-use Rattle.linker_reading.proofs.Imports.{choice, Choice}
+use Rattle.linker_reading.proofs.Imports.{Choice, IsChosen, IsMade, Recognised, choice, relaxation_matches}
 use Rattle.linker_reading.proofs.Chosen.{first_is_same, chosen_made}
-use Rattle.linker_reading.specs.Recognised.{IsChosen, IsMade}
-use Rattle.linker_reading.specs.declared.recognise.engine.Recognised.{Recognised}
-use Rattle.linker_utils.specs.Relaxations.{relaxation_matches}
 use Rattle.linker_reading.proofs.recognise.engine.recognise_chosen.Goals as goal
 
 pub returns : goal.returns

@@ -1,6 +1,4 @@
-use Rattle.std.proofs.Common.{Option, sym, ap, ◌∙◌}
-use Rattle.linker_elf.specs.declared.elf.RowInfo.{RowInfo}
-use Rattle.linker_reading.specs.Reading.{value_read}
+use Rattle.linker_reading.proofs.Imports.{Option, RowInfo, ap, sym, value_read, ◌∙◌}
 use Rattle.linker_reading.specs.Recognised.{value_at}
 use Rattle.linker_reading.proofs.Read.{read_from}
 use Rattle.linker_reading.proofs.recognise.engine.value_at.Goals as goal

@@ -1,5 +1,4 @@
-use Rattle.std.proofs.Common.{sym, ◌∙◌}
-use Rattle.std.proofs.lemmas.Bool.{both_ways, eq-eqb}
+use Rattle.linker_reading.proofs.Imports.{both_ways, eq-eqb, sym, ◌∙◌}
 use Rattle.linker_reading.proofs.Words.{IsFrontSame, no_front, of_parts, to_front, to_rest}
 use Rattle.linker_reading.proofs.recognise.fields.are_same_but.Goals.{then-split-eq0, else-split-eq0}
 use Rattle.linker_reading.proofs.recognise.fields.are_same_but.Goals as goal

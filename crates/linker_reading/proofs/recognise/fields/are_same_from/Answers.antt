@@ -1,6 +1,4 @@
-use Rattle.std.proofs.Common.{◌≡◌, ◌+◌, ◌*◌, subst, arith}
-use Rattle.std.proofs.lemmas.Bool.{both_ways, false≢true}
-use Rattle.linker_reading.specs.Inner.Words.{AreSameFrom}
+use Rattle.linker_reading.proofs.Imports.{AreSameFrom, arith, both_ways, false≢true, subst, ◌*◌, ◌+◌, ◌≡◌}
 use Rattle.linker_reading.proofs.Words.{to_word, to_byte, four_more, one_more}
 use Rattle.linker_reading.proofs.recognise.fields.are_same_from.Goals as goal
 

@@ -1,5 +1,4 @@
-use Rattle.std.proofs.Common.{◌*◌}
-use Rattle.linker_reading.specs.Inner.Words.{AreSameFrom}
+use Rattle.linker_reading.proofs.Imports.{AreSameFrom, ◌*◌}
 use Rattle.linker_reading.proofs.recognise.fields.are_same_from.Given as goal
 
 -- the words so far are the same but for these bits

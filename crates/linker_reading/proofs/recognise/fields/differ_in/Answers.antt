@@ -1,7 +1,4 @@
-use Rattle.std.proofs.Common.{◌≡◌, ◌<◌, ◌+◌, ◌*◌, ◌-◌, ◌/◌, ◌%◌, ◌||◌, ℕ, false, sym, ap, ◌∙◌, bit_and, arith}
-use Rattle.linker_reading.proofs.Imports.{◌==◌, bit_xor, eqb-true, eq-eqb, take_all, bit_at, bit_not, w64}
-use Rattle.std.specs.Prelude.{IsTrue, nat_eq}
-use Rattle.linker_reading.specs.FieldsOfBytes.{is_in, is_in_one}
+use Rattle.linker_reading.proofs.Imports.{IsTrue, ap, arith, bit_and, bit_at, bit_not, bit_xor, eq-eqb, eqb-true, false, is_in, is_in_one, nat_eq, sym, take_all, w64, ℕ, ◌%◌, ◌*◌, ◌+◌, ◌-◌, ◌/◌, ◌<◌, ◌==◌, ◌||◌, ◌∙◌, ◌≡◌}
 use Rattle.linker_reading.proofs.Masked.{one_more, none_apart, all_same}
 use Rattle.linker_reading.proofs.recognise.fields.differ_in.Goals as goal
 

@@ -1,6 +1,4 @@
-use Rattle.std.proofs.Common.{◌≡◌, ℕ, ◌<◌, ◌+◌, ◌*◌, ◌||◌, ◌==◌, take}
-use Rattle.std.specs.Int.{bit_at}
-use Rattle.linker_reading.specs.FieldsOfBytes.{is_in, is_in_one}
+use Rattle.linker_reading.proofs.Imports.{bit_at, is_in, is_in_one, take, ℕ, ◌*◌, ◌+◌, ◌<◌, ◌==◌, ◌||◌, ◌≡◌}
 use Rattle.linker_reading.proofs.recognise.fields.differ_in.Given as goal
 
 -- the bits of the fields so far

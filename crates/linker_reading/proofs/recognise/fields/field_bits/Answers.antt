@@ -1,6 +1,4 @@
-use Rattle.std.proofs.Common.{◌≡◌, ap, ◌∙◌, rules}
-use Rattle.linker_reading.proofs.Imports.{◌==◌, bit_at}
-use Rattle.linker_reading.specs.Inner.Masks.{field_mask}
+use Rattle.linker_reading.proofs.Imports.{ap, bit_at, field_mask, rules, ◌==◌, ◌∙◌, ◌≡◌}
 use Rattle.linker_reading.proofs.FieldBits.{field_agrees}
 use Rattle.linker_reading.proofs.recognise.fields.field_bits.Goals as goal
 

@@ -1,4 +1,4 @@
-use Rattle.std.proofs.Common.{refl, arith}
+use Rattle.linker_reading.proofs.Imports.{arith, refl}
 use Rattle.linker_reading.proofs.Same.{same_but_row}
 use Rattle.linker_reading.proofs.recognise.fields.same_but_for.Goals as goal
 

@@ -1,9 +1,5 @@
-use Rattle.std.proofs.Common.{arith, refl, subst, sym, true}
+use Rattle.linker_rewriting.proofs.Imports.{Consumed, IsDecidedAfter, IsDecision, IsInLabel, IsLabelNote, arith, context_of, end_by, refl, start_by, subst, sym, true}
 use Rattle.linker_rewriting.proofs.Deciding.{by_rule, ends_in, itself, lacks_by}
-use Rattle.linker_rewriting.specs.Decisions.{IsDecidedAfter, IsDecision, start_by, end_by}
-use Rattle.linker_rewriting.specs.Facts.{context_of}
-use Rattle.linker_rewriting.specs.RiscVPcrelGroups.{IsInLabel, IsLabelNote}
-use Rattle.linker_rewriting.proofs.Imports.{Consumed}
 use Rattle.linker_rewriting.proofs.decisions.GroupsRule.decide.Goals as goal
 
 pub returns-then-is_taken-clause-decided : goal.returns-then-is_taken-clause-decided

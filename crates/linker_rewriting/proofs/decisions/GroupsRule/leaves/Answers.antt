@@ -1,7 +1,5 @@
-use Rattle.std.proofs.Common.{arith, subst}
+use Rattle.linker_rewriting.proofs.Imports.{IsLeft, arith, relocation_in, subst}
 use Rattle.linker_rewriting.proofs.KeptCalls.{left_decided}
-use Rattle.linker_rewriting.specs.Inner.Calls.{IsLeft}
-use Rattle.linker_rewriting.proofs.Imports.{relocation_in}
 use Rattle.linker_rewriting.proofs.decisions.GroupsRule.leaves.Goals as goal
 
 pub returns-clause-left : goal.returns-clause-left

@@ -1,6 +1,5 @@
-use Rattle.std.proofs.Common.{refl}
+use Rattle.linker_rewriting.proofs.Imports.{DecisionNumbers, refl}
 use Rattle.linker_rewriting.proofs.Numbers.{chosen_in}
-use Rattle.linker_rewriting.specs.declared.decisions.numbers.DecisionNumbers.{DecisionNumbers}
 use Rattle.linker_rewriting.proofs.decisions.numbers.of_choice.Goals as goal
 
 pub returns-clause-choice : goal.returns-clause-choice

@@ -1,6 +1,5 @@
 use Rattle.linker_rewriting.proofs.Deciding.{by_rule, lacks_by}
-use Rattle.linker_rewriting.specs.GlobalPointer.{DecidesPart, IsPartDecided, part_start, part_end}
-use Rattle.linker_rewriting.specs.Facts.{context_of}
+use Rattle.linker_rewriting.proofs.Imports.{DecidesPart, IsPartDecided, context_of, part_end, part_start}
 use Rattle.linker_rewriting.proofs.global_pointer.SymbolsRule.decide.Goals as goal
 
 pub returns-clause-decided : goal.returns-clause-decided

@@ -1,7 +1,5 @@
 use Rattle.linker_rewriting.proofs.Deciding.{by_rule, ends_in, itself, lacks_by}
-use Rattle.linker_rewriting.specs.Decisions.{start_by, end_by}
-use Rattle.linker_rewriting.specs.Facts.{context_of}
-use Rattle.linker_rewriting.specs.TocIndirection.{DecidesLoad, IsLoadDecided}
+use Rattle.linker_rewriting.proofs.Imports.{DecidesLoad, IsLoadDecided, context_of, end_by, start_by}
 use Rattle.linker_rewriting.proofs.toc_indirection.LoadsRule.decide.Goals as goal
 
 pub returns-clause-decided : goal.returns-clause-decided

@@ -1,8 +1,4 @@
-use Rattle.std.proofs.Common.{◌≡◌, ◌+◌, ◌*◌, ◌/◌, ◌<◌, ◌≤◌, arith, map, take}
-use Rattle.std.proofs.Math.Nat.{lt-div-mul-add, div-mul-le_self}
-use Rattle.std.proofs.lemmas.Nat.{div_below}
-use Rattle.std.proofs.lemmas.List.{length-map}
-use Rattle.linker_riscv64.specs.Inner.Shrinking.{chosen_count}
+use Rattle.linker_riscv64.proofs.Imports.{arith, chosen_count, div-mul-le_self, div_below, length-map, lt-div-mul-add, map, take, ◌*◌, ◌+◌, ◌/◌, ◌<◌, ◌≡◌, ◌≤◌}
 use Rattle.linker_riscv64.proofs.Shrunk.{count_between-split, run_summed}
 use Rattle.linker_riscv64.proofs.shrinking.Runs.count_between.Goals as goal
 

@@ -1,6 +1,4 @@
-use Rattle.std.proofs.Common.{◌≡◌, ◌-◌, ◌/◌, ◌∙◌, ap, sym, subst, arith, false, map, get_or, set}
-use Rattle.std.proofs.lemmas.List.{length-map, map-set}
-use Rattle.linker_riscv64.specs.Inner.Shrinking.{AreRunsOf}
+use Rattle.linker_riscv64.proofs.Imports.{AreRunsOf, ap, arith, false, get_or, length-map, map, map-set, set, subst, sym, ◌-◌, ◌/◌, ◌∙◌, ◌≡◌}
 use Rattle.linker_riscv64.proofs.Shrunk.{runs_dropped}
 use Rattle.linker_riscv64.proofs.shrinking.Runs.drop_call.Goals as goal
 

@@ -1,5 +1,4 @@
-use Rattle.std.proofs.Common.{◌+◌, ◌/◌, ◌<◌, ◌∙◌, arith, length, map}
-use Rattle.std.proofs.lemmas.List.{length-map, length-set}
+use Rattle.linker_riscv64.proofs.Imports.{arith, length, length-map, length-set, map, ◌+◌, ◌/◌, ◌<◌, ◌∙◌}
 use Rattle.linker_riscv64.proofs.Shrunk.{runs_more}
 use Rattle.linker_riscv64.proofs.shrinking.Runs.of.Goals as goal
 

@@ -1,6 +1,4 @@
-use Rattle.std.proofs.Common.{◌≡◌, ℕ, ◌+◌, ◌*◌, ◌<◌, length, map, get_or}
-use Rattle.std.specs.Prelude.{min}
-use Rattle.linker_riscv64.specs.Inner.Shrinking.{chosen_between}
+use Rattle.linker_riscv64.proofs.Imports.{chosen_between, get_or, length, map, min, ℕ, ◌*◌, ◌+◌, ◌<◌, ◌≡◌}
 use Rattle.linker_riscv64.proofs.shrinking.Runs.of.Given as goal
 
 abbrev pub invariant-loop-run : goal.invariant-loop-run

@@ -1,4 +1,4 @@
-use Rattle.linker_runs.proofs.Imports.{◌∙◌, ap, sym, get_or-map}
+use Rattle.linker_runs.proofs.Imports.{ap, get_or-map, sym, ◌∙◌}
 use Rattle.linker_runs.proofs.items.rewritten.deletion_at.Goals as goal
 
 pub returns : goal.returns

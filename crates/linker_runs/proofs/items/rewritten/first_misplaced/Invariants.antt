@@ -1,4 +1,4 @@
-use Rattle.linker_runs.proofs.Imports.{◌≡◌, length, map, ArePlaced, deleted_before}
+use Rattle.linker_runs.proofs.Imports.{ArePlaced, deleted_before, length, map, ◌≡◌}
 use Rattle.linker_runs.proofs.items.rewritten.first_misplaced.Given as goal
 
 abbrev pub invariant-loop-index : goal.invariant-loop-index

@@ -1,5 +1,4 @@
-use Rattle.linker_runs.proofs.Imports.{◌≡◌, ◌+◌, ◌∙◌, ap, map, refl, inl, inr, subst, sym, set, arith, drop-set-lt, length-map, drop_more_same, end_of, IsDeleted, deleted_at, deleted_end, Rewritten, AreListedIn, rewritten_of}
-use Rattle.linker_runs.specs.Relaxing.{item_of, HasKind}
+use Rattle.linker_runs.proofs.Imports.{AreListedIn, HasKind, IsDeleted, Rewritten, ap, arith, deleted_at, deleted_end, drop-set-lt, drop_more_same, end_of, inl, inr, item_of, length-map, map, refl, rewritten_of, set, subst, sym, ◌+◌, ◌∙◌, ◌≡◌}
 use Rattle.linker_runs.proofs.Listed.{put_deleted}
 use Rattle.linker_runs.proofs.items.rewritten.list_deletions.Goals as goal
 

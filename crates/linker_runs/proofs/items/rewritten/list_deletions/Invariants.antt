@@ -1,5 +1,4 @@
-use Rattle.linker_runs.proofs.Imports.{◌≡◌, ◌+◌, ◌≤◌, ◌<◌, ◌⊎◌, ℕ, List, length, map, drop, Relocation, Machine, deleted_at, deleted_end, AreListedIn, rewritten_of}
-use Rattle.linker_runs.specs.Relaxing.{item_of, HasKind}
+use Rattle.linker_runs.proofs.Imports.{AreListedIn, HasKind, List, Machine, Relocation, deleted_at, deleted_end, drop, item_of, length, map, rewritten_of, ℕ, ◌+◌, ◌<◌, ◌≡◌, ◌≤◌, ◌⊎◌}
 use Rattle.linker_runs.proofs.items.rewritten.list_deletions.Given as goal
 
 abbrev pub invariant-loop-gone : goal.invariant-loop-gone

@@ -1,5 +1,4 @@
-use Rattle.linker_runs.proofs.Imports.{◌≡◌, ◌+◌, ◌<◌, ◌≤◌, ◌∙◌, ap, map, subst, sym, length, ⊎_elim, arith, both_ways, cases_lt, drop-set-lt, length-map, drop_more_same, offset_of, end_of, deleted_at, Makes, rewritten_of}
-use Rattle.linker_runs.specs.Relaxing.{item_of, HasKind}
+use Rattle.linker_runs.proofs.Imports.{HasKind, Makes, ap, arith, both_ways, cases_lt, deleted_at, drop-set-lt, drop_more_same, end_of, item_of, length, length-map, map, offset_of, rewritten_of, subst, sym, ⊎_elim, ◌+◌, ◌<◌, ◌∙◌, ◌≡◌, ◌≤◌}
 use Rattle.linker_runs.proofs.Listed.{put_made}
 use Rattle.linker_runs.proofs.items.rewritten.list_item.Goals as goal
 

@@ -1,5 +1,4 @@
-use Rattle.linker_runs.proofs.Imports.{◌≡◌, ◌∙◌, ◌<◌, ◌≤◌, ℕ, List, map, inl, inr, ⊎_elim, length, suc, take, add-one, arith, subst, MatchOption, cases_lt, length-map, Item, Relocation, Rewritten, rewritten_of, AreListed, Makes}
-use Rattle.linker_runs.specs.Relaxing.{item_of, HasKind}
+use Rattle.linker_runs.proofs.Imports.{AreListed, HasKind, Item, List, Makes, MatchOption, Relocation, Rewritten, add-one, arith, cases_lt, inl, inr, item_of, length, length-map, map, rewritten_of, subst, suc, take, ℕ, ⊎_elim, ◌<◌, ◌∙◌, ◌≡◌, ◌≤◌}
 use Rattle.linker_runs.proofs.Alignments.{ahead_on}
 use Rattle.linker_runs.proofs.Listed.{walked_none, walked_past, walked_on, drop_same_from}
 use Rattle.linker_runs.proofs.items.rewritten.list_items.Goals as goal

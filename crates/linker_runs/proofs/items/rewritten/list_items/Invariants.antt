@@ -1,5 +1,4 @@
-use Rattle.linker_runs.proofs.Imports.{map, MayBeAhead, rewritten_of}
-use Rattle.linker_runs.specs.Relaxing.{item_of, HasKind}
+use Rattle.linker_runs.proofs.Imports.{HasKind, MayBeAhead, item_of, map, rewritten_of}
 use Rattle.linker_runs.proofs.Listed.{IsWalked}
 use Rattle.linker_runs.proofs.items.rewritten.list_items.Given as goal
 

@@ -1,4 +1,4 @@
-use Rattle.linker_runs.proofs.Imports.{refl, arith, length-map}
+use Rattle.linker_runs.proofs.Imports.{arith, length-map, refl}
 use Rattle.linker_runs.proofs.items.rewritten.rewritten_items_into.Goals as goal
 
 pub returns-in-Err-clause-unchanged : goal.returns-in-Err-clause-unchanged

@@ -1,4 +1,4 @@
-use Rattle.linker_runs.proofs.Imports.{◌≡◌, ◌≤◌, ◌+◌, ◌++◌, ◌∙◌, ℕ, List, [], IsSomeAnd, ap, length, subst, sym, take, drop, arith, append-nil, drop_at, drop-drop, length-drop, length-take-le, take_at, IsApplied, IsRejected, sum_64, drop_all, drop-take, take-take, far_high, far_low, operands_of}
+use Rattle.linker_runs.proofs.Imports.{IsApplied, IsRejected, IsSomeAnd, List, [], ap, append-nil, arith, drop, drop-drop, drop-take, drop_all, drop_at, far_high, far_low, length, length-drop, length-take-le, operands_of, subst, sum_64, sym, take, take-take, take_at, ℕ, ◌++◌, ◌+◌, ◌∙◌, ◌≡◌, ◌≤◌}
 use Rattle.linker_runs.proofs.packing.loongarch64.address_of.Goals as goal
 use borrow.Rule.Slice.PartMut.{post_of, put_mid}
 

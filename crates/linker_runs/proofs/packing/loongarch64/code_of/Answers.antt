@@ -1,4 +1,4 @@
-use Rattle.linker_runs.proofs.Imports.{◌∙◌, subst, arith, IsRelocated, IsOutOfReach, code_bytes}
+use Rattle.linker_runs.proofs.Imports.{IsOutOfReach, IsRelocated, arith, code_bytes, subst, ◌∙◌}
 use Rattle.linker_runs.proofs.LoongArch.{becomes_short, becomes_long, short_accepts, long_accepts, short_rejected, long_rejected}
 use Rattle.linker_runs.proofs.packing.loongarch64.code_of.Goals as goal
 

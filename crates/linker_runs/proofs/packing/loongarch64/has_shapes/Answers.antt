@@ -1,4 +1,4 @@
-use Rattle.linker_runs.proofs.Imports.{subst, IsKindAt, CALL36, PCALA}
+use Rattle.linker_runs.proofs.Imports.{CALL36, IsKindAt, PCALA, subst}
 use Rattle.linker_runs.proofs.Same.{shapes_decide}
 use Rattle.linker_runs.proofs.LoongArch.{call_shapes, pair_shapes}
 use Rattle.linker_runs.proofs.packing.loongarch64.has_shapes.Goals as goal

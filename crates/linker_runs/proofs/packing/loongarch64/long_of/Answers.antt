@@ -1,4 +1,4 @@
-use Rattle.linker_runs.proofs.Imports.{MatchOption, IsSomeAnd, subst, sym, take, drop, IsApplied, IsRejected, IsLongOf, IsLongOutOfReach, code_bytes, operands_of}
+use Rattle.linker_runs.proofs.Imports.{IsApplied, IsLongOf, IsLongOutOfReach, IsRejected, IsSomeAnd, MatchOption, code_bytes, drop, operands_of, subst, sym, take}
 use Rattle.linker_runs.proofs.packing.loongarch64.long_of.Goals as goal
 
 pub returns-in-Call-clause-long : goal.returns-in-Call-clause-long

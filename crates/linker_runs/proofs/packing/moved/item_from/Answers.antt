@@ -1,4 +1,4 @@
-use Rattle.linker_runs.proofs.Imports.{◌≡◌, ◌∙◌, ap, sym, subst, arith, BeginsAt, item_at, offset_of}
+use Rattle.linker_runs.proofs.Imports.{BeginsAt, ap, arith, item_at, offset_of, subst, sym, ◌∙◌, ◌≡◌}
 use Rattle.linker_runs.proofs.Moved.{none_past, none_at, some_at}
 use Rattle.linker_runs.proofs.packing.moved.item_from.Goals as goal
 

@@ -1,4 +1,4 @@
-use Rattle.linker_runs.proofs.Imports.{◌≡◌, ◌*◌, ◌/◌, ◌<◌, ◌++◌, ◌∙◌, ap, below_more, drop, length, sym, subst, take, arith, drop_at, length-append, length-drop, length-take-le, take-append-drop, deletions_of, relocation_in, IsMoved, section_of}
+use Rattle.linker_runs.proofs.Imports.{IsMoved, ap, arith, below_more, deletions_of, drop, drop_at, length, length-append, length-drop, length-take-le, relocation_in, section_of, subst, sym, take, take-append-drop, ◌*◌, ◌++◌, ◌/◌, ◌<◌, ◌∙◌, ◌≡◌}
 use Rattle.std.proofs.lemmas.Option.{same_Some}
 use Rattle.linker_runs.proofs.Moved.{front_in, there_at}
 use Rattle.linker_section.specs.declared.relocations.Rela.{Rela}

@@ -1,4 +1,4 @@
-use Rattle.linker_runs.proofs.Imports.{◌≡◌, ℕ, ◌/◌, ◌<◌, ◌≤◌, length, deletions_of, IsPosition, AreValidDeltas, relocation_in, IsMoved, section_of, AreReady}
+use Rattle.linker_runs.proofs.Imports.{AreReady, AreValidDeltas, IsMoved, IsPosition, deletions_of, length, relocation_in, section_of, ℕ, ◌/◌, ◌<◌, ◌≡◌, ◌≤◌}
 use Rattle.linker_runs.proofs.packing.moved.move_relocations.Given as goal
 
 -- the relocations below the index are moved, and the others are as they were

@@ -1,4 +1,4 @@
-use Rattle.linker_runs.proofs.Imports.{rules, ◌+◌, ◌-◌, ◌∙◌, ap, sym, subst, arith, deletions_of, rank, BecomesType, section_of}
+use Rattle.linker_runs.proofs.Imports.{BecomesType, ap, arith, deletions_of, rank, rules, section_of, subst, sym, ◌+◌, ◌-◌, ◌∙◌}
 use Rattle.linker_runs.proofs.packing.moved.moved.Goals as goal
 use Rattle.linker_runs.proofs.packing.moved.moved.Goals.{then-relocation-len-2, else-relocation-len-2}
 

@@ -1,4 +1,4 @@
-use Rattle.linker_runs.proofs.Imports.{◌≡◌, ◌∙◌, refl, ap, sym, subst, arith, deletions_of, rank, BeginsAt, r_type_at_item, gone, of_item, other, kept_len, item_at, end_of}
+use Rattle.linker_runs.proofs.Imports.{BeginsAt, ap, arith, deletions_of, end_of, gone, item_at, kept_len, of_item, other, r_type_at_item, rank, refl, subst, sym, ◌∙◌, ◌≡◌}
 use Rattle.linker_runs.proofs.Moved.{apart_items, gone_of, kept_of}
 use Rattle.linker_runs.proofs.packing.moved.r_type_of.Goals as goal
 

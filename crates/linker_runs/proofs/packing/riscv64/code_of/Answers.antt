@@ -1,4 +1,4 @@
-use Rattle.linker_runs.proofs.Imports.{◌∙◌, sym, subst, arith, code_bytes}
+use Rattle.linker_runs.proofs.Imports.{arith, code_bytes, subst, sym, ◌∙◌}
 use Rattle.linker_runs.proofs.RiscV.{IsRelocated, becomes}
 use Rattle.linker_runs.proofs.packing.riscv64.code_of.Goals as goal
 

@@ -1,4 +1,4 @@
-use Rattle.std.proofs.Common.{◌+◌, ap, ◌≡◌, ◌%◌, ⊎_elim, inl, arith, rules}
+use Rattle.linker_runs.proofs.Imports.{ap, arith, inl, rules, ⊎_elim, ◌%◌, ◌+◌, ◌≡◌}
 use Rattle.linker_runs.proofs.Firsts.{alignment_upto, numbers}
 use Rattle.linker_runs.proofs.Validity.{still_meets}
 use Rattle.linker_runs.proofs.relaxation.Alignment.fault.Goals as goal

@@ -1,4 +1,5 @@
-use Rattle.linker_runs.proofs.Imports.{subst, arith, ItemMeets, TooManyShapes, ShapeTooLong, BadAlignment, pow_pos}
+use Rattle.linker_runs.proofs.Imports.{ItemMeets, arith, pow_pos, subst}
+use Rattle.linker_runs.specs.declared.relaxation.faults.Fault.TheVariants.{TooManyShapes, ShapeTooLong, BadAlignment}
 use Rattle.linker_runs.proofs.relaxation.Item.granularity_fault.Goals as goal
 
 pub are_even-requires-clause-count : goal.are_even-requires-clause-count

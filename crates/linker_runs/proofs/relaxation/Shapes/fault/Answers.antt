@@ -1,4 +1,4 @@
-use Rattle.std.proofs.Common.{arith}
+use Rattle.linker_runs.proofs.Imports.{arith}
 use Rattle.linker_runs.proofs.Firsts.{shapes_upto, numbers}
 use Rattle.linker_runs.proofs.relaxation.Shapes.fault.Goals as goal
 

@@ -1,4 +1,4 @@
-use Rattle.std.proofs.Common.{arith}
+use Rattle.linker_runs.proofs.Imports.{arith}
 use Rattle.linker_runs.proofs.Firsts.{next_unit}
 use Rattle.linker_runs.proofs.relaxation.Shapes.have_units.Goals as goal
 

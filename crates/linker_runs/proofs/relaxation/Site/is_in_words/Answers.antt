@@ -1,4 +1,4 @@
-use Rattle.linker_runs.proofs.Imports.{◌↔◌, IsTrue, false≢true, nat_tests, nat_eq, ◌≡◌, ◌%◌, ◌∙◌, ℕ, false, true, refl, sym, arith, CALL36}
+use Rattle.linker_runs.proofs.Imports.{CALL36, IsTrue, arith, false, false≢true, nat_eq, nat_tests, refl, sym, true, ℕ, ◌%◌, ◌↔◌, ◌∙◌, ◌≡◌}
 use Rattle.linker_runs.proofs.Same.{shapes_decide}
 use Rattle.linker_runs.proofs.relaxation.Site.is_in_words.Goals as goal
 

@@ -1,4 +1,4 @@
-use Rattle.std.proofs.Common.{◌≡◌, length, arith}
+use Rattle.linker_runs.proofs.Imports.{arith, length, ◌≡◌}
 use Rattle.linker_runs.proofs.Rounds.{sum_of_shapes}
 use Rattle.linker_runs.proofs.relaxation.cautious.choose_cautiously.Goals as goal
 

@@ -1,4 +1,4 @@
-use Rattle.linker_runs.proofs.Imports.{◌-◌, ◌*◌, ◌≤◌, ℕ, length, sum, choice_of, AreCautious, AreForced}
+use Rattle.linker_runs.proofs.Imports.{AreCautious, AreForced, choice_of, length, sum, ℕ, ◌*◌, ◌-◌, ◌≤◌}
 use Rattle.linker_runs.proofs.relaxation.cautious.choose_cautiously.Given as goal
 
 abbrev pub invariant-loop-shapes : goal.invariant-loop-shapes

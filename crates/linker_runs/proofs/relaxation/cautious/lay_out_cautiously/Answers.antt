@@ -1,4 +1,4 @@
-use Rattle.linker_runs.proofs.Imports.{◌≡◌, ◌≢◌, ◌<◌, ◌≤◌, ◌∙◌, length, ap, sym, ⊎_elim, arith, below_more, get_or-set_other, get_or-set_same, cases_lt, choice_of, cautious_before, freed_cautiously}
+use Rattle.linker_runs.proofs.Imports.{ap, arith, below_more, cases_lt, cautious_before, choice_of, freed_cautiously, get_or-set_other, get_or-set_same, length, sym, ⊎_elim, ◌<◌, ◌∙◌, ◌≡◌, ◌≢◌, ◌≤◌}
 use Rattle.linker_runs.proofs.Choices.{cautious_none, cautious_next, cautious_fits}
 use Rattle.linker_runs.proofs.relaxation.cautious.lay_out_cautiously.Goals as goal
 

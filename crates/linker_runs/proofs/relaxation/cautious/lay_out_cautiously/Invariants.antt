@@ -1,4 +1,4 @@
-use Rattle.linker_runs.proofs.Imports.{◌≡◌, ◌<◌, ℕ, get_or, choice_of, cautious_before}
+use Rattle.linker_runs.proofs.Imports.{cautious_before, choice_of, get_or, ℕ, ◌<◌, ◌≡◌}
 use Rattle.linker_runs.proofs.relaxation.cautious.lay_out_cautiously.Given as goal
 
 abbrev pub invariant-loop-index : goal.invariant-loop-index

@@ -1,4 +1,4 @@
-use Rattle.linker_runs.proofs.Imports.{◌≡◌, ◌+◌, ◌∙◌, ℕ, false, get_or, refl, ap, sym, ⊎_elim, arith, sum_by-set, item_at, choice_of, place_of, target_of, item_reaches, cautious_before, freed_cautiously, is_in_reach_cautiously}
+use Rattle.linker_runs.proofs.Imports.{ap, arith, cautious_before, choice_of, false, freed_cautiously, get_or, is_in_reach_cautiously, item_at, item_reaches, place_of, refl, sum_by-set, sym, target_of, ℕ, ⊎_elim, ◌+◌, ◌∙◌, ◌≡◌}
 use Rattle.linker_runs.proofs.Sweeps.{next_layout, next_forced, next_short}
 use Rattle.linker_runs.proofs.relaxation.cautious.lengthen_at.Goals as goal
 use Rattle.linker_runs.proofs.relaxation.cautious.lengthen_at.Goals.{then-place-index, else-place-index}

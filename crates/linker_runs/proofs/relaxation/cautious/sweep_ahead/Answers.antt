@@ -1,4 +1,4 @@
-use Rattle.linker_runs.proofs.Imports.{◌≡◌, ◌-◌, ◌<◌, ◌≤◌, ◌∙◌, length, get_or, refl, ⊎_elim, ap, sym, arith, sum, below_more, get_or-set_other, ◌⊎◌, cases_lt, cases_order, choice_of}
+use Rattle.linker_runs.proofs.Imports.{ap, arith, below_more, cases_lt, cases_order, choice_of, get_or, get_or-set_other, length, refl, sum, sym, ⊎_elim, ◌-◌, ◌<◌, ◌∙◌, ◌≡◌, ◌≤◌, ◌⊎◌}
 use Rattle.linker_runs.proofs.Choices.{still_out}
 use Rattle.linker_runs.proofs.Sweeps.{ahead_step, last_fits}
 use Rattle.linker_runs.proofs.relaxation.cautious.sweep_ahead.Goals as goal

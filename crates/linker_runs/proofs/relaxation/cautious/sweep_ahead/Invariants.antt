@@ -1,4 +1,4 @@
-use Rattle.linker_runs.proofs.Imports.{◌≡◌, false, ◌^◌, ◌<◌, ◌≤◌, ℕ, length, get_or, sum, choice_of, AreCautious, AreForced, is_in_reach_cautiously}
+use Rattle.linker_runs.proofs.Imports.{AreCautious, AreForced, choice_of, false, get_or, is_in_reach_cautiously, length, sum, ℕ, ◌<◌, ◌^◌, ◌≡◌, ◌≤◌}
 use Rattle.linker_runs.proofs.relaxation.cautious.sweep_ahead.Given as goal
 
 abbrev pub invariant-loop-index : goal.invariant-loop-index

@@ -1,4 +1,4 @@
-use Rattle.linker_runs.proofs.Imports.{◌≡◌, ◌+◌, ◌-◌, ◌∙◌, ◌<◌, ◌≤◌, length, get_or, refl, ⊎_elim, subst, sym, ap, arith, sum, set, get_or-set_other, cases_lt, choice_of, AreCautious, is_in_reach_cautiously}
+use Rattle.linker_runs.proofs.Imports.{AreCautious, ap, arith, cases_lt, choice_of, get_or, get_or-set_other, is_in_reach_cautiously, length, refl, set, subst, sum, sym, ⊎_elim, ◌+◌, ◌-◌, ◌<◌, ◌∙◌, ◌≡◌, ◌≤◌}
 use Rattle.linker_runs.proofs.Sweeps.{back_step, whole_layout, last_fits, more_fits}
 use Rattle.linker_runs.proofs.relaxation.cautious.sweep_back.Goals as goal
 

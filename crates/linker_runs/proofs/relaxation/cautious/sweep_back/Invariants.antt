@@ -1,4 +1,4 @@
-use Rattle.linker_runs.proofs.Imports.{◌≡◌, ◌-◌, ◌^◌, ◌<◌, ◌≤◌, ℕ, true, length, get_or, sum, choice_of, AreCautious, AreForced, is_in_reach_cautiously}
+use Rattle.linker_runs.proofs.Imports.{AreCautious, AreForced, choice_of, get_or, is_in_reach_cautiously, length, sum, true, ℕ, ◌-◌, ◌<◌, ◌^◌, ◌≡◌, ◌≤◌}
 use Rattle.linker_runs.proofs.relaxation.cautious.sweep_back.Given as goal
 
 abbrev pub invariant-loop-following : goal.invariant-loop-following

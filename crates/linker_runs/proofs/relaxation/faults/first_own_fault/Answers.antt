@@ -1,4 +1,4 @@
-use Rattle.linker_runs.proofs.Imports.{below_more, arith, Fault, OwnMeets}
+use Rattle.linker_runs.proofs.Imports.{Fault, OwnMeets, arith, below_more}
 use Rattle.linker_runs.proofs.relaxation.faults.first_own_fault.Goals as goal
 
 pub loop-index-preserved : goal.loop-index-preserved

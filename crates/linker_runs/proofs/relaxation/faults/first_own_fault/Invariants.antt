@@ -1,4 +1,4 @@
-use Rattle.linker_runs.proofs.Imports.{◌<◌, ℕ, Fault, OwnMeets}
+use Rattle.linker_runs.proofs.Imports.{Fault, OwnMeets, ℕ, ◌<◌}
 use Rattle.linker_runs.proofs.relaxation.faults.first_own_fault.Given as goal
 
 abbrev pub invariant-loop-index : goal.invariant-loop-index

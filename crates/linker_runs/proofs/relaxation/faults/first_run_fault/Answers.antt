@@ -1,4 +1,4 @@
-use Rattle.linker_runs.proofs.Imports.{◌<◌, ℕ, below_more, length, subst, arith, Fault, RunMeets, IsFirstAt}
+use Rattle.linker_runs.proofs.Imports.{Fault, IsFirstAt, RunMeets, arith, below_more, length, subst, ℕ, ◌<◌}
 use Rattle.linker_runs.proofs.relaxation.faults.first_run_fault.Goals as goal
 
 pub loop-index-preserved : goal.loop-index-preserved

@@ -1,4 +1,4 @@
-use Rattle.linker_runs.proofs.Imports.{◌<◌, ℕ, Fault, RunMeets}
+use Rattle.linker_runs.proofs.Imports.{Fault, RunMeets, ℕ, ◌<◌}
 use Rattle.linker_runs.proofs.relaxation.faults.first_run_fault.Given as goal
 
 abbrev pub invariant-loop-index : goal.invariant-loop-index

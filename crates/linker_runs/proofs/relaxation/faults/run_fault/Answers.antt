@@ -1,4 +1,4 @@
-use Rattle.linker_runs.proofs.Imports.{◌∙◌, ap, subst, sym, arith, Fault, ItemMeets, UnitMeets, IsFirstOf, IsClearRun, item_at, target_of}
+use Rattle.linker_runs.proofs.Imports.{Fault, IsClearRun, IsFirstOf, ItemMeets, UnitMeets, ap, arith, item_at, subst, sym, target_of, ◌∙◌}
 use Rattle.linker_runs.proofs.Validity.{own_item, own_formed, run_met, run_earlier, first_unit, clear_of, clear_met}
 use Rattle.linker_runs.proofs.relaxation.faults.run_fault.Goals as goal
 

@@ -1,4 +1,4 @@
-use Rattle.linker_runs.proofs.Imports.{◌≡◌, ◌∙◌, ◌<◌, ◌≢◌, length, ap, sym, inl, inr, arith, below_more, get_or-set_other, get_or-set_same, ◌⊎◌, place_of, target_of, item_at, item_reaches, IsAlwaysInReach}
+use Rattle.linker_runs.proofs.Imports.{IsAlwaysInReach, ap, arith, below_more, get_or-set_other, get_or-set_same, inl, inr, item_at, item_reaches, length, place_of, sym, target_of, ◌<◌, ◌∙◌, ◌≡◌, ◌≢◌, ◌⊎◌}
 use Rattle.linker_runs.proofs.AlwaysInReach.{always_in_reach}
 use Rattle.linker_runs.proofs.relaxation.passes.find_places.Goals as goal
 use Rattle.linker_runs.proofs.relaxation.passes.find_places.Goals.{then-reaches, else-reaches}

@@ -1,4 +1,4 @@
-use Rattle.linker_runs.proofs.Imports.{◌≡◌, ◌<◌, ℕ, length, get_or, ◌⊎◌, place_of, target_of, item_at, IsAlwaysInReach}
+use Rattle.linker_runs.proofs.Imports.{IsAlwaysInReach, get_or, item_at, length, place_of, target_of, ℕ, ◌<◌, ◌≡◌, ◌⊎◌}
 use Rattle.linker_runs.proofs.relaxation.passes.find_places.Given as goal
 
 abbrev pub invariant-loop-index : goal.invariant-loop-index

@@ -1,4 +1,4 @@
-use Rattle.linker_runs.proofs.Imports.{◌≢◌, ◌<◌, ◌∙◌, length, get_or, ap, arith, below_more, get_or-set_other, get_or-set_same, item_at, offset_of, choice_of, kept_by}
+use Rattle.linker_runs.proofs.Imports.{ap, arith, below_more, choice_of, get_or, get_or-set_other, get_or-set_same, item_at, kept_by, length, offset_of, ◌<◌, ◌∙◌, ◌≢◌}
 use Rattle.linker_runs.proofs.Layouts.{freed_fits}
 use Rattle.linker_runs.proofs.relaxation.passes.keep.Goals as goal
 

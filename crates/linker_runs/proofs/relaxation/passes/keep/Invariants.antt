@@ -1,4 +1,4 @@
-use Rattle.linker_runs.proofs.Imports.{◌≡◌, ◌<◌, ℕ, get_or, item_at, choice_of, kept_by, freed_before}
+use Rattle.linker_runs.proofs.Imports.{choice_of, freed_before, get_or, item_at, kept_by, ℕ, ◌<◌, ◌≡◌}
 use Rattle.linker_runs.proofs.relaxation.passes.keep.Given as goal
 
 abbrev pub invariant-loop-index : goal.invariant-loop-index

@@ -1,4 +1,4 @@
-use Rattle.linker_runs.proofs.Imports.{◌≡◌, ◌+◌, ◌-◌, ◌<◌, ℕ, length, ap, sym, arith, below_more, ◌≢◌, ◌∙◌, get_or-set_other, get_or-set_same, List, Item, offset_of, len_of, end_of, item_at, choice_of, kept_by, freed_before}
+use Rattle.linker_runs.proofs.Imports.{Item, List, ap, arith, below_more, choice_of, end_of, freed_before, get_or-set_other, get_or-set_same, item_at, kept_by, len_of, length, offset_of, sym, ℕ, ◌+◌, ◌-◌, ◌<◌, ◌∙◌, ◌≡◌, ◌≢◌}
 use Rattle.linker_runs.proofs.Layouts.{freed_next, freed_none, freed_fits, freed_ends}
 use Rattle.linker_runs.proofs.relaxation.passes.lay_out.Goals as goal
 

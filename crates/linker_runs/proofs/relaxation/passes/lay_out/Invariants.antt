@@ -1,4 +1,4 @@
-use Rattle.linker_runs.proofs.Imports.{◌≡◌, ◌<◌, ℕ, get_or, choice_of, freed_before}
+use Rattle.linker_runs.proofs.Imports.{choice_of, freed_before, get_or, ℕ, ◌<◌, ◌≡◌}
 use Rattle.linker_runs.proofs.relaxation.passes.lay_out.Given as goal
 
 abbrev pub invariant-loop-index : goal.invariant-loop-index

@@ -1,4 +1,4 @@
-use Rattle.linker_runs.proofs.Imports.{◌≡◌, ◌≢◌, ◌+◌, ◌<◌, ◌≤◌, ◌∙◌, ℕ, length, true, false, sum, get_or, ⊎_elim, refl, ap, sym, subst, arith, below_more, set, get_or-set_other, get_or-set_same, List, ◌⊎◌, sum_by-set, cases_order, choice_of, is_in_reach}
+use Rattle.linker_runs.proofs.Imports.{List, ap, arith, below_more, cases_order, choice_of, false, get_or, get_or-set_other, get_or-set_same, is_in_reach, length, refl, set, subst, sum, sum_by-set, sym, true, ℕ, ⊎_elim, ◌+◌, ◌<◌, ◌∙◌, ◌≡◌, ◌≢◌, ◌≤◌, ◌⊎◌}
 use Rattle.linker_runs.proofs.Layouts.{lengthened_in, lengthened_out}
 use Rattle.linker_runs.proofs.relaxation.passes.lengthen.Goals as goal
 use Rattle.linker_runs.proofs.relaxation.passes.lengthen.Goals.{then-not-is_in_reach, else-not-is_in_reach}

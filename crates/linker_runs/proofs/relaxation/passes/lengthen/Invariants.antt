@@ -1,4 +1,4 @@
-use Rattle.linker_runs.proofs.Imports.{◌≡◌, ◌<◌, ◌≤◌, ℕ, true, false, sum, get_or, choice_of, lengthened, is_in_reach}
+use Rattle.linker_runs.proofs.Imports.{choice_of, false, get_or, is_in_reach, lengthened, sum, true, ℕ, ◌<◌, ◌≡◌, ◌≤◌}
 use Rattle.linker_runs.proofs.relaxation.passes.lengthen.Given as goal
 
 abbrev pub invariant-loop-index : goal.invariant-loop-index

@@ -1,4 +1,4 @@
-use Rattle.linker_runs.proofs.Imports.{◌∙◌, sym, subst, arith, below_more, choice_of, after_rounds, IsInReachExactly, AreForced}
+use Rattle.linker_runs.proofs.Imports.{AreForced, IsInReachExactly, after_rounds, arith, below_more, choice_of, subst, sym, ◌∙◌}
 use Rattle.linker_runs.proofs.Rounds.{next_round, no_round, reach_agrees}
 use Rattle.linker_runs.proofs.Choices.{relaxed_cautious}
 use Rattle.linker_runs.proofs.relaxation.passes.settle.Goals as goal

@@ -1,4 +1,4 @@
-use Rattle.linker_runs.proofs.Imports.{◌≡◌, ◌<◌, ◌≤◌, ℕ, choice_of, after_rounds, AreFreed, IsInReachExactly}
+use Rattle.linker_runs.proofs.Imports.{AreFreed, IsInReachExactly, after_rounds, choice_of, ℕ, ◌<◌, ◌≡◌, ◌≤◌}
 use Rattle.linker_runs.proofs.relaxation.passes.settle.Given as goal
 
 abbrev pub invariant-loop-round : goal.invariant-loop-round

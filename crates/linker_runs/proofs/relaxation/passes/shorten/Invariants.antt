@@ -1,4 +1,4 @@
-use Rattle.std.proofs.Common.{◌≡◌, ◌<◌, ℕ, get_or}
+use Rattle.linker_runs.proofs.Imports.{get_or, ℕ, ◌<◌, ◌≡◌}
 use Rattle.linker_runs.proofs.relaxation.passes.shorten.Given as goal
 
 abbrev pub invariant-loop-shape : goal.invariant-loop-shape

@@ -1,4 +1,4 @@
-use Rattle.linker_runs.proofs.Imports.{◌≡◌, ◌+◌, ◌-◌, ◌^◌, ◌<◌, ◌≤◌, ℕ, inr, ⊎_elim, sym, subst, arith, IsPowerOfTwo, IsNextPowerOfTwo, pow_mono, cases_lt, IsAlwaysMultiple}
+use Rattle.linker_runs.proofs.Imports.{IsAlwaysMultiple, IsNextPowerOfTwo, IsPowerOfTwo, arith, cases_lt, inr, pow_mono, subst, sym, ℕ, ⊎_elim, ◌+◌, ◌-◌, ◌<◌, ◌^◌, ◌≡◌, ◌≤◌}
 use Rattle.linker_runs.proofs.Addresses.{next_unique}
 use Rattle.linker_runs.proofs.relaxation.validity.are_always_enough.Goals as goal
 

@@ -1,4 +1,4 @@
-use Rattle.linker_runs.proofs.Imports.{◌≡◌, ◌+◌, ◌-◌, ◌%◌, ◌<◌, ◌↔◌, ◌∙◌, ℕ, ap, nat_eq, IsTrue, false, suc, List, inl, inr, ⊎_elim, sym, subst, arith, rules, Item, item_at, offset_of, end_of, IsAnchor, FreesMultiples, IsAlwaysMultiple}
+use Rattle.linker_runs.proofs.Imports.{FreesMultiples, IsAlwaysMultiple, IsAnchor, IsTrue, Item, List, ap, arith, end_of, false, inl, inr, item_at, nat_eq, offset_of, rules, subst, suc, sym, ℕ, ⊎_elim, ◌%◌, ◌+◌, ◌-◌, ◌<◌, ◌↔◌, ◌∙◌, ◌≡◌}
 use Rattle.linker_runs.proofs.Addresses.{ends_by}
 use Rattle.linker_runs.proofs.relaxation.validity.is_always_multiple.Goals as goal
 

@@ -1,4 +1,4 @@
-use Rattle.linker_runs.proofs.Imports.{◌-◌, ◌↔◌, IsAlwaysMultiple}
+use Rattle.linker_runs.proofs.Imports.{IsAlwaysMultiple, ◌-◌, ◌↔◌}
 use Rattle.linker_runs.proofs.relaxation.validity.is_always_multiple.Given as goal
 
 -- what is left to be told is what all items tell

@@ -1,4 +1,4 @@
-use Rattle.linker_runs.proofs.Imports.{◌↔◌, IsTrue, subst, sym, IsPowerOfTwo, ◌≡◌, ℕ, zero, suc, ◌+◌, ◌*◌, ◌/◌, ◌%◌, ◌^◌, ◌<◌, ◌≤◌, ◌∙◌, refl, ap, ⊎_elim, arith, mod-lt, cases_lt, nat_tests, pow_pos, is_power_of_two, two-pow-succ, shr_split, ones_cat, zero_from_ones}
+use Rattle.linker_runs.proofs.Imports.{IsPowerOfTwo, IsTrue, ap, arith, cases_lt, is_power_of_two, mod-lt, nat_tests, ones_cat, pow_pos, refl, shr_split, subst, suc, sym, two-pow-succ, zero, zero_from_ones, ℕ, ⊎_elim, ◌%◌, ◌*◌, ◌+◌, ◌/◌, ◌<◌, ◌^◌, ◌↔◌, ◌∙◌, ◌≡◌, ◌≤◌}
 use Rattle.linker_runs.proofs.relaxation.validity.is_power_of_two.Goals as goal
 use Rattle.std.specs.Int.RustNames.{count_ones}
 

@@ -1,4 +1,4 @@
-use Rattle.linker_runs.proofs.Imports.{◌≡◌, ◌<◌, take, run_granularity}
+use Rattle.linker_runs.proofs.Imports.{run_granularity, take, ◌<◌, ◌≡◌}
 use Rattle.linker_runs.proofs.relaxation.validity.run_granularity.Given as goal
 
 abbrev pub invariant-loop-index : goal.invariant-loop-index

@@ -1,4 +1,4 @@
-use Rattle.linker_section.proofs.Imports.{ap, subst, IsQuickValue}
+use Rattle.linker_section.proofs.Imports.{IsQuickValue, ap, subst}
 use Rattle.linker_section.proofs.QuickValues.{high_is, if_some, quick_at}
 use Rattle.linker_section.proofs.RowFacts.{says_way}
 use Rattle.linker_section.proofs.symbols.ByIndexSymbols.quick_value.Goals as goal

@@ -1,4 +1,4 @@
-use Rattle.linker_section.proofs.Imports.{false, subst, IsRowValue}
+use Rattle.linker_section.proofs.Imports.{IsRowValue, false, subst}
 use Rattle.linker_section.proofs.Valued.{outcome_of}
 use Rattle.linker_section.proofs.symbols.ByIndexSymbols.row_value.Goals as goal
 

@@ -1,4 +1,4 @@
-use Rattle.std.proofs.Common.{rules, drop}
+use Rattle.linker_utils.proofs.Imports.{drop, rules}
 use Rattle.linker_utils.proofs.AArch64Moves.{moves_load}
 use Rattle.linker_utils.proofs.aarch64.sequences.write_mov_sequence.Goals as goal
 

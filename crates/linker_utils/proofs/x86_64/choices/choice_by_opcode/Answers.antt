@@ -1,7 +1,7 @@
-use Rattle.std.proofs.Common.{subst}
+use Rattle.linker_utils.proofs.Imports.{subst, x86_64_table}
 use Rattle.linker_elf.specs.Inner.ChoiceTables.{IsTableOf}
 use Rattle.linker_utils.specs.Inner.X86Tables.{MatchesPattern}
-use Rattle.linker_utils.specs.X86Rewrites.{HasPattern, x86_64_table}
+use Rattle.linker_utils.specs.X86Rewrites.{HasPattern}
 use Rattle.linker_utils.proofs.x86_64.choices.choice_by_opcode.Goals as goal
 
 pub choice_by-requires-clause-table : goal.choice_by-requires-clause-table

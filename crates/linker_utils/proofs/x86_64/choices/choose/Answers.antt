@@ -1,4 +1,4 @@
-use Rattle.linker_utils.specs.X86Rewrites.{x86_64_table, opcode_at}
+use Rattle.linker_utils.proofs.Imports.{opcode_at, x86_64_table}
 use Rattle.linker_utils.proofs.X86Choices.{chosen_matches}
 use Rattle.linker_utils.proofs.x86_64.choices.choose.Goals as goal
 

@@ -1,4 +1,4 @@
-use Rattle.std.proofs.Common.{◌∙◌, arith}
+use Rattle.linker_utils.proofs.Imports.{arith, ◌∙◌}
 use Rattle.linker_utils.proofs.X86Originals.{after_byte, not_there, all_there, too_few}
 use Rattle.linker_utils.proofs.x86_64.rewrites.begins.Goals as goal
 

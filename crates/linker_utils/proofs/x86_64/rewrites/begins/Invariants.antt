@@ -1,5 +1,4 @@
-use Rattle.std.proofs.Common.{◌≡◌, drop}
-use Rattle.linker_utils.specs.X86Rewrites.{begins}
+use Rattle.linker_utils.proofs.Imports.{begins, drop, ◌≡◌}
 use Rattle.linker_utils.proofs.x86_64.rewrites.begins.Given as goal
 
 -- what is left to compare

@@ -1,5 +1,4 @@
-use Rattle.std.proofs.Common.{◌≡◌, ◌∙◌, ◌-◌, ◌≤◌, sym, refl, arith}
-use Rattle.std.proofs.lemmas.Bool.Decides.{nat_tests}
+use Rattle.linkfix.proofs.Imports.{arith, nat_tests, refl, sym, ◌-◌, ◌∙◌, ◌≡◌, ◌≤◌}
 use Rattle.linkfix.proofs.CallLemmas.{far_by_next, far_from_none}
 use Rattle.linkfix.proofs.accepted_calls.AcceptedCalls.are_far_from.Goals as goal
 

@@ -1,6 +1,4 @@
-use Rattle.std.proofs.Common.{◌∙◌, ap}
-use Rattle.std.specs.Prelude.{All}
-use Rattle.linkfix.specs.AcceptedCalls.{IsFarFrom, placed}
+use Rattle.linkfix.proofs.Imports.{All, IsFarFrom, ap, placed, ◌∙◌}
 use Rattle.linkfix.proofs.CallLemmas.{by_site_placed, inserted_placed}
 use Rattle.linkfix.proofs.accepted_calls.AcceptedCalls.insert.Goals as goal
 

@@ -1,7 +1,4 @@
-use Rattle.std.proofs.Common.{◌∙◌, ap}
-use Rattle.std.specs.Map.{remove_entry}
-use Rattle.std.specs.BTreeMap.{is_at}
-use Rattle.std.specs.Ordering.{nat_cmp}
+use Rattle.linkfix.proofs.Imports.{ap, is_at, nat_cmp, remove_entry, ◌∙◌}
 use Rattle.linkfix.proofs.CallLemmas.{apart_removed, removed_placed}
 use Rattle.linkfix.proofs.accepted_calls.AcceptedCalls.remove.Goals as goal
 

@@ -1,4 +1,4 @@
-use Rattle.std.proofs.Common.{◌≡◌, ◌++◌, vec_items}
+use Rattle.linkfix.proofs.Imports.{vec_items, ◌++◌, ◌≡◌}
 use Rattle.linkfix.proofs.accepted_calls.AcceptedCalls.to_vec.Given as goal
 
 abbrev pub invariant-loop-site : goal.invariant-loop-site

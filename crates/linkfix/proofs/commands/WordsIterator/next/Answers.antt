@@ -1,5 +1,4 @@
-use Rattle.std.proofs.Common.{◌≡◌, ◌<◌, ◌∷◌, length, arith, rules}
-use Rattle.linkfix.specs.Words.{words_of}
+use Rattle.linkfix.proofs.Imports.{arith, length, rules, words_of, ◌<◌, ◌∷◌, ◌≡◌}
 use Rattle.linkfix.proofs.WordLemmas.{no_word_left, word_left}
 use Rattle.linkfix.proofs.commands.WordsIterator.next.Goals as goal
 

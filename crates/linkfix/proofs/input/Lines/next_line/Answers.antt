@@ -1,5 +1,4 @@
-use Rattle.std.proofs.Common.{◌+◌, ◌∙◌, ap, arith, slice_range}
-use Rattle.std.specs.Io.BufRead.{strip_last}
+use Rattle.linkfix.proofs.Imports.{ap, arith, slice_range, strip_last, ◌+◌, ◌∙◌}
 use Rattle.linkfix.proofs.LineLemmas.{next_line_at_end, next_line_at_lf, found_of, no_part, part_after}
 use Rattle.linkfix.proofs.input.Lines.next_line.Goals as goal
 

@@ -1,6 +1,4 @@
-use Rattle.std.proofs.Common.{◌≢◌, ◌≤◌, ◌+◌, All, vec_len}
-use Rattle.std.specs.Io.KnownBytes.{Consumes}
-use Rattle.linkfix.specs.RemainingInput.{remaining_bytes, max_remaining}
+use Rattle.linkfix.proofs.Imports.{All, Consumes, max_remaining, remaining_bytes, vec_len, ◌+◌, ◌≢◌, ◌≤◌}
 use Rattle.linkfix.proofs.input.Lines.next_line.Given as goal
 
 abbrev pub invariant-loop-at : goal.invariant-loop-at

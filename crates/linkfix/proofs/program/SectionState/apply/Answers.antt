@@ -1,5 +1,4 @@
-use Rattle.std.proofs.Common.{inl, inr, refl, codes}
-use Rattle.std.proofs.lemmas.Result.{err_from_is_err_and}
+use Rattle.linkfix.proofs.Imports.{codes, err_from_is_err_and, inl, inr, refl}
 use Rattle.linkfix.proofs.program.SectionState.apply.Goals as goal
 
 pub returns-in_err-call-in-Call-clause-causes : goal.returns-in_err-call-in-Call-clause-causes

@@ -1,5 +1,4 @@
-use Rattle.std.proofs.Common.{inl}
-use Rattle.linker_utils.specs.LinkRegister.TheVariants.{OfAuipc}
+use Rattle.linkfix.proofs.Imports.{OfAuipc, inl}
 use Rattle.linkfix.proofs.Rejected.{first_rejected_once, none_rejected}
 use Rattle.linkfix.proofs.program.SectionState.pack.Goals as goal
 

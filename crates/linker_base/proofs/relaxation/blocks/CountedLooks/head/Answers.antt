@@ -1,5 +1,4 @@
-use Rattle.std.proofs.Common.{◌*◌, ◌<◌, length, ap, arith}
-use Rattle.linker_base.specs.Blocks.{Counts}
+use Rattle.linker_base.proofs.Imports.{Counts, ap, arith, length, ◌*◌, ◌<◌}
 use Rattle.linker_base.proofs.Search.{blank, first_is_placed}
 use Rattle.linker_base.proofs.relaxation.blocks.CountedLooks.head.Goals as goal
 

@@ -1,6 +1,4 @@
-use Rattle.std.proofs.Common.{◌≡◌, ◌<◌, arith}
-use Rattle.std.proofs.lemmas.Bool.Decides.{nat_tests}
-use Rattle.linker_base.specs.Inner.Listed.{passed_in}
+use Rattle.linker_base.proofs.Imports.{arith, nat_tests, passed_in, ◌<◌, ◌≡◌}
 use Rattle.linker_base.proofs.Walking.{ahead_by_last}
 use Rattle.linker_base.proofs.relaxation.cursor.RelaxCursor.is_ahead.Goals as goal
 

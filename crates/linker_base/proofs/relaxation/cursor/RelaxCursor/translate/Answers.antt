@@ -1,10 +1,4 @@
-use Rattle.std.proofs.Common.{◌≡◌, ◌≤◌, ◌<◌, ℕ, ◌+◌, List, map, max, ap, take, inl, inr, arith, refl, All}
-use Rattle.linker_base.specs.declared.relaxation.RelaxDelta.{RelaxDelta}
-use Rattle.linker_base.specs.declared.relaxation.walk.Reached.{Reached}
-use Rattle.linker_base.specs.Deletions.{begun_below, rank}
-use Rattle.linker_base.specs.Deltas.{deletion_of}
-use Rattle.linker_base.specs.Inner.Listed.{IsWalking, passed_in}
-use Rattle.linker_base.specs.Walk.{walk_at}
+use Rattle.linker_base.proofs.Imports.{All, IsWalking, List, Reached, RelaxDelta, ap, arith, begun_below, deletion_of, inl, inr, map, max, passed_in, rank, refl, take, walk_at, ℕ, ◌+◌, ◌<◌, ◌≡◌, ◌≤◌}
 use Rattle.linker_base.proofs.Walking.{walked_ahead, walked_below_end, passed_is, passes_none, begin_below}
 use Rattle.linker_base.proofs.relaxation.cursor.RelaxCursor.translate.Goals as goal
 

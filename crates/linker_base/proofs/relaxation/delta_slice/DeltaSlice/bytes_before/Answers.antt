@@ -1,5 +1,4 @@
-use Rattle.linker_base.specs.Inner.Search.{view_subject}
-use Rattle.linker_base.specs.declared.relaxation.search.Test.TheVariants.{IsPlacedUpTo}
+use Rattle.linker_base.proofs.Imports.{IsPlacedUpTo, view_subject}
 use Rattle.linker_base.proofs.Search.{searched, view_heads_agree}
 use Rattle.linker_base.proofs.relaxation.delta_slice.DeltaSlice.bytes_before.Goals as goal
 

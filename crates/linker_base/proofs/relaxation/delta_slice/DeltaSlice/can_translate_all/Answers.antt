@@ -1,8 +1,4 @@
-use Rattle.std.proofs.Common.{ℕ, ◌+◌, ◌<◌, Bool, true, false, List, length, get_or, refl, arith}
-use Rattle.std.specs.Prelude.{◌↔◌, IsTrue, MatchBool}
-use Rattle.std.specs.List.Sorted.{IsNonDecreasing}
-use Rattle.std.proofs.lemmas.Bool.{false≢true}
-use Rattle.std.proofs.lemmas.List.Sorted.{non_decreasing_from_is_sorted}
+use Rattle.linker_base.proofs.Imports.{Bool, IsNonDecreasing, IsTrue, List, MatchBool, arith, false, false≢true, get_or, length, non_decreasing_from_is_sorted, refl, true, ℕ, ◌+◌, ◌<◌, ◌↔◌}
 use Rattle.linker_base.proofs.relaxation.delta_slice.DeltaSlice.can_translate_all.Goals as goal
 
 decides : (xs : List ℕ) (r : Bool) → MatchBool r (IsNonDecreasing xs) ((k : ℕ) × (k + 1 < length xs) × ((d : ℕ) → get_or xs (k + 1) d < get_or xs k d)) → IsTrue r ↔ IsNonDecreasing xs

@@ -1,5 +1,4 @@
-use Rattle.linker_base.specs.Inner.Search.{view_subject}
-use Rattle.linker_base.specs.declared.relaxation.search.Test.TheVariants.{BeginsBelow}
+use Rattle.linker_base.proofs.Imports.{BeginsBelow, view_subject}
 use Rattle.linker_base.proofs.Search.{view_heads_agree, parted_from_point}
 use Rattle.linker_base.proofs.relaxation.delta_slice.DeltaSlice.count_below.Goals as goal
 

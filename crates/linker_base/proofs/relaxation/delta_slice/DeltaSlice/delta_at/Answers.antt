@@ -1,6 +1,4 @@
-use Rattle.std.proofs.Common.{ℕ, map, sym, ap, ◌∙◌, arith}
-use Rattle.std.proofs.lemmas.List.{length-map}
-use Rattle.linker_base.specs.Deltas.{deletion_of}
+use Rattle.linker_base.proofs.Imports.{ap, arith, deletion_of, length-map, map, sym, ℕ, ◌∙◌}
 use Rattle.linker_base.proofs.Search.{blank, deletion_at, only_at, none_at}
 use Rattle.linker_base.proofs.relaxation.delta_slice.DeltaSlice.delta_at.Goals as goal
 use Rattle.linker_base.proofs.relaxation.delta_slice.DeltaSlice.delta_at.Goals.{else-below-deltas-via-then-below-deltas+else-deltas-below, else-below-deltas-via-else-below-deltas}

@@ -1,7 +1,4 @@
-use Rattle.std.proofs.Common.{◌≡◌, ◌-◌, ◌<◌, length, map, arith}
-use Rattle.std.proofs.lemmas.Bool.Decides.{nat_tests}
-use Rattle.std.proofs.lemmas.List.{length-map}
-use Rattle.linker_base.specs.Deltas.{deletion_of}
+use Rattle.linker_base.proofs.Imports.{arith, deletion_of, length, length-map, map, nat_tests, ◌-◌, ◌<◌, ◌≡◌}
 use Rattle.linker_base.proofs.Search.{blank, deletion_at, inside_last}
 use Rattle.linker_base.proofs.relaxation.delta_slice.DeltaSlice.is_inside.Goals as goal
 

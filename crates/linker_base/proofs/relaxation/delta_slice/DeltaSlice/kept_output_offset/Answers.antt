@@ -1,6 +1,4 @@
-use Rattle.std.proofs.Common.{◌≡◌, ◌+◌, map, arith}
-use Rattle.linker_base.specs.Deletions.{rank}
-use Rattle.linker_base.specs.Deltas.{deletion_of}
+use Rattle.linker_base.proofs.Imports.{arith, deletion_of, map, rank, ◌+◌, ◌≡◌}
 use Rattle.linker_base.proofs.Rank.{rank-mono, rank_steps, rank_all_kept, kept_from_rank, rank-le}
 use Rattle.linker_base.proofs.relaxation.delta_slice.DeltaSlice.kept_output_offset.Goals as goal
 

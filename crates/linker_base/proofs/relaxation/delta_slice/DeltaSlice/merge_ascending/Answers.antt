@@ -1,6 +1,4 @@
-use Rattle.std.proofs.Common.{refl, arith}
-use Rattle.std.proofs.lemmas.List.{length-map}
-use Rattle.linker_base.specs.Deltas.{deletion_of}
+use Rattle.linker_base.proofs.Imports.{arith, deletion_of, length-map, refl}
 use Rattle.linker_base.proofs.Fronts.{fits_step, merged_step, merged_all}
 use Rattle.linker_base.proofs.relaxation.delta_slice.DeltaSlice.merge_ascending.Goals as goal
 

@@ -1,5 +1,4 @@
-use Rattle.std.proofs.Common.{◌+◌, ◌-◌, length, map}
-use Rattle.linker_base.specs.Deltas.{deletion_of}
+use Rattle.linker_base.proofs.Imports.{deletion_of, length, map, ◌+◌, ◌-◌}
 use Rattle.linker_base.proofs.Fronts.{IsMergedUpTo}
 use Rattle.linker_base.proofs.relaxation.delta_slice.DeltaSlice.merge_ascending.Given as goal
 

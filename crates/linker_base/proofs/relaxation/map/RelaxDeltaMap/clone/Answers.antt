@@ -1,5 +1,4 @@
-use Rattle.std.proofs.Common.{◌∙◌, length, arith, ap}
-use Rattle.std.proofs.lemmas.Bool.{false≢true}
+use Rattle.linker_base.proofs.Imports.{ap, arith, false≢true, length, ◌∙◌}
 use Rattle.linker_base.proofs.Sections.{held_empty}
 use Rattle.linker_base.proofs.relaxation.map.RelaxDeltaMap.clone.Goals as goal
 

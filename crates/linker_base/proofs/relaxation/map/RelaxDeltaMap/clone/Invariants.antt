@@ -1,4 +1,4 @@
-use Rattle.std.proofs.Common.{◌≡◌, length, take, vec_len, vec_capacity}
+use Rattle.linker_base.proofs.Imports.{length, take, vec_capacity, vec_len, ◌≡◌}
 use Rattle.linker_base.proofs.relaxation.map.RelaxDeltaMap.clone.Given as goal
 
 abbrev pub invariant-loop-section_index : goal.invariant-loop-section_index

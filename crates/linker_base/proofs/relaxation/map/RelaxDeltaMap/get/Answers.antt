@@ -1,6 +1,5 @@
-use Rattle.std.proofs.Common.{sym, ap, ◌∙◌}
+use Rattle.linker_base.proofs.Imports.{Sections, ap, sym, ◌∙◌}
 use Rattle.std.specs.FinMap as finite
-use Rattle.linker_base.specs.Sections.{Sections}
 use Rattle.linker_base.proofs.Sections.{value_read, get-gap}
 use Rattle.linker_base.proofs.relaxation.map.RelaxDeltaMap.get.Goals as goal
 

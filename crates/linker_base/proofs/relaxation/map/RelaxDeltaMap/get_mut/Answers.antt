@@ -1,6 +1,5 @@
-use Rattle.std.proofs.Common.{sym, ap, ◌∙◌, inr}
+use Rattle.linker_base.proofs.Imports.{Sections, ap, inr, sym, ◌∙◌}
 use Rattle.std.specs.FinMap as finite
-use Rattle.linker_base.specs.Sections.{Sections}
 use Rattle.linker_base.proofs.Sections.{value_read, rise_lent, held_lent, same_loan, get-gap}
 use Rattle.linker_base.proofs.relaxation.map.RelaxDeltaMap.get_mut.Goals as goal
 

@@ -1,4 +1,4 @@
-use Rattle.std.proofs.Common.{sym, ◌∙◌}
+use Rattle.linker_base.proofs.Imports.{sym, ◌∙◌}
 use Rattle.linker_base.proofs.Sections.{rise_pushed, held_pushed, OnOk_from}
 use Rattle.linker_base.proofs.relaxation.map.RelaxDeltaMap.insert.Goals as goal
 

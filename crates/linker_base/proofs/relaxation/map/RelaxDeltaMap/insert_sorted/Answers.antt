@@ -1,5 +1,4 @@
-use Rattle.std.proofs.Common.{sym, ◌∙◌}
-use Rattle.linker_base.specs.Sections.{IsGap}
+use Rattle.linker_base.proofs.Imports.{IsGap, sym, ◌∙◌}
 use Rattle.linker_base.proofs.Sections.{rise_inserted, held_inserted, not_fresh, OnOk_from}
 use Rattle.linker_base.proofs.relaxation.map.RelaxDeltaMap.insert_sorted.Goals as goal
 use Rattle.linker_base.proofs.relaxation.map.RelaxDeltaMap.insert_sorted.Goals.{in-Ok, in-Ok-2}

@@ -1,4 +1,4 @@
-use Rattle.std.proofs.Common.{arith}
+use Rattle.linker_base.proofs.Imports.{arith}
 use Rattle.linker_base.proofs.Sections.{is_empty_of}
 use Rattle.linker_base.proofs.relaxation.map.RelaxDeltaMap.is_empty.Goals as goal
 

@@ -1,4 +1,4 @@
-use Rattle.std.proofs.Common.{rules, ◌≡◌, ap, ◌∙◌, option_map, option_copied}
+use Rattle.linker_base.proofs.Imports.{ap, option_copied, option_map, rules, ◌∙◌, ◌≡◌}
 use Rattle.linker_base.proofs.Sections.{last_of, above_last}
 use Rattle.linker_base.proofs.relaxation.map.RelaxDeltaMap.last_index.Goals as goal
 

@@ -1,5 +1,4 @@
-use Rattle.std.proofs.Common.{◌≡◌, arith, inl, inr}
-use Rattle.std.proofs.lemmas.Bool.{cases_lt}
+use Rattle.linker_base.proofs.Imports.{arith, cases_lt, inl, inr, ◌≡◌}
 use Rattle.linker_base.proofs.Walking.{ahead_by_last, bytes_below_end}
 use Rattle.linker_base.proofs.relaxation.walk.Reached.kept.Goals as goal
 

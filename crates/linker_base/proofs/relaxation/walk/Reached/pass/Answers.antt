@@ -1,7 +1,4 @@
-use Rattle.std.proofs.Common.{◌+◌, ◌%◌, ◌^◌, inl, inr, arith, refl}
-use Rattle.std.proofs.lemmas.Bool.{cases_eq}
-use Rattle.linker_base.specs.declared.relaxation.walk.Reached.{Reached}
-use Rattle.linker_base.specs.Inner.Listed.{passed_in}
+use Rattle.linker_base.proofs.Imports.{Reached, arith, cases_eq, inl, inr, passed_in, refl, ◌%◌, ◌+◌, ◌^◌}
 use Rattle.linker_base.proofs.Search.{blank}
 use Rattle.linker_base.proofs.Walking.{walked_over, passed_is, walked_past}
 use Rattle.linker_base.proofs.relaxation.walk.Reached.pass.Goals as goal

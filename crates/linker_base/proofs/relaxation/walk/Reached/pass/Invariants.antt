@@ -1,8 +1,4 @@
-use Rattle.std.proofs.Common.{ℕ, List, length}
-use Rattle.std.specs.Slice.Iter.{iter_rest}
-use Rattle.linker_base.specs.declared.relaxation.RelaxDelta.{RelaxDelta}
-use Rattle.linker_base.specs.Listed.{AreValidDeltas}
-use Rattle.linker_base.specs.Inner.Listed.{IsWalked}
+use Rattle.linker_base.proofs.Imports.{AreValidDeltas, IsWalked, List, RelaxDelta, iter_rest, length, ℕ}
 use Rattle.linker_base.proofs.Walking.{IsPassing}
 use Rattle.linker_base.proofs.relaxation.walk.Reached.pass.Given as goal
 

@@ -1,12 +1,4 @@
-use Rattle.std.proofs.Common.{◌≡◌, ◌≢◌, ◌+◌, ◌<◌, length, map, get_or, sym, ap, ◌∙◌, inl, inr, arith, take, max}
-use Rattle.std.proofs.lemmas.Bool.{cases_lt}
-use Rattle.std.proofs.lemmas.List.{length-map, get_or-map, get_or-set_same, get_or-set_other, take_all}
-use Rattle.std.proofs.lemmas.List.Sums.{fold_more}
-use Rattle.std.proofs.lemmas.Grind.{same_number_lists}
-use Rattle.linker_base.specs.Deletions.{rank, begun_below}
-use Rattle.linker_base.specs.Deltas.{deletion_of}
-use Rattle.linker_base.specs.Walk.{walk_at, walk_to, AreAhead}
-use Rattle.linker_base.specs.Inner.Listed.{passed_in}
+use Rattle.linker_base.proofs.Imports.{AreAhead, ap, arith, begun_below, cases_lt, deletion_of, fold_more, get_or, get_or-map, get_or-set_other, get_or-set_same, inl, inr, length, length-map, map, max, passed_in, rank, same_number_lists, sym, take, take_all, walk_at, walk_to, ◌+◌, ◌<◌, ◌∙◌, ◌≡◌, ◌≢◌}
 use Rattle.linker_base.proofs.Laws.{begun_later}
 use Rattle.linker_base.proofs.Walking.{begun_ahead, rank_walked, passed_is}
 use Rattle.linker_base.proofs.relaxation.walk.Reached.walk.Goals as goal

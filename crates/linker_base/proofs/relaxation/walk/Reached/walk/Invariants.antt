@@ -1,7 +1,4 @@
-use Rattle.std.proofs.Common.{ℕ, List}
-use Rattle.linker_base.specs.declared.relaxation.RelaxDelta.{RelaxDelta}
-use Rattle.linker_base.specs.Listed.{AreValidDeltas}
-use Rattle.linker_base.specs.Inner.Listed.{IsWalked}
+use Rattle.linker_base.proofs.Imports.{AreValidDeltas, IsWalked, List, RelaxDelta, ℕ}
 use Rattle.linker_base.proofs.Walking.{IsWalkedAlong}
 use Rattle.linker_base.proofs.relaxation.walk.Reached.walk.Given as goal
 

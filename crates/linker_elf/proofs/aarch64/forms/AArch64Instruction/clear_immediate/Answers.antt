@@ -1,8 +1,4 @@
-use Rattle.std.proofs.Common.{ap, subst, sym, ◌-◌, ◌^◌}
-use Rattle.std.specs.Prelude.{bit_and}
-use Rattle.linker_base.specs.Form.{BitsWritten}
-use Rattle.linker_elf.specs.AArch64.{aarch64_form}
-use Rattle.linker_elf.specs.Relocate.{ored_cleared}
+use Rattle.linker_elf.proofs.Imports.{BitsWritten, aarch64_form, ap, bit_and, ored_cleared, subst, sym, ◌-◌, ◌^◌}
 use Rattle.linker_elf.proofs.Codes.{aarch64_cleared}
 use Rattle.linker_elf.proofs.aarch64.forms.AArch64Instruction.clear_immediate.Goals as goal
 

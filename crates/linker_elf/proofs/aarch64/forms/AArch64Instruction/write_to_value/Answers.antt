@@ -1,7 +1,4 @@
-use Rattle.std.proofs.Common.{sym, ◌∙◌, rules, subst}
-use Rattle.linker_base.specs.Form.{IsReadBack}
-use Rattle.linker_elf.specs.AArch64.{aarch64_form}
-use Rattle.linker_elf.specs.Inner.FormLaws.{aarch64_restored}
+use Rattle.linker_elf.proofs.Imports.{IsReadBack, aarch64_form, aarch64_restored, rules, subst, sym, ◌∙◌}
 use Rattle.linker_elf.proofs.AArch64Forms.{aarch64_machine, is_word}
 use Rattle.linker_elf.proofs.aarch64.forms.AArch64Instruction.write_to_value.Goals as goal
 

@@ -1,4 +1,4 @@
-use Rattle.std.proofs.Common.{◌∙◌}
+use Rattle.linker_elf.proofs.Imports.{◌∙◌}
 use Rattle.linker_elf.proofs.NameTables.{aarch64_texts}
 use Rattle.linker_elf.proofs.aarch64.relocations.AArch64Relocation.name.Goals as goal
 

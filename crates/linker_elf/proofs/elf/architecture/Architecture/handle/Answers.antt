@@ -1,5 +1,4 @@
-use Rattle.std.proofs.Common.{Some, subst}
-use Rattle.linker_elf.specs.Architectures.{IsRow}
+use Rattle.linker_elf.proofs.Imports.{IsRow, Some, subst}
 use Rattle.linker_elf.proofs.Handles.{found}
 use Rattle.linker_elf.proofs.elf.architecture.Architecture.handle.Goals as goal
 

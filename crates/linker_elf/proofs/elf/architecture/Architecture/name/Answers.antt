@@ -1,9 +1,4 @@
-use Rattle.std.proofs.Common.{ap}
-use Rattle.linker_elf.specs.AArch64Relocations.{aarch64_name}
-use Rattle.linker_elf.specs.RiscVRelocations.{riscv_name}
-use Rattle.linker_elf.specs.LoongArchRelocations.{loongarch_name}
-use Rattle.linker_elf.specs.Ppc64Relocations.{ppc64_name}
-use Rattle.linker_elf.specs.X86Relocations.{x86_64_name}
+use Rattle.linker_elf.proofs.Imports.{aarch64_name, ap, loongarch_name, ppc64_name, riscv_name, x86_64_name}
 use Rattle.linker_elf.proofs.RelocationNames.{of_named, of_unnamed, aarch64_is_short, riscv64_is_short, loongarch64_is_short, ppc64_is_short, x86_64_is_short}
 use Rattle.linker_elf.proofs.elf.architecture.Architecture.name.Goals as goal
 

@@ -1,4 +1,4 @@
-use Rattle.linker_elf.specs.Choices.{Applies, choice, with_group}
+use Rattle.linker_elf.proofs.Imports.{Applies, choice, with_group}
 use Rattle.linker_elf.proofs.ChoiceTables.{isnt_last, unchanged_is}
 use Rattle.linker_elf.proofs.elf.choice_table.ChoiceTable.fits.Goals as goal
 

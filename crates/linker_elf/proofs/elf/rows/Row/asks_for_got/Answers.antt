@@ -1,6 +1,5 @@
-use Rattle.std.proofs.Common.{◌∙◌, subst, sym}
+use Rattle.linker_elf.proofs.Imports.{IsGotAnswer, subst, sym, ◌∙◌}
 use Rattle.linker_elf.proofs.Entries.{got_answer}
-use Rattle.linker_elf.specs.Entries.{IsGotAnswer}
 use Rattle.linker_elf.proofs.elf.rows.Row.asks_for_got.Goals as goal
 
 pub returns-then-not-is_of_high_part : goal.returns-then-not-is_of_high_part

@@ -1,6 +1,5 @@
-use Rattle.std.proofs.Common.{◌∙◌, subst, sym}
+use Rattle.linker_elf.proofs.Imports.{IsPltAnswer, subst, sym, ◌∙◌}
 use Rattle.linker_elf.proofs.Entries.{plt_answer}
-use Rattle.linker_elf.specs.Entries.{IsPltAnswer}
 use Rattle.linker_elf.proofs.elf.rows.Row.may_use_plt.Goals as goal
 
 pub returns-else-is_branch : goal.returns-else-is_branch

@@ -1,8 +1,5 @@
-use Rattle.std.proofs.Common.{◌∙◌, sym, subst, true≢false, FitsSigned, rules, to_z, of_z}
-use Rattle.linker_elf.proofs.Imports.{w64, to_z-of_z}
-use Rattle.std.specs.Prelude.{IsTrue, ◌↔◌}
+use Rattle.linker_elf.proofs.Imports.{FitsSigned, IsInReach, IsTrue, ReachesValue, of_z, rules, subst, sym, to_z, to_z-of_z, true≢false, w64, ◌↔◌, ◌∙◌}
 use Rattle.linker_elf.proofs.Terms.{given, not_given}
-use Rattle.linker_elf.specs.Relocate.{IsInReach, ReachesValue}
 use Rattle.linker_elf.proofs.elf.rows.Row.reaches.Goals as goal
 
 pub returns-in-Ok : goal.returns-in-Ok

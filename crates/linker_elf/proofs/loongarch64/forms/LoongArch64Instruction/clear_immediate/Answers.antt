@@ -1,8 +1,4 @@
-use Rattle.std.proofs.Common.{sym, subst, ap, ◌∙◌, ◌-◌, ◌^◌}
-use Rattle.std.specs.Prelude.{bit_and}
-use Rattle.linker_base.specs.Form.{BitsWritten, consecutive_bits, cleared}
-use Rattle.linker_elf.specs.Inner.Runs.{code_of}
-use Rattle.linker_elf.specs.declared.elf.AnyForm.TheVariants.{LoongArch64}
+use Rattle.linker_elf.proofs.Imports.{BitsWritten, LoongArch64, ap, bit_and, cleared, code_of, consecutive_bits, subst, sym, ◌-◌, ◌^◌, ◌∙◌}
 use Rattle.linker_elf.proofs.Codes.{shift10_cleared}
 use Rattle.linker_elf.proofs.loongarch64.forms.LoongArch64Instruction.clear_immediate.Goals as goal
 

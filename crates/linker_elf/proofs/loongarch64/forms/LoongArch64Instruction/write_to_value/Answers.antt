@@ -1,6 +1,4 @@
-use Rattle.linker_base.specs.Form.{window_of}
-use Rattle.linker_elf.specs.LoongArch.{loongarch_form}
-use Rattle.linker_elf.specs.Inner.FormLaws.{loongarch_restored}
+use Rattle.linker_elf.proofs.Imports.{loongarch_form, loongarch_restored, window_of}
 use Rattle.linker_elf.proofs.LoongArch.{loongarch_machine, loongarch_low, loongarch_reaches}
 use Rattle.linker_elf.proofs.loongarch64.forms.LoongArch64Instruction.write_to_value.Goals as goal
 

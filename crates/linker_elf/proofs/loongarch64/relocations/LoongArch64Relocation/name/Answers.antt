@@ -1,4 +1,4 @@
-use Rattle.std.proofs.Common.{◌∙◌}
+use Rattle.linker_elf.proofs.Imports.{◌∙◌}
 use Rattle.linker_elf.proofs.NameTables.{loongarch_texts}
 use Rattle.linker_elf.proofs.loongarch64.relocations.LoongArch64Relocation.name.Goals as goal
 

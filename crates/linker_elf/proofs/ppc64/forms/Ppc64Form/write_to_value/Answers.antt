@@ -1,6 +1,4 @@
-use Rattle.linker_base.specs.Form.{window_of}
-use Rattle.linker_elf.specs.Ppc64.{ppc64_form}
-use Rattle.linker_elf.specs.Inner.FormLaws.{ppc64_restored}
+use Rattle.linker_elf.proofs.Imports.{ppc64_form, ppc64_restored, window_of}
 use Rattle.linker_elf.proofs.Ppc64Forms.{ppc64_machine}
 use Rattle.linker_elf.proofs.ppc64.forms.Ppc64Form.write_to_value.Goals as goal
 

@@ -1,4 +1,4 @@
-use Rattle.std.proofs.Common.{◌∙◌}
+use Rattle.linker_elf.proofs.Imports.{◌∙◌}
 use Rattle.linker_elf.proofs.NameTables.{ppc64_texts}
 use Rattle.linker_elf.proofs.ppc64.relocations.Ppc64Relocation.name.Goals as goal
 

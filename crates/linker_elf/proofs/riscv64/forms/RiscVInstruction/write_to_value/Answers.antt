@@ -1,6 +1,4 @@
-use Rattle.linker_base.specs.Form.{window_of}
-use Rattle.linker_elf.specs.RiscV.{riscv_form}
-use Rattle.linker_elf.specs.Inner.FormLaws.{riscv_restored}
+use Rattle.linker_elf.proofs.Imports.{riscv_form, riscv_restored, window_of}
 use Rattle.linker_elf.proofs.RiscV.{riscv_machine, riscv_pair}
 use Rattle.linker_elf.proofs.riscv64.forms.RiscVInstruction.write_to_value.Goals as goal
 

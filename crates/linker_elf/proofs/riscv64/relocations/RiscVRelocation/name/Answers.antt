@@ -1,4 +1,4 @@
-use Rattle.std.proofs.Common.{◌∙◌}
+use Rattle.linker_elf.proofs.Imports.{◌∙◌}
 use Rattle.linker_elf.proofs.NameTables.{riscv_texts}
 use Rattle.linker_elf.proofs.riscv64.relocations.RiscVRelocation.name.Goals as goal
 

@@ -1,4 +1,4 @@
-use Rattle.std.proofs.Common.{◌∙◌}
+use Rattle.linker_elf.proofs.Imports.{◌∙◌}
 use Rattle.linker_elf.proofs.NameTables.{x86_64_texts}
 use Rattle.linker_elf.proofs.x86_64.relocations.X86_64Relocation.name.Goals as goal
 

@@ -1,7 +1,5 @@
-use Rattle.std.proofs.Common.{◌∙◌, ap}
-use Rattle.linker_elf.specs.Choices.{choice}
+use Rattle.linker_reading.proofs.Imports.{ap, choice, choices_of, ◌∙◌}
 use Rattle.linker_reading.proofs.Tables.{same_choices}
-use Rattle.linker_reading.specs.Recognised.{choices_of}
 use Rattle.linker_reading.proofs.recognise.engine.RecognisedName.listed.Goals as goal
 
 pub returns-clause-choices : goal.returns-clause-choices

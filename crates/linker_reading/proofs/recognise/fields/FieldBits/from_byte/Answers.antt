@@ -1,4 +1,4 @@
-use Rattle.std.proofs.Common.{arith, rules, ◌<◌, ◌^◌}
+use Rattle.linker_reading.proofs.Imports.{arith, rules, ◌<◌, ◌^◌}
 use Rattle.linker_reading.proofs.Masked.{shifted_down, shifted_up}
 use Rattle.linker_reading.proofs.recognise.fields.FieldBits.from_byte.Goals as goal
 

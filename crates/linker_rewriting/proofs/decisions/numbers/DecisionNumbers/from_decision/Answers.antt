@@ -1,5 +1,4 @@
-use Rattle.std.proofs.Common.{◌∙◌, sym, subst, pos, Some}
-use Rattle.linker_rewriting.specs.Numbers.{IsWrittenAs}
+use Rattle.linker_rewriting.proofs.Imports.{IsWrittenAs, Some, pos, subst, sym, ◌∙◌}
 use Rattle.linker_rewriting.proofs.Numbers.{decided_in}
 use Rattle.linker_rewriting.proofs.decisions.numbers.DecisionNumbers.from_decision.Goals as goal
 

@@ -1,5 +1,4 @@
-use Rattle.linker_runs.proofs.Imports.{◌≡◌, ◌<◌, ◌∙◌, length, ap, sym, arith, rules, length-map}
-use Rattle.linker_runs.specs.Relaxing.{item_of}
+use Rattle.linker_runs.proofs.Imports.{ap, arith, item_of, length, length-map, rules, sym, ◌<◌, ◌∙◌, ◌≡◌}
 use Rattle.linker_runs.proofs.items.list.ItemList.at.Goals as goal
 
 pub offset_bounds-elements-index : goal.offset_bounds-elements-index

@@ -1,4 +1,4 @@
-use Rattle.std.proofs.Common.{◌≡◌, arith}
+use Rattle.linker_runs.proofs.Imports.{arith, ◌≡◌}
 use Rattle.linker_runs.proofs.Choices.{place_unique}
 use Rattle.linker_runs.proofs.items.list.ItemList.place_of.Goals as goal
 

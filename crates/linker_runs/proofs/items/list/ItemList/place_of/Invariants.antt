@@ -1,4 +1,4 @@
-use Rattle.linker_runs.proofs.Imports.{◌-◌, ◌<◌, ◌≤◌, length, item_at, end_of}
+use Rattle.linker_runs.proofs.Imports.{end_of, item_at, length, ◌-◌, ◌<◌, ◌≤◌}
 use Rattle.linker_runs.proofs.items.list.ItemList.place_of.Given as goal
 
 abbrev pub invariant-loop-low : goal.invariant-loop-low

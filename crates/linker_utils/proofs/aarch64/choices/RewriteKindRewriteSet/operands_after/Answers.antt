@@ -1,4 +1,4 @@
-use Rattle.std.proofs.Common.{sym}
+use Rattle.linker_utils.proofs.Imports.{sym}
 use Rattle.linker_utils.proofs.AArch64Choices.{same_operands}
 use Rattle.linker_utils.proofs.aarch64.choices.RewriteKindRewriteSet.operands_after.Goals as goal
 

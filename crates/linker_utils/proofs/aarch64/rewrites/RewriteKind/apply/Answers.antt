@@ -1,8 +1,4 @@
-use Rattle.std.proofs.Common.{◌≡◌, ℕ, List, refl, ◌∙◌, ◌++◌, ◌+◌, ◌-◌, ◌*◌, ◌^◌, ap, arith, take, drop, bit_and, bit_or}
-use Rattle.std.proofs.lemmas.Nat.{and_mask}
-use Rattle.std.specs.Int.{w32, w64, from_le_bytes, to_le_bytes}
-use Rattle.std.specs.Int.Bits.{or_zero_r}
-use Rattle.linker_utils.specs.AArch64Rewrites.{nop, rd_of}
+use Rattle.linker_utils.proofs.Imports.{List, and_mask, ap, arith, bit_and, bit_or, drop, from_le_bytes, nop, or_zero_r, rd_of, refl, take, to_le_bytes, w32, w64, ℕ, ◌*◌, ◌++◌, ◌+◌, ◌-◌, ◌^◌, ◌∙◌, ◌≡◌}
 use Rattle.linker_utils.proofs.RewriteRows.{kept_and_set, one_word, set_alone}
 use Rattle.linker_utils.proofs.aarch64.rewrites.RewriteKind.apply.Goals as goal
 

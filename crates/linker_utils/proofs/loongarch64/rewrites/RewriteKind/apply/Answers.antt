@@ -1,5 +1,4 @@
-use Rattle.std.proofs.Common.{inl, inr, ◌∙◌, ◌-◌, take, drop, arith}
-use Rattle.std.specs.Int.{w32, from_le_bytes}
+use Rattle.linker_utils.proofs.Imports.{arith, drop, from_le_bytes, inl, inr, take, w32, ◌-◌, ◌∙◌}
 use Rattle.linker_utils.proofs.LoongArchRows.{over_tp}
 use Rattle.linker_utils.proofs.RewriteRows.{one_word}
 use Rattle.linker_utils.proofs.loongarch64.rewrites.RewriteKind.apply.Goals as goal

@@ -1,8 +1,4 @@
-use Rattle.std.proofs.Common.{◌≡◌, ◌<◌, ℕ, List, refl, subst, sym, bit_and, bit_or, inl, inr, ◌∙◌, ◌++◌, ◌+◌, ◌-◌, ◌*◌, ◌^◌, ap, arith, take, drop}
-use Rattle.std.specs.Int.{w32, w64, from_le_bytes, to_le_bytes}
-use Rattle.linker_base.specs.Rewrite.{rewritten}
-use Rattle.linker_utils.specs.declared.ppc64.rewrites.RewriteKind.{RewriteKind}
-use Rattle.linker_utils.specs.Ppc64Rewrites.{ppc64_rewrite, rt_of}
+use Rattle.linker_utils.proofs.Imports.{List, RewriteKind, ap, arith, bit_and, bit_or, drop, from_le_bytes, inl, inr, ppc64_rewrite, refl, rewritten, rt_of, subst, sym, take, to_le_bytes, w32, w64, ℕ, ◌*◌, ◌++◌, ◌+◌, ◌-◌, ◌<◌, ◌^◌, ◌∙◌, ◌≡◌}
 use Rattle.linker_utils.proofs.RewriteRows.{first_of_window, kept_field, one_word, set_alone, word_alone}
 use Rattle.linker_utils.proofs.Ppc64Rows.{all_kept, with_base}
 use Rattle.linker_utils.proofs.ppc64.rewrites.RewriteKind.apply.Goals as goal

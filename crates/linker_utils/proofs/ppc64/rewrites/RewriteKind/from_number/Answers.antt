@@ -1,6 +1,5 @@
-use Rattle.std.proofs.Common.{◌≤◌, arith, sym}
+use Rattle.linker_utils.proofs.Imports.{arith, ppc64_rewrites, sym, ◌≤◌}
 use Rattle.std.proofs.lemmas.Option.{slice_get_past}
-use Rattle.linker_utils.specs.Ppc64Rewrites.{ppc64_rewrites}
 use Rattle.linker_utils.proofs.ppc64.rewrites.RewriteKind.from_number.Goals as goal
 
 pub returns-else-number-28 : goal.returns-else-number-28

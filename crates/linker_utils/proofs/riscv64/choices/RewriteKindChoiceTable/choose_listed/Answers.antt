@@ -1,6 +1,5 @@
-use Rattle.std.proofs.Common.{refl}
+use Rattle.linker_utils.proofs.Imports.{refl, same}
 use Rattle.linker_utils.proofs.riscv64.choices.RewriteKindChoiceTable.choose_listed.Goals as goal
-use Rattle.linker_elf.proofs.ChoiceTables.{same}
 
 pub choice_by-requires-10-clause-table : goal.choice_by-requires-10-clause-table
 choice_by-requires-10-clause-table c =

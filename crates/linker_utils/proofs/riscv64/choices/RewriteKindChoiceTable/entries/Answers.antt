@@ -1,6 +1,5 @@
-use Rattle.std.proofs.Common.{refl}
+use Rattle.linker_utils.proofs.Imports.{refl, same}
 use Rattle.linker_utils.proofs.riscv64.choices.RewriteKindChoiceTable.entries.Goals as goal
-use Rattle.linker_elf.proofs.ChoiceTables.{same}
 
 pub returns-in-R_RISCV_TLSDESC_HI20-by_table-clause-table : goal.returns-in-R_RISCV_TLSDESC_HI20-by_table-clause-table
 returns-in-R_RISCV_TLSDESC_HI20-by_table-clause-table c =

@@ -1,5 +1,4 @@
-use Rattle.std.proofs.Common.{drop}
-use Rattle.std.specs.Int.{w32, from_le_bytes}
+use Rattle.linker_utils.proofs.Imports.{drop, from_le_bytes, w32}
 use Rattle.linker_utils.proofs.RiscVRewrites.{low_over_other}
 use Rattle.linker_utils.proofs.riscv64.choices.RewriteKindRewriteSet.matches_at.Goals as goal
 

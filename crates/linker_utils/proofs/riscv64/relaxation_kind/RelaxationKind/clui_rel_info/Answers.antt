@@ -1,10 +1,5 @@
-use Rattle.std.proofs.Common.{◌∙◌, ap, subst, sym}
-use Rattle.linker_elf.specs.Agrees.{RowFits}
-use Rattle.linker_elf.specs.Readings.{RowReadsNoOther}
-use Rattle.linker_elf.specs.RiscVRelocations.{clui_row}
-use Rattle.linker_elf.specs.declared.elf.RowInfo.{RowInfo}
+use Rattle.linker_utils.proofs.Imports.{RowFits, RowInfo, RowReadsNoOther, ap, clui_row, row_size, subst, sym, ◌∙◌}
 use Rattle.linker_elf.proofs.Readings.{clui_reads_no_other}
-use Rattle.linker_utils.specs.Upstream.{row_size}
 use Rattle.linker_utils.specs.declared.elf.RelocationSize.{RelocationSize}
 use Rattle.linker_utils.proofs.riscv64.relaxation_kind.RelaxationKind.clui_rel_info.Goals as goal
 

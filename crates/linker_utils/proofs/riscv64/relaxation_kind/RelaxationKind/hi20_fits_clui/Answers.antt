@@ -1,11 +1,5 @@
-use Rattle.std.proofs.Common.{◌≡◌, ◌≢◌, ◌+◌, ◌*◌, ◌/◌, ◌%◌, ◌^◌, ◌<◌, ◌-◌, ℕ, arith, ltb}
-use Rattle.std.specs.Prelude.{◌↔◌, IsTrue}
-use Rattle.std.specs.Int.Bits.{bit_xor, xor_add_and}
-use Rattle.std.proofs.lemmas.Bool.{lt-ltb, ltb-true}
+use Rattle.linker_utils.proofs.Imports.{FitsClui, IsTrue, and_pow, arith, bit_xor, lt-ltb, ltb, ltb-true, xor_add_and, xor_lt, ℕ, ◌%◌, ◌*◌, ◌+◌, ◌-◌, ◌/◌, ◌<◌, ◌^◌, ◌↔◌, ◌≡◌, ◌≢◌}
 use Rattle.std.proofs.lemmas.Grind.{common_steps}
-use Rattle.std.proofs.lemmas.Nat.{xor_lt}
-use Rattle.std.proofs.lemmas.Nat.Bits.{and_pow}
-use Rattle.linker_utils.specs.RiscVRewrites.{FitsClui}
 use Rattle.linker_utils.proofs.RiscVRewrites.{clui_holds, u_holds}
 use Rattle.linker_utils.proofs.riscv64.relaxation_kind.RelaxationKind.hi20_fits_clui.Goals as goal
 

@@ -1,5 +1,4 @@
-use Rattle.std.proofs.Common.{◌∙◌, ◌-◌, List, ℕ, refl, inl, inr, arith, take, drop}
-use Rattle.std.specs.Int.{w16, w32, from_le_bytes}
+use Rattle.linker_utils.proofs.Imports.{List, arith, drop, from_le_bytes, inl, inr, refl, take, w16, w32, ℕ, ◌-◌, ◌∙◌}
 use Rattle.linker_utils.proofs.RewriteRows.{kept_field, one_half, one_word, word_alone}
 use Rattle.linker_utils.proofs.RiscVRewrites.{of_load, over_rs1, without_rs1}
 use Rattle.linker_utils.proofs.riscv64.rewrites.RewriteKind.apply.Goals as goal

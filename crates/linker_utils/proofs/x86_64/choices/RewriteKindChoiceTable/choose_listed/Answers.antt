@@ -1,6 +1,5 @@
-use Rattle.std.proofs.Common.{◌≡◌, ◌∙◌, sym, subst, arith}
+use Rattle.linker_utils.proofs.Imports.{arith, opcode_at, subst, sym, ◌∙◌, ◌≡◌}
 use Rattle.linker_utils.proofs.X86Originals.{opcode_is}
-use Rattle.linker_utils.specs.X86Rewrites.{opcode_at}
 use Rattle.linker_utils.proofs.x86_64.choices.RewriteKindChoiceTable.choose_listed.Goals as goal
 
 pub choice_by_opcode-requires-clause-opcode : goal.choice_by_opcode-requires-clause-opcode

@@ -1,6 +1,4 @@
-use Rattle.std.proofs.Common.{◌∙◌, ap, subst}
-use Rattle.linker_base.specs.Rewrite.{CanRewrite, rewritten}
-use Rattle.linker_utils.specs.X86Rewrites.{x86_64_rewrite}
+use Rattle.linker_utils.proofs.Imports.{CanRewrite, ap, rewritten, subst, x86_64_rewrite, ◌∙◌}
 use Rattle.linker_utils.proofs.X86Bytes.{keeps_register}
 use Rattle.linker_utils.proofs.x86_64.rewrites.RewriteKind.apply.Goals as goal
 
