@@ -1327,8 +1327,8 @@ pub fn rewritten_items_into<B: AsRef<[u8]>, S: AsRef<[u8]>, R: AsRelocation, L: 
 ///
 /// How many bytes of an item stay, which have to be its first ones, says what is written:
 /// - of RISC-V two bytes of `c.j` for a call that links x0, or on RV32 of `c.jal` for one that
-///   links x1, `jal` of four with the link register of the `jalr`, and of eight the call as it is, with
-///   `R_RISCV_CALL_PLT` applied (RISC-V ELF psABI, "Function Call Relaxation");
+///   links x1, `jal` of four with the link register of the `jalr`, and of eight the call as it is,
+///   with `R_RISCV_CALL_PLT` applied (RISC-V ELF psABI, "Function Call Relaxation");
 /// - of LoongArch four bytes of `b` for a call whose `jirl` links none, of `bl` for one that links
 ///   `ra`, and of `pcaddi`, with the `addi.d`'s register, for an address; of eight the instructions
 ///   as they are, with `R_LARCH_CALL36`, or `R_LARCH_PCALA_HI20` and `R_LARCH_PCALA_LO12`, applied
