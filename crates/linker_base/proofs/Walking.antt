@@ -72,33 +72,6 @@ taken_begin_below ds ascending i k some bound = (
       rw (get_or-take k ds (k - 1) (0, 0) low) at (all (k - 1) (0, 0) (omega (arith, length-take k ds))),
 )
 
--- the last deletion that a walk has passed begins at its end less its bytes
-pub ahead_by_last : (deltas : List RelaxDelta) → AreValidDeltas deltas → (reached : Reached) (k i : ℕ) → IsWalked deltas k reached → (0 < k → reached.end - reached.bytes < i) ↔ All (λ d. d.0 < i) (take k (map deletion_of deltas))
-ahead_by_last deltas listed reached k i walked =
-    let ds = map deletion_of deltas in
-    elim (cases_lt 0 k) [
-      | inl some ↦
-          let last = taken_begin_below ds listed.valid.ascending i k some (omega (arith, length-map deltas deletion_of, walked.within)) in
-          let end = walked.end.last (0, 0) some in
-          let bytes = walked.last (0, 0) some in
-          (λ given. last.0 (omega (arith, end, bytes, given some)), λ all _. omega (arith, end, bytes, last.1 all))
-      | inr none ↦ (λ _ j d inside. absurd (omega (arith, none, inside, length-take k ds)), λ _ some. absurd (omega (arith, none, some)))
-    ]
-
--- and its bytes are at most its end, which fits
-pub bytes_below_end : (deltas : List RelaxDelta) → AreValidDeltas deltas → (reached : Reached) (k : ℕ) → IsWalked deltas k reached → (reached.bytes ≤ reached.end) × (reached.end < 2 ^ 64)
-bytes_below_end deltas listed reached k walked = elim (cases_lt 0 k) [
-  | inl some ↦
-      let inside : k - 1 < length (map deletion_of deltas) = omega (arith, some, length-map deltas deletion_of, walked.within) in
-      let fits = listed.valid.ends (k - 1) (0, 0) inside in
-      let end = walked.end.last (0, 0) some in
-      (omega (arith, end, walked.last (0, 0) some), omega (arith, end, fits))
-  | inr none ↦
-      let zero : k ≡ 0 = omega (arith, none) in
-      let end = walked.end.none zero in
-      (omega (arith, walked.no_last zero), omega (arith, end))
-]
-
 -- the bytes that are passed end at the end of the last deletion or below
 pub walked_below_end : (deltas : List RelaxDelta) → AreValidDeltas deltas → (reached : Reached) (k : ℕ) → IsWalked deltas k reached → reached.deleted ≤ reached.end
 walked_below_end deltas listed reached k walked =
@@ -121,10 +94,10 @@ pub passed_is : (deltas : List RelaxDelta) (k : ℕ) (reached : Reached) → IsW
 passed_is deltas k reached walked = omega (arith, ap length walked.rest, length-drop k deltas, walked.within)
 
 -- a delta that is passed leaves its sum and its end
-pub walked_over : (deltas : List RelaxDelta) → AreValidDeltas deltas → (k : ℕ) (before after : Reached) (x : RelaxDelta) → IsWalked deltas k before → iter_rest before.rest ≡ x ∷ iter_rest after.rest → after.deleted ≡ x.cumulative_deleted → after.bytes ≡ x.bytes_deleted → after.end ≡ (before.next + after.bytes) % 2 ^ 64
+pub walked_over : (deltas : List RelaxDelta) → AreValidDeltas deltas → (k : ℕ) (before after : Reached) (x : RelaxDelta) → IsWalked deltas k before → iter_rest before.rest ≡ x ∷ iter_rest after.rest → after.deleted ≡ x.cumulative_deleted → after.end ≡ (before.next + x.bytes_deleted) % 2 ^ 64
     → ((d : RelaxDelta) → 0 < length (iter_rest after.rest) → after.next ≡ (get_or (iter_rest after.rest) 0 d).input_offset) → (length (iter_rest after.rest) ≡ 0 → after.next ≡ 2 ^ 64 - 1)
     → (k < length deltas) × IsWalked deltas (k + 1) after
-walked_over deltas listed k before after x walked step deleted size wrapped next none =
+walked_over deltas listed k before after x walked step deleted wrapped next none =
     let long : k < length deltas = omega (arith, ap length (sym walked.rest ∙ step), length-drop k deltas) in
     let both : get_or deltas k x ∷ drop (k + 1) deltas ≡ x ∷ iter_rest after.rest = sym (at_drop_more (λ l. l) deltas k x long) ∙ sym walked.rest ∙ step in
     let here : x ≡ get_or deltas k blank = sym (ap (λ l. get_or l 0 x) both) ∙ get_or_default deltas k x blank long in
@@ -144,10 +117,8 @@ walked_over deltas listed k before after x walked step deleted size wrapped next
         sum = deleted ∙ ap (λ (e : RelaxDelta). e.cumulative_deleted) here ∙ listed.listing.sums k blank long;
         end = record {
           none = λ none. absurd (omega arith);
-          last = λ d some. rw (back, deletion_at deltas k blank d long) (omega (arith, fits, size, wrapped, offset, bytes));
+          last = λ d some. rw (back, deletion_at deltas k blank d long) (omega (arith, fits, wrapped, offset, bytes));
         };
-        last = λ d some. rw (back, deletion_at deltas k blank d long) (omega (arith, size, bytes));
-        no_last = λ none. absurd (omega arith);
       },
     )
 

@@ -85,9 +85,6 @@ pub record IsWalked (deltas : List RelaxDelta) (passed : ℕ) (reached : Reached
   pub none : passed ≡ length deltas → reached.next ≡ 2 ^ 64 - 1
   pub sum : reached.deleted ≡ bytes_of (take passed (map deletion_of deltas))
   pub end : IsEndOf (map deletion_of deltas) passed reached.end
-  pub last : (d : ℕ × ℕ) → 0 < passed
-      → reached.bytes ≡ (slice_index_or (map deletion_of deltas) (passed - 1) d).1
-  pub no_last : passed ≡ 0 → reached.bytes ≡ 0
 
 -- how many of the deltas a walk has passed
 abbrev pub passed_in : List RelaxDelta → Reached → ℕ

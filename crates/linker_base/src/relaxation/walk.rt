@@ -1,13 +1,13 @@
 //! A walk through deltas, for offsets that don't decrease.
 
-ghost use Rattle.std.specs.Prelude.{◌≡◌, ◌-◌, ◌<◌, ◌≤◌, ◌^◌, ℕ, List, length, map, max};
+ghost use Rattle.std.specs.Prelude.{◌≡◌, ◌-◌, ◌<◌, ◌^◌, ℕ, List, length, map};
 ghost use Rattle.std.specs.Prelude.{slice_index_or};
 ghost use Rattle.linker_base.specs.declared.relaxation.RelaxDelta.{RelaxDelta};
 ghost use Rattle.linker_base.specs.Deletions.{rank};
 ghost use Rattle.linker_base.specs.Deltas.{deletion_of};
 ghost use Rattle.linker_base.specs.Listed.{AreValidDeltas};
 ghost use Rattle.linker_base.specs.Inner.Listed.{IsWalked, passed_in};
-ghost use Rattle.linker_base.specs.Walk.{walk_at, walk_to, walk_through, IsAhead, AreAhead};
+ghost use Rattle.linker_base.specs.Walk.{walk_at, walk_to, walk_through, AreAhead};
 
 use super::RelaxDelta;
 use std::slice::Iter;
@@ -23,8 +23,6 @@ pub(super) struct Reached<'a> {
     pub deleted: u64,
     // Where the last of these ends.
     pub end: u64,
-    // The bytes of this last one, or 0 where there is none.
-    pub bytes: u64,
 }
 
 // Where the first of some deltas begins, or `u64::MAX` where there is none.
@@ -51,7 +49,6 @@ impl<'a> Reached<'a> {
             next: first_offset(deltas),
             deleted: 0,
             end: 0,
-            bytes: 0,
         }
     }
 
@@ -67,29 +64,8 @@ impl<'a> Reached<'a> {
                 break;
             };
             self.deleted = delta.cumulative_deleted;
-            self.bytes = u64::from(delta.bytes_deleted);
-            self.end = self.next.wrapping_add(self.bytes);
+            self.end = self.next.wrapping_add(u64::from(delta.bytes_deleted));
             self.next = first_offset(self.rest.as_slice());
-        }
-    }
-
-    // The end of the last delta that was passed, where the offset lies inside that, or else the
-    // offset: one comparison, and no branch.
-    #[inline(always)]
-    pub(super) fn kept(&self, offset: u64) -> u64
-        ensures least { (deltas : List RelaxDelta) (k : ℕ) → AreValidDeltas deltas
-            → IsWalked deltas k self.now → offset ≤ result }
-        ensures ahead { (deltas : List RelaxDelta) (k : ℕ) → AreValidDeltas deltas
-            → IsWalked deltas k self.now → IsAhead (walk_at (map deletion_of deltas) k) offset
-            → result ≡ max offset self.now.end }
-        ensures step_back { (deltas : List RelaxDelta) (k : ℕ) → AreValidDeltas deltas
-            → IsWalked deltas k self.now → ¬ (IsAhead (walk_at (map deletion_of deltas) k) offset)
-            → result ≡ offset }
-    {
-        if self.end.wrapping_sub(offset) < self.bytes {
-            self.end
-        } else {
-            offset
         }
     }
 

@@ -1,5 +1,6 @@
-use Rattle.linker_base.proofs.Imports.{All, IsWalking, List, Reached, RelaxDelta, ap, arith, begun_below, deletion_of, inl, inr, map, max, passed_in, rank, refl, take, walk_at, ℕ, ◌+◌, ◌<◌, ◌≡◌, ◌≤◌}
+use Rattle.linker_base.proofs.Imports.{All, IsWalking, List, Reached, RelaxDelta, ap, arith, begun_below, deletion_of, false≢true, inl, inr, map, max, passed_in, rank, refl, sym, take, walk_at, ℕ, ◌+◌, ◌<◌, ◌∙◌, ◌≡◌, ◌≤◌}
 use Rattle.linker_base.proofs.Walking.{walked_ahead, walked_below_end, passed_is, passes_none, begin_below}
+use Rattle.linker_base.proofs.relaxation.cursor.RelaxCursor.translate.Goals.{else-input_offset-self-via-then-input_offset-self+else-is_ahead, else-input_offset-self-via-else-input_offset-self}
 use Rattle.linker_base.proofs.relaxation.cursor.RelaxCursor.translate.Goals as goal
 
 -- ---- deltas are passed
@@ -36,28 +37,36 @@ stays deltas reached i walking low = passes_none deltas walking.listed reached _
 ranked : (deltas : List RelaxDelta) (reached : Reached) (i : ℕ) → IsWalking deltas reached → i ≤ reached.next → All (λ d. d.0 < i) (take (passed_in deltas reached) (map deletion_of deltas)) → rank (map deletion_of deltas) i + reached.deleted ≡ max i reached.end
 ranked deltas reached i walking low ahead = (walked_ahead deltas walking.listed (passed_in deltas reached) i (passed_in deltas reached) reached walking.walked.within (stays deltas reached i walking low) walking.walked ahead).0
 
+pub overflow_sub-result-then-is_ahead : goal.overflow_sub-result-then-is_ahead
+overflow_sub-result-then-is_ahead c = walked_below_end c.self.inside.deltas.now c.self.invariant.listed c.self.inside.reached _ c.self.invariant.walked
+
+pub returns-then-is_ahead-clause-walks : goal.returns-then-is_ahead-clause-walks
+returns-then-is_ahead-clause-walks c = rw (← c.self.view_is) (ap (walk_at (map deletion_of c.self.inside.deltas.now)) (stays c.self.inside.deltas.now c.self.inside.reached c.args.input_offset c.self.invariant (omega (arith, c.if-self-input_offset.false))))
+
+pub returns-then-is_ahead-clause-ahead : goal.returns-then-is_ahead-clause-ahead
+returns-then-is_ahead-clause-ahead c given =
+    let is = ranked c.self.inside.deltas.now c.self.inside.reached c.args.input_offset c.self.invariant (omega (arith, c.if-self-input_offset.false)) (rw (← c.self.view_is) at given) in
+    rw (← c.self.view_is) (omega (arith, is, c.if-input_offset-self.true))
+
 pub overflow_sub-result-2 : goal.overflow_sub-result-2
-overflow_sub-result-2 c =
-    let deltas = c.self.inside.deltas.now in
-    elim c.requires [
-      | inl ahead ↦
-          let below = walked_below_end deltas c.self.invariant.listed c.self.inside.reached _ c.self.invariant.walked in
-          omega (arith, below, c.kept.ensures.ahead deltas _ c.self.invariant.listed c.self.invariant.walked (rw (← c.self.view_is) at ahead))
-      | inr fits ↦ omega (arith, c.self.invariant.walked.sum, rw (← c.self.view_is) at fits, c.kept.ensures.least deltas _ c.self.invariant.listed c.self.invariant.walked)
-    ]
+overflow_sub-result-2 c = elim c.else-input_offset-self.branch [
+  | else-input_offset-self-via-else-input_offset-self w ↦
+      let below = walked_below_end c.self.inside.deltas.now c.self.invariant.listed c.self.inside.reached _ c.self.invariant.walked in
+      omega (arith, below, w.if-input_offset-self.false)
+  | else-input_offset-self-via-then-input_offset-self+else-is_ahead w ↦
+      elim c.requires [
+        | inl ahead ↦ absurd (false≢true (sym w.if-is_ahead.false ∙ w.is_ahead.ensures.1 ahead))
+        | inr fits ↦ omega (arith, c.self.invariant.walked.sum, rw (← c.self.view_is) at fits)
+      ]
+]
 
 pub returns-clause-walks : goal.returns-clause-walks
 returns-clause-walks c = rw (← c.self.view_is) (ap (walk_at (map deletion_of c.self.inside.deltas.now)) (stays c.self.inside.deltas.now c.self.inside.reached c.args.input_offset c.self.invariant (omega (arith, c.if-self-input_offset.false))))
 
 pub returns-clause-ahead : goal.returns-clause-ahead
-returns-clause-ahead c given =
-    let deltas = c.self.inside.deltas.now in
-    let ahead = rw (← c.self.view_is) at given in
-    let is = ranked deltas c.self.inside.reached c.args.input_offset c.self.invariant (omega (arith, c.if-self-input_offset.false)) ahead in
-    rw (← c.self.view_is) (omega (arith, is, c.kept.ensures.ahead deltas _ c.self.invariant.listed c.self.invariant.walked ahead))
-
-pub returns-clause-step_back : goal.returns-clause-step_back
-returns-clause-step_back c back =
-    let deltas = c.self.inside.deltas.now in
-    let kept = c.kept.ensures.step_back deltas _ c.self.invariant.listed c.self.invariant.walked (λ ahead. back (rw (← c.self.view_is) ahead)) in
-    rw (← c.self.view_is) (omega (arith, kept, c.self.invariant.walked.sum))
+returns-clause-ahead c given = elim c.else-input_offset-self.branch [
+  | else-input_offset-self-via-else-input_offset-self w ↦
+      let is = ranked c.self.inside.deltas.now c.self.inside.reached c.args.input_offset c.self.invariant (omega (arith, c.if-self-input_offset.false)) (rw (← c.self.view_is) at given) in
+      rw (← c.self.view_is) (omega (arith, is, w.if-input_offset-self.false))
+  | else-input_offset-self-via-then-input_offset-self+else-is_ahead w ↦ absurd (false≢true (sym w.if-is_ahead.false ∙ w.is_ahead.ensures.1 given))
+]

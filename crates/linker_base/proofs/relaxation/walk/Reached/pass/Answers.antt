@@ -1,4 +1,4 @@
-use Rattle.linker_base.proofs.Imports.{Reached, arith, cases_eq, inl, inr, passed_in, refl, ◌%◌, ◌+◌, ◌^◌}
+use Rattle.linker_base.proofs.Imports.{Reached, ap, arith, cases_eq, inl, inr, passed_in, refl, ◌%◌, ◌+◌, ◌^◌}
 use Rattle.linker_base.proofs.Search.{blank}
 use Rattle.linker_base.proofs.Walking.{walked_over, passed_is, walked_past}
 use Rattle.linker_base.proofs.relaxation.walk.Reached.pass.Goals as goal
@@ -7,8 +7,8 @@ pub loop-self-preserved : goal.loop-self-preserved
 loop-self-preserved c deltas k listed given =
     let passing = c.loop-self.invariant deltas k listed given in
     let p = passed_in deltas c.loop-self.self in
-    let next : Reached = record { rest = c.next.new.self; next = c.first_offset-self.result; deleted = c.in-Some.delta.now.cumulative_deleted; end = (c.loop-self.self.next + c.from-self.result) % 2 ^ 64; bytes = c.from-self.result } in
-    let over = walked_over deltas listed p c.loop-self.self next c.in-Some.delta.now passing.walked c.in-Some.ensures.steps refl c.from-self.ensures refl (rw c.as_slice.ensures.value at c.first_offset-self.ensures.first) (rw c.as_slice.ensures.value at c.first_offset-self.ensures.none) in
+    let next : Reached = record { rest = c.next.new.self; next = c.first_offset-self.result; deleted = c.in-Some.delta.now.cumulative_deleted; end = (c.loop-self.self.next + c.from.result) % 2 ^ 64 } in
+    let over = walked_over deltas listed p c.loop-self.self next c.in-Some.delta.now passing.walked c.in-Some.ensures.steps refl (ap (λ n. (c.loop-self.self.next + n) % 2 ^ 64) c.from.ensures) (rw c.as_slice.ensures.value at c.first_offset-self.ensures.first) (rw c.as_slice.ensures.value at c.first_offset-self.ensures.none) in
     let one = passed_is deltas (p + 1) next over.1 in
     record {
       walked = rw one over.1;
