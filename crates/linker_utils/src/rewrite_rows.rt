@@ -387,7 +387,7 @@ impl Original {
 impl Replacement {
     /// The bytes that the rewrite writes.
     #[inline(always)]
-    fn window(self) -> RewriteWindow
+    pub(crate) fn window(self) -> RewriteWindow
         ensures { result ≡ window_of_rewrite (row_rewrite self) }
     {
         let (back, len) = match self.edits {
@@ -520,22 +520,6 @@ macro_rules! deleted {
     ($other:tt $($row:tt)*) => { $crate::rewrite_rows::deleted!($($row)*) };
 }
 
-/// The bytes that a row has written: with how far before the offset they begin, and how many they
-/// are by what was read of the row so far.
-macro_rules! window {
-    ($back:tt, 0;) => { linker_base::rewrite::RewriteWindow { back: 0, len: 0 } };
-    ($back:tt, $len:tt;) => { linker_base::rewrite::RewriteWindow { back: $back, len: $len } };
-    ($back:tt, 0; keep $($row:tt)*) => { $crate::rewrite_rows::window!($back, 4; $($row)*) };
-    ($back:tt, 4; keep $($row:tt)*) => { $crate::rewrite_rows::window!($back, 8; $($row)*) };
-    ($back:tt, 0; special $($row:tt)*) => { $crate::rewrite_rows::window!($back, 4; $($row)*) };
-    ($back:tt, 4; half $($row:tt)*) => { $crate::rewrite_rows::window!($back, 2; $($row)*) };
-    ($back:tt, $len:tt; $other:tt $($row:tt)*) => {
-        $crate::rewrite_rows::window!($back, $len; $($row)*)
-    };
-    ($len:tt back $back:tt $($row:tt)*) => { $crate::rewrite_rows::window!($back, 0; $($row)*) };
-    ($len:tt $($row:tt)*) => { $crate::rewrite_rows::window!(0, 0; $($row)*) };
-}
-
 /// A part of a row, by the macro of its name, or what such a part is used for, in an arm for each
 /// rewrite, and there of constants, and what the macro `$after` then makes of the row; or the
 /// rewrite with a number.
@@ -621,4 +605,3 @@ pub(crate) use replacement;
 pub(crate) use same_name;
 pub(crate) use skipped;
 pub(crate) use top;
-pub(crate) use window;

@@ -3,7 +3,6 @@
 ghost use Rattle.std.proofs.Common.{ap};
 ghost use Rattle.std.specs.Prelude.{slice_get, Some, ◌≡◌, ◌↔◌, IsTrue};
 ghost use Rattle.linker_base.specs.Rewrite.{CanRewrite, rewritten, offset_after, addend_after};
-ghost use Rattle.linker_base.specs.RewriteWindow.{window_of_rewrite};
 ghost use Rattle.linker_utils.specs.AArch64Rewrites.{aarch64_rewrite, aarch64_modifier};
 ghost use Rattle.linker_utils.specs.AArch64Rewrites.{aarch64_other, AreChanged, aarch64_rewrites};
 ghost use Rattle.linker_utils.specs.AArch64Rewrites.{IsAdrpPair, aarch64_matches};
@@ -160,25 +159,6 @@ impl RewriteKind {
         rewrites!(self, replacement row => row.apply(section_bytes, offset))
     }
 
-    /// Whether `apply` may be called at an offset of a section: the window lies in the section,
-    /// and, for `MovkXn` and `LdrToAdd`, the instruction meets their requirement. For the other
-    /// kinds the instruction is not tested.
-    #[inline(always)]
-    pub fn can_apply(self, section: &[u8], offset: u64) -> bool
-        ensures { IsTrue result ↔ CanRewrite (aarch64_rewrite self) section.now offset }
-    {
-        rewrites!(self, replacement row => row.can_apply(section, offset))
-    }
-
-    /// The bytes that `apply` writes: the instruction's 4. For `AdrpAddToNopAdr` they are the
-    /// pair's 8, which begin 4 bytes before the offset, and for `NoOp` none.
-    #[inline]
-    pub fn window(self) -> RewriteWindow
-        ensures { result ≡ window_of_rewrite (aarch64_rewrite self) }
-    {
-        rewrites!(self => window)
-    }
-
     /// Whether the instruction at an offset of a section, or the pair that ends there, is one that
     /// the rewrite is meant for: `can_apply`, and the opcodes and registers. `NoOp` is meant for
     /// any offset and `ReplaceWithNop` for any instruction in the section.
@@ -239,12 +219,12 @@ impl InstructionRewrite for RewriteKind {
 
     #[inline(always)]
     fn can_apply(self, section: &[u8], offset: u64) -> bool {
-        RewriteKind::can_apply(self, section, offset)
+        rewrites!(self, replacement row => row.can_apply(section, offset))
     }
 
-    #[inline(always)]
+    #[inline]
     fn window(self) -> RewriteWindow {
-        RewriteKind::window(self)
+        rewrites!(self, replacement row => row.window())
     }
 
     #[inline(always)]

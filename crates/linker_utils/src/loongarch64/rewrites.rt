@@ -2,8 +2,7 @@
 
 ghost use Rattle.std.proofs.Common.{ap};
 ghost use Rattle.std.specs.Prelude.{slice_get, ◌≡◌, ◌↔◌, IsTrue, Some};
-ghost use Rattle.linker_base.specs.Rewrite.{CanRewrite, rewritten, offset_after, addend_after};
-ghost use Rattle.linker_base.specs.RewriteWindow.{window_of_rewrite};
+ghost use Rattle.linker_base.specs.Rewrite.{CanRewrite};
 ghost use Rattle.linker_utils.specs.LoongArchRewrites.{loongarch64_rewrites, loongarch_rewrite};
 ghost use Rattle.linker_utils.specs.LoongArchRewrites.{loongarch_modifier, loongarch_deleted};
 ghost use Rattle.linker_utils.specs.LoongArchRewrites.{loongarch_matches};
@@ -20,6 +19,7 @@ use linker_elf::elf::InstructionRewrite;
 /// instruction is its bits 0 to 4, and the first source register its bits 5 to 9.
 ///
 /// ```
+/// use linker_utils::elf::InstructionRewrite;
 /// use linker_utils::loongarch64::RewriteKind;
 ///
 /// // `ld.d $a0, $a0, 0` becomes `addi.d $a0, $a0, 0`
@@ -142,39 +142,6 @@ impl RewriteKind {
         self as u32
     }
 
-    /// Rewrites the instruction at an offset of a section. All other bytes, the offset and the
-    /// addend are unchanged.
-    #[inline]
-    pub fn apply(self, section_bytes: &mut [u8], offset_in_section: &mut u64, addend: &mut i64)
-        requires { CanRewrite (loongarch_rewrite self) section_bytes.old offset_in_section.old }
-        ensures bytes { section_bytes.new
-            ≡ rewritten (loongarch_rewrite self) section_bytes.old offset_in_section.old }
-        ensures offset { offset_in_section.new
-            ≡ offset_after (loongarch_rewrite self) offset_in_section.old }
-        ensures addend { addend.new ≡ addend_after (loongarch_rewrite self) addend.old }
-    {
-        let _ = addend;
-        let offset = *offset_in_section;
-        rewrites!(self, replacement row => row.apply(section_bytes, offset))
-    }
-
-    /// Whether `apply` may be called at an offset of a section: the bytes that it rewrites lie in
-    /// the section.
-    pub fn can_apply(self, section: &[u8], offset: u64) -> bool
-        ensures { IsTrue result ↔ CanRewrite (loongarch_rewrite self) section.now offset }
-    {
-        window_is_in(section, offset, self.window())
-    }
-
-    /// The bytes that `apply` writes: the 4 from the offset, and none for `NoOp`, `Delete` and
-    /// `DeleteAddi`. Those that are then deleted (`deleted`) may lie after them.
-    #[inline]
-    pub fn window(self) -> RewriteWindow
-        ensures { result ≡ window_of_rewrite (loongarch_rewrite self) }
-    {
-        rewrites!(self => window)
-    }
-
     /// Whether the instruction that begins at an offset of a section, or the pair, is one that the
     /// rewrite is meant for: `can_apply`, and the opcodes and registers. `NoOp` is meant for any
     /// offset, and `ReplaceWithNop` and `Delete` for any instruction in the section. `BaseToTp` is
@@ -186,14 +153,6 @@ impl RewriteKind {
             → CanRewrite (loongarch_rewrite self) section.now offset }
     {
         rewrites!(self, original row => row.is_for(section, offset))
-    }
-
-    /// What happens to the next relocation: it is applied as usual.
-    #[inline]
-    pub fn next_modifier(&self) -> RelocationModifier
-        ensures { result ≡ loongarch_modifier self.now }
-    {
-        RelocationModifier::Normal
     }
 
     /// The bytes to be deleted after the rewrite: the `jirl` of a call after `CallToBl` and
@@ -215,24 +174,23 @@ impl InstructionRewrite for RewriteKind {
 
     ghost stays = { λ kind is. (ap loongarch_rewrite is, ap loongarch_modifier is) };
 
-    #[inline(always)]
-    fn apply(self, section: &mut [u8], offset: &mut u64, addend: &mut i64) {
-        RewriteKind::apply(self, section, offset, addend);
+    #[inline]
+    fn apply(self, section: &mut [u8], offset: &mut u64, _addend: &mut i64) {
+        rewrites!(self, replacement row => row.apply(section, *offset))
     }
 
-    #[inline(always)]
     fn can_apply(self, section: &[u8], offset: u64) -> bool {
-        RewriteKind::can_apply(self, section, offset)
+        window_is_in(section, offset, self.window())
     }
 
-    #[inline(always)]
+    #[inline]
     fn window(self) -> RewriteWindow {
-        RewriteKind::window(self)
+        rewrites!(self, replacement row => row.window())
     }
 
-    #[inline(always)]
+    #[inline]
     fn next_modifier(&self) -> RelocationModifier {
-        RewriteKind::next_modifier(self)
+        RelocationModifier::Normal
     }
 
     #[inline(always)]

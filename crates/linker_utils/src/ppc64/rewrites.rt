@@ -2,8 +2,7 @@
 
 ghost use Rattle.std.proofs.Common.{ap};
 ghost use Rattle.std.specs.Prelude.{slice_get, ◌≡◌, ◌↔◌, IsTrue, Some, IfSome, IfNone};
-ghost use Rattle.linker_base.specs.Rewrite.{CanRewrite, rewritten, offset_after, addend_after};
-ghost use Rattle.linker_base.specs.RewriteWindow.{window_of_rewrite};
+ghost use Rattle.linker_base.specs.Rewrite.{CanRewrite};
 ghost use Rattle.linker_base.specs.declared.relaxation.RelocationModifier.TheVariants.{Normal};
 ghost use Rattle.linker_base.specs.declared.relaxation.RelocationModifier.TheVariants.{SkipNextRelocation};
 ghost use Rattle.linker_utils.specs.Ppc64Rewrites.{ppc64_matches, ppc64_rewrite};
@@ -25,6 +24,7 @@ use linker_elf::ppc64::Ppc64Relocation;
 /// writes is 0, for the relocation after it, or the number itself where that is `R_PPC64_NONE`.
 ///
 /// ```
+/// use linker_utils::elf::InstructionRewrite;
 /// use linker_utils::ppc64::RewriteKind;
 ///
 /// // ld 9,0(10) becomes addi 9,10,0
@@ -237,44 +237,6 @@ impl RewriteKind {
         self as u32
     }
 
-    /// Rewrites the instruction at an offset of a section. All other bytes are unchanged. So are
-    /// the addend, except that it is 0 after `AddiAfterLis`, and the offset, except that
-    /// `CallToAddi`, `CallToAdd` and `CallToAddi4096` move it 4 bytes on.
-    #[inline]
-    pub fn apply(self, section_bytes: &mut [u8], offset_in_section: &mut u64, addend: &mut i64)
-        requires { CanRewrite (ppc64_rewrite self) section_bytes.old offset_in_section.old }
-        ensures bytes { section_bytes.new
-            ≡ rewritten (ppc64_rewrite self) section_bytes.old offset_in_section.old }
-        ensures offset { offset_in_section.new
-            ≡ offset_after (ppc64_rewrite self) offset_in_section.old }
-        ensures addend { addend.new ≡ addend_after (ppc64_rewrite self) addend.old }
-    {
-        let offset = *offset_in_section;
-        rewrites!(
-            self,
-            replacement row => row.apply(section_bytes, offset),
-            after [offset_in_section addend]
-        )
-    }
-
-    /// Whether `apply` may be called at an offset of a section: the window lies in the section. The
-    /// instruction is not tested.
-    pub fn can_apply(self, section: &[u8], offset: u64) -> bool
-        ensures { IsTrue result ↔ CanRewrite (ppc64_rewrite self) section.now offset }
-    {
-        window_is_in(section, offset, self.window())
-    }
-
-    /// The bytes that `apply` writes: the instruction's 4. For a prefixed instruction or a call and
-    /// its `nop` they are 8, and for `NoOp` and `KeepAddis` none. They begin at the offset, and for
-    /// `AddToMove` and `IndexedToDirect` one byte before it.
-    #[inline]
-    pub fn window(self) -> RewriteWindow
-        ensures { result ≡ window_of_rewrite (ppc64_rewrite self) }
-    {
-        rewrites!(self => window)
-    }
-
     /// Whether the instruction at an offset of a section is one that the rewrite is meant for:
     /// `can_apply`, and the opcodes and registers. `NoOp` is meant for any offset. No instruction
     /// is meant whose base is register 0, which stands for the number 0, nor an access with update,
@@ -286,19 +248,6 @@ impl RewriteKind {
         ensures rewritable { IsTrue result → CanRewrite (ppc64_rewrite self) section.now offset }
     {
         rewrites!(self, original row => row.is_for(section, offset))
-    }
-
-    /// What happens to the next relocation: it is skipped after `CallToAddi`, `CallToAdd`,
-    /// `CallToAddi4096`, `BranchToNop` and `BranchToAdd`, since it is that of the call itself,
-    /// `R_PPC64_REL24` or `R_PPC64_REL24_NOTOC`, which follows `R_PPC64_TLSGD` or `R_PPC64_TLSLD`.
-    #[inline]
-    pub fn next_modifier(&self) -> RelocationModifier
-        ensures { result ≡ ppc64_modifier self.now }
-    {
-        match self.skipped_offset() {
-            Some(_) => RelocationModifier::SkipNextRelocation,
-            None => RelocationModifier::Normal,
-        }
     }
 
     /// Where the relocation is that `next_modifier` skips, in bytes from the offset of the
@@ -338,24 +287,31 @@ impl InstructionRewrite for RewriteKind {
 
     ghost stays = { λ kind is. (ap ppc64_rewrite is, ap ppc64_modifier is) };
 
-    #[inline(always)]
+    #[inline]
     fn apply(self, section: &mut [u8], offset: &mut u64, addend: &mut i64) {
-        RewriteKind::apply(self, section, offset, addend);
+        let start = *offset;
+        rewrites!(
+            self,
+            replacement row => row.apply(section, start),
+            after [offset addend]
+        )
     }
 
-    #[inline(always)]
     fn can_apply(self, section: &[u8], offset: u64) -> bool {
-        RewriteKind::can_apply(self, section, offset)
+        window_is_in(section, offset, self.window())
     }
 
-    #[inline(always)]
+    #[inline]
     fn window(self) -> RewriteWindow {
-        RewriteKind::window(self)
+        rewrites!(self, replacement row => row.window())
     }
 
-    #[inline(always)]
+    #[inline]
     fn next_modifier(&self) -> RelocationModifier {
-        RewriteKind::next_modifier(self)
+        match self.skipped_offset() {
+            Some(_) => RelocationModifier::SkipNextRelocation,
+            None => RelocationModifier::Normal,
+        }
     }
 
     #[inline(always)]

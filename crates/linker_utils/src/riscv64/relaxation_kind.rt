@@ -16,7 +16,7 @@ use crate::elf::{RelocationKindInfo, RelocationSize};
 use crate::rewrite_rows::same_name;
 use linker_base::bit_misc::BitExtraction;
 use linker_base::relaxation::RelocationModifier;
-use linker_elf::elf::RiscVInstruction;
+use linker_elf::elf::{InstructionRewrite, RiscVInstruction};
 use linker_elf::riscv64 as relocations;
 
 /// A rewrite that the crate `linker-utils` 0.11.0 has too: the `RewriteKind` of the same name. No

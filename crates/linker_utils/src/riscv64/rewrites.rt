@@ -2,8 +2,7 @@
 
 ghost use Rattle.std.proofs.Common.{ap};
 ghost use Rattle.std.specs.Prelude.{slice_get, ◌≡◌, ◌↔◌, IsTrue, Some, IfSome, IfNone};
-ghost use Rattle.linker_base.specs.Rewrite.{CanRewrite, rewritten, offset_after, addend_after};
-ghost use Rattle.linker_base.specs.RewriteWindow.{window_of_rewrite};
+ghost use Rattle.linker_base.specs.Rewrite.{CanRewrite};
 ghost use Rattle.linker_utils.specs.RiscVRewrites.{riscv_rewrite, riscv_rewrites, riscv_modifier};
 ghost use Rattle.linker_utils.specs.RiscVRewrites.{riscv_matches, riscv_deleted, riscv_skipped};
 ghost use Rattle.linker_utils.specs.RiscVRewrites.{riscv_may_be_skipped};
@@ -169,41 +168,6 @@ impl RewriteKind {
         self as u32
     }
 
-    /// Rewrites the instruction at an offset of a section. All other bytes, the offset and the
-    /// addend are unchanged.
-    #[inline(always)]
-    pub fn apply(self, section_bytes: &mut [u8], offset_in_section: &mut u64, addend: &mut i64)
-        requires { CanRewrite (riscv_rewrite self) section_bytes.old offset_in_section.old }
-        ensures bytes { section_bytes.new
-            ≡ rewritten (riscv_rewrite self) section_bytes.old offset_in_section.old }
-        ensures offset { offset_in_section.new
-            ≡ offset_after (riscv_rewrite self) offset_in_section.old }
-        ensures addend { addend.new ≡ addend_after (riscv_rewrite self) addend.old }
-    {
-        let _ = addend;
-        let offset = *offset_in_section;
-        rewrites!(self, replacement row => row.apply(section_bytes, offset))
-    }
-
-    /// Whether `apply` may be called at an offset of a section: the bytes that it rewrites lie in
-    /// the section.
-    #[inline(always)]
-    pub fn can_apply(self, section: &[u8], offset: u64) -> bool
-        ensures { IsTrue result ↔ CanRewrite (riscv_rewrite self) section.now offset }
-    {
-        window_is_in(section, offset, self.window())
-    }
-
-    /// The bytes that `apply` writes, which begin at the offset: none for `NoOp`, `Hi20Delete` and
-    /// `Delete`, 2 for `Hi20ToCLui`, `TailToCJ`, `CallToCJal` and `CLuiToCLi`, and 4 for the rest.
-    /// Those that are then deleted (`deleted`) may lie after them.
-    #[inline]
-    pub fn window(self) -> RewriteWindow
-        ensures { result ≡ window_of_rewrite (riscv_rewrite self) }
-    {
-        rewrites!(self => window)
-    }
-
     /// Whether the instruction that begins at an offset of a section, or the pair, is one that the
     /// rewrite is meant for: `can_apply`, and the opcodes and registers. `NoOp` is meant for any
     /// offset, and `ReplaceWithNop`, `ReplaceWithLongNop` and `Delete` for any four bytes of the
@@ -217,18 +181,6 @@ impl RewriteKind {
         ensures rewritable { IsTrue result → CanRewrite (riscv_rewrite self) section.now offset }
     {
         rewrites!(self, original row => row.is_for(section, offset))
-    }
-
-    /// What happens to the next relocation: `CallToJal`, `CallToCJal`, `TailToJal`, `TailToCJ` and
-    /// `Hi20Delete` skip it.
-    #[inline]
-    pub fn next_modifier(&self) -> RelocationModifier
-        ensures { result ≡ riscv_modifier self.now }
-    {
-        match self.skipped_offset() {
-            Some(_) => RelocationModifier::SkipNextRelocation,
-            None => RelocationModifier::Normal,
-        }
     }
 
     /// Where the relocation is that `next_modifier` skips, in bytes from the offset of the
@@ -281,23 +233,26 @@ impl InstructionRewrite for RewriteKind {
     ghost stays = { λ kind is. (ap riscv_rewrite is, ap riscv_modifier is) };
 
     #[inline(always)]
-    fn apply(self, section: &mut [u8], offset: &mut u64, addend: &mut i64) {
-        RewriteKind::apply(self, section, offset, addend);
+    fn apply(self, section: &mut [u8], offset: &mut u64, _addend: &mut i64) {
+        rewrites!(self, replacement row => row.apply(section, *offset))
     }
 
     #[inline(always)]
     fn can_apply(self, section: &[u8], offset: u64) -> bool {
-        RewriteKind::can_apply(self, section, offset)
+        window_is_in(section, offset, self.window())
     }
 
-    #[inline(always)]
+    #[inline]
     fn window(self) -> RewriteWindow {
-        RewriteKind::window(self)
+        rewrites!(self, replacement row => row.window())
     }
 
-    #[inline(always)]
+    #[inline]
     fn next_modifier(&self) -> RelocationModifier {
-        RewriteKind::next_modifier(self)
+        match self.skipped_offset() {
+            Some(_) => RelocationModifier::SkipNextRelocation,
+            None => RelocationModifier::Normal,
+        }
     }
 
     #[inline(always)]

@@ -310,7 +310,7 @@ impl ChoiceTable for RewriteKind {
 /// bytes and any offset may be passed, and the rewrite can be applied there.
 ///
 /// ```
-/// use linker_utils::elf::{LinkFacts, Operands};
+/// use linker_utils::elf::{InstructionRewrite, LinkFacts, Operands};
 /// use linker_utils::x86_64::{RewriteKind, X86_64Relocation, choose, row};
 ///
 /// // mov x@GOTPCREL(%rip), %rdi, in an executable that is always loaded at one address

@@ -8,6 +8,7 @@ ghost use Rattle.linker_utils.specs.X86Rewrites.{x86_64_modifier, KeepsRegister}
 use super::RewriteKind;
 use crate::rewrite_rows::same_name;
 use linker_base::relaxation::RelocationModifier;
+use linker_elf::elf::InstructionRewrite;
 
 /// A rewrite that the crate `linker-utils` 0.11.0 has too: the `RewriteKind` of the same name. No
 /// variants are added, so that a match of all needs no last arm.

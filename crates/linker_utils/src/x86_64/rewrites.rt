@@ -30,6 +30,7 @@ use linker_elf::elf::InstructionRewrite;
 /// unchanged.
 ///
 /// ```
+/// use linker_utils::elf::InstructionRewrite;
 /// use linker_utils::x86_64::RewriteKind;
 ///
 /// // jmp *x@GOTPCREL(%rip) becomes jmp x; nop
@@ -508,35 +509,6 @@ impl RewriteKind {
         rewrites!(self => [edit section offset_in_section addend])
     }
 
-    /// Rewrites the instructions around the field at an offset of a section. The offset becomes
-    /// that of the field afterwards. The addend becomes 0 where the field becomes absolute or an
-    /// offset from the thread pointer. All other bytes are unchanged.
-    ///
-    /// `RexMovIndirectToAbsolute(3)` keeps the register that `mov` names, if bit 0 of the REX byte
-    /// was clear.
-    #[inline(always)]
-    pub fn apply(self, section_bytes: &mut [u8], offset_in_section: &mut u64, addend: &mut i64)
-        requires { CanRewrite (x86_64_rewrite self) section_bytes.old offset_in_section.old }
-        ensures bytes { section_bytes.new
-            ≡ rewritten (x86_64_rewrite self) section_bytes.old offset_in_section.old }
-        ensures offset { offset_in_section.new
-            ≡ offset_after (x86_64_rewrite self) offset_in_section.old }
-        ensures addend { addend.new ≡ addend_after (x86_64_rewrite self) addend.old }
-        ensures register { self ≡ RewriteKind.RexMovIndirectToAbsolute 3
-            → KeepsRegister section_bytes.old section_bytes.new offset_in_section.old }
-    {
-        self.rewrite(section_bytes, offset_in_section, addend);
-    }
-
-    /// Whether `apply` may be called at an offset of a section: the bytes that it rewrites lie in
-    /// the section. The instruction is not tested.
-    #[inline(always)]
-    pub fn can_apply(self, section: &[u8], offset: u64) -> bool
-        ensures { IsTrue result ↔ CanRewrite (x86_64_rewrite self) section.now offset }
-    {
-        window_is_in(section, offset, self.window())
-    }
-
     /// The bytes that `apply` writes; none for `NoOp`. The field whose value is written afterwards
     /// lies after them, as the last 4 of the 16 bytes of a general-dynamic sequence; but
     /// `JmpIndirectToRelative` and `TlsGdToLocalExecLarge` write 0 to their field.
@@ -577,17 +549,6 @@ impl RewriteKind {
         ensures { IsTrue result ↔ x86_64_matches self section.now offset }
     {
         self.can_apply(section, offset) && self.is_for(section, offset)
-    }
-
-    /// What happens to the next relocation: the TLS sequences skip that of their call.
-    #[inline]
-    pub fn next_modifier(&self) -> RelocationModifier
-        ensures { result ≡ x86_64_modifier self.now }
-    {
-        match self.skipped_offset() {
-            Some(_) => RelocationModifier::SkipNextRelocation,
-            None => RelocationModifier::Normal,
-        }
     }
 
     /// Where the relocation is that `next_modifier` skips, in bytes from the offset of the
@@ -643,24 +604,36 @@ impl InstructionRewrite for RewriteKind {
 
     ghost stays = { λ kind is. (ap x86_64_rewrite is, ap x86_64_modifier is) };
 
+    // `RexMovIndirectToAbsolute(3)` keeps the register that `mov` names, if bit 0 of the REX byte
+    // was clear
     #[inline(always)]
-    fn apply(self, section: &mut [u8], offset: &mut u64, addend: &mut i64) {
-        RewriteKind::apply(self, section, offset, addend);
+    fn apply(self, section: &mut [u8], offset: &mut u64, addend: &mut i64)
+        requires { CanRewrite (x86_64_rewrite self) section.old offset.old }
+        ensures bytes { section.new ≡ rewritten (x86_64_rewrite self) section.old offset.old }
+        ensures offset { offset.new ≡ offset_after (x86_64_rewrite self) offset.old }
+        ensures addend { addend.new ≡ addend_after (x86_64_rewrite self) addend.old }
+        ensures register { self ≡ RewriteKind.RexMovIndirectToAbsolute 3
+            → KeepsRegister section.old section.new offset.old }
+    {
+        self.rewrite(section, offset, addend);
     }
 
     #[inline(always)]
     fn can_apply(self, section: &[u8], offset: u64) -> bool {
-        RewriteKind::can_apply(self, section, offset)
+        window_is_in(section, offset, self.window())
     }
 
-    #[inline(always)]
+    #[inline]
     fn window(self) -> RewriteWindow {
         RewriteKind::window(self)
     }
 
-    #[inline(always)]
+    #[inline]
     fn next_modifier(&self) -> RelocationModifier {
-        RewriteKind::next_modifier(self)
+        match self.skipped_offset() {
+            Some(_) => RelocationModifier::SkipNextRelocation,
+            None => RelocationModifier::Normal,
+        }
     }
 
     #[inline(always)]
