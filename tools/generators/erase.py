@@ -231,8 +231,8 @@ def add(source, added, found):
     for it in source.functions:
         if not it.trait and BY_REFERENCE in added.get(f"{it.owner}::{it.name}", ()):
             take_by_reference(source, it)
-    places = [(f"{it.owner}::{it.name}".removeprefix("::"), it.first, it.fn)
-              for it in source.functions if not it.trait]
+    places = [("::".join(filter(None, (it.owner, it.trait, it.name))), it.first, it.fn)
+              for it in source.functions]
     for it in source.items:
         if it.word in ("enum", "mod", "struct", "trait", "use"):
             places.append((it.name + "::*" * (it.word == "use"), it.first, it.head))

@@ -102,7 +102,7 @@ pub(crate) struct Original {
     pub tests: &'static [WordTest],
 }
 
-/// What a rewrite writes.
+/// What a rewrite writes, and what becomes of other bytes and relocations.
 #[derive(Clone, Copy)]
 pub(crate) struct Replacement {
     /// How many bytes before the relocation's offset the first instruction is.
@@ -113,6 +113,10 @@ pub(crate) struct Replacement {
     pub edits: &'static [WordEdit],
     /// Whether it writes one of 2 bytes.
     pub half: bool,
+    /// The bytes that are deleted after it.
+    pub deleted: Option<DeletedBytes>,
+    /// How many bytes after the relocation's offset the relocation is that it skips.
+    pub skipped: Option<u64>,
 }
 
 /// One of four sets.
@@ -470,7 +474,7 @@ macro_rules! original {
     };
 }
 
-/// What the row of a rewrite writes.
+/// What the row of a rewrite writes, deletes and skips.
 macro_rules! replacement {
     (
         $tests:ident $len:literal $(back $back:literal)? $(aligned $aligned:literal)?
@@ -497,42 +501,23 @@ macro_rules! replacement {
                 },)?
             ],
             half: $crate::rewrite_rows::or!(false; $($half)?),
+            deleted: $crate::rewrite_rows::or!(None; $(Some(linker_base::rewrite::DeletedBytes {
+                start: $start,
+                count: $crate::rewrite_rows::or!(4; $($count)?),
+            }))?),
+            skipped: $crate::rewrite_rows::or!(None; $(Some($skip))?),
         }
     };
 }
 
-/// Where a row has a relocation skipped.
-macro_rules! skipped {
-    () => { None };
-    (skip $skip:literal $($row:tt)*) => { Some($skip) };
-    ($other:tt $($row:tt)*) => { $crate::rewrite_rows::skipped!($($row)*) };
-}
-
-/// The bytes that a row has deleted.
-macro_rules! deleted {
-    () => { None };
-    (delete $start:literal count $count:literal $($row:tt)*) => {
-        Some(linker_base::rewrite::DeletedBytes { start: $start, count: $count })
-    };
-    (delete $start:literal $($row:tt)*) => {
-        Some(linker_base::rewrite::DeletedBytes { start: $start, count: 4 })
-    };
-    ($other:tt $($row:tt)*) => { $crate::rewrite_rows::deleted!($($row)*) };
-}
-
-/// A part of a row, by the macro of its name, or what such a part is used for, in an arm for each
-/// rewrite, and there of constants, and what the macro `$after` then makes of the row; or the
-/// rewrite with a number.
+/// What a part of a row, by the macro of its name, is used for, in an arm for each rewrite, and
+/// there of constants, and what the macro `$after` then makes of the row; or the rewrite with a
+/// number.
 macro_rules! by_row {
     ($tests:ident, numbered $number:expr; $($kind:ident { $($row:tt)* })*) => {
         match $number {
             $(number if number == RewriteKind::$kind as u32 => Some(RewriteKind::$kind),)*
             _ => None,
-        }
-    };
-    ($tests:ident, $value:expr => $part:ident; $($kind:ident { $($row:tt)* })*) => {
-        match $value {
-            $(RewriteKind::$kind => $crate::rewrite_rows::$part!($($row)*),)*
         }
     };
     ($tests:ident, $value:expr, $part:ident $row:ident => $use:expr; $($kind:ident { $($of:tt)* })*) => {
@@ -598,10 +583,8 @@ macro_rules! same_name {
 
 pub(crate) use bits;
 pub(crate) use by_row;
-pub(crate) use deleted;
 pub(crate) use or;
 pub(crate) use original;
 pub(crate) use replacement;
 pub(crate) use same_name;
-pub(crate) use skipped;
 pub(crate) use top;

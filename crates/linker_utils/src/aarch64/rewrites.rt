@@ -159,6 +159,16 @@ impl RewriteKind {
         rewrites!(self, replacement row => row.apply(section_bytes, offset))
     }
 
+    /// Whether `apply` may be called at an offset of a section: the window lies in the section,
+    /// and, for `MovkXn` and `LdrToAdd`, the instruction meets their requirement. For the other
+    /// kinds the instruction is not tested.
+    #[inline(always)]
+    pub fn can_apply(self, section: &[u8], offset: u64) -> bool
+        ensures { IsTrue result ↔ CanRewrite (aarch64_rewrite self) section.now offset }
+    {
+        rewrites!(self, replacement row => row.can_apply(section, offset))
+    }
+
     /// Whether the instruction at an offset of a section, or the pair that ends there, is one that
     /// the rewrite is meant for: `can_apply`, and the opcodes and registers. `NoOp` is meant for
     /// any offset and `ReplaceWithNop` for any instruction in the section.
@@ -219,7 +229,7 @@ impl InstructionRewrite for RewriteKind {
 
     #[inline(always)]
     fn can_apply(self, section: &[u8], offset: u64) -> bool {
-        rewrites!(self, replacement row => row.can_apply(section, offset))
+        RewriteKind::can_apply(self, section, offset)
     }
 
     #[inline]

@@ -161,7 +161,7 @@ impl RewriteKind {
     pub fn deleted(self) -> Option<DeletedBytes>
         ensures { result ≡ loongarch_deleted self }
     {
-        rewrites!(self => deleted)
+        rewrites!(self, replacement row => row.deleted)
     }
 }
 

@@ -250,19 +250,16 @@ impl RewriteKind {
         rewrites!(self, original row => row.is_for(section, offset))
     }
 
-    /// Where the relocation is that `next_modifier` skips, in bytes from the offset of the
-    /// rewrite's own relocation on: that of the call itself, at the same offset. `None` where none
-    /// is skipped.
-    ///
-    /// The rewrite needs a relocation there whose type `may_be_skipped` and whose symbol is
-    /// `__tls_get_addr`.
+    /// Where the relocation is that `next_modifier` skips, as `Relaxation::skipped_offset` says:
+    /// that of the call itself, `R_PPC64_REL24` or `R_PPC64_REL24_NOTOC`, at the same offset, which
+    /// follows `R_PPC64_TLSGD` or `R_PPC64_TLSLD`.
     #[inline]
     pub fn skipped_offset(self) -> Option<u64>
         ensures exactly { result ≡ ppc64_skipped self }
         ensures skipped { IfSome result (λ _. ppc64_modifier self ≡ SkipNextRelocation) }
         ensures kept { IfNone result (ppc64_modifier self ≡ Normal) }
     {
-        rewrites!(self => skipped)
+        rewrites!(self, replacement row => row.skipped)
     }
 }
 

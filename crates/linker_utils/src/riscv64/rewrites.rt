@@ -183,9 +183,8 @@ impl RewriteKind {
         rewrites!(self, original row => row.is_for(section, offset))
     }
 
-    /// Where the relocation is that `next_modifier` skips, in bytes from the offset of the
-    /// rewrite's own relocation on: the `R_RISCV_RELAX` at the same offset. `None` where none is
-    /// skipped.
+    /// Where the relocation is that `next_modifier` skips, as `Relaxation::skipped_offset` says:
+    /// the `R_RISCV_RELAX` at the same offset.
     #[inline]
     pub fn skipped_offset(self) -> Option<u64>
         ensures exactly { result ≡ riscv_skipped self }
@@ -193,7 +192,7 @@ impl RewriteKind {
             (λ _. riscv_modifier self ≡ RelocationModifier.SkipNextRelocation) }
         ensures kept { IfNone result (riscv_modifier self ≡ RelocationModifier.Normal) }
     {
-        rewrites!(self => skipped)
+        rewrites!(self, replacement row => row.skipped)
     }
 
     /// The bytes to be deleted after the rewrite. `None` where there are none: only `CallToJal`,
@@ -210,7 +209,7 @@ impl RewriteKind {
     pub fn deleted(self) -> Option<DeletedBytes>
         ensures { result ≡ riscv_deleted self }
     {
-        rewrites!(self => deleted)
+        rewrites!(self, replacement row => row.deleted)
     }
 }
 

@@ -551,21 +551,9 @@ impl RewriteKind {
         self.can_apply(section, offset) && self.is_for(section, offset)
     }
 
-    /// Where the relocation is that `next_modifier` skips, in bytes from the offset of the
-    /// rewrite's own relocation on: that of the sequence's call, whose field of 4 bytes, or of 8 in
-    /// a `movabs`, is there. `None` where none is skipped.
-    ///
-    /// The rewrite needs a relocation there whose type `may_be_skipped` and whose symbol is
-    /// `__tls_get_addr`. Without it the next relocation may be that of another call.
-    ///
-    /// ```
-    /// use linker_utils::x86_64::RewriteKind;
-    ///
-    /// // lea x@tlsld(%rip), %rdi; call __tls_get_addr@PLT
-    /// let sequence = [0x48, 0x8d, 0x3d, 0, 0, 0, 0, 0xe8, 0, 0, 0, 0];
-    /// assert!(RewriteKind::TlsLdToLocalExec.matches(&sequence, 3));
-    /// assert_eq!(RewriteKind::TlsLdToLocalExec.skipped_offset(), Some(5));
-    /// ```
+    /// Where the relocation is that `next_modifier` skips, as `Relaxation::skipped_offset` says:
+    /// that of the sequence's call, whose field of 4 bytes, or of 8 in a `movabs`, is there.
+    /// Without one the next relocation may be that of another call.
     #[inline]
     #[tactic(auto, using(crate::proofs::X86Skipped::of_general_dynamic, crate::proofs::X86Skipped::of_large, crate::proofs::X86Skipped::of_local_dynamic, crate::proofs::X86Skipped::of_local_dynamic_by_got))]
     pub fn skipped_offset(self) -> Option<u64>

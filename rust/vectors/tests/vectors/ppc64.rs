@@ -7,8 +7,8 @@ pub(crate) mod linked;
 
 use linker_utils::bit_misc::BitExtraction;
 use linker_utils::elf::{
-    AllowedRange, Bias, InstructionForm, Ppc64Form, Ppc64Instruction, RelocationKind,
-    RelocationKindInfo, RelocationSize,
+    AllowedRange, Bias, InstructionForm, InstructionRewrite, Ppc64Form, Ppc64Instruction,
+    RelocationKind, RelocationKindInfo, RelocationSize,
 };
 use linker_utils::ppc64::{Ppc64Relocation, RewriteKind, relocation_type_from_raw, write_ha_lo};
 use linker_utils::relaxation::RelocationModifier;

@@ -8,7 +8,8 @@ pub(crate) mod pairs;
 mod words;
 
 use linker_utils::elf::{
-    InstructionForm, Operands, RelocateError, RelocationInstruction, RiscVInstruction,
+    InstructionForm, InstructionRewrite, Operands, RelocateError, RelocationInstruction,
+    RiscVInstruction,
 };
 use linker_utils::relaxation::RelocationModifier;
 use linker_utils::riscv64::{RelaxationKind, RewriteKind, clui_row, is_plain_call, jal_site};

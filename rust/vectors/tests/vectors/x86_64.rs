@@ -5,7 +5,9 @@
 mod choices;
 pub(crate) use choices::INSTRUCTIONS;
 
-use linker_utils::elf::{AllowedRange, RelocationKind, RelocationKindInfo, RelocationSize};
+use linker_utils::elf::{
+    AllowedRange, InstructionRewrite, RelocationKind, RelocationKindInfo, RelocationSize,
+};
 use linker_utils::relaxation::RelocationModifier;
 use linker_utils::x86_64::{RewriteKind, X86_64Relocation, may_be_skipped, relocation_from_raw};
 

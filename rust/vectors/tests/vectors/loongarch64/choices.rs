@@ -4,7 +4,7 @@
 
 use super::relaxed::{ENTRY, IMAGE, SITES};
 use linker_utils::architecture;
-use linker_utils::elf::{Architecture, LinkFacts, Operands};
+use linker_utils::elf::{Architecture, InstructionRewrite, LinkFacts, Operands};
 use linker_utils::loongarch64::{
     LoongArch64Relocation as Name, RewriteKind as Kind, choose, fits, row,
 };

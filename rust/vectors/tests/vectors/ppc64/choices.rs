@@ -3,7 +3,7 @@
 //! words are encoded after the Power ISA, "Instruction Formats", or are those that linkers wrote.
 
 use super::linked::SITES;
-use linker_utils::elf::{Choice, LinkFacts, Operands};
+use linker_utils::elf::{Choice, InstructionRewrite, LinkFacts, Operands};
 use linker_utils::ppc64::{Ppc64Relocation, RewriteKind, choose, row};
 
 /// The facts of a symbol of an executable, 0x7fe8 below the TOC pointer, 0x6fe8 below the thread

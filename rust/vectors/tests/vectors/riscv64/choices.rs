@@ -3,7 +3,7 @@
 
 use super::linked::{ADDRESS, ENTRY, IMAGE, SITES};
 use super::{both, pairs};
-use linker_utils::elf::{Choice, LinkFacts, Operands};
+use linker_utils::elf::{Choice, InstructionRewrite, LinkFacts, Operands};
 use linker_utils::riscv64::{DeletedBytes, RewriteKind, RiscVRelocation, choose, row};
 use linker_utils::utils::u32_from_slice;
 

@@ -2,7 +2,7 @@
 //! The rewrites that linkers chose, by what they knew.
 
 use super::{REWRITES, SEQUENCES};
-use linker_utils::elf::{Choice, LinkFacts, Operands};
+use linker_utils::elf::{Choice, InstructionRewrite, LinkFacts, Operands};
 use linker_utils::x86_64::{RewriteKind, X86_64Relocation, choose, row};
 
 /// The address of a field before the rewrite.
