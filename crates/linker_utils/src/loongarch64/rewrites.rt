@@ -179,6 +179,7 @@ impl InstructionRewrite for RewriteKind {
         rewrites!(self, replacement row => row.apply(section, *offset))
     }
 
+    #[inline]
     fn can_apply(self, section: &[u8], offset: u64) -> bool {
         window_is_in(section, offset, self.window())
     }

@@ -61,13 +61,11 @@ pub enum RewriteKind {
     /// Turns `addi rT,rA` into `ld rT,0(rA)`.
     AddiToLd,
     /// Turns the call of `__tls_get_addr` and the `nop` after it into `nop` and `addi 3,3,0`. The
-    /// offset is then that of the `addi`, 4 bytes on.
+    /// offset is then that of the second instruction, 4 bytes on, as with the two below.
     CallToAddi,
-    /// Turns the call of `__tls_get_addr` and the `nop` after it into `nop` and `add 3,3,13`. The
-    /// offset is then that of the `add`, 4 bytes on.
+    /// Turns these into `nop` and `add 3,3,13`.
     CallToAdd,
-    /// Turns the call of `__tls_get_addr` and the `nop` after it into `nop` and `addi 3,3,4096`.
-    /// The offset is then that of the `addi`, 4 bytes on.
+    /// Turns these into `nop` and `addi 3,3,4096`.
     CallToAddi4096,
     /// Turns the `nop` after a call into `ld 2,24(1)`, which restores the TOC pointer. The offset
     /// is that of the call, which stays.
@@ -294,6 +292,7 @@ impl InstructionRewrite for RewriteKind {
         )
     }
 
+    #[inline]
     fn can_apply(self, section: &[u8], offset: u64) -> bool {
         window_is_in(section, offset, self.window())
     }

@@ -27,7 +27,8 @@ use linker_elf::elf::InstructionRewrite;
 /// field's (x86-64 psABI, "Optimize GOTPCRELX Relocations", and "ELF Handling For Thread-Local
 /// Storage"). A variant's number is the count of the instruction's bytes before the field: 2
 /// without a prefix, 3 with REX, 4 with REX2, 6 with EVEX. With any other number the prefix is
-/// unchanged.
+/// unchanged. The offset becomes that of the field afterwards, and the addend 0 where the field
+/// becomes absolute or an offset from the thread pointer.
 ///
 /// ```
 /// use linker_utils::elf::InstructionRewrite;
