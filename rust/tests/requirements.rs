@@ -6,7 +6,7 @@ use linker_utils::bit_misc::BitExtraction;
 use linker_utils::elf::{AArch64Instruction, InstructionForm, InstructionRewrite};
 use linker_utils::elf::{RelocationInstruction, RiscVInstruction};
 use linker_utils::relaxation::{RelaxDeltaMap, SectionRelaxDeltas, pack_into, shrink_calls_into};
-use linker_utils::riscv64::{LinkRegister, RewriteKind};
+use linker_utils::riscv64::{LinkRegister, RelaxationKind, RewriteKind};
 use linker_utils::utils::u32_from_slice;
 use std::panic::{self, AssertUnwindSafe};
 use std::sync::Mutex;
@@ -60,7 +60,7 @@ fn requirements_name_the_caller() {
             "self.last_index().is_none_or(|last| last < section_index)",
         ),
         (
-            line_of!(nop.apply(&mut short, &mut 0, &mut 0)),
+            line_of!(RelaxationKind::ReplaceWithNop.apply(&mut short, &mut 0, &mut 0)),
             "self.can_apply(section_bytes, *offset_in_section)",
         ),
         (

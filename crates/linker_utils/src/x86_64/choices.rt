@@ -15,7 +15,7 @@ use crate::rewrite_rows::or;
 use linker_elf::elf::choice_table::{
     ChoiceTable, Chosen, RewriteSet, Table, by_table, choice_by, conditions, table_of,
 };
-use linker_elf::elf::{Choice, LinkFacts, Operands};
+use linker_elf::elf::{Choice, InstructionRewrite, LinkFacts, Operands};
 
 /// The instructions that an entry is for.
 pub enum Pattern {
@@ -46,7 +46,7 @@ impl RewriteSet for RewriteKind {
             Pattern::Legacy(n, opcode) => is_legacy(section, offset, n, opcode),
             Pattern::LeaOfDescriptor(n) => is_lea_of_descriptor(section, offset, n),
         };
-        is_pattern && self.matches_inline(section, offset)
+        is_pattern && self.can_apply(section, offset) && self.is_for(section, offset)
     }
 
     #[inline(always)]

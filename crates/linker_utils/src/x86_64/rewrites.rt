@@ -523,7 +523,7 @@ impl RewriteKind {
 
     /// Whether the instruction or the sequence at an offset is one that the rewrite is for.
     #[inline(always)]
-    fn is_for(self, section: &[u8], offset: u64) -> bool
+    pub(super) fn is_for(self, section: &[u8], offset: u64) -> bool
         ensures { result ≡ is_one_at (x86_64_originals self) section.now offset }
     {
         rewrites!(self => [is section offset])
@@ -539,14 +539,6 @@ impl RewriteKind {
     /// prefix 0x66 for operands of 16 bits assemblers write `R_X86_64_GOTPCREL`, which no rewrite
     /// is for.
     pub fn matches(self, section: &[u8], offset: u64) -> bool
-        ensures { IsTrue result ↔ x86_64_matches self section.now offset }
-    {
-        self.matches_inline(section, offset)
-    }
-
-    /// `matches`, where the caller knows the rewrite.
-    #[inline(always)]
-    pub(super) fn matches_inline(self, section: &[u8], offset: u64) -> bool
         ensures { IsTrue result ↔ x86_64_matches self section.now offset }
     {
         self.can_apply(section, offset) && self.is_for(section, offset)
