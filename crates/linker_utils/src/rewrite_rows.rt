@@ -117,6 +117,10 @@ pub(crate) struct Replacement {
     pub deleted: Option<DeletedBytes>,
     /// How many bytes after the relocation's offset the relocation is that it skips.
     pub skipped: Option<u64>,
+    /// How far it moves the relocation's offset on.
+    pub moved: u64,
+    /// The addend after it, if that is another.
+    pub addend: Option<i64>,
 }
 
 /// One of four sets.
@@ -506,13 +510,14 @@ macro_rules! replacement {
                 count: $crate::rewrite_rows::or!(4; $($count)?),
             }))?),
             skipped: $crate::rewrite_rows::or!(None; $(Some($skip))?),
+            moved: $crate::rewrite_rows::or!(0; $($moved)?),
+            addend: $crate::rewrite_rows::or!(None; $(Some($addend))?),
         }
     };
 }
 
 /// What a part of a row, by the macro of its name, is used for, in an arm for each rewrite, and
-/// there of constants, and what the macro `$after` then makes of the row; or the rewrite with a
-/// number.
+/// there of constants; or the rewrite with a number.
 macro_rules! by_row {
     ($tests:ident, numbered $number:expr; $($kind:ident { $($row:tt)* })*) => {
         match $number {
@@ -525,18 +530,6 @@ macro_rules! by_row {
             $(RewriteKind::$kind => {
                 let $row = $crate::rewrite_rows::$part!($tests $($of)*);
                 $use
-            })*
-        }
-    };
-    (
-        $tests:ident, $value:expr, $part:ident $row:ident => $use:expr, $after:ident $places:tt;
-        $($kind:ident { $($of:tt)* })*
-    ) => {
-        match $value {
-            $(RewriteKind::$kind => {
-                let $row = $crate::rewrite_rows::$part!($tests $($of)*);
-                $use;
-                $after!($places $($of)*);
             })*
         }
     };

@@ -210,14 +210,6 @@ macro_rules! rewrites {
     };
 }
 
-/// Moves the offset on, or sets the addend, where a row says so.
-macro_rules! after {
-    ($places:tt) => {};
-    ([$offset:ident $addend:ident] moved $moved:literal) => { *$offset += $moved; };
-    ([$offset:ident $addend:ident] addend $value:literal) => { *$addend = $value; };
-    ($places:tt $other:tt $($row:tt)*) => { after!($places $($row)*) };
-}
-
 impl RewriteKind {
     /// The rewrite with a number, its place in the enum. None above the last.
     #[inline(always)]
@@ -284,12 +276,11 @@ impl InstructionRewrite for RewriteKind {
 
     #[inline]
     fn apply(self, section: &mut [u8], offset: &mut u64, addend: &mut i64) {
-        let start = *offset;
-        rewrites!(
-            self,
-            replacement row => row.apply(section, start),
-            after [offset addend]
-        )
+        rewrites!(self, replacement row => {
+            row.apply(section, *offset);
+            *offset += row.moved;
+            *addend = row.addend.unwrap_or(*addend);
+        })
     }
 
     #[inline]
