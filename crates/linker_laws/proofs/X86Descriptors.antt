@@ -1,5 +1,5 @@
 -- The `lea` and the call of a descriptor of x86-64, each by itself.
-use Rattle.linker_laws.proofs.Imports.{All, All-drop, All-head, All-tail, AreAddresses, IsApplied, IsBefore, IsSomeAnd, IsTrue, List, MOV, Operand, Operands, Some, X86_64Relocation, [], and_parts, ap, append_assoc, ap₂, arith, begins, bit_and, bit_at, byte, cast_unsigned, cond, decode, difference_64, drop, drop_at, eqb, eqb-true, extended, false, false≢true, immediate, is_one_at, is_relative, lea, lea_of_descriptor, length, length-take, load, min, not, number_of_bytes, offset_after, operand_value, operands_after, operate, pos, refl, reg_after_rex, reg_after_rex2, reg_of, register, relative, rewritten, rex2_prefix, rex2_w, rex_prefix, rex_w, rip_operand, subst, sum_64, sym, take, true, w64, with_rex, with_rex2, x86_64_matches, x86_64_relocation_after, x86_64_rewrite, ℕ, ◌%◌, ◌&&◌, ◌*◌, ◌++◌, ◌+◌, ◌-◌, ◌<◌, ◌^◌, ◌||◌, ◌∙◌, ◌∷◌, ◌≡◌}
+use Rattle.linker_laws.proofs.Imports.{All, All-drop, All-head, All-tail, AreAddresses, IsApplied, IsBefore, IsSomeAnd, IsTrue, List, MOV, Operand, Operands, Some, X86_64Relocation, [], and_parts, ap, append_assoc, ap₂, arith, begins, bit_and, bit_at, byte, cast_unsigned, cond, decode, difference_64, drop, drop_at, eqb, eqb-true, extended, false≢true, immediate, is_one_at, is_relative, lea, lea_of_descriptor, length, length-take, load, min, not, number_of_bytes, offset_after, operand_value, operands_after, operate, pos, refl, reg_after_rex, reg_after_rex2, reg_of, register, relative, rewritten, rex2_prefix, rex2_w, rex_prefix, rex_w, rip_operand, subst, sum_64, sym, take, true, w64, with_rex, with_rex2, x86_64_matches, x86_64_relocation_after, x86_64_rewrite, ℕ, ◌%◌, ◌&&◌, ◌*◌, ◌++◌, ◌+◌, ◌-◌, ◌<◌, ◌^◌, ◌||◌, ◌∙◌, ◌∷◌, ◌≡◌}
 use Rattle.linker_elf.specs.declared.x86_64.relocations.X86_64Relocation.TheVariants as names
 use Rattle.linker_utils.specs.X86Rewrites as x86
 use Rattle.linker_utils.specs.declared.x86_64.rewrites.RewriteKind.{RewriteKind}

@@ -44,6 +44,10 @@ store_8 address number memory a =
 abbrev pub with_register : ℕ → ℕ → (ℕ → ℕ) → ℕ → ℕ
 with_register r number registers k = if k == r then number else registers k
 
+-- with a number in a register, at an instruction
+abbrev pub put : ℕ → ℕ → ℕ → State → State
+put r number ip s = record s { ip = ip; register = with_register r number s.register }
+
 -- ---- operations
 
 pub data Operation : Type 0 where
@@ -161,8 +165,7 @@ operand_value s next n (immediate i) = extended i % 2 ^ n
 -- A result of 32 bits is zero-extended. Nothing here writes to other operands than registers.
 abbrev pub write_operand : Operand → ℕ → State → ℕ → ℕ
 write_operand (register r) number s = with_register r number s.register
-write_operand (relative d) number s = s.register
-write_operand (immediate i) number s = s.register
+write_operand operand number s = s.register
 
 abbrev pub target_address : State → ℕ → Target → ℕ
 target_address s next (direct d) = sum_64 next (extended d)
@@ -185,33 +188,13 @@ execute (operate op n first second) next s =
     perform op n first (operand_value s next n first) (operand_value s next n second) next s
 execute (operate_into r without_flags op n first second) next s =
     let made = result op n s.flags (operand_value s next n first) (operand_value s next n second) in
-    record s {
-      ip = next;
-      register = with_register r made.0 s.register;
-      flags = if without_flags then s.flags else made.1;
-    }
-execute (lea n r d) next s =
-    record s {
-      ip = next;
-      register = with_register r (sum_64 next (extended d) % 2 ^ n) s.register;
-    }
-execute (lea_from n r base d) next s =
-    record s {
-      ip = next;
-      register = with_register r (sum_64 (s.register base) (extended d) % 2 ^ n) s.register;
-    }
-execute (load_thread r d) next s =
-    record s {
-      ip = next;
-      register = with_register r (load 8 s (sum_64 s.fs (extended d))) s.register;
-    }
+    record (put r made.0 next s) { flags = if without_flags then s.flags else made.1 }
+execute (lea n r d) next s = put r (sum_64 next (extended d) % 2 ^ n) next s
+execute (lea_from n r base d) next s = put r (sum_64 (s.register base) (extended d) % 2 ^ n) next s
+execute (load_thread r d) next s = put r (load 8 s (sum_64 s.fs (extended d))) next s
 execute (call target) next s =
     let top = difference_64 (s.register 4) 8 in
-    record s {
-      ip = target_address s next target;
-      register = with_register 4 top s.register;
-      memory = store_8 top next s.memory;
-    }
+    record (put 4 top (target_address s next target) s) { memory = store_8 top next s.memory }
 execute (jump target) next s = record s { ip = target_address s next target }
 execute nop next s = record s { ip = next }
 
@@ -230,6 +213,11 @@ pub record Prefix : Type 0 where
   pub reg : ℕ
   pub rm : ℕ
 
+-- by the bit W, which says that operands have 64 bits
+abbrev pub prefix : ℕ → ℕ → ℕ → ℕ → Prefix
+prefix size w reg rm =
+    record { size = size; bits = if w == 1 then 64 else 32; reg = reg; rm = rm }
+
 abbrev pub no_prefix : Prefix
 no_prefix = record { size = 0; bits = 32; reg = 0; rm = 0 }
 
@@ -238,24 +226,13 @@ abbrev pub is_rex : ℕ → Bool
 is_rex b = field b 4 8 == 4
 
 abbrev pub rex_prefix : ℕ → Prefix
-rex_prefix b =
-    record {
-      size = 1;
-      bits = if bit_at b 3 == 1 then 64 else 32;
-      reg = 8 * bit_at b 2;
-      rm = 8 * bit_at b 0;
-    }
+rex_prefix b = prefix 1 (bit_at b 3) (8 * bit_at b 2) (8 * bit_at b 0)
 
 -- the byte after d5: M0 R4 X4 B4 W R3 X3 B3 (Intel Advanced Performance Extensions Architecture
 -- Specification, "REX2 Prefix")
 abbrev pub rex2_prefix : ℕ → Prefix
 rex2_prefix b =
-    record {
-      size = 2;
-      bits = if bit_at b 3 == 1 then 64 else 32;
-      reg = 8 * bit_at b 2 + 16 * bit_at b 6;
-      rm = 8 * bit_at b 0 + 16 * bit_at b 4;
-    }
+    prefix 2 (bit_at b 3) (8 * bit_at b 2 + 16 * bit_at b 6) (8 * bit_at b 0 + 16 * bit_at b 4)
 
 -- The bytes after 62: R3 X3 B3 R4 B4 and the opcode map; W V3 V2 V1 V0 X4 and 00; 000, ND V4 NF
 -- and 00. All of R, X and V and B3 are inverted (Intel Advanced Performance Extensions Architecture
@@ -267,13 +244,7 @@ abbrev pub evex_rm : ℕ → ℕ
 evex_rm first = 8 * (1 - bit_at first 5) + 16 * bit_at first 3
 
 abbrev pub evex_prefix : ℕ → ℕ → Prefix
-evex_prefix first second =
-    record {
-      size = 4;
-      bits = if bit_at second 7 == 1 then 64 else 32;
-      reg = evex_reg first;
-      rm = evex_rm first;
-    }
+evex_prefix first second = prefix 4 (bit_at second 7) (evex_reg first) (evex_rm first)
 
 -- opcode map 4, and X3 is 1, as there is no index
 abbrev pub is_map_4 : ℕ → Bool
