@@ -69,18 +69,19 @@ OPEN = {
     21: {
         "PldToPaddi": "", "RestoresToc": "r2 was stored at r1 + 24",
         "TocAtEntry": "r12 has the address of the `addis`, and the `addi` is 4 bytes after it",
-        "high_halves": READ_BY_LOW, "kept_high_halves": READ_BY_LOW, "LoadToSum": HAS_BASE,
-        "low_halves": f"{HAS_BASE}; what it loads or stores keeps agreement",
+        "ToNop": READ_BY_LOW, "Kept": READ_BY_LOW, "LoadToSum": HAS_BASE,
+        "LowOverBase": f"{HAS_BASE}; what it loads or stores keeps agreement",
+        "WordOverBase": f"{HAS_BASE}; what it loads or stores keeps agreement",
         "OffsetToHighHalf": "the base leads to the entry; what reads rT",
-        "low_offsets":
+        "OverOffset":
             "the base has what the load put there; what it loads or stores keeps agreement",
         "ArgumentToHighHalf": "the base leads to the entry; what reads rT",
         "ArgumentToThread": "the base leads to the entry; what reads rT",
         "CallToLowHalf":
             "r3 has what an argument's instruction put there; nothing reads what the call changes",
-        "calls":
+        "CallTo":
             "r3 has what an argument's instruction put there; nothing reads what the call changes",
-        "variables": "what reads rT", "ArgumentToBlock": "what reads rT",
+        "MakesVariable": "what reads rT", "ArgumentToBlock": "what reads rT",
     },
     62: {
         "loads": "", "operations": "", "thread": "",
@@ -146,7 +147,8 @@ def tables():
 
 
 def ensured(contract, files):
-    """The fields of `Laws` or `Groups` of specs, each of which a contract ensures, and what they name."""
+    """The fields of `Laws` or `Groups` of specs, each of which a contract ensures, and what they and
+    the rows of `law_of` name."""
     found = set()
     for path in files:
         text = path.read_text()
@@ -155,7 +157,10 @@ def ensured(contract, files):
         if not fields or not alias or f" {{ {alias[1]}.{fields[1]} }}\n" not in contract:
             sys.exit(f"tools/generate: no contract ensures the laws of {path.name}")
         found.update(re.findall(r"^  pub (\w+) :", fields[2], re.M))
-        found.update(name for name in re.findall(r"\w+", fields[2])
+        named = fields[2]
+        if "law_of" in named:  # the rows of a table
+            named += "".join(re.findall(r"^law_of .*\n(?:    .*\n)*", text, re.M))
+        found.update(name for name in re.findall(r"\w+", named)
                      if re.search(rf"^abbrev pub {name} :", text, re.M))
     return found
 

@@ -72,7 +72,7 @@ def is_over_toc(words):
 
 
 def has_word_form(words):
-    """low_halves, of `ld`, `lwa` and `std`."""
+    """WordOverBase, of `ld`, `lwa` and `std`."""
     return words[0] >> 26 in (58, 62)
 
 
@@ -170,19 +170,19 @@ ALONE = {
     21: [
         ("PldToPaddi", "GOT_PCREL34", None), ("RestoresToc", "REL24", None),
         ("TocAtEntry", "REL16_HA REL16_LO", None),
-        ("high_halves", "TOC16_HA TPREL16_HA GOT_TPREL16_HA GOT_TLSLD16_HA", None),
-        ("high_halves kept_high_halves", "GOT_TLSGD16_HA", None),
-        ("kept_high_halves", "GOT16_HA", None), ("LoadToSum", "GOT16_LO_DS", None),
-        ("low_halves", "TOC16_LO TPREL16_LO", has_no_word_form),
-        ("low_halves", "TOC16_LO_DS TPREL16_LO_DS", has_word_form),
+        ("ToNop", "TOC16_HA TPREL16_HA GOT_TPREL16_HA GOT_TLSLD16_HA", None),
+        ("ToNop Kept", "GOT_TLSGD16_HA", None),
+        ("Kept", "GOT16_HA", None), ("LoadToSum", "GOT16_LO_DS", None),
+        ("LowOverBase", "TOC16_LO TPREL16_LO", has_no_word_form),
+        ("WordOverBase", "TOC16_LO_DS TPREL16_LO_DS", has_word_form),
         ("OffsetToHighHalf", "GOT_TPREL16_LO_DS", None), ("OffsetToHighHalf", "GOT_TPREL16_DS", is_over_toc),
-        ("low_offsets variable_sums", "TLS", None),
+        ("OverOffset OverVariable", "TLS", None),
         ("ArgumentToHighHalf ArgumentToOffset", "GOT_TLSGD16_LO", None),
         ("ArgumentToHighHalf ArgumentToOffset", "GOT_TLSGD16", is_over_toc),
         ("ArgumentToThread", "GOT_TLSLD16_LO", None), ("ArgumentToThread", "GOT_TLSLD16", is_over_toc),
-        ("CallToLowHalf calls", "TLSGD", None), ("calls", "TLSLD", None),
-        ("variables ArgumentToLoad", "GOT_TLSGD_PCREL34", None),
-        ("ArgumentToBlock", "GOT_TLSLD_PCREL34", None), ("variables", "GOT_TPREL_PCREL34", None),
+        ("CallToLowHalf CallTo", "TLSGD", None), ("CallTo", "TLSLD", None),
+        ("MakesVariable ArgumentToLoad", "GOT_TLSGD_PCREL34", None),
+        ("ArgumentToBlock", "GOT_TLSLD_PCREL34", None), ("MakesVariable", "GOT_TPREL_PCREL34", None),
     ],
 }
 # of x86-64, by relocations

@@ -1,7 +1,7 @@
 -- PowerPC64: each rewrite of a section is of words that are rewritten together, and these are
 -- groups.
 use Rattle.linker_final.proofs.Imports.{All-drop, All-take, AreBytes, AreRewritten, Bool, Choice, Consumed, Decision, Entry as GotEntry, GotTpOff, GotTpOffGotBase, IsArchitectureChoice, IsDecidedAfter, IsDone, IsLinked, IsMade, IsNameOf, IsNamed, IsOfApplied, IsOfEntry as IsOfEntryIn, IsOfOne as IsOfOneIn, IsOutside, IsRewrittenByNoOther, IsRow, IsScopeDecision, IsScopeIn, IsSomeAnd, IsTrue, IsWrittenByNoOther, Kept, Labelled, LinkFacts, Linked, List, None, NotRelaxable, Ok, Operands, Phase, Ppc64, Rela, Relative, RelaxContext, Relaxation, Rewrite, RewritesAreGroups, Rewritten, RewrittenWithSymbol, RowInfo, Scope, Some, SymRelGotBase, Symbol, ThreadOffset, TpOff, UnrelaxableGroups, UntouchedByOthers, UntouchedBytes, [], addend_after, and_parts, ap, arith, byte_at, bytes_row, cases_lt, changed_toc, choice, chosen_at, count, decision_at, drop, drop-drop, entry, entry_address, entry_of, eqb, false, from_le_bytes, get_or, inl, inr, instruction_at, is_labelled, is_taken, is_there, le_bytes_4, length, length-drop, not, of_first, offset_after, offset_of, operands_by, operands_with, ppc64_none, ppc64_scope_in, r_type_of, refl, relaxation_no_op, relaxation_rewrite, relocation_in, replaces, signed_row, slice_get, subst, sum_64, sym, take, take-take, to_le_bytes, true, two_at, value_of, w32, window_of_rewrite, word_below, word_of, word_of_front, ℕ, ◌&&◌, ◌*◌, ◌+◌, ◌-◌, ◌<◌, ◌^◌, ◌∙◌, ◌∷◌, ◌≡◌, ◌≤◌, ◌⊎◌}
-use Rattle.linker_final.specs.Ppc64Section.{AreLeftAlone, HasApplied, NamesAreLeft, Restores, RewrittenAgain, kind_at, kind_by, kind_of, name_of, of_call, shape, to_second, IsMade as IsMadeThere, Law, Left, applied, entry_by, law, law_of, none, rewriting, span}
+use Rattle.linker_final.specs.Ppc64Section.{AreLeftAlone, HasApplied, NamesAreLeft, RewrittenAgain, kind_at, kind_by, kind_of, shape, IsMade as IsMadeThere, entry_by, rewriting, span}
 use Rattle.linker_elf.specs.Choices.{Entry}
 use Rattle.linker_elf.specs.Ppc64Relocations.{branch_row, high_adjusted_row, low_ds_row, low_row, ppc64_name, ppc64_row, prefixed_row}
 use Rattle.linker_elf.specs.declared.elf.RelocationKind.TheVariants.{None as NoValue}
@@ -9,8 +9,8 @@ use Rattle.linker_elf.specs.declared.ppc64.forms.Ppc64Form.TheVariants.{Branch24
 use Rattle.linker_elf.specs.declared.ppc64.relocations.Ppc64Relocation.{Ppc64Relocation}
 use Rattle.linker_final.proofs.SectionRuns.{AreIn, IsIn, each_or, is_linked, without_label}
 use Rattle.linker_final.proofs.Written.{IsOfInstruction, IsRowOf, apart_with, applied_after, by_name, entry_is_there, first_same, left_within, made_there, mapped, of_bits, outside_of, rela, rela_at, relocation_is, relocation_left, second_same, small_byte, spared, stays, unwritten_but, unwritten_without, window_byte, window_length, word_same}
-use Rattle.linker_laws.specs.Ppc64Groups.{AreGroup, CallTo, Code, Groups, Has, IsPrefixed, LowOverBase, Rewrites as AreRewritten_so, RewritesBoth, Stands, WordOverBase}
-use Rattle.linker_laws.specs.Ppc64RewriteLaws.{IsRelocated, IsRewritten, from_thread, from_toc}
+use Rattle.linker_laws.specs.Ppc64Groups.{AreGroup, Code, Groups, Has, IsPrefixed, Law, Left, Sort, Stands, applied, law, law_of, name_of, none, of_call, to_second}
+use Rattle.linker_laws.specs.Ppc64RewriteLaws.{IsRelocated, IsRewritten}
 use Rattle.linker_utils.specs.Ppc64Rewrites.{Conditions, HasTest, HasTwo, Ppc64Applies, addis_of_thread, by_displacement, by_word_displacement, called_to_initial_exec, called_to_local_exec, called_to_module, direct, is_add_of_thread, is_addi, is_addis_of_toc, is_addis_over, is_call, is_indexed, is_indexed_any, is_indexed_word, is_ld, is_pla, is_pld, nop, over_base, paddi, paddi_of_thread, pld, ppc64_entries, ppc64_matches, ppc64_rewrite, registers_of, restores_toc, rewrites_call, rewrites_marked, rewrites_word, rt_of, to_distance, to_initial_exec, to_local_exec, to_local_exec_words, to_module, to_move, to_near_initial_exec, to_prefixed_initial_exec, to_prefixed_local_exec, to_toc_distance, two_words, without_high_offset, without_high_part}
 use Rattle.linker_utils.specs.declared.ppc64.rewrites.RewriteKind.{RewriteKind}
 use Rattle.linker_elf.specs.declared.ppc64.relocations.Ppc64Relocation.TheVariants as names
@@ -364,12 +364,12 @@ Final l i at n left =
     → (symbol : Symbol) (any : ℕ) → slice_get l.symbols (relocation_in l.relocations_after i).symbol ≡ Some symbol
     → IsMadeThere left l i symbol any c n pc (take (4 * n) (drop at l.rewritten))
 
-pub record IsLawful (l : Linked) (i : ℕ) (chosen : Choice Relaxation ℕ) (kind : RewriteKind) (at n : ℕ) (law : Law)
-    : Type 0 where
+pub record IsLawful (l : Linked) (i : ℕ) (chosen : Choice Relaxation ℕ) (name : Ppc64Relocation) (kind : RewriteKind)
+    (at n : ℕ) (law : Law) : Type 0 where
   pub kind_is : chosen.kind ≡ relaxations.Ppc64 kind
   pub r_type_is : chosen.relocation ≡ r_type_of (ppc64_name (name_of law.left))
   pub group : IsRewrittenByNoOther l i at
-      → law.IsGroup (take (4 * n) (drop at l.section)) (take (4 * n) (drop at l.rewritten))
+      → law.IsGroup name (name_of law.left) (take (4 * n) (drop at l.section)) (take (4 * n) (drop at l.rewritten))
   pub final : Final l i at n law.left
   -- a byte outside stays, or no rewrite has it
   pub others : (b : ℕ) → (b < at) ⊎ (at + 4 * n ≤ b)
@@ -378,7 +378,7 @@ pub record IsLawful (l : Linked) (i : ℕ) (chosen : Choice Relaxation ℕ) (kin
 abbrev pub Lawful : Linked → ℕ → Choice Relaxation ℕ → Ppc64Relocation → Type 0
 Lawful l i chosen name =
     (kind : RewriteKind)
-    × IsLawful l i chosen kind (shape kind (offset_of l i)).0 (shape kind (offset_of l i)).1 (law_of name kind)
+    × IsLawful l i chosen name kind (shape kind (offset_of l i)).0 (shape kind (offset_of l i)).1 (law_of name kind)
 
 only : {A : Type 0} → A ⊎ ⊥ → A
 only (inl this) = this
@@ -470,52 +470,80 @@ module _ (l : Linked) (linked : IsLinked l) (ppc64 : l.context.architecture ≡ 
 
   -- ---- one rewrite
 
-  -- of a word
-  word : (kind : RewriteKind) (a : After 1) (conditions : Conditions) (test : ℕ → Bool) (AreSo : AreGroup)
-      → AreRewritten_so test kind AreSo → (new : ℕ → ℕ) → ppc64_rewrite kind ≡ Some (rewrites_word new)
+  -- the group of a row
+  abbrev Of : Ppc64Relocation → RewriteKind → AreGroup
+  Of name kind = (law_of name kind).IsGroup
+
+  -- of n words, where the rewrite begins at the relocation
+  replaced : (name : Ppc64Relocation) (kind : RewriteKind) (sort : Sort) (n : ℕ) (left : Left) (conditions : Conditions)
+      (made : Rewrite) → ppc64_rewrite kind ≡ Some made → made.back ≡ 0 → made.len ≡ 4 * n
+      → (left_after.offset ≡ made.offset (offset_of l i) → left_after.r_type ≡ r_type_of (ppc64_name (name_of left))
+      → Final l i (offset_of l i) n left)
       → (ppc64_matches kind l.section (offset_of l i)
-      → ((offset_of l i) + 4 ≤ length l.section) × IsTrue (test (word_of (instruction_at l.section (offset_of l i)))))
-      → IsOfEntry (entry kind (name_of a.left) conditions) l.section (offset_of l i) chosen → IsLawful l i chosen kind (offset_of l i) 1 (law a.left AreSo)
-  word kind a conditions test AreSo so new is meant by =
-      let left = made_after l linked.made i chosen below decided kind by.kind_is (name_of a.left) by.r_type_is (rewrites_word new) is in
+      → IsRewritten kind (take (4 * n) (drop (offset_of l i) l.section)) (take (4 * n) (drop (offset_of l i) l.rewritten))
+      → Of name kind name (name_of left) (take (4 * n) (drop (offset_of l i) l.section)) (take (4 * n) (drop (offset_of l i) l.rewritten)))
+      → IsOfEntry (entry kind (name_of left) conditions) l.section (offset_of l i) chosen
+      → IsLawful l i chosen name kind (offset_of l i) n (law sort left (Of name kind))
+  replaced name kind sort n left conditions made is back len final group by =
+      let after = made_after l linked.made i chosen below decided kind by.kind_is (name_of left) by.r_type_is made is in
       record {
         kind_is = by.kind_is;
         r_type_is = by.r_type_is;
-        group = λ alone.
-            so (instruction_at l.section (offset_of l i)) (instruction_at l.rewritten (offset_of l i)) ((meant by.meant).1)
-            (becomes l linked.made i chosen below decided kind by.kind_is (rewrites_word new) is refl);
-        final = a.final (offset_of l i) (ap (λ (r : Rela). r.offset) left) (ap (λ (r : Rela). r.r_type) left);
-        others = λ b apart. inl (others_at kind by.kind_is (rewrites_word new) is refl b apart);
+        group = λ alone. group by.meant
+            (subst (λ m. IsRewritten kind (take m (drop (offset_of l i) l.section)) (take m (drop (offset_of l i) l.rewritten))) len
+            (becomes l linked.made i chosen below decided kind by.kind_is made is back));
+        final = final (ap (λ (r : Rela). r.offset) after) (ap (λ (r : Rela). r.r_type) after);
+        others = λ b apart. inl (others_at kind by.kind_is made is back b
+            (subst (λ m. (b < offset_of l i) ⊎ (offset_of l i + m ≤ b)) (sym len) apart));
       }
 
-  -- of one of a sort
-  of_sort : (kind : RewriteKind) (a : After 1) (conditions : Conditions) (test : ℕ → Bool) (AreSo : AreGroup)
-      → AreRewritten_so test kind AreSo → (new : ℕ → ℕ) → ppc64_rewrite kind ≡ Some (rewrites_word new)
+  -- of a word of a sort
+  of_sort : (name : Ppc64Relocation) (kind : RewriteKind) (a : After 1) (conditions : Conditions) (test : ℕ → Bool)
+      → groups.Holds (groups.word test) kind (Of name kind name (name_of a.left))
+      → (new : ℕ → ℕ) → ppc64_rewrite kind ≡ Some (rewrites_word new)
       → (ppc64_matches kind l.section (offset_of l i) → HasTest test l.section (offset_of l i))
-      → IsOfEntry (entry kind (name_of a.left) conditions) l.section (offset_of l i) chosen → IsLawful l i chosen kind (offset_of l i) 1 (law a.left AreSo)
-  of_sort kind a conditions test AreSo so new is meant =
-      word kind a conditions test AreSo so new is (λ m. ((meant m).0, test_at l (offset_of l i) test (meant m)))
+      → IsOfEntry (entry kind (name_of a.left) conditions) l.section (offset_of l i) chosen
+      → IsLawful l i chosen name kind (offset_of l i) 1 (law (groups.word test) a.left (Of name kind))
+  of_sort name kind a conditions test so new is meant =
+      replaced name kind (groups.word test) 1 a.left conditions (rewrites_word new) is refl refl (a.final (offset_of l i))
+      (λ m made. so (instruction_at l.section (offset_of l i)) (instruction_at l.rewritten (offset_of l i))
+      (test_at l (offset_of l i) test (meant m)) made)
 
-  load : (AreSo : AreGroup) → AreRewritten_so is_ld kinds.LdToAddisThread AreSo
+  -- of any
+  of_any : (name : Ppc64Relocation) (kind : RewriteKind) (a : After 1) (conditions : Conditions)
+      → groups.Holds groups.any kind (Of name kind name (name_of a.left))
+      → (new : ℕ → ℕ) → ppc64_rewrite kind ≡ Some (rewrites_word new)
+      → IsOfEntry (entry kind (name_of a.left) conditions) l.section (offset_of l i) chosen
+      → IsLawful l i chosen name kind (offset_of l i) 1 (law groups.any a.left (Of name kind))
+  of_any name kind a conditions so new is =
+      replaced name kind groups.any 1 a.left conditions (rewrites_word new) is refl refl (a.final (offset_of l i))
+      (λ m made. so (instruction_at l.section (offset_of l i)) (instruction_at l.rewritten (offset_of l i)) made)
+
+  load : (name : Ppc64Relocation)
+      → groups.Holds (groups.word is_ld) kinds.LdToAddisThread (Of name kinds.LdToAddisThread name names.R_PPC64_TPREL16_HA)
       → IsOfEntry (entry kinds.LdToAddisThread names.R_PPC64_TPREL16_HA to_local_exec) l.section (offset_of l i) chosen
-      → IsLawful l i chosen kinds.LdToAddisThread (offset_of l i) 1 (law (applied names.R_PPC64_TPREL16_HA) AreSo)
-  load AreSo so =
+      → IsLawful l i chosen name kinds.LdToAddisThread (offset_of l i) 1
+      (law (groups.word is_ld) (applied names.R_PPC64_TPREL16_HA) (Of name kinds.LdToAddisThread))
+  load name so =
       let w = word_of (instruction_at l.section (offset_of l i)) in
-      word kinds.LdToAddisThread (named names.R_PPC64_TPREL16_HA writes.thread_high) to_local_exec is_ld AreSo so
-      (λ word. addis_of_thread (rt_of word)) refl
-      (λ m. (m.0, (and_parts (is_ld w) (not (eqb (rt_of w) 0)) (test_at l (offset_of l i) (λ word. is_ld word && not (eqb (rt_of word) 0)) m)).0))
+      replaced name kinds.LdToAddisThread (groups.word is_ld) 1 (applied names.R_PPC64_TPREL16_HA) to_local_exec
+      (rewrites_word (λ word. addis_of_thread (rt_of word))) refl refl refl
+      ((named names.R_PPC64_TPREL16_HA writes.thread_high).final (offset_of l i))
+      (λ m made. so (instruction_at l.section (offset_of l i)) (instruction_at l.rewritten (offset_of l i))
+      (and_parts (is_ld w) (not (eqb (rt_of w) 0)) (test_at l (offset_of l i) (λ word. is_ld word && not (eqb (rt_of word) 0)) m)).0 made)
 
-  kept : (a : After 1) (conditions : Conditions) (AreSo : AreGroup) → groups.Stays AreSo
+  kept : (name : Ppc64Relocation) (a : After 1) (conditions : Conditions)
+      → groups.Holds groups.kept kinds.KeepAddis (Of name kinds.KeepAddis name (name_of a.left))
       → IsOfEntry (entry kinds.KeepAddis (name_of a.left) conditions) l.section (offset_of l i) chosen
-      → IsLawful l i chosen kinds.KeepAddis (offset_of l i) 1 (law a.left AreSo)
-  kept a conditions AreSo so by =
+      → IsLawful l i chosen name kinds.KeepAddis (offset_of l i) 1 (law groups.kept a.left (Of name kinds.KeepAddis))
+  kept name a conditions so by =
       let before = instruction_at l.section (offset_of l i) in
       let left = after_is l linked.made i chosen below decided kinds.KeepAddis by.kind_is (name_of a.left) by.r_type_is in
       let none_is : relaxation_rewrite chosen.kind ≡ None = ap relaxation_rewrite by.kind_is in
       record {
         kind_is = by.kind_is;
         r_type_is = by.r_type_is;
-        group = λ alone. subst (AreSo before) (sym (stays l linked.made i chosen below decided none_is alone))
+        group = λ alone. subst (Of name kinds.KeepAddis name (name_of a.left) before) (sym (stays l linked.made i chosen below decided none_is alone))
             (so before (test_at l (offset_of l i) is_addis_of_toc by.meant) refl);
         final = a.final (offset_of l i) (ap (λ (r : Rela). r.offset) left) (ap (λ (r : Rela). r.r_type) left);
         others = λ b apart. inl (spared l i (Rewritten chosen) decided (ap window_of_rewrite none_is) b);
@@ -542,37 +570,25 @@ module _ (l : Linked) (linked : IsLinked l) (ppc64 : l.context.architecture ≡ 
       }
 
   -- of 8 bytes, by the rewrite of these
-  of_two : (kind : RewriteKind) (a : After 2) (conditions : Conditions) (test : ℕ → ℕ → Bool) (AreSo : AreGroup)
-      → RewritesBoth test kind AreSo → (bytes : List ℕ → List ℕ) → ppc64_rewrite kind ≡ Some (replaces 0 8 bytes)
+  of_two : (name : Ppc64Relocation) (kind : RewriteKind) (a : After 2) (conditions : Conditions) (test : ℕ → ℕ → Bool)
+      → groups.Holds (groups.both test) kind (Of name kind name (name_of a.left))
+      → (bytes : List ℕ → List ℕ) → ppc64_rewrite kind ≡ Some (replaces 0 8 bytes)
       → (ppc64_matches kind l.section (offset_of l i) → HasTwo test l.section (offset_of l i))
-      → IsOfEntry (entry kind (name_of a.left) conditions) l.section (offset_of l i) chosen → IsLawful l i chosen kind (offset_of l i) 2 (law a.left AreSo)
-  of_two kind a conditions test AreSo so bytes is meant by =
-      let left = made_after l linked.made i chosen below decided kind by.kind_is (name_of a.left) by.r_type_is (replaces 0 8 bytes) is in
-      record {
-        kind_is = by.kind_is;
-        r_type_is = by.r_type_is;
-        group = λ alone.
-            so (two_at l.section (offset_of l i)) (two_at l.rewritten (offset_of l i)) (both test (meant by.meant))
-            (becomes l linked.made i chosen below decided kind by.kind_is (replaces 0 8 bytes) is refl);
-        final = a.final (offset_of l i) (ap (λ (r : Rela). r.offset) left) (ap (λ (r : Rela). r.r_type) left);
-        others = λ b apart. inl (others_at kind by.kind_is (replaces 0 8 bytes) is refl b apart);
-      }
+      → IsOfEntry (entry kind (name_of a.left) conditions) l.section (offset_of l i) chosen
+      → IsLawful l i chosen name kind (offset_of l i) 2 (law (groups.both test) a.left (Of name kind))
+  of_two name kind a conditions test so bytes is meant =
+      replaced name kind (groups.both test) 2 a.left conditions (replaces 0 8 bytes) is refl refl (a.final (offset_of l i))
+      (λ m made. so (two_at l.section (offset_of l i)) (two_at l.rewritten (offset_of l i)) (both test (meant m)) made)
 
   -- of a call and what follows it
-  call : (kind : RewriteKind) (left : Left) (conditions : Conditions) (AreSo : AreGroup)
-      → AreRewritten_so groups.is_any kind AreSo → (new : ℕ) → ppc64_rewrite kind ≡ Some (rewrites_call new)
+  call : (name : Ppc64Relocation) (kind : RewriteKind) (left : Left) (conditions : Conditions)
+      → groups.Holds groups.any kind (Of name kind name (name_of left)) → (new : ℕ) → ppc64_rewrite kind ≡ Some (rewrites_call new)
       → (left_after.offset ≡ (offset_of l i) + 4 → left_after.r_type ≡ r_type_of (ppc64_name (name_of left)) → Final l i (offset_of l i) 2 left)
-      → IsOfEntry (entry kind (name_of left) conditions) l.section (offset_of l i) chosen → IsLawful l i chosen kind (offset_of l i) 2 (law left AreSo)
-  call kind left conditions AreSo so new is final by =
-      let made = made_after l linked.made i chosen below decided kind by.kind_is (name_of left) by.r_type_is (rewrites_call new) is in
-      record {
-        kind_is = by.kind_is;
-        r_type_is = by.r_type_is;
-        group = λ alone. so (two_at l.section (offset_of l i)) (two_at l.rewritten (offset_of l i)) refl
-            (becomes l linked.made i chosen below decided kind by.kind_is (rewrites_call new) is refl);
-        final = final (ap (λ (r : Rela). r.offset) made) (ap (λ (r : Rela). r.r_type) made);
-        others = λ b apart. inl (others_at kind by.kind_is (rewrites_call new) is refl b apart);
-      }
+      → IsOfEntry (entry kind (name_of left) conditions) l.section (offset_of l i) chosen
+      → IsLawful l i chosen name kind (offset_of l i) 2 (law groups.any left (Of name kind))
+  call name kind left conditions so new is final =
+      replaced name kind groups.any 2 left conditions (rewrites_call new) is refl refl final
+      (λ m made. so (two_at l.section (offset_of l i)) (two_at l.rewritten (offset_of l i)) made)
 
   -- the low half in its second word
   low_half : left_after.offset ≡ (offset_of l i) + 4 → left_after.r_type ≡ r_type_of (ppc64_name names.R_PPC64_TPREL16_LO)
@@ -593,12 +609,13 @@ module _ (l : Linked) (linked : IsLinked l) (ppc64 : l.context.architecture ≡ 
   )
 
   -- of an instruction that begins before its mark
-  marked : (kind : RewriteKind) (test : ℕ → Bool) (AreSo : AreGroup) → AreRewritten_so test kind AreSo
+  marked : (name : Ppc64Relocation) (kind : RewriteKind) (test : ℕ → Bool)
+      → groups.Holds (groups.word test) kind (Of name kind name names.R_PPC64_NONE)
       → (new : ℕ → ℕ) → ppc64_rewrite kind ≡ Some (rewrites_marked new)
       → (ppc64_matches kind l.section (offset_of l i) → HasTest test l.section (marked_offset l i))
       → IsOfEntry (entry kind names.R_PPC64_NONE to_prefixed_local_exec) l.section (offset_of l i) chosen
-      → IsLawful l i chosen kind ((offset_of l i) - 1) 1 (law none AreSo)
-  marked kind test AreSo so new is meant by =
+      → IsLawful l i chosen name kind ((offset_of l i) - 1) 1 (law (groups.word test) none (Of name kind))
+  marked name kind test so new is meant by =
       let left = made_after l linked.made i chosen below decided kind by.kind_is names.R_PPC64_NONE by.r_type_is (rewrites_marked new) is in
       record {
         kind_is = by.kind_is;
@@ -611,9 +628,10 @@ module _ (l : Linked) (linked : IsLinked l) (ppc64 : l.context.architecture ≡ 
       }
 
   -- of the `nop` after a call that may change the TOC pointer
-  restores : RewritesBoth is_call kinds.NopToRestoreToc groups.RestoresToc
+  restores : groups.Holds groups.after_call kinds.NopToRestoreToc (groups.RestoresToc names.R_PPC64_REL24 names.R_PPC64_REL24)
       → IsOfEntry (entry kinds.NopToRestoreToc names.R_PPC64_REL24 (changed_toc ∷ [])) l.section (offset_of l i) chosen
-      → IsLawful l i chosen kinds.NopToRestoreToc ((offset_of l i) + 4) 1 (law of_call Restores)
+      → IsLawful l i chosen names.R_PPC64_REL24 kinds.NopToRestoreToc ((offset_of l i) + 4) 1
+      (law groups.after_call of_call groups.RestoresToc)
   restores so by =
       let left = made_after l linked.made i chosen below decided kinds.NopToRestoreToc by.kind_is names.R_PPC64_REL24 by.r_type_is (replaces 0 8 restores_toc) refl in
       let offset = ap (λ (r : Rela). r.offset) left in
@@ -622,10 +640,10 @@ module _ (l : Linked) (linked : IsLinked l) (ppc64 : l.context.architecture ≡ 
       record {
         kind_is = by.kind_is;
         r_type_is = by.r_type_is;
-        group = λ alone call restored same same_after c k s old new.
+        group = λ alone c k s old new.
             so (two_at l.section (offset_of l i)) (two_at l.rewritten (offset_of l i)) (both is_call by.meant) made c k s
-            (subst (Stands 1 c.old s.pc) (same ∙ sym (second_same l.section (offset_of l i))) old)
-            (subst (Stands 1 c.new s.pc) (same_after ∙ sym (second_same l.rewritten (offset_of l i))) new);
+            (subst (Stands 1 c.old s.pc) (sym (second_same l.section (offset_of l i))) old)
+            (subst (Stands 1 c.new s.pc) (sym (second_same l.rewritten (offset_of l i))) new);
         final = λ alone c pc stands symbol any is_symbol.
             one_stands c.new pc (drop ((offset_of l i) + 4) l.final) (instruction_at l.rewritten ((offset_of l i) + 4))
             (left_beside l linked ppc64 i below names.R_PPC64_REL24
@@ -654,77 +672,77 @@ module _ (l : Linked) (linked : IsLinked l) (ppc64 : l.context.architecture ≡ 
 
   pub law_of_name : Groups → (name : Ppc64Relocation) → IsNameOf ppc64_name (relocation_in l.relocations i).r_type name
       → IsOfOne (ppc64_entries name) l.section (offset_of l i) chosen → IsNamed (ppc64_name name) × Lawful l i chosen name
-  law_of_name laws names.R_PPC64_REL24 is_name of = (tt, (kinds.NopToRestoreToc, restores laws.toc (only of)))
+  law_of_name laws names.R_PPC64_REL24 is_name of = (tt, (kinds.NopToRestoreToc, restores (laws.rewrites names.R_PPC64_REL24 kinds.NopToRestoreToc) (only of)))
   law_of_name laws names.R_PPC64_TOC16_HA is_name of =
-      (tt, (kinds.AddisToNop, of_sort kinds.AddisToNop gone without_high_part (is_addis_over 2) groups.TocHigh (laws.high_halves.0) (λ _. nop) refl (λ m. m) (only of)))
+      (tt, (kinds.AddisToNop, of_sort names.R_PPC64_TOC16_HA kinds.AddisToNop gone without_high_part (is_addis_over 2) (laws.rewrites names.R_PPC64_TOC16_HA kinds.AddisToNop) (λ _. nop) refl (λ m. m) (only of)))
   law_of_name laws names.R_PPC64_TOC16_LO is_name of =
-      (tt, (kinds.BaseToToc, word kinds.BaseToToc (named names.R_PPC64_TOC16 writes.toc) without_high_part groups.is_any (LowOverBase 2 names.R_PPC64_TOC16_LO names.R_PPC64_TOC16 from_toc) (laws.low_halves.0) (over_base 2) refl (λ m. (m.0, refl)) (only of)))
+      (tt, (kinds.BaseToToc, of_any names.R_PPC64_TOC16_LO kinds.BaseToToc (named names.R_PPC64_TOC16 writes.toc) without_high_part (laws.rewrites names.R_PPC64_TOC16_LO kinds.BaseToToc) (over_base 2) refl (only of)))
   law_of_name laws names.R_PPC64_TOC16_LO_DS is_name of =
-      (tt, (kinds.BaseToToc, word kinds.BaseToToc (named names.R_PPC64_TOC16_DS writes.toc_words) without_high_part groups.is_any (WordOverBase 2 names.R_PPC64_TOC16_LO_DS names.R_PPC64_TOC16_DS from_toc) (laws.low_halves.1) (over_base 2) refl (λ m. (m.0, refl)) (only of)))
+      (tt, (kinds.BaseToToc, of_any names.R_PPC64_TOC16_LO_DS kinds.BaseToToc (named names.R_PPC64_TOC16_DS writes.toc_words) without_high_part (laws.rewrites names.R_PPC64_TOC16_LO_DS kinds.BaseToToc) (over_base 2) refl (only of)))
   law_of_name laws names.R_PPC64_TPREL16_HA is_name of =
-      (tt, (kinds.AddisThreadToNop, of_sort kinds.AddisThreadToNop gone without_high_offset (is_addis_over 13) groups.ThreadHigh (laws.high_halves.1) (λ _. nop) refl (λ m. m) (only of)))
+      (tt, (kinds.AddisThreadToNop, of_sort names.R_PPC64_TPREL16_HA kinds.AddisThreadToNop gone without_high_offset (is_addis_over 13) (laws.rewrites names.R_PPC64_TPREL16_HA kinds.AddisThreadToNop) (λ _. nop) refl (λ m. m) (only of)))
   law_of_name laws names.R_PPC64_TPREL16_LO is_name of =
-      (tt, (kinds.BaseToThread, word kinds.BaseToThread (named names.R_PPC64_TPREL16 writes.thread) without_high_offset groups.is_any (LowOverBase 13 names.R_PPC64_TPREL16_LO names.R_PPC64_TPREL16 from_thread) (laws.low_halves.2) (over_base 13) refl (λ m. (m.0, refl)) (only of)))
+      (tt, (kinds.BaseToThread, of_any names.R_PPC64_TPREL16_LO kinds.BaseToThread (named names.R_PPC64_TPREL16 writes.thread) without_high_offset (laws.rewrites names.R_PPC64_TPREL16_LO kinds.BaseToThread) (over_base 13) refl (only of)))
   law_of_name laws names.R_PPC64_TPREL16_LO_DS is_name of =
-      (tt, (kinds.BaseToThread, word kinds.BaseToThread (named names.R_PPC64_TPREL16_DS writes.thread_words) without_high_offset groups.is_any (WordOverBase 13 names.R_PPC64_TPREL16_LO_DS names.R_PPC64_TPREL16_DS from_thread) (laws.low_halves.3) (over_base 13) refl (λ m. (m.0, refl)) (only of)))
+      (tt, (kinds.BaseToThread, of_any names.R_PPC64_TPREL16_LO_DS kinds.BaseToThread (named names.R_PPC64_TPREL16_DS writes.thread_words) without_high_offset (laws.rewrites names.R_PPC64_TPREL16_LO_DS kinds.BaseToThread) (over_base 13) refl (only of)))
   law_of_name laws names.R_PPC64_GOT_PCREL34 is_name of =
-      (tt, (kinds.PldToPaddi, of_two kinds.PldToPaddi (both_named names.R_PPC64_PCREL34 writes.distance) to_distance is_pld groups.PldToPaddi laws.prefixed paddi refl (λ m. m) (only of)))
+      (tt, (kinds.PldToPaddi, of_two names.R_PPC64_GOT_PCREL34 kinds.PldToPaddi (both_named names.R_PPC64_PCREL34 writes.distance) to_distance is_pld (laws.rewrites names.R_PPC64_GOT_PCREL34 kinds.PldToPaddi) paddi refl (λ m. m) (only of)))
   law_of_name laws names.R_PPC64_GOT16_HA is_name of =
-      (tt, (kinds.KeepAddis, kept (named names.R_PPC64_TOC16_HA writes.toc_high) to_toc_distance groups.AddressHigh (laws.kept_high_halves.0) (only of)))
+      (tt, (kinds.KeepAddis, kept names.R_PPC64_GOT16_HA (named names.R_PPC64_TOC16_HA writes.toc_high) to_toc_distance (laws.rewrites names.R_PPC64_GOT16_HA kinds.KeepAddis) (only of)))
   law_of_name laws names.R_PPC64_GOT16_LO_DS is_name of =
-      (tt, (kinds.LdToAddi, of_sort kinds.LdToAddi (named names.R_PPC64_TOC16_LO writes.toc_low) to_toc_distance is_ld groups.LoadToSum laws.loads (λ word. 0x38000000 + registers_of word) refl (λ m. m) (only of)))
+      (tt, (kinds.LdToAddi, of_sort names.R_PPC64_GOT16_LO_DS kinds.LdToAddi (named names.R_PPC64_TOC16_LO writes.toc_low) to_toc_distance is_ld (laws.rewrites names.R_PPC64_GOT16_LO_DS kinds.LdToAddi) (λ word. 0x38000000 + registers_of word) refl (λ m. m) (only of)))
   law_of_name laws names.R_PPC64_GOT_TPREL16_HA is_name of =
-      (tt, (kinds.AddisToNop, of_sort kinds.AddisToNop gone to_local_exec (is_addis_over 2) groups.OffsetHigh (laws.high_halves.2) (λ _. nop) refl (λ m. m) (only of)))
-  law_of_name laws names.R_PPC64_GOT_TPREL16_LO_DS is_name of = (tt, (kinds.LdToAddisThread, load (groups.OffsetToHighHalf names.R_PPC64_GOT_TPREL16_LO_DS) laws.offsets (only of)))
-  law_of_name laws names.R_PPC64_GOT_TPREL16_DS is_name of = (tt, (kinds.LdToAddisThread, load (groups.OffsetToHighHalf names.R_PPC64_GOT_TPREL16_DS) laws.near_offsets (only of)))
+      (tt, (kinds.AddisToNop, of_sort names.R_PPC64_GOT_TPREL16_HA kinds.AddisToNop gone to_local_exec (is_addis_over 2) (laws.rewrites names.R_PPC64_GOT_TPREL16_HA kinds.AddisToNop) (λ _. nop) refl (λ m. m) (only of)))
+  law_of_name laws names.R_PPC64_GOT_TPREL16_LO_DS is_name of = (tt, (kinds.LdToAddisThread, load names.R_PPC64_GOT_TPREL16_LO_DS (laws.rewrites names.R_PPC64_GOT_TPREL16_LO_DS kinds.LdToAddisThread) (only of)))
+  law_of_name laws names.R_PPC64_GOT_TPREL16_DS is_name of = (tt, (kinds.LdToAddisThread, load names.R_PPC64_GOT_TPREL16_DS (laws.rewrites names.R_PPC64_GOT_TPREL16_DS kinds.LdToAddisThread) (only of)))
   law_of_name laws names.R_PPC64_GOT_TPREL_PCREL34 is_name of =
-      (tt, (kinds.PldToPaddiThread, of_two kinds.PldToPaddiThread (both_named names.R_PPC64_TPREL34 writes.thread_prefixed) to_prefixed_local_exec is_pld groups.LoadToVariable (laws.variables.1) (paddi_of_thread 0) refl (λ m. m) (only of)))
+      (tt, (kinds.PldToPaddiThread, of_two names.R_PPC64_GOT_TPREL_PCREL34 kinds.PldToPaddiThread (both_named names.R_PPC64_TPREL34 writes.thread_prefixed) to_prefixed_local_exec is_pld (laws.rewrites names.R_PPC64_GOT_TPREL_PCREL34 kinds.PldToPaddiThread) (paddi_of_thread 0) refl (λ m. m) (only of)))
   law_of_name laws names.R_PPC64_TLS is_name (inl by) =
-      (tt, (kinds.AddToAddi, of_sort kinds.AddToAddi (named names.R_PPC64_TPREL16_LO writes.thread_low) to_local_exec is_add_of_thread groups.AddOverOffset (laws.low_offsets.0) (λ word. 0x38000000 + registers_of word) refl (λ m. m.1) by))
+      (tt, (kinds.AddToAddi, of_sort names.R_PPC64_TLS kinds.AddToAddi (named names.R_PPC64_TPREL16_LO writes.thread_low) to_local_exec is_add_of_thread (laws.rewrites names.R_PPC64_TLS kinds.AddToAddi) (λ word. 0x38000000 + registers_of word) refl (λ m. m.1) by))
   law_of_name laws names.R_PPC64_TLS is_name (inr (inl by)) =
-      (tt, (kinds.IndexedToD, of_sort kinds.IndexedToD (named names.R_PPC64_TPREL16_LO writes.thread_low) to_local_exec is_indexed groups.AccessOverOffset (laws.low_offsets.1) by_displacement refl (λ m. m.1) by))
+      (tt, (kinds.IndexedToD, of_sort names.R_PPC64_TLS kinds.IndexedToD (named names.R_PPC64_TPREL16_LO writes.thread_low) to_local_exec is_indexed (laws.rewrites names.R_PPC64_TLS kinds.IndexedToD) by_displacement refl (λ m. m.1) by))
   law_of_name laws names.R_PPC64_TLS is_name (inr (inr (inl by))) =
-      (tt, (kinds.IndexedToDs, of_sort kinds.IndexedToDs (named names.R_PPC64_TPREL16_LO_DS writes.thread_low_words) to_local_exec_words is_indexed_word groups.WordOverOffset (laws.low_offsets.2) by_word_displacement refl (λ m. m.1) by))
+      (tt, (kinds.IndexedToDs, of_sort names.R_PPC64_TLS kinds.IndexedToDs (named names.R_PPC64_TPREL16_LO_DS writes.thread_low_words) to_local_exec_words is_indexed_word (laws.rewrites names.R_PPC64_TLS kinds.IndexedToDs) by_word_displacement refl (λ m. m.1) by))
   law_of_name laws names.R_PPC64_TLS is_name (inr (inr (inr (inl by)))) =
-      (tt, (kinds.AddToMove, marked kinds.AddToMove is_add_of_thread groups.SumOverVariable (laws.variable_sums.0) to_move refl (λ m. m.1) by))
+      (tt, (kinds.AddToMove, marked names.R_PPC64_TLS kinds.AddToMove is_add_of_thread (laws.rewrites names.R_PPC64_TLS kinds.AddToMove) to_move refl (λ m. m.1) by))
   law_of_name laws names.R_PPC64_TLS is_name (inr (inr (inr (inr rest)))) =
-      (tt, (kinds.IndexedToDirect, marked kinds.IndexedToDirect is_indexed_any groups.AccessOverVariable (laws.variable_sums.1) direct refl (λ m. m.1) (only rest)))
+      (tt, (kinds.IndexedToDirect, marked names.R_PPC64_TLS kinds.IndexedToDirect is_indexed_any (laws.rewrites names.R_PPC64_TLS kinds.IndexedToDirect) direct refl (λ m. m.1) (only rest)))
   law_of_name laws names.R_PPC64_GOT_TLSGD16_HA is_name (inl by) =
-      (tt, (kinds.AddisToNop, of_sort kinds.AddisToNop gone to_local_exec (is_addis_over 2) groups.GeneralHigh (laws.high_halves.3) (λ _. nop) refl (λ m. m) by))
+      (tt, (kinds.AddisToNop, of_sort names.R_PPC64_GOT_TLSGD16_HA kinds.AddisToNop gone to_local_exec (is_addis_over 2) (laws.rewrites names.R_PPC64_GOT_TLSGD16_HA kinds.AddisToNop) (λ _. nop) refl (λ m. m) by))
   law_of_name laws names.R_PPC64_GOT_TLSGD16_HA is_name (inr rest) =
-      (tt, (kinds.KeepAddis, kept (named names.R_PPC64_GOT_TPREL16_HA writes.entry_high) to_initial_exec groups.EntryHigh (laws.kept_high_halves.1) (only rest)))
+      (tt, (kinds.KeepAddis, kept names.R_PPC64_GOT_TLSGD16_HA (named names.R_PPC64_GOT_TPREL16_HA writes.entry_high) to_initial_exec (laws.rewrites names.R_PPC64_GOT_TLSGD16_HA kinds.KeepAddis) (only rest)))
   law_of_name laws names.R_PPC64_GOT_TLSGD16_LO is_name (inl by) =
-      (tt, (kinds.AddiToAddisThread, of_sort kinds.AddiToAddisThread (named names.R_PPC64_TPREL16_HA writes.thread_high) to_local_exec is_addi (groups.ArgumentToHighHalf names.R_PPC64_GOT_TLSGD16_LO) laws.arguments (λ word. addis_of_thread (rt_of word)) refl (λ m. m) by))
+      (tt, (kinds.AddiToAddisThread, of_sort names.R_PPC64_GOT_TLSGD16_LO kinds.AddiToAddisThread (named names.R_PPC64_TPREL16_HA writes.thread_high) to_local_exec is_addi (laws.rewrites names.R_PPC64_GOT_TLSGD16_LO kinds.AddiToAddisThread) (λ word. addis_of_thread (rt_of word)) refl (λ m. m) by))
   law_of_name laws names.R_PPC64_GOT_TLSGD16_LO is_name (inr rest) =
-      (tt, (kinds.AddiToLd, of_sort kinds.AddiToLd (named names.R_PPC64_GOT_TPREL16_LO_DS writes.entry_low) to_initial_exec is_addi (groups.ArgumentToOffset names.R_PPC64_GOT_TLSGD16_LO names.R_PPC64_GOT_TPREL16_LO_DS) laws.argument_offsets (λ word. 0xe8000000 + registers_of word) refl (λ m. m) (only rest)))
+      (tt, (kinds.AddiToLd, of_sort names.R_PPC64_GOT_TLSGD16_LO kinds.AddiToLd (named names.R_PPC64_GOT_TPREL16_LO_DS writes.entry_low) to_initial_exec is_addi (laws.rewrites names.R_PPC64_GOT_TLSGD16_LO kinds.AddiToLd) (λ word. 0xe8000000 + registers_of word) refl (λ m. m) (only rest)))
   law_of_name laws names.R_PPC64_GOT_TLSGD16 is_name (inl by) =
-      (tt, (kinds.AddiToAddisThread, of_sort kinds.AddiToAddisThread (named names.R_PPC64_TPREL16_HA writes.thread_high) to_local_exec is_addi (groups.ArgumentToHighHalf names.R_PPC64_GOT_TLSGD16) laws.near_arguments (λ word. addis_of_thread (rt_of word)) refl (λ m. m) by))
+      (tt, (kinds.AddiToAddisThread, of_sort names.R_PPC64_GOT_TLSGD16 kinds.AddiToAddisThread (named names.R_PPC64_TPREL16_HA writes.thread_high) to_local_exec is_addi (laws.rewrites names.R_PPC64_GOT_TLSGD16 kinds.AddiToAddisThread) (λ word. addis_of_thread (rt_of word)) refl (λ m. m) by))
   law_of_name laws names.R_PPC64_GOT_TLSGD16 is_name (inr rest) =
-      (tt, (kinds.AddiToLd, of_sort kinds.AddiToLd (named names.R_PPC64_GOT_TPREL16_DS writes.near_entry) to_near_initial_exec is_addi (groups.ArgumentToOffset names.R_PPC64_GOT_TLSGD16 names.R_PPC64_GOT_TPREL16_DS) laws.near_argument_offsets (λ word. 0xe8000000 + registers_of word) refl (λ m. m) (only rest)))
+      (tt, (kinds.AddiToLd, of_sort names.R_PPC64_GOT_TLSGD16 kinds.AddiToLd (named names.R_PPC64_GOT_TPREL16_DS writes.near_entry) to_near_initial_exec is_addi (laws.rewrites names.R_PPC64_GOT_TLSGD16 kinds.AddiToLd) (λ word. 0xe8000000 + registers_of word) refl (λ m. m) (only rest)))
   law_of_name laws names.R_PPC64_GOT_TLSGD_PCREL34 is_name (inl by) =
-      (tt, (kinds.PaddiToPaddiThread, of_two kinds.PaddiToPaddiThread (both_named names.R_PPC64_TPREL34 writes.thread_prefixed) to_prefixed_local_exec is_pla groups.ArgumentToVariable (laws.variables.0) (paddi_of_thread 0) refl (λ m. m) by))
+      (tt, (kinds.PaddiToPaddiThread, of_two names.R_PPC64_GOT_TLSGD_PCREL34 kinds.PaddiToPaddiThread (both_named names.R_PPC64_TPREL34 writes.thread_prefixed) to_prefixed_local_exec is_pla (laws.rewrites names.R_PPC64_GOT_TLSGD_PCREL34 kinds.PaddiToPaddiThread) (paddi_of_thread 0) refl (λ m. m) by))
   law_of_name laws names.R_PPC64_GOT_TLSGD_PCREL34 is_name (inr rest) =
-      (tt, (kinds.PaddiToPld, of_two kinds.PaddiToPld (both_named names.R_PPC64_GOT_TPREL_PCREL34 writes.entry_prefixed) to_prefixed_initial_exec is_pla groups.ArgumentToLoad laws.prefixed_loads pld refl (λ m. m) (only rest)))
+      (tt, (kinds.PaddiToPld, of_two names.R_PPC64_GOT_TLSGD_PCREL34 kinds.PaddiToPld (both_named names.R_PPC64_GOT_TPREL_PCREL34 writes.entry_prefixed) to_prefixed_initial_exec is_pla (laws.rewrites names.R_PPC64_GOT_TLSGD_PCREL34 kinds.PaddiToPld) pld refl (λ m. m) (only rest)))
   law_of_name laws names.R_PPC64_TLSGD is_name (inl by) =
-      (tt, (kinds.BranchToNop, word kinds.BranchToNop gone called_to_local_exec groups.is_any (CallTo 1 groups.keep_number) (laws.calls.2) (λ _. nop) refl (λ m. (m.0, refl)) by))
+      (tt, (kinds.BranchToNop, of_any names.R_PPC64_TLSGD kinds.BranchToNop gone called_to_local_exec (laws.rewrites names.R_PPC64_TLSGD kinds.BranchToNop) (λ _. nop) refl by))
   law_of_name laws names.R_PPC64_TLSGD is_name (inr (inl by)) =
-      (tt, (kinds.BranchToAdd, word kinds.BranchToAdd gone called_to_initial_exec groups.is_any (CallTo 1 sum_64) (laws.calls.3) (λ _. 0x7c636a14) refl (λ m. (m.0, refl)) by))
+      (tt, (kinds.BranchToAdd, of_any names.R_PPC64_TLSGD kinds.BranchToAdd gone called_to_initial_exec (laws.rewrites names.R_PPC64_TLSGD kinds.BranchToAdd) (λ _. 0x7c636a14) refl by))
   law_of_name laws names.R_PPC64_TLSGD is_name (inr (inr (inl by))) =
-      (tt, (kinds.CallToAddi, call kinds.CallToAddi (to_second names.R_PPC64_TPREL16_LO) to_local_exec groups.CallToLowHalf laws.call_low_halves 0x38630000 refl low_half by))
+      (tt, (kinds.CallToAddi, call names.R_PPC64_TLSGD kinds.CallToAddi (to_second names.R_PPC64_TPREL16_LO) to_local_exec (laws.rewrites names.R_PPC64_TLSGD kinds.CallToAddi) 0x38630000 refl low_half by))
   law_of_name laws names.R_PPC64_TLSGD is_name (inr (inr (inr rest))) =
-      (tt, (kinds.CallToAdd, call kinds.CallToAdd none to_initial_exec (CallTo 2 sum_64) (laws.calls.0) 0x7c636a14 refl (λ offset. two_left (offset_of l i)) (only rest)))
+      (tt, (kinds.CallToAdd, call names.R_PPC64_TLSGD kinds.CallToAdd none to_initial_exec (laws.rewrites names.R_PPC64_TLSGD kinds.CallToAdd) 0x7c636a14 refl (λ offset. two_left (offset_of l i)) (only rest)))
   law_of_name laws names.R_PPC64_GOT_TLSLD16_HA is_name of =
-      (tt, (kinds.AddisToNop, of_sort kinds.AddisToNop gone to_module (is_addis_over 2) groups.ModuleHigh (laws.high_halves.4) (λ _. nop) refl (λ m. m) (only of)))
+      (tt, (kinds.AddisToNop, of_sort names.R_PPC64_GOT_TLSLD16_HA kinds.AddisToNop gone to_module (is_addis_over 2) (laws.rewrites names.R_PPC64_GOT_TLSLD16_HA kinds.AddisToNop) (λ _. nop) refl (λ m. m) (only of)))
   law_of_name laws names.R_PPC64_GOT_TLSLD16_LO is_name of =
-      (tt, (kinds.AddiToAddisThread, of_sort kinds.AddiToAddisThread gone to_module is_addi (groups.ArgumentToThread names.R_PPC64_GOT_TLSLD16_LO) laws.module_arguments (λ word. addis_of_thread (rt_of word)) refl (λ m. m) (only of)))
+      (tt, (kinds.AddiToAddisThread, of_sort names.R_PPC64_GOT_TLSLD16_LO kinds.AddiToAddisThread gone to_module is_addi (laws.rewrites names.R_PPC64_GOT_TLSLD16_LO kinds.AddiToAddisThread) (λ word. addis_of_thread (rt_of word)) refl (λ m. m) (only of)))
   law_of_name laws names.R_PPC64_GOT_TLSLD16 is_name of =
-      (tt, (kinds.AddiToAddisThread, of_sort kinds.AddiToAddisThread gone to_module is_addi (groups.ArgumentToThread names.R_PPC64_GOT_TLSLD16) laws.near_module_arguments (λ word. addis_of_thread (rt_of word)) refl (λ m. m) (only of)))
+      (tt, (kinds.AddiToAddisThread, of_sort names.R_PPC64_GOT_TLSLD16 kinds.AddiToAddisThread gone to_module is_addi (laws.rewrites names.R_PPC64_GOT_TLSLD16 kinds.AddiToAddisThread) (λ word. addis_of_thread (rt_of word)) refl (λ m. m) (only of)))
   law_of_name laws names.R_PPC64_GOT_TLSLD_PCREL34 is_name of =
-      (tt, (kinds.PaddiToPaddi4096, of_two kinds.PaddiToPaddi4096 (record { left = none; final = λ at offset code. two_left at code }) to_module is_pla groups.ArgumentToBlock laws.prefixed_blocks (paddi_of_thread 0x1000) refl (λ m. m) (only of)))
+      (tt, (kinds.PaddiToPaddi4096, of_two names.R_PPC64_GOT_TLSLD_PCREL34 kinds.PaddiToPaddi4096 (record { left = none; final = λ at offset code. two_left at code }) to_module is_pla (laws.rewrites names.R_PPC64_GOT_TLSLD_PCREL34 kinds.PaddiToPaddi4096) (paddi_of_thread 0x1000) refl (λ m. m) (only of)))
   law_of_name laws names.R_PPC64_TLSLD is_name (inl by) =
-      (tt, (kinds.BranchToNop, word kinds.BranchToNop gone called_to_module groups.is_any (CallTo 1 groups.keep_number) (laws.calls.2) (λ _. nop) refl (λ m. (m.0, refl)) by))
+      (tt, (kinds.BranchToNop, of_any names.R_PPC64_TLSLD kinds.BranchToNop gone called_to_module (laws.rewrites names.R_PPC64_TLSLD kinds.BranchToNop) (λ _. nop) refl by))
   law_of_name laws names.R_PPC64_TLSLD is_name (inr rest) =
-      (tt, (kinds.CallToAddi4096, call kinds.CallToAddi4096 none to_module (CallTo 2 groups.add_block) (laws.calls.1) 0x38631000 refl (λ offset. two_left (offset_of l i)) (only rest)))
+      (tt, (kinds.CallToAddi4096, call names.R_PPC64_TLSLD kinds.CallToAddi4096 none to_module (laws.rewrites names.R_PPC64_TLSLD kinds.CallToAddi4096) 0x38631000 refl (λ offset. two_left (offset_of l i)) (only rest)))
   law_of_name laws names.R_PPC64_REL16_HA is_name of = absurd (unlisted names.R_PPC64_REL16_HA is_name tt (in_none names.R_PPC64_REL16_HA refl refl refl))
   law_of_name laws names.R_PPC64_REL16_LO is_name of = absurd (unlisted names.R_PPC64_REL16_LO is_name tt (in_none names.R_PPC64_REL16_LO refl refl refl))
   law_of_name laws name is_name of = absurd of
@@ -735,7 +753,7 @@ module _ (l : Linked) (linked : IsLinked l) (ppc64 : l.context.architecture ≡ 
 law_there : Groups → (l : Linked) → IsLinked l → l.context.architecture ≡ Ppc64 → (i : ℕ) (chosen : Choice Relaxation ℕ)
     → i < count l → decision_at l.decisions i ≡ Rewritten chosen → (name : Ppc64Relocation)
     → IsNameOf ppc64_name (relocation_in l.relocations i).r_type name
-    → IsLawful l i chosen (kind_at l i) (span l i).0 (shape (kind_at l i) (offset_of l i)).1 (law_of name (kind_at l i))
+    → IsLawful l i chosen name (kind_at l i) (span l i).0 (shape (kind_at l i) (offset_of l i)).1 (law_of name (kind_at l i))
 law_there laws l linked ppc64 i chosen below decided name is_name =
     let t = has_entry l linked ppc64 i chosen below decided in
     let made = law_of_name l linked ppc64 i chosen below decided laws t.name t.is_name t.of in

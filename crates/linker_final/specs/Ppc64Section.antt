@@ -12,12 +12,10 @@ use Rattle.linker_elf.specs.declared.ppc64.relocations.Ppc64Relocation.{Ppc64Rel
 use Rattle.linker_final.specs.Final.{AreRewritten, IsLinked, IsRewrittenByNoOther, Linked}
 use Rattle.linker_final.specs.Final.{Rewriting, Section, UntouchedByOthers, UntouchedBytes, count}
 use Rattle.linker_final.specs.Final.{offset_of}
-use Rattle.linker_laws.specs.Ppc64Groups.{AreGroup, CallTo, Code, Has, LowOverBase, Stands}
-use Rattle.linker_laws.specs.Ppc64Groups.{WordOverBase, link}
-use Rattle.linker_laws.specs.Ppc64RewriteLaws.{from_thread, from_toc}
+use Rattle.linker_laws.specs.Ppc64Groups.{Code, Has, Law, Left, Stands, applied, law_of, link}
+use Rattle.linker_laws.specs.Ppc64Groups.{name_of, to_second}
 use Rattle.linker_utils.specs.declared.ppc64.rewrites.RewriteKind.{RewriteKind}
 use Rattle.linker_elf.specs.declared.ppc64.relocations.Ppc64Relocation.TheVariants as names
-use Rattle.linker_laws.specs.Ppc64Groups as groups
 use Rattle.linker_utils.specs.declared.architecture.Relaxation.TheVariants as relaxations
 use Rattle.linker_utils.specs.declared.ppc64.rewrites.RewriteKind.TheVariants as kinds
 
@@ -74,113 +72,12 @@ pub record Stays (l : Linked) (b : ℕ) : Type 0 where
 
 -- ---- their laws
 
--- Which relocation is left: none; one of a name, which is applied to all words, or to the second;
--- that of the call before them.
-pub data Left : Type 0 where
-  none : Left
-  applied : Ppc64Relocation → Left
-  to_second : Ppc64Relocation → Left
-  of_call : Left
-
-abbrev pub name_of : Left → Ppc64Relocation
-name_of none = names.R_PPC64_NONE
-name_of (applied name) = name
-name_of (to_second name) = name
-name_of of_call = names.R_PPC64_REL24
-
-pub record Law : Type 1 where
-  pub left : Left
-  -- the words before and after
-  pub IsGroup : AreGroup
-
-abbrev pub law : Left → AreGroup → Law
-law left IsGroup = record { left = left; IsGroup = IsGroup }
-
--- of the `nop` after a call
-abbrev pub Restores : AreGroup
-Restores nop ld =
-    (call restored : List ℕ) → drop 4 call ≡ nop → drop 4 restored ≡ ld
-    → groups.RestoresToc call restored
-
--- by the relocation, and what becomes of the instruction
-abbrev pub law_of : Ppc64Relocation → RewriteKind → Law
-law_of names.R_PPC64_REL24 kinds.NopToRestoreToc = law of_call Restores
--- near the TOC pointer
-law_of names.R_PPC64_TOC16_HA kinds.AddisToNop = law none groups.TocHigh
-law_of names.R_PPC64_TOC16_LO kinds.BaseToToc =
-    law (applied names.R_PPC64_TOC16)
-    (LowOverBase 2 names.R_PPC64_TOC16_LO names.R_PPC64_TOC16 from_toc)
-law_of names.R_PPC64_TOC16_LO_DS kinds.BaseToToc =
-    law (applied names.R_PPC64_TOC16_DS)
-    (WordOverBase 2 names.R_PPC64_TOC16_LO_DS names.R_PPC64_TOC16_DS from_toc)
--- near the thread pointer
-law_of names.R_PPC64_TPREL16_HA kinds.AddisThreadToNop = law none groups.ThreadHigh
-law_of names.R_PPC64_TPREL16_LO kinds.BaseToThread =
-    law (applied names.R_PPC64_TPREL16)
-    (LowOverBase 13 names.R_PPC64_TPREL16_LO names.R_PPC64_TPREL16 from_thread)
-law_of names.R_PPC64_TPREL16_LO_DS kinds.BaseToThread =
-    law (applied names.R_PPC64_TPREL16_DS)
-    (WordOverBase 13 names.R_PPC64_TPREL16_LO_DS names.R_PPC64_TPREL16_DS from_thread)
--- loads of addresses
-law_of names.R_PPC64_GOT_PCREL34 kinds.PldToPaddi =
-    law (applied names.R_PPC64_PCREL34) groups.PldToPaddi
-law_of names.R_PPC64_GOT16_HA kinds.KeepAddis =
-    law (applied names.R_PPC64_TOC16_HA) groups.AddressHigh
-law_of names.R_PPC64_GOT16_LO_DS kinds.LdToAddi =
-    law (applied names.R_PPC64_TOC16_LO) groups.LoadToSum
--- initial-exec
-law_of names.R_PPC64_GOT_TPREL16_HA kinds.AddisToNop = law none groups.OffsetHigh
-law_of names.R_PPC64_GOT_TPREL16_LO_DS kinds.LdToAddisThread =
-    law (applied names.R_PPC64_TPREL16_HA) (groups.OffsetToHighHalf names.R_PPC64_GOT_TPREL16_LO_DS)
-law_of names.R_PPC64_GOT_TPREL16_DS kinds.LdToAddisThread =
-    law (applied names.R_PPC64_TPREL16_HA) (groups.OffsetToHighHalf names.R_PPC64_GOT_TPREL16_DS)
-law_of names.R_PPC64_GOT_TPREL_PCREL34 kinds.PldToPaddiThread =
-    law (applied names.R_PPC64_TPREL34) groups.LoadToVariable
-law_of names.R_PPC64_TLS kinds.AddToAddi =
-    law (applied names.R_PPC64_TPREL16_LO) groups.AddOverOffset
-law_of names.R_PPC64_TLS kinds.IndexedToD =
-    law (applied names.R_PPC64_TPREL16_LO) groups.AccessOverOffset
-law_of names.R_PPC64_TLS kinds.IndexedToDs =
-    law (applied names.R_PPC64_TPREL16_LO_DS) groups.WordOverOffset
-law_of names.R_PPC64_TLS kinds.AddToMove = law none groups.SumOverVariable
-law_of names.R_PPC64_TLS kinds.IndexedToDirect = law none groups.AccessOverVariable
--- general-dynamic, for local-exec and for initial-exec
-law_of names.R_PPC64_GOT_TLSGD16_HA kinds.AddisToNop = law none groups.GeneralHigh
-law_of names.R_PPC64_GOT_TLSGD16_HA kinds.KeepAddis =
-    law (applied names.R_PPC64_GOT_TPREL16_HA) groups.EntryHigh
-law_of names.R_PPC64_GOT_TLSGD16_LO kinds.AddiToAddisThread =
-    law (applied names.R_PPC64_TPREL16_HA) (groups.ArgumentToHighHalf names.R_PPC64_GOT_TLSGD16_LO)
-law_of names.R_PPC64_GOT_TLSGD16_LO kinds.AddiToLd =
-    law (applied names.R_PPC64_GOT_TPREL16_LO_DS)
-    (groups.ArgumentToOffset names.R_PPC64_GOT_TLSGD16_LO names.R_PPC64_GOT_TPREL16_LO_DS)
-law_of names.R_PPC64_GOT_TLSGD16 kinds.AddiToAddisThread =
-    law (applied names.R_PPC64_TPREL16_HA) (groups.ArgumentToHighHalf names.R_PPC64_GOT_TLSGD16)
-law_of names.R_PPC64_GOT_TLSGD16 kinds.AddiToLd =
-    law (applied names.R_PPC64_GOT_TPREL16_DS)
-    (groups.ArgumentToOffset names.R_PPC64_GOT_TLSGD16 names.R_PPC64_GOT_TPREL16_DS)
-law_of names.R_PPC64_GOT_TLSGD_PCREL34 kinds.PaddiToPaddiThread =
-    law (applied names.R_PPC64_TPREL34) groups.ArgumentToVariable
-law_of names.R_PPC64_GOT_TLSGD_PCREL34 kinds.PaddiToPld =
-    law (applied names.R_PPC64_GOT_TPREL_PCREL34) groups.ArgumentToLoad
-law_of names.R_PPC64_TLSGD kinds.BranchToNop = law none (CallTo 1 groups.keep_number)
-law_of names.R_PPC64_TLSGD kinds.BranchToAdd = law none (CallTo 1 sum_64)
-law_of names.R_PPC64_TLSGD kinds.CallToAddi =
-    law (to_second names.R_PPC64_TPREL16_LO) groups.CallToLowHalf
-law_of names.R_PPC64_TLSGD kinds.CallToAdd = law none (CallTo 2 sum_64)
--- local-dynamic
-law_of names.R_PPC64_GOT_TLSLD16_HA kinds.AddisToNop = law none groups.ModuleHigh
-law_of names.R_PPC64_GOT_TLSLD16_LO kinds.AddiToAddisThread =
-    law none (groups.ArgumentToThread names.R_PPC64_GOT_TLSLD16_LO)
-law_of names.R_PPC64_GOT_TLSLD16 kinds.AddiToAddisThread =
-    law none (groups.ArgumentToThread names.R_PPC64_GOT_TLSLD16)
-law_of names.R_PPC64_GOT_TLSLD_PCREL34 kinds.PaddiToPaddi4096 = law none groups.ArgumentToBlock
-law_of names.R_PPC64_TLSLD kinds.BranchToNop = law none (CallTo 1 groups.keep_number)
-law_of names.R_PPC64_TLSLD kinds.CallToAddi4096 = law none (CallTo 2 groups.add_block)
--- nothing else is rewritten
-law_of name kind = law none (λ before after. ⊥)
-
 abbrev pub law_at : (l : Linked) → Rewrites l → Law
 law_at l g = law_of g.name (kind_at l g.i)
+
+-- the words before and after are a group
+abbrev pub GroupAt : (l : Linked) → Rewrites l → List ℕ → List ℕ → Type 0
+GroupAt l g = (law_at l g).IsGroup g.name (name_of (law_at l g).left)
 
 -- ---- where old comes to them
 
@@ -236,7 +133,7 @@ pub record Begins (x : Section) (l : Linked) (c : Code) (k : Kinds) (s : State) 
   pub is_symbol : slice_get l.symbols (relocation_in l.relocations_after g.i).symbol ≡ Some symbol
   pub entry : ℕ
   pub new : IsNew l c s g symbol entry
-  pub by_law : (law_at l g).IsGroup (words_at l g.i l.section) (words_at l g.i l.rewritten)
+  pub by_law : GroupAt l g (words_at l g.i l.section) (words_at l g.i l.rewritten)
       → IsMade (law_at l g).left l g.i symbol entry c (shape_at l g.i).1 s.pc
       (words_at l g.i l.rewritten) → Group (of_link (link c)) n k s k' s'
 

@@ -1,5 +1,5 @@
 -- PowerPC64's groups.
-use Rattle.linker_laws.proofs.Imports.{Agree, AreAddresses, AreOf, Bool, Branch24, D, Ds, Group, IsRelocated, IsRewritten, IsTrue, Kind, Kinds, List, LowHalfLeads, Operands, Ppc64Form, Ppc64Relocation, Prefixed, RewriteKind, Some, State, Use, addi_of_thread, addis_of_thread, and_parts, anything, ap, arith, cases_lt, cond-false, cond-true, drop, eq-eqb, eqb, eqb-true, eqb_tells, false, field, from_thread, go_to, half, if◌then◌else◌, inl, inr, ints, is_addi, is_addis_over, is_call, is_ld, is_pla, is_pld, is_some, le-ltb, loaded, lt-ltb, moved, nat_lt, ne_eqb, not, of_link, opcode_of, pos, ppc64_form, prefixed_of, prefixed_target, put, ra_of, refl, registers_of, rt_of, run, same, subst, subst₂, suc, sum_64, sym, symbol_address, take, thread_offset, true, true≢false, two_words as two_words_of, with_register, word_of, ℕ, ◌*ℤ◌, ◌*◌, ◌+ℤ◌, ◌+◌, ◌-◌, ◌/◌, ◌<◌, ◌==◌, ◌^◌, ◌∙◌, ◌≡◌, ◌≢◌, ◌≤◌}
+use Rattle.linker_laws.proofs.Imports.{Agree, AreAddresses, AreOf, Bool, Branch24, D, Ds, Group, IsRelocated, IsRewritten, IsTrue, Kind, Kinds, List, LowHalfLeads, Operands, Ppc64Form, Ppc64Relocation, Prefixed, RewriteKind, Some, State, Use, addi_of_thread, addis_of_thread, and_parts, anything, ap, arith, cases_lt, cond-false, cond-true, drop, eq-eqb, eqb, eqb-true, eqb_tells, false, field, from_thread, go_to, half, if◌then◌else◌, inl, inr, ints, is_addi, is_addis_over, is_ld, is_pla, is_pld, is_some, le-ltb, loaded, lt-ltb, moved, nat_lt, ne_eqb, not, of_link, opcode_of, pos, ppc64_form, prefixed_of, prefixed_target, put, ra_of, refl, registers_of, rt_of, run, same, subst, subst₂, suc, sum_64, sym, symbol_address, take, thread_offset, true≢false, two_words as two_words_of, with_register, word_of, ℕ, ◌*ℤ◌, ◌*◌, ◌+ℤ◌, ◌+◌, ◌-◌, ◌/◌, ◌<◌, ◌==◌, ◌^◌, ◌∙◌, ◌≡◌, ◌≢◌, ◌≤◌}
 use Rattle.linker_elf.specs.declared.ppc64.relocations.Ppc64Relocation.TheVariants as names
 use Rattle.linker_laws.specs.Ppc64Groups as groups
 use Rattle.linker_laws.specs.Ppc64Groups.{AreHalves, Code, Has, Leaves, Processor, Returns, Stands, Takes, Uses, called, executed, execute, high_part, instruction_at, is_prefix, left, link, machine, seen, used}
@@ -209,7 +209,8 @@ high_is r b x s p is_base =
 to_nop : (r : ℕ) (kind : RewriteKind) (name : Ppc64Relocation) (address : Operands → ℕ → ℕ)
     (Leads : Operands → ℕ → ℕ → Type 0) → IsBase r
     → ((addis blank : List ℕ) → IsRewritten kind addis blank → word_of blank ≡ nop) → Keeps name
-    → High name address Leads → groups.Rewrites (is_addis_over r) kind (groups.ToNop r name (λ o n b. Leads o n (address o b)))
+    → High name address Leads → groups.Holds (groups.word (is_addis_over r)) kind
+    (groups.ToNop r (λ o n b. Leads o n (address o b)) name names.R_PPC64_NONE)
 to_nop r kind name address Leads is_base is_blank keeps leads addis blank is made c o k s small old new =
     let x = rt_of (word_of addis) in
     let both = and_parts (opcode_of (word_of addis) == 15) (ra_of (word_of addis) == r) is in
@@ -227,7 +228,8 @@ to_nop r kind name address Leads is_base is_blank keeps leads addis blank is mad
 kept_high : (name after : Ppc64Relocation) (address address_after : Operands → ℕ → ℕ)
     (OldLeads NewLeads : Operands → ℕ → ℕ → Type 0) → Keeps name → Keeps after → High name address OldLeads
     → High after address_after NewLeads
-    → groups.Stays (groups.Kept name after (λ o n b. OldLeads o n (address o b)) (λ o n b. NewLeads o n (address_after o b)))
+    → groups.Holds groups.kept kinds.KeepAddis
+    (groups.Kept (λ o n b. OldLeads o n (address o b)) (λ o n b. NewLeads o n (address_after o b)) name after)
 kept_high name after address address_after OldLeads NewLeads keeps keeps_after leads leads_after addis is none c h x y k s
     small below toc old new halves =
     let r = rt_of (word_of addis) in
@@ -291,7 +293,8 @@ addi_sets f low o s addi addi_of rt ra number keeps parts some a leads =
     ∙ ap (λ n. Some (set rt n (seen s)))
     (ap (λ n. moved n ((ppc64_form D).machine w)) (base_some ra (seen s) some) ∙ leads o.place addi addi_of a)
 
-are_loads : groups.Rewrites is_ld kinds.LdToAddi groups.LoadToSum
+are_loads : groups.Holds (groups.word is_ld) kinds.LdToAddi
+    (groups.LoadToSum names.R_PPC64_GOT16_LO_DS names.R_PPC64_TOC16_LO)
 are_loads ld addi is made c address x y k s takes leads old new =
     let w = word_of ld in
     let load = ld_parts w is in
@@ -341,7 +344,7 @@ sum_keeps c k s t test word address agree =
 
 over_base : (r : ℕ) (kind : RewriteKind) (low whole : Ppc64Relocation) (form : Ppc64Form)
     (address : Operands → ℕ → ℕ) (how : Use) → OverSteps r kind low whole form address how
-    → (insn over : List ℕ) → IsRewritten kind insn over → groups.OverBase r low whole form address how insn over
+    → (insn over : List ℕ) → IsRewritten kind insn over → groups.OverBase r form address how low whole insn over
 over_base r kind low whole form address how steps insn over made c o k s small is stays leads old new =
     let f = c.processor.formats in
     let target = address o (s.registers r) in
@@ -378,7 +381,7 @@ makes_high thread c o k s number rt addis_13 small below word first h stays new 
     )
 
 offsets : relocation_laws.ThreadAddresses → (low : Ppc64Relocation) → KeepsDs low
-    → groups.Rewrites is_ld kinds.LdToAddisThread (groups.OffsetToHighHalf low)
+    → groups.Holds (groups.word is_ld) kinds.LdToAddisThread (groups.OffsetToHighHalf low names.R_PPC64_TPREL16_HA)
 offsets thread low keeps ld addis_13 is made c o k s small takes old =
     let w = word_of ld in
     let load = ld_parts w is in
@@ -389,7 +392,7 @@ offsets thread low keeps ld addis_13 is made c o k s small takes old =
     load.over_some old.applied takes))
 
 over_offset : (kind : RewriteKind) (low : Ppc64Relocation) (how : Use) → OffsetSteps kind low how
-    → groups.Rewrites how.test kind (groups.OverOffset low how)
+    → groups.Holds (groups.word how.test) kind (groups.OverOffset how names.R_PPC64_TLS low)
 over_offset kind low how steps insn direct is made c o k s has leads old new =
     let f = c.processor.formats in
     let target = from_thread o (s.registers 13) in
@@ -411,13 +414,13 @@ argument low keeps c o entry s addi is p =
     (record { opcode_is = eqb-true _ _ both.0; rt_is = refl; ra_is = refl }) (some_of (ra_of x) both.1) p.old.applied p.leads)
 
 arguments : relocation_laws.ThreadAddresses → (low : Ppc64Relocation) → Keeps low
-    → groups.Rewrites is_addi kinds.AddiToAddisThread (groups.ArgumentToHighHalf low)
+    → groups.Holds (groups.word is_addi) kinds.AddiToAddisThread (groups.ArgumentToHighHalf low names.R_PPC64_TPREL16_HA)
 arguments thread low keeps addi addis_13 is made c o entry k s p =
     makes_high thread c o k s entry (rt_of (word_of addi)) addis_13 p.small (below_32 (word_of addi))
     (word_made (λ w. addis_of_thread (rt_of w)) addi addis_13 (omega arith) made) (argument low keeps c o entry s addi is p)
 
 argument_offsets : (low after : Ppc64Relocation) → Keeps low → KeepsDs after
-    → groups.Rewrites is_addi kinds.AddiToLd (groups.ArgumentToOffset low after)
+    → groups.Holds (groups.word is_addi) kinds.AddiToLd (groups.ArgumentToOffset low after)
 argument_offsets low after keeps keeps_ds addi ld is made c h x y entry k s p old_is takes new =
     let w = word_of addi in
     let both = and_parts (opcode_of w == 14) (not (ra_of w == 0)) is in
@@ -435,7 +438,7 @@ argument_offsets low after keeps keeps_ds addi ld is made c h x y entry k s p ol
     (are_half c h _ _ (old_is, refl))
 
 module_arguments : (low : Ppc64Relocation) → Keeps low
-    → groups.Rewrites is_addi kinds.AddiToAddisThread (groups.ArgumentToThread low)
+    → groups.Holds (groups.word is_addi) kinds.AddiToAddisThread (groups.ArgumentToThread low names.R_PPC64_NONE)
 module_arguments low keeps addi addis_13 is made c h o entry k s p stays halves new =
     let rt = rt_of (word_of addi) in
     let w = word_of addis_13 in
@@ -480,8 +483,9 @@ in_place c t first second value stands stands_after blank goes_on =
     (once p c.new u (put 3 value (sum_64 t.pc 8) t)
     (sets p c.new u second 3 value stands_after (omega arith) goes_on ∙ ap (λ a. Some (put 3 value a t)) (eight t.pc)))
 
-are_call_low_halves : groups.Rewrites groups.is_any kinds.CallToAddi groups.CallToLowHalf
-are_call_low_halves before made is is_made c o k k' s s' bl r leads first low =
+are_call_low_halves : groups.Holds groups.any kinds.CallToAddi
+    (groups.CallToLowHalf names.R_PPC64_TLSGD names.R_PPC64_TPREL16_LO)
+are_call_low_halves before made is_made c o k k' s s' bl r leads first low =
     let f = c.processor.formats in
     let number = from_thread o (s.registers 13) in
     let blank = first_made made nop 0x38630000 (omega arith) (omega arith) is_made in
@@ -508,8 +512,8 @@ call_of_two : (kind : RewriteKind) (result : ℕ → ℕ → ℕ) (second : ℕ)
     → ((bl made : List ℕ) → IsRewritten kind bl made → AreMade second made)
     → ((f : Formats) (s : ppc64_machine.State)
     → step f second s ≡ Some (set 3 (result (s.registers 3) (s.registers 13)) s))
-    → groups.Rewrites groups.is_any kind (groups.CallTo 2 result)
-call_of_two kind result second are steps before made is is_made c number k k' s s' bl r stays has new =
+    → groups.Holds groups.any kind (groups.CallTo 2 result names.R_PPC64_TLSGD names.R_PPC64_NONE)
+call_of_two kind result second are steps before made is_made c number k k' s s' bl r stays has new =
     let f = c.processor.formats in
     let words = are before made is_made in
     let value = result number (s.registers 13) in
@@ -528,8 +532,8 @@ call_of_one : (kind : RewriteKind) (result : ℕ → ℕ → ℕ)
     → ((p : Processor) (code : ℕ → ℕ) (t : State) (bl made : List ℕ) (number : ℕ) → IsRewritten kind bl made
     → loaded 4 code t.pc ≡ word_of made → t.registers 3 ≡ number
     → machine p code t ≡ Some (put 3 (result number (t.registers 13)) (sum_64 t.pc 4) t))
-    → groups.Rewrites groups.is_any kind (groups.CallTo 1 result)
-call_of_one kind result steps before made is is_made c number k k' s s' bl r stays has new =
+    → groups.Holds groups.any kind (groups.CallTo 1 result names.R_PPC64_TLSGD names.R_PPC64_NONE)
+call_of_one kind result steps before made is_made c number k k' s s' bl r stays has new =
     let p = c.processor in
     let value = result number (s.registers 13) in
     value_group (link c) 0 r.executes k k' s s' 3 value (sum_64 s.pc 4) (sum_below s.pc 4)
@@ -577,7 +581,8 @@ new_stands : (c : Code) (k : Kinds) (s t : State) (bytes : List ℕ) → Agree (
     → Stands 2 c.new t.pc bytes
 new_stands c k s t bytes agree stands = subst (λ a. Stands 2 c.new a bytes) (sym agree.pc) stands
 
-are_prefixed : relocation_laws.Prefixes → groups.RewritesBoth is_pld kinds.PldToPaddi groups.PldToPaddi
+are_prefixed : relocation_laws.Prefixes → groups.Holds (groups.both is_pld) kinds.PldToPaddi
+    (groups.PldToPaddi names.R_PPC64_GOT_PCREL34 names.R_PPC64_PCREL34)
 are_prefixed prefixes pld paddi is made c o k s r holds new =
     let p = c.processor in
     let rt = prefixed_target pld in
@@ -630,7 +635,8 @@ variable_sets prefixes c o k s t insn over small made stays new agree =
     ∙ ap (from_thread o) (same_register c k s t 13 stays agree)))
 
 argument_variables : relocation_laws.Prefixes
-    → groups.RewritesBoth is_pla kinds.PaddiToPaddiThread groups.ArgumentToVariable
+    → groups.Holds (groups.both is_pla) kinds.PaddiToPaddiThread
+    (groups.MakesVariable (λ o s number. number ≡ o.got_entry) names.R_PPC64_GOT_TLSGD_PCREL34 names.R_PPC64_TPREL34)
 argument_variables prefixes paddi over is made c o number k s r number_is stays new h halves =
     leaves c k s 8 (prefixed_target paddi) (half h) number (from_thread o (s.registers 13))
     (pla_sets c names.R_PPC64_GOT_TLSGD_PCREL34 o s paddi
@@ -641,7 +647,9 @@ argument_variables prefixes paddi over is made c o number k s r number_is stays 
     (are_half c h _ _ halves)
 
 loaded_variables : relocation_laws.Prefixes
-    → groups.RewritesBoth is_pld kinds.PldToPaddiThread groups.LoadToVariable
+    → groups.Holds (groups.both is_pld) kinds.PldToPaddiThread
+    (groups.MakesVariable (λ o s number. (number ≡ thread_offset o) × (loaded 8 s.memory o.got_entry ≡ number))
+    names.R_PPC64_GOT_TPREL_PCREL34 names.R_PPC64_TPREL34)
 loaded_variables prefixes pld over is made c o number k s r holds stays new h halves =
     let rt = prefixed_target pld in
     let parts =
@@ -656,7 +664,8 @@ loaded_variables prefixes pld over is made c o number k s r holds stays new h ha
     (are_half c h _ _ halves)
 
 are_prefixed_loads : relocation_laws.Prefixes
-    → groups.RewritesBoth is_pla kinds.PaddiToPld groups.ArgumentToLoad
+    → groups.Holds (groups.both is_pla) kinds.PaddiToPld
+    (groups.ArgumentToLoad names.R_PPC64_GOT_TLSGD_PCREL34 names.R_PPC64_GOT_TPREL_PCREL34)
 are_prefixed_loads prefixes paddi pld is made c x y offset k s r small at holds new h halves =
     let rt = prefixed_target paddi in
     let parts =
@@ -675,7 +684,8 @@ are_prefixed_loads prefixes paddi pld is made c x y offset k s r small at holds 
     (are_half c h _ _ halves)
 
 are_prefixed_blocks : relocation_laws.Prefixes
-    → groups.RewritesBoth is_pla kinds.PaddiToPaddi4096 groups.ArgumentToBlock
+    → groups.Holds (groups.both is_pla) kinds.PaddiToPaddi4096
+    (groups.ArgumentToBlock names.R_PPC64_GOT_TLSLD_PCREL34 names.R_PPC64_NONE)
 are_prefixed_blocks prefixes paddi over is made c o k s r stays new h halves =
     let rt = prefixed_target paddi in
     let there = over_thread 0x1000 paddi over (omega arith) made in
@@ -694,7 +704,7 @@ are_prefixed_blocks prefixes paddi over is made c o k s r stays new h halves =
     (are_half c h _ _ halves)
 
 over_variable : (kind : RewriteKind) (how : Use) → VariableSteps kind how
-    → groups.Rewrites how.test kind (groups.OverVariable how)
+    → groups.Holds (groups.word how.test) kind (groups.OverVariable how names.R_PPC64_TLS names.R_PPC64_NONE)
 over_variable kind how steps insn direct is made c offset k s has leads old new =
     let f = c.processor.formats in
     uses c how (word_of insn) (sum_64 offset (s.registers 13)) k s (word_of insn) (word_of direct) old.0 new.0
@@ -734,7 +744,8 @@ are_entries relative absolute c o k s addis addi lis following small at has is_a
     made_after new.applied new_after.applied)
     ∙ ap (λ a. Some (put 2 (symbol_address o) (sum_64 a 8) t)) agree.pc)
 
-are_toc : groups.RewritesBoth is_call kinds.NopToRestoreToc groups.RestoresToc
+are_toc : groups.Holds groups.after_call kinds.NopToRestoreToc
+    (groups.RestoresToc names.R_PPC64_REL24 names.R_PPC64_REL24)
 are_toc call restored is made c k s old new holds =
     let p = c.processor in
     let toc = s.registers 2 in
@@ -751,101 +762,122 @@ are_toc call restored is made c k s old new holds =
 
 -- ---- all
 
+low_over : (r : ℕ) (kind : RewriteKind) {low whole : Ppc64Relocation} {address : Operands → ℕ → ℕ}
+    → OverSteps r kind low whole D address (laws.adds is_addi) → OverSteps r kind low whole D address laws.is_d_over
+    → groups.Holds groups.any kind (groups.LowOverBase r address low whole)
+low_over r kind sum access insn over made =
+    (over_base r kind _ _ _ _ _ sum insn over made, over_base r kind _ _ _ _ _ access insn over made)
+
+branch_to_nop : groups.Holds groups.any kinds.BranchToNop
+    (groups.CallTo 1 groups.keep_number names.R_PPC64_TLSGD names.R_PPC64_NONE)
+branch_to_nop =
+    call_of_one kinds.BranchToNop groups.keep_number
+    (λ p code t bl made number is stands has.
+    passes p code t (word_of made) stands (word_is nop made (omega arith) is)
+    ∙ ap Some (sym (unchanged 3 number (sum_64 t.pc 4) t has)))
+
+module _ (toc : relocation_laws.TocAddresses) (entries : relocation_laws.EntryAddresses)
+    (got : relocation_laws.GotAddresses) (thread : relocation_laws.ThreadAddresses)
+    (prefixes : relocation_laws.Prefixes) (near : relocation_laws.Displacements) where
+  rewrites : (name : Ppc64Relocation) (kind : RewriteKind) → groups.LawHolds name kind (groups.law_of name kind)
+  rewrites names.R_PPC64_REL24 kinds.NopToRestoreToc = are_toc
+  rewrites names.R_PPC64_TOC16_HA kinds.AddisToNop =
+      to_nop 2 kinds.AddisToNop names.R_PPC64_TOC16_HA laws.from_toc (λ o n a. laws.Leads names.R_PPC64_TOC16_LO D o n a × laws.Leads names.R_PPC64_TOC16_LO_DS Ds o n a)
+      (λ s. refl) (λ addis blank made. word_is nop blank (omega arith) made) (λ o x y a. d_after _ _ x y a.written) (toc_leads toc)
+  rewrites names.R_PPC64_TOC16_LO kinds.BaseToToc =
+      low_over 2 kinds.BaseToToc (addi_over 2 _ _ _ _ (toc_d near)) (access_over 2 _ _ _ _ (toc_d near))
+  rewrites names.R_PPC64_TOC16_LO_DS kinds.BaseToToc =
+      λ insn over made. (
+        over_base 2 _ _ _ _ _ _ (word_access_over 2 _ _ _ _ (toc_ds near) (λ o x y a. (ds_after _ _ x y a.written).1) (λ o x y a. (ds_after _ _ x y a.written).1)) insn over made,
+        vector_over 2 _ _ _ _ (toc_ds near) insn over made,
+      )
+  rewrites names.R_PPC64_TPREL16_HA kinds.AddisThreadToNop =
+      to_nop 13 kinds.AddisThreadToNop names.R_PPC64_TPREL16_HA laws.from_thread LowHalfLeads
+      (λ s. refl) (λ addis blank made. word_is nop blank (omega arith) made) (λ o x y a. d_after _ _ x y a.written) (thread_halves thread)
+  rewrites names.R_PPC64_TPREL16_LO kinds.BaseToThread =
+      low_over 13 kinds.BaseToThread (addi_over 13 _ _ _ _ (thread_d near)) (access_over 13 _ _ _ _ (thread_d near))
+  rewrites names.R_PPC64_TPREL16_LO_DS kinds.BaseToThread =
+      λ insn over made. (
+        over_base 13 _ _ _ _ _ _ (word_access_over 13 _ _ _ _ (thread_ds near) (λ o x y a. (ds_after _ _ x y a.written).1) (λ o x y a. (ds_after _ _ x y a.written).1)) insn over made,
+        vector_over 13 _ _ _ _ (thread_ds near) insn over made,
+      )
+  rewrites names.R_PPC64_GOT_PCREL34 kinds.PldToPaddi = are_prefixed prefixes
+  rewrites names.R_PPC64_GOT16_HA kinds.KeepAddis =
+      kept_high names.R_PPC64_GOT16_HA names.R_PPC64_TOC16_HA laws.entry_from_toc laws.from_toc
+      (laws.Leads names.R_PPC64_GOT16_LO_DS Ds) (laws.Leads names.R_PPC64_TOC16_LO D) (λ o x y a. d_after _ _ x y a.written) (λ o x y a. d_after _ _ x y a.written)
+      (got_leads got) (λ o small n addis after a. (toc_leads toc o small n addis after a).0)
+  rewrites names.R_PPC64_GOT16_LO_DS kinds.LdToAddi = are_loads
+  rewrites names.R_PPC64_GOT_TPREL16_HA kinds.AddisToNop =
+      to_nop 2 kinds.AddisToNop names.R_PPC64_GOT_TPREL16_HA laws.entry_from_toc (laws.Leads names.R_PPC64_GOT_TPREL16_LO_DS Ds)
+      (λ s. refl) (λ addis blank made. word_is nop blank (omega arith) made) (λ o x y a. d_after _ _ x y a.written) (offset_leads entries)
+  rewrites names.R_PPC64_GOT_TPREL16_LO_DS kinds.LdToAddisThread =
+      offsets thread names.R_PPC64_GOT_TPREL16_LO_DS (λ o x y a. ds_after _ _ x y a.written)
+  rewrites names.R_PPC64_GOT_TPREL16_DS kinds.LdToAddisThread =
+      offsets thread names.R_PPC64_GOT_TPREL16_DS (λ o x y a. ds_after _ _ x y a.written)
+  rewrites names.R_PPC64_GOT_TPREL_PCREL34 kinds.PldToPaddiThread = loaded_variables prefixes
+  rewrites names.R_PPC64_TLS kinds.AddToAddi = over_offset _ _ _ adds_offset
+  rewrites names.R_PPC64_TLS kinds.IndexedToD = over_offset _ _ _ accesses_offset
+  rewrites names.R_PPC64_TLS kinds.IndexedToDs = over_offset _ _ _ words_offset
+  rewrites names.R_PPC64_TLS kinds.AddToMove = over_variable _ _ sum_to_move
+  rewrites names.R_PPC64_TLS kinds.IndexedToDirect = over_variable _ _ access_to_direct
+  rewrites names.R_PPC64_GOT_TLSGD16_HA kinds.AddisToNop =
+      to_nop 2 kinds.AddisToNop names.R_PPC64_GOT_TLSGD16_HA laws.entry_from_toc (laws.Leads names.R_PPC64_GOT_TLSGD16_LO D)
+      (λ s. refl) (λ addis blank made. word_is nop blank (omega arith) made) (λ o x y a. d_after _ _ x y a.written) (general_leads entries)
+  rewrites names.R_PPC64_GOT_TLSGD16_HA kinds.KeepAddis =
+      kept_high names.R_PPC64_GOT_TLSGD16_HA names.R_PPC64_GOT_TPREL16_HA laws.entry_from_toc laws.entry_from_toc
+      (laws.Leads names.R_PPC64_GOT_TLSGD16_LO D) (laws.Leads names.R_PPC64_GOT_TPREL16_LO_DS Ds) (λ o x y a. d_after _ _ x y a.written) (λ o x y a. d_after _ _ x y a.written)
+      (general_leads entries) (offset_leads entries)
+  rewrites names.R_PPC64_GOT_TLSGD16_LO kinds.AddiToAddisThread =
+      arguments thread names.R_PPC64_GOT_TLSGD16_LO (λ o x y a. d_after _ _ x y a.written)
+  rewrites names.R_PPC64_GOT_TLSGD16_LO kinds.AddiToLd =
+      argument_offsets names.R_PPC64_GOT_TLSGD16_LO names.R_PPC64_GOT_TPREL16_LO_DS (λ o x y a. d_after _ _ x y a.written) (λ o x y a. ds_after _ _ x y a.written)
+  rewrites names.R_PPC64_GOT_TLSGD16 kinds.AddiToAddisThread =
+      arguments thread names.R_PPC64_GOT_TLSGD16 (λ o x y a. d_after _ _ x y a.written)
+  rewrites names.R_PPC64_GOT_TLSGD16 kinds.AddiToLd =
+      argument_offsets names.R_PPC64_GOT_TLSGD16 names.R_PPC64_GOT_TPREL16_DS (λ o x y a. d_after _ _ x y a.written) (λ o x y a. ds_after _ _ x y a.written)
+  rewrites names.R_PPC64_GOT_TLSGD_PCREL34 kinds.PaddiToPaddiThread = argument_variables prefixes
+  rewrites names.R_PPC64_GOT_TLSGD_PCREL34 kinds.PaddiToPld = are_prefixed_loads prefixes
+  rewrites names.R_PPC64_TLSGD kinds.BranchToNop = branch_to_nop
+  rewrites names.R_PPC64_TLSGD kinds.BranchToAdd =
+      call_of_one kinds.BranchToAdd sum_64
+      (λ p code t bl made number is stands has.
+      sets p code t (word_of made) 3 (sum_64 (t.registers 3) (t.registers 13)) stands (omega arith)
+      (ap (λ w. step p.formats w (seen t)) (word_is 0x7c636a14 made (omega arith) is) ∙ adds_thread p.formats (seen t))
+      ∙ ap (λ n. Some (put 3 (sum_64 n (t.registers 13)) (sum_64 t.pc 4) t)) has)
+  rewrites names.R_PPC64_TLSGD kinds.CallToAddi = are_call_low_halves
+  rewrites names.R_PPC64_TLSGD kinds.CallToAdd =
+      call_of_two kinds.CallToAdd sum_64 0x7c636a14
+      (λ bl made is. record {
+        blank = first_made made nop 0x7c636a14 (omega arith) (omega arith) is;
+        last = second_made made nop 0x7c636a14 (omega arith) (omega arith) is;
+      })
+      adds_thread
+  rewrites names.R_PPC64_GOT_TLSLD16_HA kinds.AddisToNop =
+      to_nop 2 kinds.AddisToNop names.R_PPC64_GOT_TLSLD16_HA laws.entry_from_toc (laws.Leads names.R_PPC64_GOT_TLSLD16_LO D)
+      (λ s. refl) (λ addis blank made. word_is nop blank (omega arith) made) (λ o x y a. d_after _ _ x y a.written) (module_leads entries)
+  rewrites names.R_PPC64_GOT_TLSLD16_LO kinds.AddiToAddisThread =
+      module_arguments names.R_PPC64_GOT_TLSLD16_LO (λ o x y a. d_after _ _ x y a.written)
+  rewrites names.R_PPC64_GOT_TLSLD16 kinds.AddiToAddisThread =
+      module_arguments names.R_PPC64_GOT_TLSLD16 (λ o x y a. d_after _ _ x y a.written)
+  rewrites names.R_PPC64_GOT_TLSLD_PCREL34 kinds.PaddiToPaddi4096 = are_prefixed_blocks prefixes
+  rewrites names.R_PPC64_TLSLD kinds.BranchToNop = branch_to_nop
+  rewrites names.R_PPC64_TLSLD kinds.CallToAddi4096 =
+      call_of_two kinds.CallToAddi4096 groups.add_block 0x38631000
+      (λ bl made is. record {
+        blank = first_made made nop 0x38631000 (omega arith) (omega arith) is;
+        last = second_made made nop 0x38631000 (omega arith) (omega arith) is;
+      })
+      (λ f s. step_addi f 0x38631000 3 3 s (record { opcode_is = refl; rt_is = refl; ra_is = refl })
+      ∙ ap (λ n. Some (set 3 n s)) (adds_4096 (s.registers 3)))
+  rewrites name kind = tt
+
 pub are_groups : relocation_laws.AbsoluteAddresses → relocation_laws.RelativeAddresses → relocation_laws.TocAddresses
     → relocation_laws.EntryAddresses → relocation_laws.GotAddresses → relocation_laws.ThreadAddresses
     → relocation_laws.Prefixes → relocation_laws.Displacements → groups.Groups
 are_groups absolute relative toc entries got thread prefixes near =
     record {
-      high_halves = (
-        to_nop 2 kinds.AddisToNop names.R_PPC64_TOC16_HA laws.from_toc
-            (λ o n a. laws.Leads names.R_PPC64_TOC16_LO D o n a × laws.Leads names.R_PPC64_TOC16_LO_DS Ds o n a) (λ s. refl)
-            (λ addis blank made. word_is nop blank (omega arith) made) (λ o x y a. d_after _ _ x y a.written) (toc_leads toc),
-        to_nop 13 kinds.AddisThreadToNop names.R_PPC64_TPREL16_HA laws.from_thread LowHalfLeads (λ s. refl)
-            (λ addis blank made. word_is nop blank (omega arith) made) (λ o x y a. d_after _ _ x y a.written) (thread_halves thread),
-        to_nop 2 kinds.AddisToNop names.R_PPC64_GOT_TPREL16_HA laws.entry_from_toc
-            (laws.Leads names.R_PPC64_GOT_TPREL16_LO_DS Ds) (λ s. refl)
-            (λ addis blank made. word_is nop blank (omega arith) made) (λ o x y a. d_after _ _ x y a.written) (offset_leads entries),
-        to_nop 2 kinds.AddisToNop names.R_PPC64_GOT_TLSGD16_HA laws.entry_from_toc
-            (laws.Leads names.R_PPC64_GOT_TLSGD16_LO D) (λ s. refl)
-            (λ addis blank made. word_is nop blank (omega arith) made) (λ o x y a. d_after _ _ x y a.written) (general_leads entries),
-        to_nop 2 kinds.AddisToNop names.R_PPC64_GOT_TLSLD16_HA laws.entry_from_toc
-            (laws.Leads names.R_PPC64_GOT_TLSLD16_LO D) (λ s. refl)
-            (λ addis blank made. word_is nop blank (omega arith) made) (λ o x y a. d_after _ _ x y a.written) (module_leads entries),
-      );
-      kept_high_halves = (
-        kept_high names.R_PPC64_GOT16_HA names.R_PPC64_TOC16_HA laws.entry_from_toc laws.from_toc
-            (laws.Leads names.R_PPC64_GOT16_LO_DS Ds) (laws.Leads names.R_PPC64_TOC16_LO D)
-            (λ o x y a. d_after _ _ x y a.written) (λ o x y a. d_after _ _ x y a.written)
-            (got_leads got) (λ o small n addis after a. (toc_leads toc o small n addis after a).0),
-        kept_high names.R_PPC64_GOT_TLSGD16_HA names.R_PPC64_GOT_TPREL16_HA laws.entry_from_toc laws.entry_from_toc
-            (laws.Leads names.R_PPC64_GOT_TLSGD16_LO D) (laws.Leads names.R_PPC64_GOT_TPREL16_LO_DS Ds)
-            (λ o x y a. d_after _ _ x y a.written) (λ o x y a. d_after _ _ x y a.written)
-            (general_leads entries) (offset_leads entries),
-      );
-      loads = are_loads;
-      low_halves = (
-        λ insn over is made. (
-          over_base 2 _ _ _ _ _ _ (addi_over 2 _ _ _ _ (toc_d near)) insn over made,
-          over_base 2 _ _ _ _ _ _ (access_over 2 _ _ _ _ (toc_d near)) insn over made,
-        ),
-        λ insn over is made. (
-          over_base 2 _ _ _ _ _ _ (word_access_over 2 _ _ _ _ (toc_ds near) (λ o x y a. (ds_after _ _ x y a.written).1)
-              (λ o x y a. (ds_after _ _ x y a.written).1)) insn over made,
-          vector_over 2 _ _ _ _ (toc_ds near) insn over made,
-        ),
-        λ insn over is made. (
-          over_base 13 _ _ _ _ _ _ (addi_over 13 _ _ _ _ (thread_d near)) insn over made,
-          over_base 13 _ _ _ _ _ _ (access_over 13 _ _ _ _ (thread_d near)) insn over made,
-        ),
-        λ insn over is made. (
-          over_base 13 _ _ _ _ _ _ (word_access_over 13 _ _ _ _ (thread_ds near) (λ o x y a. (ds_after _ _ x y a.written).1)
-              (λ o x y a. (ds_after _ _ x y a.written).1)) insn over made,
-          vector_over 13 _ _ _ _ (thread_ds near) insn over made,
-        ),
-      );
-      offsets = offsets thread names.R_PPC64_GOT_TPREL16_LO_DS (λ o x y a. ds_after _ _ x y a.written);
-      near_offsets = offsets thread names.R_PPC64_GOT_TPREL16_DS (λ o x y a. ds_after _ _ x y a.written);
-      low_offsets = (over_offset _ _ _ adds_offset, over_offset _ _ _ accesses_offset, over_offset _ _ _ words_offset);
-      arguments = arguments thread names.R_PPC64_GOT_TLSGD16_LO (λ o x y a. d_after _ _ x y a.written);
-      near_arguments = arguments thread names.R_PPC64_GOT_TLSGD16 (λ o x y a. d_after _ _ x y a.written);
-      argument_offsets = argument_offsets names.R_PPC64_GOT_TLSGD16_LO names.R_PPC64_GOT_TPREL16_LO_DS
-          (λ o x y a. d_after _ _ x y a.written) (λ o x y a. ds_after _ _ x y a.written);
-      near_argument_offsets = argument_offsets names.R_PPC64_GOT_TLSGD16 names.R_PPC64_GOT_TPREL16_DS
-          (λ o x y a. d_after _ _ x y a.written) (λ o x y a. ds_after _ _ x y a.written);
-      module_arguments = module_arguments names.R_PPC64_GOT_TLSLD16_LO (λ o x y a. d_after _ _ x y a.written);
-      near_module_arguments = module_arguments names.R_PPC64_GOT_TLSLD16 (λ o x y a. d_after _ _ x y a.written);
-      call_low_halves = are_call_low_halves;
-      calls = (
-        call_of_two kinds.CallToAdd sum_64 0x7c636a14
-            (λ bl made is. record {
-              blank = first_made made nop 0x7c636a14 (omega arith) (omega arith) is;
-              last = second_made made nop 0x7c636a14 (omega arith) (omega arith) is;
-            })
-            adds_thread,
-        call_of_two kinds.CallToAddi4096 groups.add_block 0x38631000
-            (λ bl made is. record {
-              blank = first_made made nop 0x38631000 (omega arith) (omega arith) is;
-              last = second_made made nop 0x38631000 (omega arith) (omega arith) is;
-            })
-            (λ f s. step_addi f 0x38631000 3 3 s (record { opcode_is = refl; rt_is = refl; ra_is = refl })
-            ∙ ap (λ n. Some (set 3 n s)) (adds_4096 (s.registers 3))),
-        call_of_one kinds.BranchToNop groups.keep_number
-            (λ p code t bl made number is stands has.
-            passes p code t (word_of made) stands (word_is nop made (omega arith) is)
-            ∙ ap Some (sym (unchanged 3 number (sum_64 t.pc 4) t has))),
-        call_of_one kinds.BranchToAdd sum_64
-            (λ p code t bl made number is stands has.
-            sets p code t (word_of made) 3 (sum_64 (t.registers 3) (t.registers 13)) stands (omega arith)
-            (ap (λ w. step p.formats w (seen t)) (word_is 0x7c636a14 made (omega arith) is) ∙ adds_thread p.formats (seen t))
-            ∙ ap (λ n. Some (put 3 (sum_64 n (t.registers 13)) (sum_64 t.pc 4) t)) has),
-      );
-      prefixed = are_prefixed prefixes;
-      variables = (argument_variables prefixes, loaded_variables prefixes);
-      prefixed_loads = are_prefixed_loads prefixes;
-      prefixed_blocks = are_prefixed_blocks prefixes;
-      variable_sums = (over_variable _ _ sum_to_move, over_variable _ _ access_to_direct);
+      rewrites = rewrites toc entries got thread prefixes near;
       entries = are_entries relative absolute;
-      toc = are_toc;
       near_entries = λ o small. (
         λ at insn over a. times_one o.got_base _ ∙ address_is _ _ (near.3 o small o.place insn over
             (record { value = a.value; value_is = a.value_is; accepted = a.accepted; written = a.written }) tt),

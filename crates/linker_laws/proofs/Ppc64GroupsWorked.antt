@@ -1,9 +1,10 @@
 -- The worked program of PowerPC64.
-use Rattle.linker_laws.proofs.Imports.{Agree, D, Ds, Group, IsRelocated, IsSomeAnd, Kinds, List, LowHalfLeads, Operands, Ppc64Relocation, State, [], all_same, and_parts, anything, ap, ends, entry_from_toc, eqb-true, false, from_thread, from_toc, group, half, is_add_of_thread, is_addi, lit<, loaded, of_link, place_sum, pos, put, refl, run, same, subst, sym, true, with_register, word_of, words, ℕ, ◌<◌, ◌==◌, ◌∷◌, ◌≡◌}
+use Rattle.linker_laws.proofs.Imports.{Agree, D, Ds, Group, IsRelocated, IsSomeAnd, Kinds, List, LowHalfLeads, Operands, Ppc64Relocation, State, [], all_same, and_parts, anything, ap, ends, entry_from_toc, eqb-true, false, from_thread, from_toc, group, half, is_add_of_thread, is_addi, lit<, loaded, of_link, place_sum, pos, put, refl, run, same, subst, sym, true, with_register, word_of, words, ℕ, ◌==◌, ◌∷◌, ◌≡◌}
 use Rattle.linker_elf.specs.declared.ppc64.relocations.Ppc64Relocation.TheVariants as names
 use Rattle.linker_laws.specs.Ppc64Groups.{Groups, Leaves, Low, NewLeads, execute, high_part, instruction_at, link, machine, used, Has}
 use Rattle.linker_laws.specs.Ppc64GroupsWorked.{IsWorked, code, new, old, starting}
 use Rattle.linker_laws.specs.Ppc64RewriteLaws.{adds}
+use Rattle.linker_utils.specs.declared.ppc64.rewrites.RewriteKind.TheVariants as kinds
 use Rattle.linker_laws.proofs.Relocated.{applied, small}
 use Rattle.linker_laws.proofs.Ppc64Groups.{sum_keeps}
 
@@ -132,12 +133,12 @@ module _ (g : Groups) where
       × Low names.R_PPC64_TOC16_LO_DS Ds from_toc near (high_part addis starting) (starting.registers 2))
       × Leaves 4 code all_same starting 3 anything (high_part addis starting)
   toc =
-      g.high_halves.0 addis nop refl refl code near all_same starting (small near refl)
+      g.rewrites names.R_PPC64_TOC16_HA kinds.AddisToNop addis nop refl refl code near all_same starting (small near refl)
       (has addis (applied (pos 0x8120) 0x3c620000 refl (refl, tt, λ e. refl) refl (lit< tt) tt refl refl) refl) (refl, tt)
 
   p2 : Group (of_link (link code)) 1 k1 s1 k2 s2
   p2 =
-      (g.low_halves.0 addi over refl refl).0 code near k1 s1 (small near refl) refl refl (toc.0).0
+      (g.rewrites names.R_PPC64_TOC16_LO kinds.BaseToToc addi over refl).0 code near k1 s1 (small near refl) refl refl (toc.0).0
       (has (0x20 ∷ 0x01 ∷ 0x63 ∷ 0x38 ∷ []) (applied (pos 0x120) 0x38630000 refl (refl, tt, λ e. refl) refl (lit< tt) tt refl refl) refl)
       (has (0x20 ∷ 0x01 ∷ 0x62 ∷ 0x38 ∷ []) (applied (pos 0x120) 0x38620000 refl (refl, tt, λ e. refl) refl (lit< tt) tt refl refl) refl) k2
       (λ t agree. sum_keeps code k1 s1 t is_addi 0x38630000 0x20120 agree)
@@ -146,13 +147,13 @@ module _ (g : Groups) where
   entry : Low names.R_PPC64_GOT_TPREL16_LO_DS Ds entry_from_toc variable (high_part high s2) (s2.registers 2)
       × Leaves 4 code k2 s2 4 anything (high_part high s2)
   entry =
-      g.high_halves.2 high nop refl refl code variable k2 s2 (small variable refl)
+      g.rewrites names.R_PPC64_GOT_TPREL16_HA kinds.AddisToNop high nop refl refl code variable k2 s2 (small variable refl)
       (has high (applied (pos 0x8010) 0x3c820000 refl (refl, tt, λ e. refl) refl (lit< tt) tt refl refl) refl) (refl, tt)
 
   offset : LowHalfLeads variable (code.new_half 0) (from_thread variable (s3.registers 13))
       × Leaves 4 code k3 s3 4 (half 0) 0x54344
   offset =
-      g.offsets load high_13 refl refl code variable k3 s3 (small variable refl)
+      g.rewrites names.R_PPC64_GOT_TPREL16_LO_DS kinds.LdToAddisThread load high_13 refl refl code variable k3 s3 (small variable refl)
       (record { at = 0x20010; leads = entry.0; holds = refl })
       (has load_of (applied (pos 0x10) 0xe8840000 refl (refl, (λ e. refl), λ e. refl) refl (lit< tt) tt refl refl) refl) 0 refl
       (has high_13_of (applied (pos 0x5c344) 0x3c8d0000 refl (refl, tt, λ e. refl) refl (lit< tt) tt refl refl) refl) (refl, made_high)
@@ -164,7 +165,7 @@ module _ (g : Groups) where
 
   p5 : Group (of_link (link code)) 1 k4 s4 k5 s5
   p5 =
-      g.low_offsets.0 add direct refl refl code variable k4 s4 refl leads (refl, tt)
+      g.rewrites names.R_PPC64_TLS kinds.AddToAddi add direct refl refl code variable k4 s4 refl leads (refl, tt)
       (has (0x44 ∷ 0x43 ∷ 0xa4 ∷ 0x38 ∷ []) (applied (pos 0x54344) 0x38a40000 refl (refl, tt, λ e. refl) refl (lit< tt) tt refl refl) refl) k5
       (λ t agree. sum_keeps code k4 s4 t is_add_of_thread 0x7ca46a14 0x54351 agree)
 

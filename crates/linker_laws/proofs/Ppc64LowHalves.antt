@@ -145,7 +145,7 @@ word_access_over r kind low whole address e low_bits whole_bits =
 
 pub vector_over : (r : ℕ) (kind : RewriteKind) (low whole : Ppc64Relocation) (address : Operands → ℕ → ℕ)
     → IsOver r kind low whole Ds address → (insn over : List ℕ) → IsRewritten kind insn over
-    → groups.VectorOverBase r low whole address insn over
+    → groups.VectorOverBase r address low whole insn over
 vector_over r kind low whole address e insn over made o s t small is leads insn_of over_of l d =
     let x = word_of insn in
     let both = and_parts (is_vector_access x) (not (ra_of x == 0)) is in

@@ -1,5 +1,5 @@
 -- Words of PowerPC64 to which a relocation was applied, and the steps of their instructions.
-use Rattle.linker_laws.proofs.Imports.{BitRange, Branch24, D, Ds, InstructionWritten, IsAddress, List, Ppc64, Some, [], ap, arith, bits_to, cond-false, cond-true, difference_64, eq-eqb, eqb, field, from_le_bytes, ints, loaded, moved, ne_eqb, opcode_of, pos, ppc64_form, ra_of, rb_of, refl, rt_of, sum_64, sym, w32, wrapped, ℕ, ℤ, ◌%◌, ◌*ℤ◌, ◌*◌, ◌+ℤ◌, ◌+◌, ◌<◌, ◌^◌, ◌∙◌, ◌≡◌, ◌≢◌}
+use Rattle.linker_laws.proofs.Imports.{BitRange, Branch24, D, Ds, InstructionWritten, IsAddress, List, Ppc64, Some, [], ap, arith, bits_to, cond-false, cond-true, difference_64, eq-eqb, eqb, field, from_le_bytes, ints, loaded, moved, ne_eqb, opcode_of, pos, ppc64_form, ra_of, rb_of, refl, rt_of, sum_64, sym, w32, wrapped, ℕ, ℤ, ◌%◌, ◌*ℤ◌, ◌+ℤ◌, ◌+◌, ◌<◌, ◌^◌, ◌∙◌, ◌≡◌, ◌≢◌}
 use Rattle.linker_utils.specs.Ppc64Rewrites.{nop}
 use Rattle.linker_laws.proofs.Sums.{lift, wrapped_is}
 use Rattle.linker_laws.specs.Ppc64Machine.{State, Formats, step, execute, by_opcode, of_58, base, write, go_on, go_to, next_pc, shifted_sum, d_address, ds_address}

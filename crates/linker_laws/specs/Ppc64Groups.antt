@@ -1,7 +1,7 @@
 -- PowerPC64: rewritten instructions are groups of the simulation, each by itself, whatever stands
 -- before it. No code moves.
 use Rattle.std.specs.Prelude.{◌≡◌, ℕ, zero, suc, ◌+◌, ◌-◌, ◌*◌, ◌^◌, ◌<◌, ◌==◌, ◌&&◌, nat_lt, Bool}
-use Rattle.std.specs.Prelude.{if◌then◌else◌, List, drop, Option, Some, None, IsTrue, ⊤, true}
+use Rattle.std.specs.Prelude.{if◌then◌else◌, List, drop, Option, Some, None, IsTrue, ⊤}
 use Rattle.linker_laws.specs.Imports.{Branch24, D, Ds, Operands, Ppc64Form, Ppc64Relocation}
 use Rattle.linker_laws.specs.Imports.{ppc64_form, sum_64}
 use Rattle.linker_utils.specs.Ppc64Rewrites.{access_of, opcode_of, ppc64_rewrite, ra_of, rt_of}
@@ -142,56 +142,34 @@ pub record Takes (low : Ppc64Relocation) (o : Operands) (s : State) (base number
 
 -- ---- laws
 
--- bytes before a rewrite and after it, which are a group
+-- the relocation of an instruction, the one that a rewrite leaves, and the bytes before and after,
+-- which are a group
 abbrev pub AreGroup : Type 1
-AreGroup = List ℕ → List ℕ → Type 0
-
--- An instruction of a sort and what a rewrite makes of it are a group.
-abbrev pub Rewrites : (ℕ → Bool) → RewriteKind → AreGroup → Type 0
-Rewrites test kind AreSo =
-    (before after : List ℕ) → IsTrue (test (word_of before)) → IsRewritten kind before after
-    → AreSo before after
-
-abbrev pub is_any : ℕ → Bool
-is_any word = true
+AreGroup = Ppc64Relocation → Ppc64Relocation → List ℕ → List ℕ → Type 0
 
 -- ---- high halves
 
 -- `addis rX` over a register becomes `nop`.
-abbrev pub ToNop : ℕ → Ppc64Relocation → (Operands → ℕ → ℕ → Type 0) → AreGroup
-ToNop register name LowHalvesLead addis blank =
+abbrev pub ToNop : ℕ → (Operands → ℕ → ℕ → Type 0) → AreGroup
+ToNop register LowHalvesLead name after addis blank =
     (c : Code) (o : Operands) (k : Kinds) (s : State) → AreAddresses o
     → (old : Has 1 c.old s.pc name o addis) → Stands 1 c.new s.pc blank
     → let number = high_part old.relocated s in
     LowHalvesLead o number (s.registers register)
     × Leaves 4 c k s (rt_of (word_of addis)) anything number
 
-abbrev pub TocHigh : AreGroup
-TocHigh =
-    ToNop 2 names.R_PPC64_TOC16_HA (λ o n base.
+-- the low half of an address near the TOC pointer, and of one near the thread pointer
+abbrev pub TocLeads : Operands → ℕ → ℕ → Type 0
+TocLeads o n base =
     Low names.R_PPC64_TOC16_LO D from_toc o n base
-    × Low names.R_PPC64_TOC16_LO_DS Ds from_toc o n base)
+    × Low names.R_PPC64_TOC16_LO_DS Ds from_toc o n base
 
-abbrev pub ThreadHigh : AreGroup
-ThreadHigh =
-    ToNop 13 names.R_PPC64_TPREL16_HA (λ o n base. LowHalfLeads o n (from_thread o base))
-
-abbrev pub OffsetHigh : AreGroup
-OffsetHigh =
-    ToNop 2 names.R_PPC64_GOT_TPREL16_HA (Low names.R_PPC64_GOT_TPREL16_LO_DS Ds entry_from_toc)
-
-abbrev pub GeneralHigh : AreGroup
-GeneralHigh =
-    ToNop 2 names.R_PPC64_GOT_TLSGD16_HA (Low names.R_PPC64_GOT_TLSGD16_LO D entry_from_toc)
-
-abbrev pub ModuleHigh : AreGroup
-ModuleHigh =
-    ToNop 2 names.R_PPC64_GOT_TLSLD16_HA (Low names.R_PPC64_GOT_TLSLD16_LO D entry_from_toc)
+abbrev pub ThreadLeads : Operands → ℕ → ℕ → Type 0
+ThreadLeads o n base = LowHalfLeads o n (from_thread o base)
 
 -- `addis rX,2` stays, with another relocation. Both are half h.
-abbrev pub Kept : (name after : Ppc64Relocation) → (OldLeads NewLeads : Operands → ℕ → ℕ → Type 0)
-    → AreGroup
-Kept name after OldLeads NewLeads addis addis_after =
+abbrev pub Kept : (OldLeads NewLeads : Operands → ℕ → ℕ → Type 0) → AreGroup
+Kept OldLeads NewLeads name after addis addis_after =
     (c : Code) (h : ℕ) (x y : Operands) (k : Kinds) (s : State) → AreAddresses x → AreAddresses y
     → k.registers 2 ≡ same
     → (old : Has 1 c.old s.pc name x addis) (new : Has 1 c.new s.pc after y addis_after)
@@ -199,35 +177,15 @@ Kept name after OldLeads NewLeads addis addis_after =
     → OldLeads x (c.old_half h) (s.registers 2) × NewLeads y (c.new_half h) (s.registers 2)
     × Leaves 4 c k s (rt_of (word_of addis)) (half h) (c.old_half h)
 
--- of the GOT entry of an address and of the address
-abbrev pub AddressHigh : AreGroup
-AddressHigh =
-    Kept names.R_PPC64_GOT16_HA names.R_PPC64_TOC16_HA
-    (Low names.R_PPC64_GOT16_LO_DS Ds entry_from_toc) (Low names.R_PPC64_TOC16_LO D from_toc)
-
--- of the GOT entries of general-dynamic and of initial-exec
-abbrev pub EntryHigh : AreGroup
-EntryHigh =
-    Kept names.R_PPC64_GOT_TLSGD16_HA names.R_PPC64_GOT_TPREL16_HA
-    (Low names.R_PPC64_GOT_TLSGD16_LO D entry_from_toc)
-    (Low names.R_PPC64_GOT_TPREL16_LO_DS Ds entry_from_toc)
-
--- The rewrite changes nothing.
-abbrev pub Stays : AreGroup → Type 0
-Stays AreSo =
-    (addis : List ℕ) → IsTrue (is_addis_of_toc (word_of addis))
-    → ppc64_rewrite kinds.KeepAddis ≡ None → AreSo addis addis
-
 -- ---- low halves
 
 -- `ld rY` of the GOT entry, which holds the address, becomes `addi rY`.
 abbrev pub LoadToSum : AreGroup
-LoadToSum ld addi =
+LoadToSum name after ld addi =
     (c : Code) (address : ℕ) (x y : Operands) (k : Kinds) (s : State)
-    → Takes names.R_PPC64_GOT16_LO_DS x s (s.registers (ra_of (word_of ld))) address
-    → NewHas c k s (ra_of (word_of ld)) (λ n. Leads names.R_PPC64_TOC16_LO D y n address)
-    → Has 1 c.old s.pc names.R_PPC64_GOT16_LO_DS x ld
-    → Has 1 c.new s.pc names.R_PPC64_TOC16_LO y addi
+    → Takes name x s (s.registers (ra_of (word_of ld))) address
+    → NewHas c k s (ra_of (word_of ld)) (λ n. Leads after D y n address)
+    → Has 1 c.old s.pc name x ld → Has 1 c.new s.pc after y addi
     → Leaves 4 c k s (rt_of (word_of ld)) same address
 
 -- what an instruction does with an address
@@ -242,9 +200,8 @@ Uses c how word address k s =
     → Group (of_link (link c)) 1 k s k' (after s)
 
 -- An instruction over a register that has a high half becomes the same over the base register.
-abbrev pub OverBase : ℕ → (low whole : Ppc64Relocation) → Ppc64Form
-    → (Operands → ℕ → ℕ) → Use → AreGroup
-OverBase register low whole form address how insn over =
+abbrev pub OverBase : ℕ → Ppc64Form → (Operands → ℕ → ℕ) → Use → AreGroup
+OverBase register form address how low whole insn over =
     (c : Code) (o : Operands) (k : Kinds) (s : State) → AreAddresses o
     → IsTrue (how.test (word_of insn)) → k.registers register ≡ same
     → let target = address o (s.registers register) in
@@ -253,14 +210,14 @@ OverBase register low whole form address how insn over =
     → Uses c how (word_of insn) target k s
 
 -- sums of addresses, and loads and stores
-abbrev pub LowOverBase : ℕ → (low whole : Ppc64Relocation) → (Operands → ℕ → ℕ) → AreGroup
-LowOverBase register low whole address insn over =
-    OverBase register low whole D address (adds is_addi) insn over
-    × OverBase register low whole D address is_d_over insn over
+abbrev pub LowOverBase : ℕ → (Operands → ℕ → ℕ) → AreGroup
+LowOverBase register address low whole insn over =
+    OverBase register D address (adds is_addi) low whole insn over
+    × OverBase register D address is_d_over low whole insn over
 
 -- `lq` and accesses of vector registers, which the machine doesn't have: of one address
-abbrev pub VectorOverBase : ℕ → (low whole : Ppc64Relocation) → (Operands → ℕ → ℕ) → AreGroup
-VectorOverBase register low whole address insn over =
+abbrev pub VectorOverBase : ℕ → (Operands → ℕ → ℕ) → AreGroup
+VectorOverBase register address low whole insn over =
     (o : Operands) (s t : ppc64_machine.State) → AreAddresses o
     → IsTrue (is_over_base is_vector_access (word_of insn))
     → Leads low Ds o (s.registers (ra_of (word_of insn))) (address o (t.registers register))
@@ -269,10 +226,11 @@ VectorOverBase register low whole address insn over =
     × HaveSameAccess (word_of low_of) (word_of whole_of)
 
 -- loads and stores of whole words, and these
-abbrev pub WordOverBase : ℕ → (low whole : Ppc64Relocation) → (Operands → ℕ → ℕ) → AreGroup
-WordOverBase register low whole address insn over =
-    OverBase register low whole Ds address (accesses (is_over_base is_ds_access) ds_access) insn over
-    × VectorOverBase register low whole address insn over
+abbrev pub WordOverBase : ℕ → (Operands → ℕ → ℕ) → AreGroup
+WordOverBase register address low whole insn over =
+    OverBase register Ds address (accesses (is_over_base is_ds_access) ds_access) low whole
+    insn over
+    × VectorOverBase register address low whole insn over
 
 -- ---- initial-exec
 
@@ -290,33 +248,20 @@ MakesHighHalf c o k s number rt addis_13 =
     × Leaves 4 c k s rt (half h) number
 
 -- `ld rT` of the GOT entry, which holds the offset
-abbrev pub OffsetToHighHalf : Ppc64Relocation → AreGroup
-OffsetToHighHalf low ld addis_13 =
+abbrev pub OffsetToHighHalf : AreGroup
+OffsetToHighHalf low after ld addis_13 =
     (c : Code) (o : Operands) (k : Kinds) (s : State) → AreAddresses o
     → Takes low o s (s.registers (ra_of (word_of ld))) (thread_offset o) → Has 1 c.old s.pc low o ld
     → MakesHighHalf c o k s (thread_offset o) (rt_of (word_of ld)) addis_13
 
 -- `add rT,rY,13`, or a load or a store by that sum, becomes the same by a low half over rY.
-abbrev pub OverOffset : Ppc64Relocation → Use → AreGroup
-OverOffset low how insn direct =
+abbrev pub OverOffset : Use → AreGroup
+OverOffset how name low insn direct =
     (c : Code) (o : Operands) (k : Kinds) (s : State)
     → s.registers (ra_of (word_of insn)) ≡ thread_offset o
     → NewLeads c o k s (ra_of (word_of insn)) → Stands 1 c.old s.pc insn
     → Has 1 c.new s.pc low o direct
     → Uses c how (word_of insn) (from_thread o (s.registers 13)) k s
-
-abbrev pub AddOverOffset : AreGroup
-AddOverOffset = OverOffset names.R_PPC64_TPREL16_LO (adds is_add_of_thread)
-
-abbrev pub AccessOverOffset : AreGroup
-AccessOverOffset =
-    OverOffset names.R_PPC64_TPREL16_LO
-    (accesses is_indexed (λ word. access_with (access_of word)))
-
-abbrev pub WordOverOffset : AreGroup
-WordOverOffset =
-    OverOffset names.R_PPC64_TPREL16_LO_DS
-    (accesses is_indexed_word (λ word. word_access_with (access_of word)))
 
 -- ---- arguments of `__tls_get_addr`
 
@@ -336,14 +281,14 @@ pub record IsArgument (low : Ppc64Relocation) (c : Code) (o : Operands) (entry :
   pub old : Has 1 c.old s.pc low o addi
 
 -- of general-dynamic: `addis rT,13`
-abbrev pub ArgumentToHighHalf : Ppc64Relocation → AreGroup
-ArgumentToHighHalf low addi addis_13 =
+abbrev pub ArgumentToHighHalf : AreGroup
+ArgumentToHighHalf low after addi addis_13 =
     (c : Code) (o : Operands) (entry : ℕ) (k : Kinds) (s : State)
     → IsArgument low c o entry s addi
     → MakesHighHalf c o k s entry (rt_of (word_of addi)) addis_13
 
 -- or `ld rT` of the GOT entry of initial-exec, which holds an offset
-abbrev pub ArgumentToOffset : (low after : Ppc64Relocation) → AreGroup
+abbrev pub ArgumentToOffset : AreGroup
 ArgumentToOffset low after addi ld =
     (c : Code) (h : ℕ) (x y : Operands) (entry : ℕ) (k : Kinds) (s : State)
     → IsArgument low c x entry s addi
@@ -353,8 +298,8 @@ ArgumentToOffset low after addi ld =
     → Has 1 c.new s.pc after y ld → Leaves 4 c k s (rt_of (word_of addi)) (half h) entry
 
 -- of local-dynamic: `addis rT,13,0`
-abbrev pub ArgumentToThread : Ppc64Relocation → AreGroup
-ArgumentToThread low addi addis_13 =
+abbrev pub ArgumentToThread : AreGroup
+ArgumentToThread low after addi addis_13 =
     (c : Code) (h : ℕ) (o : Operands) (entry : ℕ) (k : Kinds) (s : State)
     → IsArgument low c o entry s addi
     → k.registers 13 ≡ same → AreHalves c h entry (sum_64 (s.registers 13) 0)
@@ -381,15 +326,15 @@ pub record Returns (n : ℕ) (c : Code) (number : ℕ) (k : Kinds) (s : State) (
 
 -- `nop` and `addi 3,3`, from the high half of a variable's offset
 abbrev pub CallToLowHalf : AreGroup
-CallToLowHalf before made =
+CallToLowHalf name low before made =
     (c : Code) (o : Operands) (k k' : Kinds) (s s' : State) (bl : List ℕ)
-    → Returns 2 c (from_thread o (s.registers 13)) k s k' s' bl → NewLeads c o k s 3 → Stands 1 c.new s.pc made
-    → Has 1 c.new (sum_64 s.pc 4) names.R_PPC64_TPREL16_LO o (drop 4 made)
+    → Returns 2 c (from_thread o (s.registers 13)) k s k' s' bl → NewLeads c o k s 3
+    → Stands 1 c.new s.pc made → Has 1 c.new (sum_64 s.pc 4) low o (drop 4 made)
     → Group (of_link (link c)) 2 k s k' s'
 
 -- n words in place of the call, which make a number of one in r3 and of r13
 abbrev pub CallTo : ℕ → (ℕ → ℕ → ℕ) → AreGroup
-CallTo n result before made =
+CallTo n result name after before made =
     (c : Code) (number : ℕ) (k k' : Kinds) (s s' : State) (bl : List ℕ)
     → Returns n c (result number (s.registers 13)) k s k' s' bl
     → k.registers 13 ≡ same → NewHas c k s 3 (λ x. x ≡ number) → Stands n c.new s.pc made
@@ -409,12 +354,6 @@ pub record IsPrefixed (test : ℕ → ℕ → Bool) (insn : List ℕ) : Type 0 w
   pub word_below : word_of (drop 4 insn) < 2 ^ 32
   pub is : IsTrue (test (word_of insn) (word_of (drop 4 insn)))
 
--- So are an instruction of 8 bytes, and what a rewrite makes of it.
-abbrev pub RewritesBoth : (ℕ → ℕ → Bool) → RewriteKind → AreGroup → Type 0
-RewritesBoth test kind AreSo =
-    (before after : List ℕ) → IsPrefixed test before → IsRewritten kind before after
-    → AreSo before after
-
 -- One that is relative to itself stands in old, with a relocation.
 pub record IsRelative (name : Ppc64Relocation) (c : Code) (o : Operands) (s : State)
     (insn : List ℕ) : Type 0 where
@@ -424,11 +363,9 @@ pub record IsRelative (name : Ppc64Relocation) (c : Code) (o : Operands) (s : St
 
 -- `pld rT` of the GOT entry, which holds the address, becomes `paddi rT`.
 abbrev pub PldToPaddi : AreGroup
-PldToPaddi pld paddi =
-    (c : Code) (o : Operands) (k : Kinds) (s : State)
-    → IsRelative names.R_PPC64_GOT_PCREL34 c o s pld
-    → loaded 8 s.memory o.got_entry ≡ symbol_address o
-    → Has 2 c.new s.pc names.R_PPC64_PCREL34 o paddi
+PldToPaddi name after pld paddi =
+    (c : Code) (o : Operands) (k : Kinds) (s : State) → IsRelative name c o s pld
+    → loaded 8 s.memory o.got_entry ≡ symbol_address o → Has 2 c.new s.pc after o paddi
     → Leaves 8 c k s (prefixed_target pld) same (symbol_address o)
 
 -- The instructions of both leave half h, by its two numbers.
@@ -437,56 +374,39 @@ LeavesHalf c k s rt old new =
     (h : ℕ) → AreHalves c h old new → Leaves 8 c k s rt (half h) old
 
 -- `paddi rT,13` of a variable's offset stands in new.
-abbrev pub MakesVariable : Ppc64Relocation → (Operands → State → ℕ → Type 0) → AreGroup
-MakesVariable name OldMakes insn over =
+abbrev pub MakesVariable : (Operands → State → ℕ → Type 0) → AreGroup
+MakesVariable OldMakes name after insn over =
     (c : Code) (o : Operands) (number : ℕ) (k : Kinds) (s : State)
     → IsRelative name c o s insn → OldMakes o s number
-    → k.registers 13 ≡ same → Has 2 c.new s.pc names.R_PPC64_TPREL34 o over
+    → k.registers 13 ≡ same → Has 2 c.new s.pc after o over
     → LeavesHalf c k s (prefixed_target insn) number (from_thread o (s.registers 13))
-
--- `paddi rT` of the GOT entry of general-dynamic
-abbrev pub ArgumentToVariable : AreGroup
-ArgumentToVariable =
-    MakesVariable names.R_PPC64_GOT_TLSGD_PCREL34 (λ o s number. number ≡ o.got_entry)
-
--- `pld rT` of that of initial-exec, which holds the offset
-abbrev pub LoadToVariable : AreGroup
-LoadToVariable =
-    MakesVariable names.R_PPC64_GOT_TPREL_PCREL34
-    (λ o s number. (number ≡ thread_offset o) × (loaded 8 s.memory o.got_entry ≡ number))
 
 -- `paddi rT` of the GOT entry of general-dynamic becomes `pld rT` of that of initial-exec.
 abbrev pub ArgumentToLoad : AreGroup
-ArgumentToLoad paddi pld =
+ArgumentToLoad name after paddi pld =
     (c : Code) (x y : Operands) (offset : ℕ) (k : Kinds) (s : State)
-    → IsRelative names.R_PPC64_GOT_TLSGD_PCREL34 c x s paddi → AreAddresses y → s.pc ≡ y.place
+    → IsRelative name c x s paddi → AreAddresses y → s.pc ≡ y.place
     → ((t : State) → Agree (link c) k s t → loaded 8 t.memory y.got_entry ≡ offset)
-    → Has 2 c.new s.pc names.R_PPC64_GOT_TPREL_PCREL34 y pld
+    → Has 2 c.new s.pc after y pld
     → LeavesHalf c k s (prefixed_target paddi) x.got_entry offset
 
 -- `paddi rT` of the GOT entry of local-dynamic becomes `paddi rT,13,4096`.
 abbrev pub ArgumentToBlock : AreGroup
-ArgumentToBlock paddi over =
+ArgumentToBlock name after paddi over =
     (c : Code) (o : Operands) (k : Kinds) (s : State)
-    → IsRelative names.R_PPC64_GOT_TLSLD_PCREL34 c o s paddi → k.registers 13 ≡ same
+    → IsRelative name c o s paddi → k.registers 13 ≡ same
     → Stands 2 c.new s.pc over
     → LeavesHalf c k s (prefixed_target paddi) o.got_entry (sum_64 (s.registers 13) 0x1000)
 
 -- `add rT,rY,13`, or a load or a store by that sum, becomes the same without r13. In old rY has an
 -- offset, and in new the sum.
 abbrev pub OverVariable : Use → AreGroup
-OverVariable how insn direct =
+OverVariable how name after insn direct =
     (c : Code) (offset : ℕ) (k : Kinds) (s : State)
     → let address = sum_64 offset (s.registers 13) in
     s.registers (ra_of (word_of insn)) ≡ offset
     → NewHas c k s (ra_of (word_of insn)) (λ n. n ≡ address) → Stands 1 c.old s.pc insn
     → Stands 1 c.new s.pc direct → Uses c how (word_of insn) address k s
-
-abbrev pub SumOverVariable : AreGroup
-SumOverVariable = OverVariable (adds is_add_of_thread)
-
-abbrev pub AccessOverVariable : AreGroup
-AccessOverVariable = OverVariable (accesses is_indexed_any indexed_access)
 
 -- ---- the TOC pointer
 
@@ -507,65 +427,159 @@ TocAtEntry =
 
 -- The `nop` to which a call returns becomes `ld 2,24(1)`. There new has what r2 has in old.
 abbrev pub RestoresToc : AreGroup
-RestoresToc call restored =
-    (c : Code) (k : Kinds) (s : State) → Stands 1 c.old s.pc (drop 4 call) → Stands 1 c.new s.pc (drop 4 restored)
+RestoresToc name after nop ld =
+    (c : Code) (k : Kinds) (s : State) → Stands 1 c.old s.pc nop → Stands 1 c.new s.pc ld
     → ((t : State) → Agree (link c) k s t
     → loaded 8 t.memory (sum_64 (t.registers 1) 24) ≡ s.registers 2)
     → Group (of_link (link c)) 1 k s (with_register 2 same k) (go_to (sum_64 s.pc 4) s)
 
--- ---- all of them
+-- ---- what becomes of the instructions of each relocation
+
+-- Instructions that are rewritten: those of one word, or of two, that pass a test, or any; an
+-- `addis` that stays; the `nop` after a call; none.
+pub data Sort : Type 0 where
+  word : (ℕ → Bool) → Sort
+  both : (ℕ → ℕ → Bool) → Sort
+  any : Sort
+  kept : Sort
+  after_call : Sort
+  none_at_all : Sort
+
+-- Which relocation is left: none; one of a name, which is applied to all words, or to the second;
+-- that of the call before them.
+pub data Left : Type 0 where
+  none : Left
+  applied : Ppc64Relocation → Left
+  to_second : Ppc64Relocation → Left
+  of_call : Left
+
+abbrev pub name_of : Left → Ppc64Relocation
+name_of none = names.R_PPC64_NONE
+name_of (applied name) = name
+name_of (to_second name) = name
+name_of of_call = names.R_PPC64_REL24
+
+pub record Law : Type 1 where
+  pub sort : Sort
+  pub left : Left
+  pub IsGroup : AreGroup
+
+abbrev pub law : Sort → Left → AreGroup → Law
+law sort left IsGroup = record { sort = sort; left = left; IsGroup = IsGroup }
+
+-- by the relocation, and what becomes of the instruction
+abbrev pub law_of : Ppc64Relocation → RewriteKind → Law
+law_of names.R_PPC64_REL24 kinds.NopToRestoreToc = law after_call of_call RestoresToc
+-- near the TOC pointer
+law_of names.R_PPC64_TOC16_HA kinds.AddisToNop =
+    law (word (is_addis_over 2)) none (ToNop 2 TocLeads)
+law_of names.R_PPC64_TOC16_LO kinds.BaseToToc =
+    law any (applied names.R_PPC64_TOC16) (LowOverBase 2 from_toc)
+law_of names.R_PPC64_TOC16_LO_DS kinds.BaseToToc =
+    law any (applied names.R_PPC64_TOC16_DS) (WordOverBase 2 from_toc)
+-- near the thread pointer
+law_of names.R_PPC64_TPREL16_HA kinds.AddisThreadToNop =
+    law (word (is_addis_over 13)) none (ToNop 13 ThreadLeads)
+law_of names.R_PPC64_TPREL16_LO kinds.BaseToThread =
+    law any (applied names.R_PPC64_TPREL16) (LowOverBase 13 from_thread)
+law_of names.R_PPC64_TPREL16_LO_DS kinds.BaseToThread =
+    law any (applied names.R_PPC64_TPREL16_DS) (WordOverBase 13 from_thread)
+-- loads of addresses
+law_of names.R_PPC64_GOT_PCREL34 kinds.PldToPaddi =
+    law (both is_pld) (applied names.R_PPC64_PCREL34) PldToPaddi
+law_of names.R_PPC64_GOT16_HA kinds.KeepAddis =
+    law kept (applied names.R_PPC64_TOC16_HA)
+    (Kept (Low names.R_PPC64_GOT16_LO_DS Ds entry_from_toc) (Low names.R_PPC64_TOC16_LO D from_toc))
+law_of names.R_PPC64_GOT16_LO_DS kinds.LdToAddi =
+    law (word is_ld) (applied names.R_PPC64_TOC16_LO) LoadToSum
+-- initial-exec
+law_of names.R_PPC64_GOT_TPREL16_HA kinds.AddisToNop =
+    law (word (is_addis_over 2)) none
+    (ToNop 2 (Low names.R_PPC64_GOT_TPREL16_LO_DS Ds entry_from_toc))
+law_of names.R_PPC64_GOT_TPREL16_LO_DS kinds.LdToAddisThread =
+    law (word is_ld) (applied names.R_PPC64_TPREL16_HA) OffsetToHighHalf
+law_of names.R_PPC64_GOT_TPREL16_DS kinds.LdToAddisThread =
+    law (word is_ld) (applied names.R_PPC64_TPREL16_HA) OffsetToHighHalf
+law_of names.R_PPC64_GOT_TPREL_PCREL34 kinds.PldToPaddiThread =
+    law (both is_pld) (applied names.R_PPC64_TPREL34)
+    (MakesVariable (λ o s number.
+    (number ≡ thread_offset o) × (loaded 8 s.memory o.got_entry ≡ number)))
+law_of names.R_PPC64_TLS kinds.AddToAddi =
+    law (word is_add_of_thread) (applied names.R_PPC64_TPREL16_LO)
+    (OverOffset (adds is_add_of_thread))
+law_of names.R_PPC64_TLS kinds.IndexedToD =
+    law (word is_indexed) (applied names.R_PPC64_TPREL16_LO)
+    (OverOffset (accesses is_indexed (λ word. access_with (access_of word))))
+law_of names.R_PPC64_TLS kinds.IndexedToDs =
+    law (word is_indexed_word) (applied names.R_PPC64_TPREL16_LO_DS)
+    (OverOffset (accesses is_indexed_word (λ word. word_access_with (access_of word))))
+law_of names.R_PPC64_TLS kinds.AddToMove =
+    law (word is_add_of_thread) none (OverVariable (adds is_add_of_thread))
+law_of names.R_PPC64_TLS kinds.IndexedToDirect =
+    law (word is_indexed_any) none (OverVariable (accesses is_indexed_any indexed_access))
+-- general-dynamic, for local-exec and for initial-exec
+law_of names.R_PPC64_GOT_TLSGD16_HA kinds.AddisToNop =
+    law (word (is_addis_over 2)) none (ToNop 2 (Low names.R_PPC64_GOT_TLSGD16_LO D entry_from_toc))
+law_of names.R_PPC64_GOT_TLSGD16_HA kinds.KeepAddis =
+    law kept (applied names.R_PPC64_GOT_TPREL16_HA)
+    (Kept (Low names.R_PPC64_GOT_TLSGD16_LO D entry_from_toc)
+    (Low names.R_PPC64_GOT_TPREL16_LO_DS Ds entry_from_toc))
+law_of names.R_PPC64_GOT_TLSGD16_LO kinds.AddiToAddisThread =
+    law (word is_addi) (applied names.R_PPC64_TPREL16_HA) ArgumentToHighHalf
+law_of names.R_PPC64_GOT_TLSGD16_LO kinds.AddiToLd =
+    law (word is_addi) (applied names.R_PPC64_GOT_TPREL16_LO_DS) ArgumentToOffset
+law_of names.R_PPC64_GOT_TLSGD16 kinds.AddiToAddisThread =
+    law (word is_addi) (applied names.R_PPC64_TPREL16_HA) ArgumentToHighHalf
+law_of names.R_PPC64_GOT_TLSGD16 kinds.AddiToLd =
+    law (word is_addi) (applied names.R_PPC64_GOT_TPREL16_DS) ArgumentToOffset
+law_of names.R_PPC64_GOT_TLSGD_PCREL34 kinds.PaddiToPaddiThread =
+    law (both is_pla) (applied names.R_PPC64_TPREL34)
+    (MakesVariable (λ o s number. number ≡ o.got_entry))
+law_of names.R_PPC64_GOT_TLSGD_PCREL34 kinds.PaddiToPld =
+    law (both is_pla) (applied names.R_PPC64_GOT_TPREL_PCREL34) ArgumentToLoad
+law_of names.R_PPC64_TLSGD kinds.BranchToNop = law any none (CallTo 1 keep_number)
+law_of names.R_PPC64_TLSGD kinds.BranchToAdd = law any none (CallTo 1 sum_64)
+law_of names.R_PPC64_TLSGD kinds.CallToAddi =
+    law any (to_second names.R_PPC64_TPREL16_LO) CallToLowHalf
+law_of names.R_PPC64_TLSGD kinds.CallToAdd = law any none (CallTo 2 sum_64)
+-- local-dynamic
+law_of names.R_PPC64_GOT_TLSLD16_HA kinds.AddisToNop =
+    law (word (is_addis_over 2)) none (ToNop 2 (Low names.R_PPC64_GOT_TLSLD16_LO D entry_from_toc))
+law_of names.R_PPC64_GOT_TLSLD16_LO kinds.AddiToAddisThread =
+    law (word is_addi) none ArgumentToThread
+law_of names.R_PPC64_GOT_TLSLD16 kinds.AddiToAddisThread = law (word is_addi) none ArgumentToThread
+law_of names.R_PPC64_GOT_TLSLD_PCREL34 kinds.PaddiToPaddi4096 =
+    law (both is_pla) none ArgumentToBlock
+law_of names.R_PPC64_TLSLD kinds.BranchToNop = law any none (CallTo 1 keep_number)
+law_of names.R_PPC64_TLSLD kinds.CallToAddi4096 = law any none (CallTo 2 add_block)
+-- nothing else is rewritten
+law_of name kind = law none_at_all none (λ name after before made. ⊥)
+
+-- What a rewrite makes of instructions of a sort is a group with them.
+abbrev pub Holds : Sort → RewriteKind → (List ℕ → List ℕ → Type 0) → Type 0
+Holds (word test) kind AreSo =
+    (before after : List ℕ) → IsTrue (test (word_of before)) → IsRewritten kind before after
+    → AreSo before after
+Holds (both test) kind AreSo =
+    (before after : List ℕ) → IsPrefixed test before → IsRewritten kind before after
+    → AreSo before after
+Holds any kind AreSo =
+    (before after : List ℕ) → IsRewritten kind before after → AreSo before after
+Holds kept kind AreSo =
+    (addis : List ℕ) → IsTrue (is_addis_of_toc (word_of addis)) → ppc64_rewrite kind ≡ None
+    → AreSo addis addis
+Holds after_call kind AreSo =
+    (call restored : List ℕ) → IsPrefixed is_call call → IsRewritten kind call restored
+    → AreSo (drop 4 call) (drop 4 restored)
+Holds none_at_all kind AreSo = ⊤
+
+abbrev pub LawHolds : Ppc64Relocation → RewriteKind → Law → Type 0
+LawHolds name kind l = Holds l.sort kind (l.IsGroup name (name_of l.left))
 
 pub record Groups : Type 0 where
-  pub high_halves : Rewrites (is_addis_over 2) kinds.AddisToNop TocHigh
-      × Rewrites (is_addis_over 13) kinds.AddisThreadToNop ThreadHigh
-      × Rewrites (is_addis_over 2) kinds.AddisToNop OffsetHigh
-      × Rewrites (is_addis_over 2) kinds.AddisToNop GeneralHigh
-      × Rewrites (is_addis_over 2) kinds.AddisToNop ModuleHigh
-  pub kept_high_halves : Stays AddressHigh × Stays EntryHigh
-  pub loads : Rewrites is_ld kinds.LdToAddi LoadToSum
-  pub low_halves :
-      Rewrites is_any kinds.BaseToToc
-      (LowOverBase 2 names.R_PPC64_TOC16_LO names.R_PPC64_TOC16 from_toc)
-      × Rewrites is_any kinds.BaseToToc
-      (WordOverBase 2 names.R_PPC64_TOC16_LO_DS names.R_PPC64_TOC16_DS from_toc)
-      × Rewrites is_any kinds.BaseToThread
-      (LowOverBase 13 names.R_PPC64_TPREL16_LO names.R_PPC64_TPREL16 from_thread)
-      × Rewrites is_any kinds.BaseToThread
-      (WordOverBase 13 names.R_PPC64_TPREL16_LO_DS names.R_PPC64_TPREL16_DS from_thread)
-  pub offsets :
-      Rewrites is_ld kinds.LdToAddisThread (OffsetToHighHalf names.R_PPC64_GOT_TPREL16_LO_DS)
-  pub near_offsets :
-      Rewrites is_ld kinds.LdToAddisThread (OffsetToHighHalf names.R_PPC64_GOT_TPREL16_DS)
-  pub low_offsets : Rewrites is_add_of_thread kinds.AddToAddi AddOverOffset
-      × Rewrites is_indexed kinds.IndexedToD AccessOverOffset
-      × Rewrites is_indexed_word kinds.IndexedToDs WordOverOffset
-  pub arguments :
-      Rewrites is_addi kinds.AddiToAddisThread (ArgumentToHighHalf names.R_PPC64_GOT_TLSGD16_LO)
-  pub near_arguments :
-      Rewrites is_addi kinds.AddiToAddisThread (ArgumentToHighHalf names.R_PPC64_GOT_TLSGD16)
-  pub argument_offsets : Rewrites is_addi kinds.AddiToLd
-      (ArgumentToOffset names.R_PPC64_GOT_TLSGD16_LO names.R_PPC64_GOT_TPREL16_LO_DS)
-  pub near_argument_offsets : Rewrites is_addi kinds.AddiToLd
-      (ArgumentToOffset names.R_PPC64_GOT_TLSGD16 names.R_PPC64_GOT_TPREL16_DS)
-  pub module_arguments :
-      Rewrites is_addi kinds.AddiToAddisThread (ArgumentToThread names.R_PPC64_GOT_TLSLD16_LO)
-  pub near_module_arguments :
-      Rewrites is_addi kinds.AddiToAddisThread (ArgumentToThread names.R_PPC64_GOT_TLSLD16)
-  pub call_low_halves : Rewrites is_any kinds.CallToAddi CallToLowHalf
-  -- `nop` and `add 3,3,13`, `nop` and `addi 3,3,4096`, `nop`, and `add 3,3,13`
-  pub calls : Rewrites is_any kinds.CallToAdd (CallTo 2 sum_64)
-      × Rewrites is_any kinds.CallToAddi4096 (CallTo 2 add_block)
-      × Rewrites is_any kinds.BranchToNop (CallTo 1 keep_number)
-      × Rewrites is_any kinds.BranchToAdd (CallTo 1 sum_64)
-  pub prefixed : RewritesBoth is_pld kinds.PldToPaddi PldToPaddi
-  pub variables : RewritesBoth is_pla kinds.PaddiToPaddiThread ArgumentToVariable
-      × RewritesBoth is_pld kinds.PldToPaddiThread LoadToVariable
-  pub prefixed_loads : RewritesBoth is_pla kinds.PaddiToPld ArgumentToLoad
-  pub prefixed_blocks : RewritesBoth is_pla kinds.PaddiToPaddi4096 ArgumentToBlock
-  pub variable_sums : Rewrites is_add_of_thread kinds.AddToMove SumOverVariable
-      × Rewrites is_indexed_any kinds.IndexedToDirect AccessOverVariable
+  pub rewrites : (name : Ppc64Relocation) (kind : RewriteKind)
+      → LawHolds name kind (law_of name kind)
   pub entries : TocAtEntry
-  pub toc : RewritesBoth is_call kinds.NopToRestoreToc RestoresToc
   pub near_entries : NearEntries
   pub others :
       (c : Code) → OthersAgree (λ code at. execute c.processor (instruction_at code at)) (link c)
