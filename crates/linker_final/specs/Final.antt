@@ -5,19 +5,18 @@ use Rattle.std.specs.Prelude.{◌≡◌, ◌≢◌, ◌⊎◌, ℕ, ◌+◌, ◌
 use Rattle.std.specs.Prelude.{take, drop, get_or, ℤ, Some, IsSomeAnd}
 use Rattle.linker_final.specs.Imports.{Addresses, Agree, All, Architecture, AreDecidedIn, AreDone}
 use Rattle.linker_final.specs.Imports.{AreRelocationsAfter, AreWritten, Comparison, Covered}
-use Rattle.linker_final.specs.Imports.{Decision, Group, IsHeld, IsRejected, IsRejectedIn}
-use Rattle.linker_final.specs.Imports.{IsRejectedPlaced, Kept, Kinds, Link, Next, OthersStay}
-use Rattle.linker_final.specs.Imports.{RelaxContext, RowInfo, State, Stops, Symbol, decision_at}
-use Rattle.linker_final.specs.Imports.{deletions_by, of_link, offset_at, pairs_in, pre_layout}
-use Rattle.linker_final.specs.Imports.{relocation_in, run, start_at, uncovered, written_end_at}
+use Rattle.linker_final.specs.Imports.{Decision, Group, IsHeld, IsRejectedIn, IsRejectedPlaced}
+use Rattle.linker_final.specs.Imports.{Kept, Kinds, Link, Next, OthersStay, RelaxContext, RowInfo}
+use Rattle.linker_final.specs.Imports.{State, Stops, Symbol, decision_at, deletions_by, of_link}
+use Rattle.linker_final.specs.Imports.{offset_at, pairs_in, relocation_in, run, start_at, uncovered}
+use Rattle.linker_final.specs.Imports.{written_end_at}
 use Rattle.linker_rewriting.specs.declared.groups.UnrelaxableGroups.{UnrelaxableGroups}
 use Rattle.linker_final.specs.declared.sections.LinkError.{LinkError}
 use Rattle.linker_final.specs.declared.sections.PhaseError.{PhaseError}
 use Rattle.linker_rewriting.specs.Kept.{IsWritingCause}
 use Rattle.linker_rewriting.specs.declared.decisions.Deletion.{Deletion}
-use Rattle.linker_rewriting.specs.declared.facts.OutputFacts.{OutputFacts}
-use Rattle.linker_rewriting.specs.declared.facts.SymbolFacts.{SymbolFacts}
 use Rattle.linker_rewriting.specs.declared.kept.FactsSnapshot.{FactsSnapshot}
+use Rattle.linker_rewriting.specs.declared.kept.WritingError.{WritingError}
 use Rattle.linker_section.specs.Fields.{IsField, field_end, field_len}
 use Rattle.linker_final.specs.declared.sections.LinkError.TheVariants as link_errors
 use Rattle.linker_final.specs.declared.sections.PhaseError.TheVariants as phase_errors
@@ -65,6 +64,17 @@ pub record HasRewritten (p : RewritingPhase) : Type 0 where
   pub open made use *
   -- what slices have
   pub as_many : length p.relocations_after ≡ length p.relocations
+
+-- The call changed neither.
+abbrev pub LeavesAll : RewritingPhase → Type 0
+LeavesAll p = (p.relocations_after ≡ p.relocations) × (p.rewritten ≡ p.section)
+
+-- why no value is written after it
+abbrev pub IsNotWritten : RewritingPhase → List FactsSnapshot → Addresses → List Symbol
+    → WritingError → Type 0
+IsNotWritten p kept addresses symbols =
+    IsWritingCause p.context.architecture p.context.output p.context.symbols kept addresses
+    p.relocations_after symbols p.rewritten
 
 -- It takes the relocations and the bytes that are there.
 pub record Takes (p : RewritingPhase) (relocations section : List ℕ) : Type 0 where
@@ -160,15 +170,6 @@ linked_by first later relocations_last last addresses symbols final =
       final = final;
     }
 
--- of one phase and that call
-abbrev pub linked : RelaxContext → List UnrelaxableGroups → List ℕ → List ℕ → List Decision → List ℕ → List ℕ
-    → Addresses → List Symbol → List ℕ → Linked
-linked context kept relocations section decisions relocations_after rewritten
-    addresses symbols final =
-    linked_by
-    (rewriting_phase context kept relocations section decisions relocations_after rewritten) []
-    relocations_after rewritten addresses symbols final
-
 -- Phases succeed one after the other. Each takes what the one before left, and something is ensured
 -- of each, with those after it as later ones.
 abbrev pub AreInTurn : (Linked → Type 0) → List RewritingPhase → List ℕ → List ℕ → List ℕ → List ℕ
@@ -185,20 +186,14 @@ abbrev pub AreLinked : List RewritingPhase → List ℕ → List ℕ → List �
     → List Symbol → List ℕ → Type 0
 AreLinked = AreInTurn IsLinked
 
--- why a section isn't linked: the bytes are then as before, or rewritten
-abbrev pub IsLinkCause : Architecture → OutputFacts → List SymbolFacts → List UnrelaxableGroups
-    → List FactsSnapshot → Addresses → List Symbol → List ℕ → List ℕ → List Decision → List ℕ → List ℕ
-    → LinkError → Type 0
-IsLinkCause architecture output facts groups kept addresses symbols relocations section decisions
-    relocations_after bytes (link_errors.Rewriting error) =
-    IsRejected architecture output facts groups relocations section decisions error
-    × (relocations_after ≡ relocations) × (bytes ≡ section)
-IsLinkCause architecture output facts groups kept addresses symbols relocations section decisions
-    relocations_after bytes (link_errors.Writing error) =
-    HasRewritten
-    (rewriting_phase (pre_layout architecture output facts) groups relocations section decisions
-    relocations_after bytes)
-    × IsWritingCause architecture output facts kept addresses relocations_after symbols bytes error
+-- why a section isn't linked, by what a phase was passed and left: the bytes are then as before, or
+-- rewritten
+abbrev pub IsLinkCause : RewritingPhase → List FactsSnapshot → Addresses → List Symbol → LinkError
+    → Type 0
+IsLinkCause p kept addresses symbols (link_errors.Rewriting error) =
+    IsRejectedIn p.context p.kept p.relocations p.section p.decisions error × LeavesAll p
+IsLinkCause p kept addresses symbols (link_errors.Writing error) =
+    HasRewritten p × IsNotWritten p kept addresses symbols error
 
 -- An array begins with what a phase deletes, and is as before after that.
 pub record AreListed (p : RewritingPhase) (before after : List Deletion) : Type 0 where
@@ -207,32 +202,19 @@ pub record AreListed (p : RewritingPhase) (before after : List Deletion) : Type 
   pub others : drop len after ≡ drop len before
 
 -- why a section isn't linked in two phases, and what is in an array for what the second one deletes
-abbrev pub IsPhaseCause : RelaxContext → List UnrelaxableGroups → RelaxContext → List UnrelaxableGroups → List FactsSnapshot
-    → Addresses → List Symbol → List ℕ → List ℕ → List Decision → List Decision → List ℕ → List ℕ
-    → List Deletion → List Deletion → PhaseError → Type 0
-IsPhaseCause first groups second placed_groups kept addresses symbols relocations section
-    decisions placed_decisions relocations_after bytes array deleted (phase_errors.First error) =
-    IsRejectedIn first groups relocations section decisions error
-    × (relocations_after ≡ relocations) × (bytes ≡ section) × (deleted ≡ array)
-IsPhaseCause first groups second placed_groups kept addresses symbols relocations section
-    decisions placed_decisions relocations_after bytes array deleted (phase_errors.Second error) =
-    HasRewritten
-    (rewriting_phase first groups relocations section decisions relocations_after bytes)
-    × IsRejectedPlaced second placed_groups relocations_after bytes placed_decisions (length array)
-    error
-IsPhaseCause first groups second placed_groups kept addresses symbols relocations section
-    decisions placed_decisions relocations_after bytes array deleted (phase_errors.Writing error) =
-    (relocations_between : List ℕ) × (between : List ℕ)
-    × HasRewritten
-    (rewriting_phase first groups relocations section decisions relocations_between between)
-    × HasRewritten
-    (rewriting_phase second placed_groups relocations_between between placed_decisions
-    relocations_after bytes)
-    × AreListed
-    (rewriting_phase second placed_groups relocations_between between placed_decisions
-    relocations_after bytes) array deleted
-    × IsWritingCause second.architecture second.output second.symbols kept addresses
-    relocations_after symbols bytes error
+abbrev pub IsPhaseCause : (first second : RewritingPhase) → List FactsSnapshot → Addresses
+    → List Symbol → List Deletion → List Deletion → PhaseError → Type 0
+IsPhaseCause first second kept addresses symbols array deleted (phase_errors.First error) =
+    IsRejectedIn first.context first.kept first.relocations first.section first.decisions error
+    × LeavesAll first × LeavesAll second × (deleted ≡ array)
+IsPhaseCause first second kept addresses symbols array deleted (phase_errors.Second error) =
+    HasRewritten first
+    × IsRejectedPlaced second.context second.kept second.relocations second.section
+    second.decisions (length array) error
+    × LeavesAll second
+IsPhaseCause first second kept addresses symbols array deleted (phase_errors.Writing error) =
+    HasRewritten first × HasRewritten second × AreListed second array deleted
+    × IsNotWritten second kept addresses symbols error
 
 -- Later phases leave alone the relocation at an index and n bytes from a start on. Where
 -- there are none, they do.

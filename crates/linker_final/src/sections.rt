@@ -1,7 +1,7 @@
 //! The calls that the laws are about, one after the other.
 
 ghost use Rattle.std.specs.Prelude.{◌≤◌, ◌/◌, ℕ, List, [], ◌∷◌, length, IfErr, OnOk};
-ghost use Rattle.linker_final.specs.Final.{IsLinked, IsLinkCause, linked};
+ghost use Rattle.linker_final.specs.Final.{IsLinked, IsLinkCause, linked_by};
 ghost use Rattle.linker_final.specs.Final.{AreLinked, AreListed, IsPhaseCause, rewriting_phase};
 ghost use Rattle.linker_rewriting.specs.Facts.{pre_layout, context};
 ghost use Rattle.linker_rewriting.specs.Numbers.{decisions_in};
@@ -46,12 +46,13 @@ pub fn link_section(
     memory: &mut [u64],
 ) -> Result<(), LinkError>
     requires memory { length relocations.old / 24 ≤ length memory.old }
-    ensures linked { OnOk result ((rewritten : List ℕ) × IsLinked (linked (pre_layout architecture
-        output.now facts.now) groups.now relocations.old section.old (decisions_in decisions.new)
-        relocations.new rewritten addresses.now symbols.now section.new)) }
-    ensures cause { IfErr result (IsLinkCause architecture output.now facts.now groups.now kept.now
-        addresses.now symbols.now relocations.old section.old (decisions_in decisions.new) relocations.new
-        section.new) }
+    ensures linked { OnOk result ((rewritten : List ℕ) × IsLinked (linked_by (rewriting_phase
+        (pre_layout architecture output.now facts.now) groups.now relocations.old section.old
+        (decisions_in decisions.new) relocations.new rewritten) [] relocations.new rewritten
+        addresses.now symbols.now section.new)) }
+    ensures cause { IfErr result (IsLinkCause (rewriting_phase (pre_layout architecture output.now
+        facts.now) groups.now relocations.old section.old (decisions_in decisions.new)
+        relocations.new section.new) kept.now addresses.now symbols.now) }
 {
     let context = RelaxContext {
         architecture,
@@ -123,16 +124,20 @@ pub fn link_section_in_two_phases(
         (rewriting_phase (pre_layout architecture output.now facts.now) groups.now relocations.old
         section.old (decisions_in decisions.new) relocations_between between
         ∷ rewriting_phase (context architecture phase output.now facts.now addresses.now
-        symbols.now) placed_groups.now relocations_between between (decisions_in placed_decisions.new)
-        relocations.new rewritten ∷ []) relocations.old section.old relocations.new rewritten
+        symbols.now) placed_groups.now relocations_between between
+        (decisions_in placed_decisions.new) relocations.new rewritten ∷ [])
+        relocations.old section.old relocations.new rewritten
         addresses.now symbols.now section.new
         × AreListed (rewriting_phase (context architecture phase output.now facts.now addresses.now
-        symbols.now) placed_groups.now relocations_between between (decisions_in placed_decisions.new)
-        relocations.new rewritten) deleted.old deleted.new) }
-    ensures cause { IfErr result (IsPhaseCause (pre_layout architecture output.now facts.now) groups.now
-        (context architecture phase output.now facts.now addresses.now symbols.now)
-        placed_groups.now kept.now addresses.now symbols.now relocations.old section.old
-        (decisions_in decisions.new) (decisions_in placed_decisions.new) relocations.new section.new deleted.old deleted.new) }
+        symbols.now) placed_groups.now relocations_between between
+        (decisions_in placed_decisions.new) relocations.new rewritten) deleted.old deleted.new) }
+    ensures cause { IfErr result (λ error. (relocations_between : List ℕ) × (between : List ℕ)
+        × IsPhaseCause (rewriting_phase (pre_layout architecture output.now facts.now) groups.now
+        relocations.old section.old (decisions_in decisions.new) relocations_between between)
+        (rewriting_phase (context architecture phase output.now facts.now addresses.now symbols.now)
+        placed_groups.now relocations_between between (decisions_in placed_decisions.new)
+        relocations.new section.new) kept.now addresses.now symbols.now deleted.old deleted.new
+        error) }
 {
     if let Err(error) = rewrite_section(
         architecture,

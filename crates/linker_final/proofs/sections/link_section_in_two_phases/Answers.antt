@@ -4,18 +4,24 @@ use Rattle.linker_final.proofs.sections.link_section_in_two_phases.Goals as goal
 
 pub returns-in-Err-clause-cause : goal.returns-in-Err-clause-cause
 returns-in-Err-clause-cause c = (
+  c.args.relocations.now,
+  c.args.section.now,
   c.in-Err.ensures.rejected,
-  c.in-Err.ensures.entries,
-  c.in-Err.ensures.section,
+  (refl, refl),
+  (c.in-Err.ensures.entries, c.in-Err.ensures.section),
   refl,
 )
 
 pub returns-in-Err-rewrite_placed_section-clause-cause :
     goal.returns-in-Err-rewrite_placed_section-clause-cause
 returns-in-Err-rewrite_placed_section-clause-cause c =
-    let stopped = c.in-Err-rewrite_placed_section.ensures in
-    rw (stopped.section, stopped.entries)
-    (has_rewritten _ _ _ _ _ _ _ c.in_default.ensures.rewritten (search rules) (search rules), stopped.rejected)
+    let stopped = c.in-Err-rewrite_placed_section.ensures in (
+      c.rewrite_section.new.relocations,
+      c.rewrite_section.new.section,
+      has_rewritten _ _ _ _ _ _ _ c.in_default.ensures.rewritten (search rules) (search rules),
+      stopped.rejected,
+      (stopped.entries, stopped.section),
+    )
 
 pub returns-in-Ok-clause-linked : goal.returns-in-Ok-clause-linked
 returns-in-Ok-clause-linked c =
