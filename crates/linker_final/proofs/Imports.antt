@@ -40,7 +40,7 @@ pub use Rattle.linker_elf.specs.declared.riscv64.relocations.RiscVRelocation.{Ri
 pub use Rattle.linker_final.specs.AArch64Section.{Begins, ComesTo, HasFinal, IsDescriptorLeft, IsRewrittenAgain, IsRewrittenOf, Rewrites, address, at_address, at_call, at_high, at_initial, at_jump, at_load, at_local, at_low, call, high, jump, load, low, object, register, rewriting, span, to_initial, to_local}
 pub use Rattle.linker_final.specs.Final.{AreBytes, AreCalled, AreInTurn, AreLeft, AreLinked, AreListed, ArePhases, AreRewritten, EachPlace, HasRewritten, IsBesideAll, IsFollowed, IsLinked, IsOutside, IsPhase, IsPhaseIn, IsRewrittenByNoOther, IsWrittenByNoOther, Keeps, Known, Knows, Linked, OtherBytes, OtherFields, Place, RewritesAreGroups, RewritesNone, Rewriting, RewritingPhase, RunsAreFollowed, Section, UntouchedByOthers, UntouchedBytes, UntouchedBytesAreTheSame, UntouchedInPhase, UntouchedInstruction, UntouchedInstructions, begins, comparison, count, count_of, elsewhere, instruction_at, linked_by, offset_of, rewriting_phase, two_at, unchanged, within}
 pub use Rattle.linker_final.specs.Packed.{AlignmentsHold, AreDeleted, AreRelaxedAndPacked, DeletedBytesAreGone, Goes, HoldsIn, InstructionsAreRelocated, IsAligned, IsBefore, IsKeptInstruction, IsOfRun, IsPackCause, IsPacked, IsRewrittenAndPacked, IsSiteOf, IsSkipped, IsUnwritten, ItemsAreDeleted, KeptBytesStay, LoongArchBranchesGo, Packed, PaddingIsNops, PlacesAreRelocated, PlacesHaveAddresses, RiscVBranchesGo, Run, SectionsAreAligned, StayTogether, Stays, address_at, architecture_of, final_instruction, final_number, packed_of, padding_at, padding_len, place_of, site_after, site_bytes, site_len, site_offset, site_place, site_target}
-pub use Rattle.linker_final.specs.RiscV32.{AbsoluteAddresses, Addends, Branches, Call, Descriptor, DescriptorAddresses, Entries, HasWrappedAddend, IsSame32, IsWrappedValue, IsWrappedWithin, Jump, Law32, Pairs, PairsReachAll, Reaches32, RelativeAddresses, ThreadAddresses, Values, Word, Words}
+pub use Rattle.linker_final.specs.RiscV32.{Addends, Branches, Calls, HasCalled, HasWrappedAddend, IsSame32, IsWrappedValue, IsWrappedWithin, Law32, LongCall, PairsReachAll, Reaches32, RelativeAddresses, ShortCall, Values, Word, Words, executed_32, fetched_32, is_cjal, modulo_32, step_32}
 pub use Rattle.linker_final.specs.Steps.{AllPass, Executed, Group, Numbers, all_below, at, m0, made_high, made_low, pc}
 pub use Rattle.linker_final.specs.Worked.{HasGroups, IsGroupOf, IsLinkedAs, IsOfCalls, IsPhaseOf, code_at, halves, none_stays}
 pub use Rattle.linker_final.specs.declared.worked.TheConstants.{AARCH64_OBJECT, AARCH64_RELOCATIONS, OUTPUT}
@@ -50,9 +50,9 @@ pub use Rattle.linker_laws.proofs.Sums.{cast_is, difference_below, lift, sum_zer
 pub use Rattle.linker_laws.proofs.Words.{put_there, same_low_two, word_below}
 pub use Rattle.linker_laws.specs.Changes.{go_to, put, with_register}
 pub use Rattle.linker_laws.specs.Machine.{BeginsRewritten, Relocated, loaded, moved, wrapped}
-pub use Rattle.linker_laws.specs.RiscVRelocationLaws.{even, low_load, upper_and_low, without_bit_0}
-pub use Rattle.linker_laws.specs.RiscVRewriteLaws.{IsLoadFromGot, IsLow12, IsLowOffset, action_at, after_rewrite, offset_row, word_of}
-pub use Rattle.linker_laws.specs.Schemes.{Adds, AreAddresses, Computed, HoldsDistance, IsAddress, Step, entry_and_addend, following, here, number_at, place, plt_address, symbol_address, thread_offset, tls_base}
+pub use Rattle.linker_laws.specs.RiscVGroups.{CallStays, DeletedLui, IsLoadFromGot, IsLow12, IsLowOffset, action_at, after_rewrite, machine, offset_row, word_of}
+pub use Rattle.linker_laws.specs.RiscVRelocationLaws.{AbsoluteAddresses, even, low_load, upper_and_low, without_bit_0}
+pub use Rattle.linker_laws.specs.Schemes.{Adds, AreAddresses, Computed, HoldsDistance, IsAddress, Law, Step, entry_and_addend, following, here, number_at, place, plt_address, symbol_address, thread_offset, tls_base}
 pub use Rattle.linker_laws.specs.Simulation.{Agree, Comparison, Kinds, Next, Simulates, State, anything, by_group, half, of_link, same, uncovered}
 pub use Rattle.linker_rewriting.proofs.AArch64Sequences.{in_phase, named_at, of_group, of_option, scope_there, sequences_are_whole, unlabelled}
 pub use Rattle.linker_rewriting.proofs.Chosen.{IsChosen, choice_of, chosen_at, chosen_or_labelled}

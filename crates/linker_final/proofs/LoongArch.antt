@@ -1,7 +1,8 @@
 -- LoongArch: each rewrite of a section is of one instruction or of a load, which is a group.
 use Rattle.linker_final.proofs.Imports.{AbsoluteLowPart, Addresses, Architecture, AreDecidedIn, AreRewritten, BeginsRewritten, Bool, Choice, Consumed, Decision, GotRelative, GotTpOff, GotTpOffGot, Grouped, Independent, IsApplied, IsArchitectureChoice, IsCandidate, IsCandidateWith, IsChosen, IsDecidedAfter, IsDecidedAlone, IsGroupDecision, IsKeptInstruction, IsLinked, IsLoadAt, IsNameOf, IsNamed, IsOfEntry, IsOfOne, IsRewrittenAndPacked, IsRewrittenByNoOther, IsRow, IsScopeDecision, IsScopeIn, IsSomeAnd, IsTrue, IsWrittenByNoOther, Kept, Labelled, LinkFacts, Linked, List, LoongArch64 as loongarch64, LoongArch64Relocation, None, NotRelaxable, Ok, Operands, Option, Packed, Phase, Ppc64, Rela, Relative, RelaxContext, Relaxation, RewritesAreGroups, Rewritten, RewrittenWithSymbol, RowInfo, Scope, Some, Symbol, TpOff, UntouchedInstruction, UntouchedInstructions, [], addend_after, ap, architecture_of, arith, bytes_row, cases_Bool, chosen_at, cond, count, decision_at, decision_of, entry_pages, false, field, final_instruction, following, group_stays, high_row, inl, inr, instruction_at, is_some, is_taken, link_facts, loongarch_name, loongarch_row, loongarch_scope_in, low_row, of_one, offset_after, offset_of, operands_by, operands_in, operands_with, paged_row, place_pages, pre_layout, r_type_of, refl, relaxation_rewrite, relaxation_skipped, relocation_in, rounded_row, slice_get, subst, suc, sym, takes_next, true, value_of, word_of, zero, ℕ, ℤ, ⊤, ◌*◌, ◌+◌, ◌-◌, ◌/◌, ◌<◌, ◌^◌, ◌∙◌, ◌∷◌, ◌≡◌, ◌≢◌, ◌≤◌, ◌⊎◌}
+use Rattle.linker_laws.specs.LoongArchGroups.{Becomes, CallGoes, GoneLaw, Groups, HasNop, HighOffset, InstructionLaw, IsRelocated, IsRewritten, LoadGoes, LoadsOffset, LowHalf, LowOfDescriptor, LowPart, MakesOffset, OffsetGoes, SumGoes, BecomesNop, IsDeleted, IsPair}
 use Rattle.linker_final.specs.LoongArchSection.{AreOf, HasEntry, IsAlone, IsFinal, IsKept, IsLeft, IsLoad, IsNew, Left, LoadsTheSame, applied, by_itself, entry_by as entry_of_name, law_of, none, without_law, IsMade, Law, RelocationsAreLeft, anywhere, final, load, named_as, packed, rewriting}
-use Rattle.linker_laws.specs.LoongArchGroups.{CallOfDescriptor, LoadOfDescriptor, Groups}
+use Rattle.linker_final.specs.LoongArchSection as section_laws
 use Rattle.linker_utils.specs.LoongArchRewrites.{IsCallOfDescriptor, IsLoadOfDescriptor, IsLowOfDescriptor, IsLu12i, IsPageOfDescriptor, IsPcalau12i, LoongArchApplies, LoongArchEntry, loongarch_entries, loongarch_rewrite, rj_of, HasPattern, IsAddTp, IsLd, adds_low12, rd_of, rewrites_word, tp}
 use Rattle.linker_rewriting.specs.Rewritten.{IsRewritten as PairIsRewritten}
 use Rattle.linker_elf.specs.declared.elf.architecture.Architecture.TheVariants.{LoongArch64}
@@ -9,7 +10,6 @@ use Rattle.linker_elf.specs.declared.elf.RelocationKind.TheVariants.{None as NoV
 use Rattle.linker_final.proofs.PackedBytes.{own_there, r_type_is, unwritten_there, within}
 use Rattle.linker_final.proofs.SectionRuns.{AreIn, IsIn, beside_or, is_linked, without_label}
 use Rattle.linker_final.proofs.Written.{IsOfInstruction, IsRowOf, applied_after, by_name, made_there, of_bits, rela, rela_at, relocation_named, row_in, stays, unwritten_without, word_same}
-use Rattle.linker_laws.specs.LoongArchRewriteLaws.{IsPair, IsRelocated, IsRewritten}
 use Rattle.linker_rewriting.proofs.LoongArchLoads.{loads_are_whole}
 use Rattle.linker_rewriting.proofs.PreLayout.{AreEarly, IsListed, are_early, isnt, listed_at}
 use Rattle.linker_rewriting.proofs.SequenceMembers.{among, are_there}
@@ -488,6 +488,43 @@ module _ (l : Linked) (made : AreRewritten l) (i : ℕ) (chosen : Choice Relaxat
       → (new : ℕ → ℕ) → loongarch_rewrite kind ≡ Some (rewrites_word new) → IsRewritten kind (before l i) (rewritten l i)
   becomes_by kind name old by = becomes l made i chosen below decided kind by.kind_is
 
+  module _ (old : LoongArch64Relocation) (relaxation : Relaxation) (P : ℕ → Type 0) (is : P (word_of (before l i))) where
+    -- the law of an instruction that becomes another, with a relocation
+    law_by : (Law : InstructionLaw) (kind : RewriteKind) (name : LoongArch64Relocation) → Becomes P kind name Law → Takes name
+        → IsEntry kind name old l.section (offset_of l i) chosen → (new : ℕ → ℕ)
+        → loongarch_rewrite kind ≡ Some (rewrites_word new) → IsLawful l i relaxation (section_laws.law name Law)
+    law_by Law kind name group takes by new rewrites =
+        record {
+          writable = takes;
+          left = left_by kind name old by;
+          group = λ alone u y after.
+              group u y (before l i) (rewritten l i) after is (becomes_by kind name old by new rewrites);
+        }
+
+    -- of one that becomes a `nop`
+    nop_by : (Law : GoneLaw) → BecomesNop P Law
+        → IsEntry kinds.ReplaceWithNop names.R_LARCH_NONE old l.section (offset_of l i) chosen
+        → IsLawful l i relaxation (section_laws.nop Law)
+    nop_by Law group by =
+        record {
+          writable = tt;
+          left = left_by kinds.ReplaceWithNop names.R_LARCH_NONE old by;
+          group = λ alone u y after made_so. subst (λ nop. Law 1 (HasNop nop) (before l i)) (sym made_so)
+              (group (before l i) (rewritten l i) is
+              (becomes_by kinds.ReplaceWithNop names.R_LARCH_NONE old by (λ _. 0x03400000) refl));
+        }
+
+    -- and of one that is deleted
+    deleted_by : (Law : GoneLaw) → IsDeleted P Law
+        → IsEntry kinds.Delete names.R_LARCH_NONE old l.section (offset_of l i) chosen
+        → IsLawful l i relaxation (section_laws.deleted Law)
+    deleted_by Law group by =
+        record {
+          writable = tt;
+          left = left_by kinds.Delete names.R_LARCH_NONE old by;
+          group = λ alone u y after made_so. group (before l i) is;
+        }
+
 -- ---- laws
 
 module _ (groups : Groups) (l : Linked) (made : AreRewritten l) (loongarch : l.context.architecture ≡ LoongArch64)
@@ -510,14 +547,9 @@ module _ (groups : Groups) (l : Linked) (made : AreRewritten l) (loongarch : l.c
       let t = table name tt is_name in
       let by : IsEntry kinds.PcalaToLu12i names.R_LARCH_TLS_LE_HI20 name l.section (offset_of l i) chosen =
       shown t (λ short. isnt t.facts.has_addresses (t.early refl).unplaced (short.meant.1.1.1.1.1.0.0), (λ this. entry_of_table name l.section (offset_of l i) chosen t.facts _ this, tt)) in
-      record {
-        writable = high_offset;
-        left = left_by l made i chosen below decided kinds.PcalaToLu12i names.R_LARCH_TLS_LE_HI20 name by;
-        group = λ alone u y after made_so. groups.high_halves u y (before l i) (rewritten l i) after
-            (subst IsPcalau12i (word_same l.section (offset_of l i)) (by.pattern.1))
-            (becomes_by l made i chosen below decided kinds.PcalaToLu12i names.R_LARCH_TLS_LE_HI20 name by (λ word. 0x14000000 + rd_of word) refl)
-            made_so;
-      }
+      law_by l made i chosen below decided name chosen.kind IsPcalau12i
+      (subst IsPcalau12i (word_same l.section (offset_of l i)) (by.pattern.1)) (HighOffset name) kinds.PcalaToLu12i
+      names.R_LARCH_TLS_LE_HI20 groups.high_halves high_offset by (λ word. 0x14000000 + rd_of word) refl
 
   pub low_half : HasLaw names.R_LARCH_TLS_IE_PC_LO12
   low_half is_name =
@@ -525,14 +557,9 @@ module _ (groups : Groups) (l : Linked) (made : AreRewritten l) (loongarch : l.c
       let t = table name tt is_name in
       let by : IsEntry kinds.LowToOri names.R_LARCH_TLS_LE_LO12 name l.section (offset_of l i) chosen =
       shown t (λ short. isnt t.facts.has_addresses (t.early refl).unplaced (short.meant.1.1.1.1.1.0.0), (λ this. entry_of_table name l.section (offset_of l i) chosen t.facts _ this, tt)) in
-      record {
-        writable = low_offset;
-        left = left_by l made i chosen below decided kinds.LowToOri names.R_LARCH_TLS_LE_LO12 name by;
-        group = λ alone u y after made_so. groups.low_halves u y (before l i) (rewritten l i) after
-            (subst IsLd (word_same l.section (offset_of l i)) (by.pattern.1))
-            (becomes_by l made i chosen below decided kinds.LowToOri names.R_LARCH_TLS_LE_LO12 name by (λ word. 0x03800000 + field word 0 10) refl)
-            made_so;
-      }
+      law_by l made i chosen below decided name chosen.kind IsLd
+      (subst IsLd (word_same l.section (offset_of l i)) (by.pattern.1)) LowHalf kinds.LowToOri
+      names.R_LARCH_TLS_LE_LO12 groups.low_halves low_offset by (λ word. 0x03800000 + field word 0 10) refl
 
   -- local-exec
   pub high_part : HasLaw names.R_LARCH_TLS_LE_HI20_R
@@ -541,13 +568,8 @@ module _ (groups : Groups) (l : Linked) (made : AreRewritten l) (loongarch : l.c
       let t = table name tt is_name in
       let by : IsEntry kinds.Delete names.R_LARCH_NONE name l.section (offset_of l i) chosen =
       shown t (λ this. entry_of_table name l.section (offset_of l i) chosen t.facts _ this, tt) in
-      record {
-        writable = tt;
-        left = left_by l made i chosen below decided kinds.Delete names.R_LARCH_NONE name by;
-        group = λ alone u y after made_so c x k s gone small at low has.
-            groups.high_offsets c x k s (before l i) gone small at
-            (subst IsLu12i (word_same l.section (offset_of l i)) (by.pattern.1)) low has;
-      }
+      deleted_by l made i chosen below decided name chosen.kind IsLu12i
+      (subst IsLu12i (word_same l.section (offset_of l i)) (by.pattern.1)) OffsetGoes groups.high_offsets by
 
   pub sum : HasLaw names.R_LARCH_TLS_LE_ADD_R
   sum is_name =
@@ -555,12 +577,8 @@ module _ (groups : Groups) (l : Linked) (made : AreRewritten l) (loongarch : l.c
       let t = table name tt is_name in
       let by : IsEntry kinds.Delete names.R_LARCH_NONE name l.section (offset_of l i) chosen =
       shown t (λ this. entry_of_table name l.section (offset_of l i) chosen t.facts _ this, tt) in
-      record {
-        writable = tt;
-        left = left_by l made i chosen below decided kinds.Delete names.R_LARCH_NONE name by;
-        group = λ alone u y after made_so c k s gone is_zero wide stands. groups.sums c k s (before l i) gone
-            (subst IsAddTp (word_same l.section (offset_of l i)) (by.pattern.1)) is_zero wide stands;
-      }
+      deleted_by l made i chosen below decided name chosen.kind IsAddTp
+      (subst IsAddTp (word_same l.section (offset_of l i)) (by.pattern.1)) SumGoes groups.sums by
 
   pub low_part : HasLaw names.R_LARCH_TLS_LE_LO12_R
   low_part is_name =
@@ -568,14 +586,9 @@ module _ (groups : Groups) (l : Linked) (made : AreRewritten l) (loongarch : l.c
       let t = table name tt is_name in
       let by : IsEntry kinds.BaseToTp names.R_LARCH_TLS_LE_LO12_R name l.section (offset_of l i) chosen =
       shown t (λ this. entry_of_table name l.section (offset_of l i) chosen t.facts _ this, tt) in
-      record {
-        writable = part_offset;
-        left = left_by l made i chosen below decided kinds.BaseToTp name name by;
-        group = λ alone u y after made_so. groups.low_offsets u y (before l i) (rewritten l i) after
-            (subst (λ word. IsTrue (adds_low12 (word / 2 ^ 22))) (word_same l.section (offset_of l i)) (by.pattern.1.0))
-            (becomes_by l made i chosen below decided kinds.BaseToTp name name by (λ word. word - rj_of word * 2 ^ 5 + tp * 2 ^ 5) refl)
-            made_so;
-      }
+      law_by l made i chosen below decided name chosen.kind (λ word. IsTrue (adds_low12 (word / 2 ^ 22)))
+      (subst (λ word. IsTrue (adds_low12 (word / 2 ^ 22))) (word_same l.section (offset_of l i)) (by.pattern.1.0))
+      LowPart kinds.BaseToTp name groups.low_offsets part_offset by (λ word. word - rj_of word * 2 ^ 5 + tp * 2 ^ 5) refl
 
 -- ---- the relocations of initial-exec
 
@@ -623,16 +636,10 @@ module _ (groups : Groups) (l : Linked) (made : AreRewritten l) (loongarch : l.c
       elim which [
         | inl is ↦
             let page_is : IsPageOfDescriptor (word_of (before l i)) = subst IsPageOfDescriptor (word_same l.section o) (is.pattern.1) in
-            let law : IsLawful l i (relaxations.LoongArch64 kinds.PcalaToLu12i) (law_of name (relaxations.LoongArch64 kinds.PcalaToLu12i)) =
-            record {
-              writable = high_offset;
-              left = left_by l made i chosen below decided kinds.PcalaToLu12i names.R_LARCH_TLS_LE_HI20 name is;
-              group = λ alone u y after made_so.
-                  groups.descriptor_high_halves u y (before l i) (rewritten l i) after (page_is.0)
-                  (becomes_by l made i chosen below decided kinds.PcalaToLu12i names.R_LARCH_TLS_LE_HI20 name is (λ word. 0x14000000 + rd_of word) refl)
-                  made_so;
-            } in
-            subst (λ k. IsLawful l i k (law_of name k)) (sym is.kind_is) law
+            subst (λ k. IsLawful l i k (law_of name k)) (sym is.kind_is)
+            (law_by l made i chosen below decided name (relaxations.LoongArch64 kinds.PcalaToLu12i) IsPcalau12i page_is.0
+            (HighOffset name) kinds.PcalaToLu12i names.R_LARCH_TLS_LE_HI20 groups.descriptor_high_halves high_offset is
+            (λ word. 0x14000000 + rd_of word) refl)
         | inr is ↦
             let page_is : IsPageOfDescriptor (word_of (before l i)) = subst IsPageOfDescriptor (word_same l.section o) (is.pattern.1) in
             let law : IsLawful l i (relaxations.LoongArch64 kinds.NoOp) (law_of name (relaxations.LoongArch64 kinds.NoOp)) =
@@ -660,27 +667,15 @@ module _ (groups : Groups) (l : Linked) (made : AreRewritten l) (loongarch : l.c
       ) in
       elim which [
         | inl is ↦
-            let law : IsLawful l i (relaxations.LoongArch64 kinds.LowToOri) (law_of name (relaxations.LoongArch64 kinds.LowToOri)) =
-            record {
-              writable = low_offset;
-              left = left_by l made i chosen below decided kinds.LowToOri names.R_LARCH_TLS_LE_LO12 name is;
-              group = λ alone u y after made_so.
-                  groups.descriptor_low_halves u y (before l i) (rewritten l i) after (subst IsLowOfDescriptor (word_same l.section o) (is.pattern.1))
-                  (becomes_by l made i chosen below decided kinds.LowToOri names.R_LARCH_TLS_LE_LO12 name is (λ word. 0x03800000 + field word 0 10) refl)
-                  made_so;
-            } in
-            subst (λ k. IsLawful l i k (law_of name k)) (sym is.kind_is) law
+            subst (λ k. IsLawful l i k (law_of name k)) (sym is.kind_is)
+            (law_by l made i chosen below decided name (relaxations.LoongArch64 kinds.LowToOri) IsLowOfDescriptor
+            (subst IsLowOfDescriptor (word_same l.section o) (is.pattern.1)) (LowOfDescriptor MakesOffset) kinds.LowToOri
+            names.R_LARCH_TLS_LE_LO12 groups.descriptor_low_halves low_offset is (λ word. 0x03800000 + field word 0 10) refl)
         | inr is ↦
-            let law : IsLawful l i (relaxations.LoongArch64 kinds.AddiToLd) (law_of name (relaxations.LoongArch64 kinds.AddiToLd)) =
-            record {
-              writable = entry_low;
-              left = left_by l made i chosen below decided kinds.AddiToLd names.R_LARCH_TLS_IE_PC_LO12 name is;
-              group = λ alone u y after made_so.
-                  groups.descriptor_entry_loads u y (before l i) (rewritten l i) after (subst IsLowOfDescriptor (word_same l.section o) (is.pattern.1))
-                  (becomes_by l made i chosen below decided kinds.AddiToLd names.R_LARCH_TLS_IE_PC_LO12 name is (λ word. 0x28c00000 + field word 0 22) refl)
-                  made_so;
-            } in
-            subst (λ k. IsLawful l i k (law_of name k)) (sym is.kind_is) law
+            subst (λ k. IsLawful l i k (law_of name k)) (sym is.kind_is)
+            (law_by l made i chosen below decided name (relaxations.LoongArch64 kinds.AddiToLd) IsLowOfDescriptor
+            (subst IsLowOfDescriptor (word_same l.section o) (is.pattern.1)) (LowOfDescriptor LoadsOffset) kinds.AddiToLd
+            names.R_LARCH_TLS_IE_PC_LO12 groups.descriptor_entry_loads entry_low is (λ word. 0x28c00000 + field word 0 22) refl)
       ]
 
   pub load_law : DescriptorHasLaw names.R_LARCH_TLS_DESC_LD
@@ -689,13 +684,8 @@ module _ (groups : Groups) (l : Linked) (made : AreRewritten l) (loongarch : l.c
       let by = table groups l made loongarch i chosen below decided name tt is_name in
       let is : IsEntry kinds.ReplaceWithNop names.R_LARCH_NONE name l.section (offset_of l i) chosen =
       shown by (λ gone. isnt by.facts.is_relaxable (by.early refl).unmarked (gone.meant.1.1.0), (λ this. entry_of_table name l.section (offset_of l i) chosen by.facts _ this, tt)) in
-      record {
-        writable = tt;
-        left = left_by l made i chosen below decided kinds.ReplaceWithNop names.R_LARCH_NONE name is;
-        group = λ alone u y after made_so. subst (LoadOfDescriptor (before l i)) (sym made_so)
-            (groups.descriptor_loads (before l i) (rewritten l i) (subst IsLoadOfDescriptor (word_same l.section (offset_of l i)) (is.pattern.1))
-            (becomes_by l made i chosen below decided kinds.ReplaceWithNop names.R_LARCH_NONE name is (λ _. 0x03400000) refl));
-      }
+      nop_by l made i chosen below decided name chosen.kind IsLoadOfDescriptor
+      (subst IsLoadOfDescriptor (word_same l.section (offset_of l i)) (is.pattern.1)) LoadGoes groups.descriptor_loads is
 
   pub call : DescriptorHasLaw names.R_LARCH_TLS_DESC_CALL
   call is_name =
@@ -703,13 +693,8 @@ module _ (groups : Groups) (l : Linked) (made : AreRewritten l) (loongarch : l.c
       let by = table groups l made loongarch i chosen below decided name tt is_name in
       let is : IsEntry kinds.ReplaceWithNop names.R_LARCH_NONE name l.section (offset_of l i) chosen =
       shown by (λ gone. isnt by.facts.is_relaxable (by.early refl).unmarked (gone.meant.1.1.0), (λ this. entry_of_table name l.section (offset_of l i) chosen by.facts _ this, tt)) in
-      record {
-        writable = tt;
-        left = left_by l made i chosen below decided kinds.ReplaceWithNop names.R_LARCH_NONE name is;
-        group = λ alone u y after made_so. subst (CallOfDescriptor (before l i)) (sym made_so)
-            (groups.descriptor_calls (before l i) (rewritten l i) (subst IsCallOfDescriptor (word_same l.section (offset_of l i)) (is.pattern.1))
-            (becomes_by l made i chosen below decided kinds.ReplaceWithNop names.R_LARCH_NONE name is (λ _. 0x03400000) refl));
-      }
+      nop_by l made i chosen below decided name chosen.kind IsCallOfDescriptor
+      (subst IsCallOfDescriptor (word_same l.section (offset_of l i)) (is.pattern.1)) CallGoes groups.descriptor_calls is
 
 -- ---- an instruction that stays
 

@@ -1,7 +1,8 @@
 -- LoongArch: calls and addresses in the final bytes of a packed section, and what is deleted of it.
 use Rattle.linker_final.proofs.Imports.{AbsoluteLowPart, All-drop, All-take, AnyForm, AreAddresses, AreBytes, AreDeleted as IsGone, BitMasking, BitRange, Bool, Branch26, InstructionWritten, IsAddress, IsApplied, IsBefore, IsPacked, IsSiteOf, IsSomeAnd, IsWritten, List, LoongArch64, LoongArch64Relocation, Ok, Operands, Packed, Relocated, RowInfo, Shift10, SiteBecomes, Some, State, Symbol, ValueIsWithin, [], ap, architecture_of, arith, drop, drop-drop, entry_and_addend, eqb, false, field, following, has_value, if◌then◌else◌, inl, inr, is_jirl, length, length-drop, loaded, loongarch_form, loongarch_row, names_label, ne_eqb, not, offset_at, operands_in, or_parts, pcalau12i, place_of, plt_address, pos, refl, relocation_in, signed, site_after, site_bytes, site_len, site_offset, site_place, site_target, slice_get, subst, sum_64, sym, symbol_address, take, true, value_of, window_len, word_below, word_of, word_of_front, wrapped, ℕ, ℤ, ⊤, ◌*ℤ◌, ◌+ℤ◌, ◌+◌, ◌/◌, ◌<◌, ◌==◌, ◌^◌, ◌∙◌, ◌∷◌, ◌≡◌, ◌≢◌, ◌≤◌}
+use Rattle.linker_laws.specs.LoongArchGroups.{Fits32, Groups, IsRelocated, IsRewritten, LoadsEntry, AreDeleted, Code}
 use Rattle.linker_final.specs.LoongArchSection.{AddressesAreMade, CallsTheSame, HighPartIsLeftOut, IsPairOf, LoadedAddressesAreMade, LongAddressesStay, LongLoadedAddressesStay, StaysAs, operands_at, words_in, LongCallsStay, SumIsLeftOut}
-use Rattle.linker_laws.specs.LoongArchRewriteLaws.{Fits32, HaveCalled, HaveMade, LoadsEntry, no_register, pair, IsRelocated, IsRewritten}
+use Rattle.linker_laws.specs.LoongArchMachine.{HaveCalled, HaveMade, no_register, pair}
 use Rattle.linker_utils.specs.LoongArchRewrites.{IsAddi, IsCall, rj_of, signed_32, AreOfOneRegister, IsLd, rd_of, word_at}
 use Rattle.linker_elf.proofs.Relocated.{plain_written}
 use Rattle.linker_elf.specs.declared.elf.AnyForm.TheVariants.{LoongArch64 as of_loongarch}
@@ -13,7 +14,6 @@ use Rattle.linker_laws.proofs.LoongArchCalls.{call_is, decodes_b, decodes_bl, de
 use Rattle.linker_laws.proofs.LoongArchPairs.{Loads, adds, loads, nears}
 use Rattle.linker_laws.proofs.LoongArchSteps.{ends_so, loaded_of, read_back, run_pair, set}
 use Rattle.linker_laws.proofs.LoongArchWords.{high_after, low_after}
-use Rattle.linker_laws.specs.LoongArchGroups.{AreDeleted, Code, Groups}
 use Rattle.linker_laws.specs.LoongArchMachine.{AreAlikeBut, EndSo, State as Processor, branch_target, execute, far_address, go_to, near_address, next_pc, page_address, read, register_target, run, step, sum_of, with_register, write}
 use Rattle.linker_runs.specs.LoongArchSites.{IsBranch, IsCall36At, IsFarCall, IsPcaddi, IsPcalaAt, LoongArchBecomes, destination}
 use Rattle.linker_runs.specs.LoongArchSites.LoongArchBecomes.{address, call, far_address as far_pair, far_call, jump}
@@ -30,12 +30,12 @@ gone_in p o c s gone before =
     record { small = before.small; moved = before.place ∙ sym (no_place p o 4 gone) ∙ sym before.next }
 
 pub high_part : Groups → HighPartIsLeftOut
-high_part groups p is machine o gone word x small low c k s before at has =
-    groups.high_offsets c x k s (take 4 (drop o p.section.bytes)) (gone_in p o c s gone before) small at word low has
+high_part groups p is machine o gone word c x k s before =
+    groups.high_offsets (take 4 (drop o p.section.bytes)) word c x k s (gone_in p o c s gone before)
 
 pub sums : Groups → SumIsLeftOut
-sums groups p is machine o gone word c k s before zero below stands =
-    groups.sums c k s (drop o p.section.bytes) (gone_in p o c s gone before) word zero below stands
+sums groups p is machine o gone word c k s before =
+    groups.sums (take 4 (drop o p.section.bytes)) word c k s (gone_in p o c s gone before)
 
 -- ---- registers
 

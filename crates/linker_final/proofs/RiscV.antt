@@ -1,7 +1,7 @@
 -- RISC-V: what the rewrites of a section leave, and that those with a law are groups.
 use Rattle.linker_final.proofs.Imports.{Absolute, Addresses, All-drop, All-from_get_or, All-take, AllHold, AppliesToRiscV, Architecture, AreBytes, AreRewritten, AreWritten, BitRange, Bool, Choice, Consumed, Decision, GotTpOff, Grouped, HasAddresses, HasWord, IType, IsApplied, IsArchitectureChoice, IsAuipc, IsCandidateWith, IsChosen, IsDecidedAfter, IsDone, IsGroupDecision, IsHighIn, IsKeptInstruction, IsLabelCandidate, IsLabelDecision, IsLinked, IsLoadFromGot, IsLowOffset, IsLui, IsMade, IsNameOf, IsNamed, IsOfEntry as IsOfEntryIn, IsOfOne as IsOfOneIn, IsRewrittenAndPacked, IsRewrittenByNoOther, IsRow, IsScopeDecision, IsScopeIn, IsSomeAnd, IsTrue, IsUnchanged, IsWithin, Kept, Labelled, LinkFacts, Linked, List, None, NotRelaxable, Ok, Operands, Option, Packed, Phase, Reaches, Rela, Relative, RelativeRiscVLow12, RelaxContext, Relaxation, RewritesAreGroups, Rewritten, RewrittenWithSymbol, RiscV, RiscVEntry, RiscVRelocation, RowInfo, SType, Scope, Some, Subject, Symbol, TpOff, UType, UntouchedInstruction, [], action_at, addend_after, address_in, adds_low12, after_rewrite, ap, architecture_of, arith, by_low_offset, cast_signed, cast_unsigned, choice_of, chosen_or_labelled, count, decision_at, deleted_of, difference_64, drop, entry, facts_at, facts_by, facts_with, false, far_entry, final_instruction, from_le_bytes, funct3_of, get_or, got_high_part, group_stays, if◌then◌else◌, inl, inr, instruction_at, ints, is_label_marked, is_labelled, is_some, is_taken, label_decision, label_facts, length, length-drop, length-take-le, link_facts, list_any, load_to_addi, low_12_bounds, ltb-true, nat_lt, negsuc, of_destination, of_entry as of_entry_in, of_one, offset_after, offset_at, offset_of, offset_row, one_index, opcode_of, operands_before, operands_in, operands_of, operands_with, or_parts, pair_row, place_of, placed_facts, pos, r_type_of, refl, relaxation_deleted, relaxation_rewrite, relaxation_skipped, relocation_in, rewritten, rewritten_by, riscv_entries, riscv_matches, riscv_name, riscv_pair_bounds, riscv_relocation, riscv_rewrite, riscv_row, riscv_row_of, riscv_scope_in, riscv_skipped, slice_get, subst, suc, sum_64, sym, take, takes_next, takes_symbol, to_le_bytes, true, unwrap_or, value_of, w32, w64, with_rs1, without_entry, without_got, word_of, zero, ℕ, ℤ, ◌*◌, ◌+◌, ◌-◌, ◌/◌, ◌<◌, ◌^◌, ◌∙◌, ◌∷◌, ◌≡◌, ◌≢◌, ◌≤◌, ◌⊎◌}
 use Rattle.linker_laws.specs.RiscVMachine.{action_of}
-use Rattle.linker_final.specs.RiscVSection.{AreOfPair, BecomesNop, Changes, HasLow, HasNamed, HasOwn, HasValue, HighPartGoes, IsAddiOfLoad, IsDeleted, IsLuiOfLoad, IsNamedAs, IsNop, IsNotRewrittenBy, IsOfDescriptor, IsRewrittenOf, Lawful, Leaves, New, NoneIsInitialExec, Nops, NopsOf, OffsetsAreLow, OffsetsAreLowOf, RelocationsAreLeft, SumGoes, anywhere, descriptor, final, fixed, high_part, law, load, low_address, low_law, low_part, low_store, named_as, packed, short_descriptor, sum, rewriting}
+use Rattle.linker_final.specs.RiscVSection.{AreOfPair, BecomesNop, Changes, HasLow, HasNamed, HasOwn, HasValue, IsAddiOfLoad, IsDeleted, IsLuiOfLoad, IsNamedAs, IsNop, IsNotRewrittenBy, IsOfDescriptor, IsRewrittenOf, Lawful, Leaves, New, NoneIsInitialExec, Nops, NopsOf, OffsetsAreLow, OffsetsAreLowOf, RelocationsAreLeft, anywhere, descriptor, final, fixed, high_part, law, load, low_address, low_law, low_part, low_store, named_as, object, packed, short_descriptor, sum, rewriting}
 use Rattle.linker_laws.specs.RiscVGroups.{Groups, Has, Stands}
 use Rattle.linker_utils.specs.RiscVRewrites.{HasPattern, IsAddTp, IsLd, rewrites_word, tp}
 use Rattle.linker_base.proofs.Bits.{cast_negative}
@@ -822,21 +822,22 @@ module _ (groups : Groups) (l : Linked) (rewriting : AreRewritten l) (riscv : l.
       low_entry.kind_is names.R_RISCV_PCREL_LO12_I low_entry.r_type_is (low_entry.meant.0)
 
   pub loads : (new : New l) → law l i (load j of alone) new
-  loads new over not_zero c x y k kind s small new_small at holds are old old_ld has =
+  loads new over c x y k kind s at load_is are new_small has =
       let auipc = instruction_at l.section (offset_of l i) in
       let ld = instruction_at l.section ((offset_of l i) + 4) in
       let is_auipc : IsAuipc (word_of auipc) = subst IsAuipc (word_same l.section (offset_of l i)) (high_entry.meant.1) in
       let is_ld : IsLd (word_of ld) =
       subst (λ n. IsLd (word_of (instruction_at l.section n))) of.next (subst IsLd (word_same l.section (offset_of l j)) (low_entry.meant.1)) in
       let together : IsLoadFromGot (word_of auipc) (word_of ld) =
-      record { first = is_auipc; second = is_ld; base = over; not_zero = not_zero } in
+      record { first = is_auipc; second = is_ld; base = over.0; not_zero = over.1 } in
       let long : length ld ≡ 4 = subst (λ n. length (instruction_at l.section n) ≡ 4) of.next low_load.long in
       let addi : instruction_at l.rewritten (offset_of l j) ≡ after_rewrite kinds.LdToAddi ld 0 =
       subst (λ n. instruction_at l.rewritten (offset_of l j) ≡ after_rewrite kinds.LdToAddi (instruction_at l.section n) 0) of.next low_load.made in
-      groups.got c x y k kind s auipc ld small new_small at (omega (arith, long)) together holds are old old_ld
-      (has_named l riscv names.R_RISCV_PCREL_HI20 i i high own_high_part new y c.new y.place auipc auipc_there (has.0))
-      (subst (Has 4 c.new (sum_64 y.place 4) (riscv_row names.R_RISCV_PCREL_LO12_I) y) addi
-      (has_low l riscv i j high low_load.part new y c.new y.place (sum_64 y.place 4) (has.0) (has.1)))
+      groups.got auipc ld (omega (arith, long)) together c x y k kind s at load_is are new_small (
+        has_named l riscv names.R_RISCV_PCREL_HI20 i i high own_high_part new y c.new y.place auipc auipc_there (has.0),
+        subst (Has 4 c.new (sum_64 y.place 4) (riscv_row names.R_RISCV_PCREL_LO12_I) y) addi
+            (has_low l riscv i j high low_load.part new y c.new y.place (sum_64 y.place 4) (has.0) (has.1)),
+      )
 
 -- ---- rows
 
@@ -900,7 +901,7 @@ module _ (groups : Groups) (l : Linked) (rewritten : AreRewritten l) (riscv : l.
     abbrev at : ℕ
     at = (relocation_in l.relocations i).offset
 
-    pub high_part_goes : IsRewrittenOf l names.R_RISCV_TPREL_HI20 i → IsDeleted l i × HighPartGoes l i
+    pub high_part_goes : (of : IsRewrittenOf l names.R_RISCV_TPREL_HI20 i) → IsDeleted l i × ((new : New l) → law l i (high_part of) new)
     high_part_goes of =
         let lui = instruction_at l.section at in
         let by : IsOfEntry names.R_RISCV_TPREL_HI20 (entry kinds.Delete names.R_RISCV_NONE by_low_offset) l.section at of.chosen =
@@ -909,10 +910,10 @@ module _ (groups : Groups) (l : Linked) (rewritten : AreRewritten l) (riscv : l.
         let pattern = by.meant in
         let there : HasWord lui 0 IsLui = (omega (arith, long_there l.section at pattern.0), subst IsLui (word_same l.section at) (pattern.1)) in (
           ap deleted_of of.decided ∙ ap relaxation_deleted by.kind_is,
-          λ x c k s gone low has. groups.high_offsets c x k s lui gone (there.0, tt) there.1 low has,
+          λ new. groups.high_offsets lui (there.0, tt) there.1,
         )
 
-    pub sum_goes : IsRewrittenOf l names.R_RISCV_TPREL_ADD i → IsDeleted l i × SumGoes l i
+    pub sum_goes : (of : IsRewrittenOf l names.R_RISCV_TPREL_ADD i) → IsDeleted l i × ((new : New l) → law l i (sum of) new)
     sum_goes of =
         let add = instruction_at l.section at in
         let by : IsOfEntry names.R_RISCV_TPREL_ADD (entry kinds.Delete names.R_RISCV_NONE by_low_offset) l.section at of.chosen =
@@ -922,7 +923,7 @@ module _ (groups : Groups) (l : Linked) (rewritten : AreRewritten l) (riscv : l.
         let long = long_there l.section at pattern.0 in
         let there : HasWord add 0 IsAddTp = (omega (arith, long), subst IsAddTp (word_same l.section at) (pattern.1)) in (
           ap deleted_of of.decided ∙ ap relaxation_deleted by.kind_is,
-          λ c k s gone none wide stands. groups.sums c k s add gone there.1 none wide stands,
+          λ new. groups.sums add there.1,
         )
 
 -- ---- TLS descriptors that became those of local-exec
@@ -933,6 +934,10 @@ high_tp =
 
 module _ (groups : Groups) (l : Linked) (rewriting : AreRewritten l) (riscv : l.context.architecture ≡ RiscV) (high : ℕ)
   where
+    -- an instruction after the first
+    abbrev follow : ℕ → List ℕ
+    follow n = instruction_at l.section ((offset_of l high) + n)
+
     pub lui : (add : ℕ) → IsOfDescriptor l high names.R_RISCV_TLSDESC_ADD_LO12 8 kinds.AddiToLui add
         → MadePart l names.R_RISCV_TPREL_HI20 high add kinds.AddiToLui (instruction_at l.section ((offset_of l high) + 8))
     lui add of =
@@ -957,19 +962,18 @@ module _ (groups : Groups) (l : Linked) (rewriting : AreRewritten l) (riscv : l.
     descriptors add call of_add of_call new c n at x y k k' s s' d one addresses nops has =
         let first = lui add of_add in
         let second = addi call of_call in
-        groups.descriptor_to_local_exec c n at x y k k' s s'
-        (instruction_at l.section (offset_of l high)) (instruction_at l.section ((offset_of l high) + 4)) (instruction_at l.section ((offset_of l high) + 8)) (instruction_at l.section ((offset_of l high) + 12))
-        d addresses one nops first.long second.long
-        (has_named l riscv names.R_RISCV_TPREL_HI20 high add first.part high_tp new y c.new at _ first.made (has.0))
-        (has_named l riscv names.R_RISCV_TPREL_LO12_I high call second.part low_i new y c.new (sum_64 at 4) _ second.made (has.1))
+        groups.descriptor_to_local_exec (object l high) (follow 4) (follow 8) (follow 12) first.long second.long
+        c n at x y k k' s s' d one addresses nops (
+          has_named l riscv names.R_RISCV_TPREL_HI20 high add first.part high_tp new y c.new at _ first.made (has.0),
+          has_named l riscv names.R_RISCV_TPREL_LO12_I high call second.part low_i new y c.new (sum_64 at 4) _ second.made (has.1),
+        )
 
     pub short_descriptors : (call : ℕ) (of : IsOfDescriptor l high names.R_RISCV_TLSDESC_CALL 12 kinds.CallToAddiZero call)
         (new : New l) → law l high (short_descriptor call of) new
     short_descriptors call of new c n at x y k k' s s' d one is_low nops has =
         let only = addi_alone call of in
-        groups.descriptor_to_short_local_exec c n at x y k k' s s'
-        (instruction_at l.section (offset_of l high)) (instruction_at l.section ((offset_of l high) + 4)) (instruction_at l.section ((offset_of l high) + 8)) (instruction_at l.section ((offset_of l high) + 12))
-        d one is_low nops only.long
+        groups.descriptor_to_short_local_exec (object l high) (follow 4) (follow 8) (follow 12) only.long
+        c n at x y k k' s s' d one is_low nops
         (has_named l riscv names.R_RISCV_TPREL_LO12_I high call only.part low_i new y c.new at _ only.made has)
 
 -- ---- loads of fixed addresses from the GOT that became `lui` and `addi`, or `addi` alone
@@ -1020,20 +1024,27 @@ module _ (groups : Groups) (l : Linked) (rewriting : AreRewritten l) (riscv : l.
 
   pub fixed_addresses : (of_high : IsLuiOfLoad l high) (of_low : IsAddiOfLoad l high low) (new : New l)
       → law l high (fixed low of_high of_low) new
-  fixed_addresses of_high of_low new c x y k s before load_is one addresses has =
-      groups.got_to_fixed_address c x y k s (instruction_at l.section (offset_of l high)) (instruction_at l.section ((offset_of l high) + 4)) before load_is addresses one
-      (has_named l riscv names.R_RISCV_HI20 high high (lui_address of_high).part high_row new y c.new y.place _ (lui_address of_high).made (has.0))
-      (has_named l riscv names.R_RISCV_LO12_I high low (addi_address of_low).part low_row new y c.new (sum_64 y.place 4) _ (addi_address of_low).made (has.1))
+  fixed_addresses of_high of_low new is c x y k kind s before load_is are addresses has =
+      let first = lui_address of_high in
+      let second = addi_address of_low in
+      let auipc_long = first.long in
+      let ld_long = second.long in
+      groups.got_to_fixed_address (object l high) (instruction_at l.section ((offset_of l high) + 4))
+      (omega (arith, auipc_long)) (omega (arith, ld_long)) is c x y k kind s before load_is are addresses (
+        has_named l riscv names.R_RISCV_HI20 high high first.part high_row new y c.new y.place _ first.made (has.0),
+        has_named l riscv names.R_RISCV_LO12_I high low second.part low_row new y c.new (sum_64 y.place 4) _ second.made (has.1),
+      )
 
   pub low_addresses : (gone : IsDeleted l high) (of : IsOfDescriptor l high names.R_RISCV_PCREL_LO12_I 4 kinds.LdToAddiZero low)
       (new : New l) → law l high (low_address low gone of) new
-  low_addresses gone of new c x y k s before load_is one is_low has =
-      groups.got_to_low_address c x y k s (instruction_at l.section (offset_of l high)) (instruction_at l.section ((offset_of l high) + 4)) before load_is one is_low
-      (has_named l riscv names.R_RISCV_LO12_I high low (addi_alone_address of).part low_row new y c.new y.place _ (addi_alone_address of).made has)
+  low_addresses gone of new is c x y k kind s before load_is are is_low has =
+      let only = addi_alone_address of in
+      let long = only.long in
+      groups.got_to_low_address (object l high) (instruction_at l.section ((offset_of l high) + 4)) (omega (arith, long)) is
+      c x y k kind s before load_is are is_low
+      (has_named l riscv names.R_RISCV_LO12_I high low only.part low_row new y c.new y.place _ only.made has)
 
 -- ---- nops of TLS descriptors
-
--- ---- nops
 
 in_new : (l : Linked) → AreRewritten l → l.context.architecture ≡ RiscV → (i : ℕ) → i < count l
     → (relocation_in l.relocations_after i).r_type ≡ 0
@@ -1195,8 +1206,8 @@ module _ (groups : Groups) (l : Linked) (made : AreRewritten l) (riscv : l.conte
   law_there i (short_descriptor call of) new = short_descriptors groups l made riscv i call of new
   law_there i (low_part of) new = low_parts groups names.R_RISCV_TPREL_LO12_I of_load l made riscv i of new
   law_there i (low_store of) new = low_parts groups names.R_RISCV_TPREL_LO12_S of_store l made riscv i of new
-  law_there i (high_part of) new = (high_part_goes groups l made riscv i of).1
-  law_there i (sum of) new = (sum_goes groups l made riscv i of).1
+  law_there i (high_part of) new = (high_part_goes groups l made riscv i of).1 new
+  law_there i (sum of) new = (sum_goes groups l made riscv i of).1 new
 
 pub relocations_are_left : Groups → RelocationsAreLeft
 relocations_are_left = leaves

@@ -1,7 +1,7 @@
 -- RV32: values once addends are wrapped, and its instructions by RV64's laws: a sum modulo 2^64 is
 -- one modulo 2^32.
-use Rattle.linker_final.proofs.Imports.{AbsoluteAddresses, Addends, Addresses, AreAddresses, BType, BitMasking, Bool, Bounds, Branches, ByteSize, Call, CbType, CjType, CluiType, Computed, Descriptor, DescriptorAddresses, Entries, Err, FitsSigned, HasWrappedAddend, HoldsDistance, IType, IsHighPartAt, IsLowValue, IsNoHighPart, IsRow, IsSame32, IsValue, IsValueBy, IsValueIn, IsWithin, IsWrappedValue, IsWrappedWithin, JType, Jump, Law32, List, NoSymbol, None, Ok, Operands, Option, Pairs, PairsReachAll, Reaches32, Rela, RelativeAddresses, RelocationKind, Result, RiscV, RiscVRelocation, RowInfo, RowSize, SType, Some, Step, Symbol, ThreadAddresses, UType, UiType, ValueError, Values, Word, Words, [], and_parts, ap, arith, cast_signed, cast_unsigned, clui_row, cond-true, difference_64, entry_address, entry_and_addend, entry_of, even, false, formula, has_value, here, if◌then◌else◌, int_rem_euclid, ints, is_high_part, is_offset, lacks_origin, length, loads_plt_word, low_by, low_load, low_operands, low_value, lt-ltb, ltb, names_label, neg_ℤ, negsuc, number_at, number_of_bytes, of_z-to_z, one_row, operands_by, operands_in, operands_of, operands_with, own_value, place, plt_address, pos, reach_of, refl, relocation_at, relocation_in, riscv_form, riscv_pair_bounds, riscv_relocation, riscv_row, slice_get, subst, suc, sum_64, sym, symbol_address, tls_base, to_z-of_z, true, unsigned_abs, upper_and_low, value_by, value_of, w64, without_bit_0, ℕ, ℤ, ◌%◌, ◌&&◌, ◌*ℤ◌, ◌+ℤ◌, ◌+◌, ◌-◌, ◌/◌, ◌<ℤ◌, ◌<◌, ◌==◌, ◌^◌, ◌∙◌, ◌∷◌, ◌≡◌, ◌≤ℤ◌}
-use Rattle.linker_laws.specs.Schemes.{Law, Reaches, zero}
+use Rattle.linker_final.proofs.Imports.{Addends, Addresses, AreAddresses, BType, BitMasking, Bool, Bounds, Branches, ByteSize, CbType, CjType, CluiType, Computed, Err, FitsSigned, HasWrappedAddend, HoldsDistance, IType, IsHighPartAt, IsLowValue, IsNoHighPart, IsRow, IsSame32, IsValue, IsValueBy, IsValueIn, IsWithin, IsWrappedValue, IsWrappedWithin, JType, Law, Law32, List, NoSymbol, None, Ok, Operands, Option, PairsReachAll, Reaches32, Rela, RelativeAddresses, RelocationKind, Result, RiscV, RiscVRelocation, RowInfo, RowSize, SType, Some, Step, Symbol, UType, UiType, ValueError, Values, Word, Words, [], and_parts, ap, arith, cast_signed, cast_unsigned, clui_row, cond-true, difference_64, entry_address, entry_and_addend, entry_of, even, false, formula, has_value, here, if◌then◌else◌, int_rem_euclid, ints, is_high_part, is_offset, lacks_origin, length, loads_plt_word, low_by, low_load, low_operands, low_value, lt-ltb, ltb, names_label, neg_ℤ, negsuc, number_at, number_of_bytes, of_z-to_z, one_row, operands_by, operands_in, operands_of, operands_with, own_value, place, plt_address, pos, reach_of, refl, relocation_at, relocation_in, riscv_form, riscv_pair_bounds, riscv_relocation, riscv_row, slice_get, subst, suc, sum_64, sym, symbol_address, tls_base, to_z-of_z, true, unsigned_abs, upper_and_low, value_by, value_of, w64, without_bit_0, ℕ, ℤ, ◌%◌, ◌&&◌, ◌*ℤ◌, ◌+ℤ◌, ◌+◌, ◌-◌, ◌/◌, ◌<ℤ◌, ◌<◌, ◌==◌, ◌^◌, ◌∙◌, ◌∷◌, ◌≡◌, ◌≤ℤ◌}
+use Rattle.linker_laws.specs.Schemes.{Reaches, zero}
 use Rattle.linker_laws.proofs.Sums.{sum_below}
 use Rattle.linker_elf.proofs.Agreement.{le_yes, rem_rem}
 use Rattle.linker_elf.specs.declared.riscv64.forms.RiscVInstruction.{RiscVInstruction}
@@ -508,16 +508,16 @@ law_32 steps computed target moves law = λ o a small same.
 
 pairs : (begin : Operands → ℕ) (upper : RiscVInstruction) (high : Option RowInfo) (load store : Step)
     (target : Operands → ℕ) → IsTarget32 target
-    → laws.Pairs begin upper high load store target → Pairs begin upper high load store target
+    → laws.Pairs Law begin upper high load store target → laws.Pairs Law32 begin upper high load store target
 pairs begin upper high load store target moves law = (
   law_32 (here high ∷ load ∷ []) (upper_and_low begin upper IType) target moves law.0,
   law_32 (here high ∷ store ∷ []) (upper_and_low begin upper SType) target moves law.1,
 )
 
-entries : (name : RiscVRelocation) → laws.Entries name → Entries name
+entries : (name : RiscVRelocation) → laws.Entries Law name → laws.Entries Law32 name
 entries name = pairs place UType (riscv_row name) (of_entry low_load) (of_entry low_store) entry_and_addend entry_32
 
-pub absolute : laws.AbsoluteAddresses → AbsoluteAddresses
+pub absolute : laws.AbsoluteAddresses Law → laws.AbsoluteAddresses Law32
 absolute law = (upper UType (riscv_row riscv64.R_RISCV_HI20) law.0, upper CluiType (Some clui_row) law.1)
   where
     load : Step
@@ -526,11 +526,11 @@ absolute law = (upper UType (riscv_row riscv64.R_RISCV_HI20) law.0, upper CluiTy
     store : Step
     store = here (riscv_row riscv64.R_RISCV_LO12_S)
 
-    upper : (f : RiscVInstruction) (high : Option RowInfo) → laws.Pairs zero f high load store symbol_address
-        → Pairs zero f high load store symbol_address
+    upper : (f : RiscVInstruction) (high : Option RowInfo) → laws.Pairs Law zero f high load store symbol_address
+        → laws.Pairs Law32 zero f high load store symbol_address
     upper f high = pairs zero f high load store symbol_address symbol_32
 
-pub relative : laws.RelativeAddresses → laws.EntryAddresses → RelativeAddresses
+pub relative : laws.RelativeAddresses → laws.EntryAddresses Law → RelativeAddresses
 relative law of_entries = (
   pairs place UType (riscv_row riscv64.R_RISCV_PCREL_HI20) low_load low_store symbol_address symbol_32 law,
   entries riscv64.R_RISCV_GOT_HI20 of_entries.0,
@@ -538,28 +538,28 @@ relative law of_entries = (
   entries riscv64.R_RISCV_TLS_GD_HI20 of_entries.2,
 )
 
-descriptor : (low : RiscVRelocation) → laws.Descriptor low → Descriptor low
+descriptor : (low : RiscVRelocation) → laws.Descriptor Law low → laws.Descriptor Law32 low
 descriptor low =
     law_32 (here ((riscv_relocation riscv64.R_RISCV_TLSDESC_HI20).row) ∷ here ((riscv_relocation low).row) ∷ [])
     (upper_and_low place UType IType) entry_and_addend entry_32
 
-pub descriptors : laws.DescriptorAddresses → DescriptorAddresses
+pub descriptors : laws.DescriptorAddresses Law → laws.DescriptorAddresses Law32
 descriptors law = (
   descriptor riscv64.R_RISCV_TLSDESC_LOAD_LO12 law.0,
   descriptor riscv64.R_RISCV_TLSDESC_ADD_LO12 law.1,
 )
 
-pub thread : laws.ThreadAddresses → ThreadAddresses
+pub thread : laws.ThreadAddresses Law → laws.ThreadAddresses Law32
 thread law =
     pairs tls_base UType (riscv_row riscv64.R_RISCV_TPREL_HI20) (here (riscv_row riscv64.R_RISCV_TPREL_LO12_I))
     (here (riscv_row riscv64.R_RISCV_TPREL_LO12_S)) symbol_address symbol_32 law
 
-call : (name : RiscVRelocation) → laws.Call name → Call name
+call : (name : RiscVRelocation) → laws.Call Law name → laws.Call Law32 name
 call name =
     law_32 (here (riscv_row name) ∷ []) (λ o x. without_bit_0 (pos o.place +ℤ (riscv_form UiType).machine x))
     (even plt_address) (λ o a same. omega (arith, same))
 
-jump : (name : RiscVRelocation) (f : RiscVInstruction) → laws.Jump name f → Jump name f
+jump : (name : RiscVRelocation) (f : RiscVInstruction) → laws.Jump Law name f → laws.Jump Law32 name f
 jump name f =
     law_32 (here (riscv_row name) ∷ []) (λ o x. pos o.place +ℤ ((riscv_form f).machine x *ℤ pos 1)) symbol_address symbol_32
 

@@ -1,10 +1,9 @@
 -- RISC-V: low parts over x3 and x0, and what is deleted before them.
-use Rattle.linker_final.proofs.Imports.{Absolute, Bool, IType, IsAddress, IsTrue, List, None, Operands, Option, Relative, RelativeRiscVLow12, Relocated, RelocationKind, RowInfo, Some, UType, absolute_rows, address_in, adds_low12, ap, arith, based_group, below_32, cast_signed, cast_unsigned, difference_64, drop, false, from_le_bytes, funct3_of, if◌then◌else◌, ints, lo12, ltb-true, moved, moved_twice, nothing_left, of_z-to_z, opcode_of, pair_row, pos, puts, rd_of, refl, riscv_form, row_of, signed, subst, sum_64, sum_zero, sym, symbol_address, true, true≢false, unsigned_abs, w32, w64, word_at, word_goes, word_of, wrapped, written, ℕ, ℤ, ◌%◌, ◌&&◌, ◌+ℤ◌, ◌+◌, ◌-◌, ◌<◌, ◌^◌, ◌∙◌, ◌≡◌, ◌≤◌, ◌⊎◌}
+use Rattle.linker_final.proofs.Imports.{Absolute, AbsoluteAddresses, Bool, IType, IsAddress, IsTrue, Law, List, None, Operands, Option, Relative, RelativeRiscVLow12, Relocated, RelocationKind, RowInfo, Some, UType, absolute_rows, address_in, adds_low12, ap, arith, based_group, below_32, cast_signed, cast_unsigned, difference_64, drop, false, from_le_bytes, funct3_of, if◌then◌else◌, ints, lo12, ltb-true, machine, moved, moved_twice, nothing_left, of_z-to_z, opcode_of, pair_row, pos, puts, rd_of, refl, riscv_form, row_of, signed, subst, sum_64, sum_zero, sym, symbol_address, true, true≢false, unsigned_abs, w32, w64, word_at, word_goes, word_of, wrapped, written, ℕ, ℤ, ◌%◌, ◌&&◌, ◌+ℤ◌, ◌+◌, ◌-◌, ◌<◌, ◌^◌, ◌∙◌, ◌≡◌, ◌≤◌, ◌⊎◌}
 use Rattle.linker_laws.specs.RiscVMachine.{Action, auipc, goes_to, lui, rs1_of, stores, with_integer, register}
-use Rattle.linker_laws.specs.RiscVRelocationLaws.{AbsoluteAddresses, RelativeAddresses}
+use Rattle.linker_laws.specs.RiscVRelocationLaws.{RelativeAddresses}
 use Rattle.linker_final.specs.RiscVSection.{AuipcGoes, LowPartsFromBase, LuiGoes, PartsFromBase, ValuesAreDistances, after_base, distance, labelled_row}
-use Rattle.linker_laws.specs.RiscVGroups.{Has, machine, seen}
-use Rattle.linker_laws.specs.RiscVRewriteLaws.{low_row}
+use Rattle.linker_laws.specs.RiscVGroups.{Has, seen, low_row}
 use Rattle.linker_elf.proofs.Entries.{sum_below}
 use Rattle.linker_laws.proofs.RiscVDescriptors.{lui_word, upper_long, upper_word}
 use Rattle.linker_laws.proofs.RiscVHighParts.{IsFormulaOf, of_address}
@@ -140,7 +139,7 @@ holds_low : (kind : RelocationKind) (number : Operands → ℕ) → IsFormulaOf 
 holds_low kind number of x before code is =
     cc (i_stands kind x (number x) before code is.applied (of.1 x) (of.0 IType x), same_low (number x))
 
-pub lui_goes : AbsoluteAddresses → LuiGoes
+pub lui_goes : AbsoluteAddresses Law → LuiGoes
 lui_goes laws c x k s bytes before_low low addresses d is some has is_low =
     let rd = rd_of (word_of bytes) in
     let a = has.applied.applied in

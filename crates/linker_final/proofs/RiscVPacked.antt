@@ -1,7 +1,7 @@
 -- RISC-V: calls in the final bytes of a packed section, and what is deleted of it.
-use Rattle.linker_final.proofs.Imports.{All-drop, All-take, AreAddresses, AreBytes, AreDeleted as IsGone, HasWord, IsApplied, IsBefore, IsCallPair, IsLow12, IsLowOffset, IsLui, IsSomeAnd, List, Operands, Packed, RiscV, RiscVRelocation, Site, SiteBecomes, Some, State, ap, architecture_of, arith, cases_Bool, cj_goes, drop, drop-drop, eqb-true, even, false, false≢true, field, from_le_bytes, if◌then◌else◌, inl, inr, jal_goes, jump_group, length, length-drop, link_register, offset_at, operands_with, place_of, plt_address, rd_of, refl, relocation_in, riscv_matches, riscv_relocation, site_bytes, site_len, site_offset, site_place, site_target, subst, sym, take, take_all, true, value_of, w16, w32, word_at, ℕ, ◌%◌, ◌&&◌, ◌+◌, ◌-◌, ◌<◌, ◌==◌, ◌^◌, ◌||◌, ◌∙◌, ◌≡◌, ◌≢◌, ◌≤◌}
+use Rattle.linker_final.proofs.Imports.{All-drop, All-take, AreAddresses, AreBytes, AreDeleted as IsGone, CallStays, DeletedLui, HasWord, IsApplied, IsBefore, IsCallPair, IsLow12, IsLowOffset, IsLui, IsSomeAnd, List, Operands, Packed, RiscV, RiscVRelocation, Site, SiteBecomes, Some, State, ap, architecture_of, arith, cases_Bool, cj_goes, drop, drop-drop, eqb-true, even, false, false≢true, field, from_le_bytes, if◌then◌else◌, inl, inr, jal_goes, jump_group, length, length-drop, link_register, offset_at, operands_with, place_of, plt_address, rd_of, refl, relocation_in, riscv_matches, riscv_relocation, site_bytes, site_len, site_offset, site_place, site_target, subst, sym, take, take_all, true, value_of, w16, w32, word_at, ℕ, ◌%◌, ◌&&◌, ◌+◌, ◌-◌, ◌<◌, ◌==◌, ◌^◌, ◌||◌, ◌∙◌, ◌≡◌, ◌≢◌, ◌≤◌}
 use Rattle.linker_final.specs.RiscVSection.{CallIsAlike, HighPartsAreLeftOut, IsOfCall, LongCallsStay, LuiIsLeftOut, SitesCallTheSame, SumIsLeftOut, call_row, instructions_in, landing}
-use Rattle.linker_laws.specs.RiscVGroups.{CallStays, Code, DeletedLui, Groups, AreDeleted}
+use Rattle.linker_laws.specs.RiscVGroups.{Code, Groups, AreDeleted}
 use Rattle.linker_laws.proofs.RiscVMachine.{address_is}
 use Rattle.linker_final.proofs.PackedBytes.{are_addresses, instructions, no_place, places_inside, site_becomes, site_inside, site_length, site_small, stay_inside}
 use Rattle.linker_final.proofs.Written.{back_of_pair, front_of_pair, some_value, window_length}
@@ -56,7 +56,7 @@ module _ (groups : Groups) (section : List ℕ) (o : ℕ) (bytes : AreBytes sect
     where
       by : CallStays names.R_RISCV_CALL_PLT → CallIsAlike window y 8 2 target (take 8 final) names.R_RISCV_CALL_PLT
       by stays c x k s sx at leads old stands =
-          stays c x y k s window sx sy at (sym is_target ∙ leads) pair some old
+          stays y window sy pair some c x k s sx at (sym is_target ∙ leads) old
           (record {
             relocated = take 8 final;
             applied = record {
@@ -158,9 +158,8 @@ gone_in p o c s gone before =
 left_out : (kind : RewriteKind) (name : RiscVRelocation) (IsLow : Operands → Type 0)
     → ((section : List ℕ) (o : ℕ) → HasWord section o IsLui → riscv_matches kind (drop o section) 0)
     → DeletedLui kind name IsLow → LuiIsLeftOut name IsLow
-left_out kind name IsLow matches group p is riscv o word gone x low c k s before has =
-    group c x k s (drop o p.section.bytes) (gone_in p o c s gone before) (matches p.section.bytes o word)
-    word.1 low has
+left_out kind name IsLow matches group p is riscv o word gone c x k s before low has =
+    group (drop o p.section.bytes) (matches p.section.bytes o word) word.1 c x k s (gone_in p o c s gone before) low has
 
 inside : (section : List ℕ) (o : ℕ) → o + 4 ≤ length section → 4 ≤ length (drop o section)
 inside section o long = omega (arith, long, length-drop o section)
@@ -175,4 +174,4 @@ high_parts groups = (
 
 pub sums : Groups → SumIsLeftOut
 sums groups p is riscv o word gone c k s before none below stands =
-    groups.sums c k s (drop o p.section.bytes) (gone_in p o c s gone before) word.1 none below stands
+    groups.sums (drop o p.section.bytes) word.1 c k s (gone_in p o c s gone before) none below stands

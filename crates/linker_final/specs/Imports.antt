@@ -21,8 +21,9 @@ pub use Rattle.linker_elf.specs.declared.riscv64.forms.RiscVInstruction.TheVaria
 pub use Rattle.linker_elf.specs.declared.riscv64.relocations.RiscVRelocation.{RiscVRelocation}
 pub use Rattle.linker_laws.specs.Changes.{go_to, put, with_register}
 pub use Rattle.linker_laws.specs.Machine.{Relocated, loaded, moved}
+pub use Rattle.linker_laws.specs.RiscVGroups.{AreBefore, AreDeleted, CallBecomes, IsLoadFromGot, IsLow12, IsLowOffset, LoadBecomes, LowPartBy, OffsetBecomes, ZeroLuiGoes, action_at, after_rewrite, low_row, offset_row, seen, upper, upper_from, uses, word_of}
 pub use Rattle.linker_laws.specs.RiscVMachine.{Action, Hart, Instruction, adds, executed, fetched, jal, jumps, register, step, stores, stores_float, sums}
-pub use Rattle.linker_laws.specs.RiscVRelocationLaws.{even, low_load, low_store, of_entry, upper_and_low, without_bit_0}
+pub use Rattle.linker_laws.specs.RiscVRelocationLaws.{Call, EntryAddresses, Jump, Pairs, even, low_load, low_store, of_entry, upper_and_low, without_bit_0}
 pub use Rattle.linker_laws.specs.Schemes.{AreAddresses, Computed, IsAddress, PremiseHolds, Step, entry_and_addend, following, here, number_at, place, plt_address, symbol_address, thread_offset, tls_base}
 pub use Rattle.linker_laws.specs.Simulation.{Agree, AreOf, Comparison, Covered, Group, Kind, Kinds, Link, Next, State, Stops, anything, half, of_link, run, same, uncovered}
 pub use Rattle.linker_rewriting.specs.Decisions.{AreDecidedIn, IsRejected, IsRejectedIn, IsRejectedPlaced, decision_at, deleted_of, deletions_by, pairs_in, start_at, written_end_at}
@@ -33,6 +34,7 @@ pub use Rattle.linker_rewriting.specs.declared.decisions.Decision.{Decision}
 pub use Rattle.linker_rewriting.specs.declared.decisions.Decision.TheVariants.{Kept, Rewritten, RewrittenWithSymbol}
 pub use Rattle.linker_riscv64.specs.RiscVFields.{rd_of, rs1_of}
 pub use Rattle.linker_runs.specs.Deleting.{deletions_of_run}
+pub use Rattle.linker_runs.specs.Machines.{RiscV64}
 pub use Rattle.linker_runs.specs.Moved.{AreMoved, IsMoved}
 pub use Rattle.linker_runs.specs.declared.relaxation.Item.{Item}
 pub use Rattle.linker_runs.specs.declared.relaxation.Site.{Site}

@@ -1,18 +1,18 @@
 -- LoongArch: what the rewrites of a section are, and where they begin in a run of old (LoongArch
 -- ELF psABI, relaxation and the sequences of thread-local storage).
-use Rattle.std.specs.Prelude.{◌≡◌, ◌≢◌, ℕ, pos, ◌+◌, ◌<◌, ◌^◌, true, List, Some, ⊤, IsSomeAnd}
-use Rattle.std.specs.Prelude.{slice_get, ◌==◌, [], ◌∷◌, take, drop, if◌then◌else◌}
 use Rattle.linker_final.specs.Imports.{Addresses, AreAddresses, Choice, Group, IsNameOf, Kinds}
-use Rattle.linker_final.specs.Imports.{LoongArch64Relocation, Operands, Rela, Relaxation, Relocated}
-use Rattle.linker_final.specs.Imports.{Rewritten, RowInfo, Site as site, State, Symbol, decision_at}
-use Rattle.linker_final.specs.Imports.{entry_and_addend, following, is_there, loaded}
-use Rattle.linker_final.specs.Imports.{loongarch_name, loongarch_row, loongarch_scope_in, of_link}
-use Rattle.linker_final.specs.Imports.{offset_at, operands_with, plt_address, pre_layout, r_type_of}
-use Rattle.linker_final.specs.Imports.{relocation_in, sum_64, symbol_address}
-use Rattle.linker_laws.specs.RiscVRewriteLaws.{word_of}
-use Rattle.linker_runs.specs.declared.packing.Machine.TheVariants.{LoongArch64 as loongarch64}
+use Rattle.linker_final.specs.Imports.{Operands, Rela, Relaxation, Relocated, Rewritten, RowInfo}
+use Rattle.linker_final.specs.Imports.{Site as site, State, Symbol, decision_at, entry_and_addend}
+use Rattle.linker_final.specs.Imports.{following, is_there, loaded, loongarch_scope_in, of_link}
+use Rattle.linker_final.specs.Imports.{offset_at, operands_with, plt_address, r_type_of}
+use Rattle.linker_final.specs.Imports.{relocation_in, sum_64, symbol_address, word_of}
+use Rattle.std.specs.Prelude.{IsSomeAnd, List, Some, [], drop, pos, slice_get, take, true, ℕ, ⊤}
+use Rattle.std.specs.Prelude.{◌≡◌, ◌≢◌, ◌+◌, ◌<◌, ◌==◌, ◌∷◌, if◌then◌else◌}
 use Rattle.linker_rewriting.specs.declared.groups.Scope.TheVariants.{NotRelaxable}
-use Rattle.linker_elf.specs.Choices.{RowIsWithin}
+use Rattle.linker_elf.specs.declared.loongarch64.relocations.LoongArch64Relocation.{LoongArch64Relocation}
+use Rattle.linker_elf.specs.LoongArchRelocations.{loongarch_name, loongarch_row}
+use Rattle.linker_rewriting.specs.Facts.{pre_layout}
+use Rattle.linker_runs.specs.declared.packing.Machine.TheVariants.{LoongArch64 as loongarch64}
 use Rattle.linker_elf.specs.declared.elf.architecture.Architecture.TheVariants.{LoongArch64}
 use Rattle.linker_final.specs.Final.{AreRewritten, IsBesideAll, IsLinked, IsRewrittenByNoOther}
 use Rattle.linker_final.specs.Final.{IsWrittenByNoOther, Linked, Rewriting, Section}
@@ -22,17 +22,16 @@ use Rattle.linker_final.specs.Packed.{IsBefore, IsKeptInstruction, IsPacked, IsR
 use Rattle.linker_final.specs.Packed.{IsSiteOf, IsUnwritten, Packed, StayTogether}
 use Rattle.linker_final.specs.Packed.{final_instruction, place_of, site_after, site_bytes, site_len}
 use Rattle.linker_final.specs.Packed.{site_offset, site_place, site_target}
-use Rattle.linker_laws.specs.LoongArchGroups.{AreDeleted, CallOfDescriptor, Code, Has, HighEntry}
-use Rattle.linker_laws.specs.LoongArchGroups.{HighOffset, IsLeftOut, LoadOfDescriptor, Loads}
+use Rattle.linker_laws.specs.LoongArchGroups.{CallGoes, Code, Fits32, GoneLaw, HasNop, HighEntry}
+use Rattle.linker_laws.specs.LoongArchGroups.{HighOffset, InstructionLaw, IsGone, IsLeftOut}
+use Rattle.linker_laws.specs.LoongArchGroups.{IsRelocated, IsRewritten, LoadGoes, Loads, LoadsEntry}
 use Rattle.linker_laws.specs.LoongArchGroups.{LoadsOffset, LowHalf, LowOfDescriptor, LowPart, Makes}
-use Rattle.linker_laws.specs.LoongArchGroups.{MakesOffset, Stands, deleted_by, link, register}
-use Rattle.linker_laws.specs.LoongArchMachine.{AreAlikeBut, EndSo}
-use Rattle.linker_laws.specs.LoongArchRewriteLaws.{Fits32, HaveCalled, HaveMade, IsRelocated}
-use Rattle.linker_laws.specs.LoongArchRewriteLaws.{IsRewritten, LoadsEntry, no_register, pair}
+use Rattle.linker_laws.specs.LoongArchGroups.{MakesOffset, OffsetGoes, Stands, SumGoes, link}
+use Rattle.linker_laws.specs.LoongArchMachine.{AreAlikeBut, EndSo, HaveCalled, HaveMade}
+use Rattle.linker_laws.specs.LoongArchMachine.{no_register, pair}
 use Rattle.linker_runs.specs.LoongArchSites.{IsCall36At, IsPcalaAt, destination}
 use Rattle.linker_section.specs.declared.needed.EntryClass.TheVariants.{ThreadOffset}
-use Rattle.linker_utils.specs.LoongArchRewrites.{IsAddTp, IsLd, IsLu12i, rd_of, rj_of, signed_12}
-use Rattle.linker_utils.specs.LoongArchRewrites.{tp, word_at}
+use Rattle.linker_utils.specs.LoongArchRewrites.{IsAddTp, IsLd, IsLu12i, rd_of, word_at}
 use Rattle.linker_elf.specs.declared.loongarch64.relocations.LoongArch64Relocation.TheVariants as names
 use Rattle.linker_utils.specs.declared.architecture.Relaxation.TheVariants as relaxations
 use Rattle.linker_utils.specs.declared.loongarch64.rewrites.RewriteKind.TheVariants as kinds
@@ -62,29 +61,17 @@ pub data Left : Type 0 where
 -- Bytes of old and of new are a group, with the operands of both.
 pub record Law : Type 1 where
   pub left : Left
-  pub IsGroup : List ℕ → List ℕ → Operands → Operands → Type 0
+  pub IsGroup : InstructionLaw
 
-abbrev pub law : LoongArch64Relocation → (List ℕ → List ℕ → Operands → Operands → Type 0) → Law
+abbrev pub law : LoongArch64Relocation → InstructionLaw → Law
 law name IsGroup = record { left = applied name; IsGroup = IsGroup }
 
--- of an instruction that becomes a `nop`, or is deleted
-abbrev pub gone : (List ℕ → List ℕ → Type 0) → Law
-gone IsGroup = record { left = none; IsGroup = λ before after x y. IsGroup before after }
+-- of an instruction that becomes a `nop`, and of one that is deleted
+abbrev pub nop : GoneLaw → Law
+nop Law = record { left = none; IsGroup = λ before after x y. Law 1 (HasNop after) before }
 
--- A `lu12i.w` of an offset of 12 bits is deleted.
-abbrev pub HighPartGoes : List ℕ → List ℕ → Type 0
-HighPartGoes lu12i after =
-    (c : Code) (x : Operands) (k : Kinds) (s : State) → AreDeleted c (deleted_by kinds.Delete) s
-    → AreAddresses x → s.pc ≡ x.place
-    → RowIsWithin (loongarch_row names.R_LARCH_TLS_LE_LO12_R) signed_12 x
-    → Has c.old names.R_LARCH_TLS_LE_HI20_R x lu12i → IsLeftOut c k s (rd_of (word_of lu12i)) 0
-
--- So is an `add.d` of the thread pointer to a register with 0.
-abbrev pub SumGoes : List ℕ → List ℕ → Type 0
-SumGoes add after =
-    (c : Code) (k : Kinds) (s : State) → AreDeleted c (deleted_by kinds.Delete) s
-    → register s (rj_of (word_of add)) ≡ 0 → s.registers tp < 2 ^ 64 → Stands c.old s.pc add
-    → IsLeftOut c k s (rd_of (word_of add)) (s.registers tp)
+abbrev pub deleted : GoneLaw → Law
+deleted Law = record { left = none; IsGroup = λ before after x y. Law 0 IsGone before }
 
 -- of an instruction by itself: by the relocation, and what becomes of it
 abbrev pub law_of : LoongArch64Relocation → Relaxation → Law
@@ -101,11 +88,11 @@ law_of names.R_LARCH_TLS_DESC_PC_LO12 (relaxations.LoongArch64 kinds.LowToOri) =
     law names.R_LARCH_TLS_LE_LO12 (LowOfDescriptor MakesOffset)
 law_of names.R_LARCH_TLS_DESC_PC_LO12 (relaxations.LoongArch64 kinds.AddiToLd) =
     law names.R_LARCH_TLS_IE_PC_LO12 (LowOfDescriptor LoadsOffset)
-law_of names.R_LARCH_TLS_DESC_LD kind = gone LoadOfDescriptor
-law_of names.R_LARCH_TLS_DESC_CALL kind = gone CallOfDescriptor
+law_of names.R_LARCH_TLS_DESC_LD kind = nop LoadGoes
+law_of names.R_LARCH_TLS_DESC_CALL kind = nop CallGoes
 -- local-exec
-law_of names.R_LARCH_TLS_LE_HI20_R kind = gone HighPartGoes
-law_of names.R_LARCH_TLS_LE_ADD_R kind = gone SumGoes
+law_of names.R_LARCH_TLS_LE_HI20_R kind = deleted OffsetGoes
+law_of names.R_LARCH_TLS_LE_ADD_R kind = deleted SumGoes
 law_of names.R_LARCH_TLS_LE_LO12_R kind = law names.R_LARCH_TLS_LE_LO12_R LowPart
 -- A part of a load that stands apart has no law.
 law_of name kind = record { left = without_law; IsGroup = λ before after x y. ⊥ }
@@ -264,68 +251,70 @@ words_in kept bytes = if kept == 8 then pair bytes (drop 4 bytes) else word_of b
 abbrev pub site_words : Packed → site → List ℕ
 site_words p here = words_in (site_len p here) (site_bytes p here)
 
--- ---- calls
+-- What is said of the object's instructions at an offset, and of final words at an address. After
+-- each of both an address is next, and the final ones lead to a target.
+abbrev pub EndsLaw : Type 1
+EndsLaw = Packed → (o at : ℕ) → List ℕ → (after target : ℕ) → Type 0
 
--- From states that are alike, each before its own call, the object's `pcaddu18i` and `jirl` with
--- the value of their relocation and the final call, `b`, `bl` or both, go to the target of their
--- layout.
-abbrev pub CallsTheSame : Type 0
-CallsTheSame =
+-- It is said of each site whose instructions of the object are some.
+abbrev pub EachSite : (List ℕ → ℕ → Type 0) → EndsLaw → Type 0
+EachSite IsAt Ends =
     (p : Packed) → IsPacked p → p.machine ≡ loongarch64 → (i : ℕ) (here : site) → IsSiteOf p i here
     → let o = site_offset p here in
-    IsCall36At p.section.bytes o → (x : Operands) → AreAddresses x → (original : List ℕ)
+    IsAt p.section.bytes o
+    → Ends p o (site_place p here) (site_words p here) (site_after p here) (site_target p here)
+
+-- ---- calls
+
+-- From states that are alike, each before its own call, the object's `pcaddu18i` and `jirl`, with
+-- the value of their relocation, and the final words go to the target of their layout.
+abbrev pub CallsEnd : EndsLaw
+CallsEnd p o at words after target =
+    (x : Operands) → AreAddresses x → (original : List ℕ)
     → Relocated (loongarch_row names.R_LARCH_CALL36) x (drop o p.section.bytes) original
-    → (s t : machine.State) → s.pc ≡ x.place → t.pc ≡ site_place p here → AreAlikeBut no_register s t
-    → EndSo (pair original (drop 4 original)) s (site_words p here) t
+    → (s t : machine.State) → s.pc ≡ x.place → t.pc ≡ at → AreAlikeBut no_register s t
+    → EndSo (pair original (drop 4 original)) s words t
     (HaveCalled (destination p.section.bytes o) (rd_of (word_at p.section.bytes o))
-    (sum_64 x.place 8) (site_after p here) (plt_address x) (site_target p here))
+    (sum_64 x.place 8) after (plt_address x) target)
+
+-- the final call: `b`, `bl` or both instructions
+abbrev pub CallsTheSame : Type 0
+CallsTheSame = EachSite IsCall36At CallsEnd
 
 -- ---- addresses
 
--- Each run has made the address of its layout.
-abbrev pub HaveMadeAddress : Packed → site → Operands → machine.State → machine.State → Type 0
-HaveMadeAddress p here x =
-    HaveMade (destination p.section.bytes (site_offset p here)) (symbol_address x)
-    (site_target p here) (sum_64 x.place 8) (site_after p here)
-
--- From states that are alike, each before its own instructions, words end so: the object's
--- `pcalau12i` and `addi.d` at an offset, with the values of their relocations, and final ones.
-abbrev pub SumsEnd : Packed → ℕ → ℕ → List ℕ → (Operands → machine.State → machine.State → Type 0) → Type 0
-SumsEnd p o at words P =
+-- From states that are alike, each before its own instructions, the object's `pcalau12i` and
+-- `addi.d`, with the values of their relocations, and the final words make the address of their
+-- layout.
+abbrev pub SumsEnd : EndsLaw
+SumsEnd p o at words after target =
     (x : Operands) → AreAddresses x → (pcala addi : List ℕ) → Fits32 names.R_LARCH_PCALA_HI20 x
     → IsRelocated names.R_LARCH_PCALA_HI20 x (take 4 (drop o p.section.bytes)) pcala
     → IsRelocated names.R_LARCH_PCALA_LO12 (following 4 x)
     (take 4 (drop (o + 4) p.section.bytes)) addi
     → (s t : machine.State) → s.pc ≡ x.place → t.pc ≡ at → AreAlikeBut no_register s t
-    → EndSo (pair pcala addi) s words t (P x)
+    → EndSo (pair pcala addi) s words t
+    (HaveMade (destination p.section.bytes o) (symbol_address x) target (sum_64 x.place 8) after)
 
 -- The same where the object had an `ld.d` of a GOT entry, which holds the address of the symbol,
 -- and `LdToAddi` has made the `addi.d` of it.
-abbrev pub LoadsEnd : Packed → ℕ → ℕ → List ℕ → (Operands → machine.State → machine.State → Type 0) → Type 0
-LoadsEnd p o at words P =
+abbrev pub LoadsEnd : EndsLaw
+LoadsEnd p o at words after target =
     (x : Operands) → AreAddresses x → (ld pcala_of_entry ld_of_entry : List ℕ)
     → IsLd (word_of ld) → IsRewritten kinds.LdToAddi ld (take 4 (drop (o + 4) p.section.bytes))
     → LoadsEntry names.R_LARCH_GOT_PC_HI20 names.R_LARCH_GOT_PC_LO12 x
     (take 4 (drop o p.section.bytes)) ld pcala_of_entry ld_of_entry
     → (s t : machine.State) → loaded 8 s.memory (entry_and_addend x) ≡ symbol_address x
     → s.pc ≡ x.place → t.pc ≡ at → AreAlikeBut no_register s t
-    → EndSo (pair pcala_of_entry ld_of_entry) s words t (P x)
-
-abbrev pub EachPcala : (Packed → ℕ → site → Type 0) → Type 0
-EachPcala Holds =
-    (p : Packed) → IsPacked p → p.machine ≡ loongarch64 → (i : ℕ) (here : site) → IsSiteOf p i here
-    → let o = site_offset p here in IsPcalaAt p.section.bytes o → Holds p o here
+    → EndSo (pair pcala_of_entry ld_of_entry) s words t
+    (HaveMade (destination p.section.bytes o) (symbol_address x) target (sum_64 x.place 8) after)
 
 -- The final `pcaddi`, or both instructions, make the address that the object's make.
 abbrev pub AddressesAreMade : Type 0
-AddressesAreMade =
-    EachPcala (λ p o here.
-    SumsEnd p o (site_place p here) (site_words p here) (HaveMadeAddress p here))
+AddressesAreMade = EachSite IsPcalaAt SumsEnd
 
 abbrev pub LoadedAddressesAreMade : Type 0
-LoadedAddressesAreMade =
-    EachPcala (λ p o here.
-    LoadsEnd p o (site_place p here) (site_words p here) (HaveMadeAddress p here))
+LoadedAddressesAreMade = EachSite IsPcalaAt LoadsEnd
 
 -- ---- what stays
 
@@ -350,13 +339,8 @@ LongCallsStay =
     IsCall36At p.section.bytes o → (symbol : Symbol)
     → slice_get p.symbols (relocation_in p.relocations_after i).symbol ≡ Some symbol
     → let y = operands_at p i row symbol in AreAddresses y
-    → (x : Operands) → AreAddresses x → (original : List ℕ)
-    → Relocated (loongarch_row names.R_LARCH_CALL36) x (drop o p.section.bytes) original
-    → (s t : machine.State) → s.pc ≡ x.place → t.pc ≡ y.place → AreAlikeBut no_register s t
     → let call = take 8 (drop (place_of p o) p.final) in
-    EndSo (pair original (drop 4 original)) s (pair call (drop 4 call)) t
-    (HaveCalled (destination p.section.bytes o) (rd_of (word_at p.section.bytes o))
-    (sum_64 x.place 8) (sum_64 y.place 8) (plt_address x) (plt_address y)))
+    CallsEnd p o y.place (pair call (drop 4 call)) (sum_64 y.place 8) (plt_address y))
 
 -- `pcalau12i` and `addi.d` next to each other stay, whose relocations are of one symbol and addend.
 pub record IsPairOf (p : Packed) (i j : ℕ) : Type 0 where
@@ -369,51 +353,42 @@ pub record IsPairOf (p : Packed) (i j : ℕ) : Type 0 where
       ≡ (relocation_in p.relocations_after i).addend
   pub pair : IsPcalaAt p.section.bytes (offset_at p.relocations i)
 
-abbrev pub EachLongPair : (Packed → ℕ → Operands → Type 0) → Type 0
-EachLongPair Holds =
+-- the final pair
+abbrev pub final_pair : Packed → ℕ → List ℕ
+final_pair p o =
+    let at = place_of p o in pair (take 4 (drop at p.final)) (take 4 (drop (at + 4) p.final))
+
+-- It makes the address of its layout.
+abbrev pub EachLongPair : EndsLaw → Type 0
+EachLongPair Ends =
     IsSomeAnd (loongarch_row names.R_LARCH_PCALA_HI20) (λ row.
     (p : Packed) → IsPacked p → p.machine ≡ loongarch64 → (i j : ℕ) → IsPairOf p i j
     → let o = offset_at p.relocations i in
     (symbol : Symbol)
     → slice_get p.symbols (relocation_in p.relocations_after i).symbol ≡ Some symbol
     → let y = operands_at p i row symbol in
-    AreAddresses y → Fits32 names.R_LARCH_PCALA_HI20 y → Holds p o y)
-
--- the final pair
-abbrev pub final_pair : Packed → ℕ → List ℕ
-final_pair p o =
-    let at = place_of p o in pair (take 4 (drop at p.final)) (take 4 (drop (at + 4) p.final))
-
--- Each run has made the address of its layout by then.
-abbrev pub PairMakes : Packed → ℕ → Operands → Operands → machine.State → machine.State → Type 0
-PairMakes p o y x =
-    HaveMade (destination p.section.bytes o) (symbol_address x) (symbol_address y)
-    (sum_64 x.place 8) (sum_64 y.place 8)
+    AreAddresses y → Fits32 names.R_LARCH_PCALA_HI20 y
+    → Ends p o y.place (final_pair p o) (sum_64 y.place 8) (symbol_address y))
 
 abbrev pub LongAddressesStay : Type 0
-LongAddressesStay = EachLongPair (λ p o y. SumsEnd p o y.place (final_pair p o) (PairMakes p o y))
+LongAddressesStay = EachLongPair SumsEnd
 
 abbrev pub LongLoadedAddressesStay : Type 0
-LongLoadedAddressesStay =
-    EachLongPair (λ p o y. LoadsEnd p o y.place (final_pair p o) (PairMakes p o y))
+LongLoadedAddressesStay = EachLongPair LoadsEnd
 
 -- ---- deleted instructions (thread-local storage)
 
--- A `lu12i.w` of an offset from the thread pointer of 12 bits is a group, of which new has nothing.
-abbrev pub HighPartIsLeftOut : Type 0
-HighPartIsLeftOut =
+-- What is deleted at an offset is a group, of which new has nothing.
+abbrev pub IsLeftOut : (ℕ → Type 0) → GoneLaw → Type 0
+IsLeftOut P Law =
     (p : Packed) → IsPacked p → p.machine ≡ loongarch64 → (o : ℕ) → shorter.AreDeleted p o 4
-    → let lu12i = take 4 (drop o p.section.bytes) in
-    IsLu12i (word_of lu12i) → (x : Operands) → AreAddresses x
-    → RowIsWithin (loongarch_row names.R_LARCH_TLS_LE_LO12_R) signed_12 x
-    → (c : Code) (k : Kinds) (s : State) → IsBefore p o c.moved s.pc → s.pc ≡ x.place
-    → Has c.old names.R_LARCH_TLS_LE_HI20_R x lu12i → IsLeftOut c k s (rd_of (word_of lu12i)) 0
+    → let instruction = take 4 (drop o p.section.bytes) in
+    P (word_of instruction) → Law 0 (λ c s. IsBefore p o c.moved s.pc) instruction
 
--- So is an `add.d` of the thread pointer to a register with 0.
+-- a `lu12i.w` of an offset from the thread pointer of 12 bits
+abbrev pub HighPartIsLeftOut : Type 0
+HighPartIsLeftOut = IsLeftOut IsLu12i OffsetGoes
+
+-- an `add.d` of the thread pointer to a register with 0
 abbrev pub SumIsLeftOut : Type 0
-SumIsLeftOut =
-    (p : Packed) → IsPacked p → p.machine ≡ loongarch64 → (o : ℕ) → shorter.AreDeleted p o 4
-    → let add = word_at p.section.bytes o in
-    IsAddTp add → (c : Code) (k : Kinds) (s : State) → IsBefore p o c.moved s.pc
-    → register s (rj_of add) ≡ 0 → s.registers tp < 2 ^ 64
-    → Stands c.old s.pc (drop o p.section.bytes) → IsLeftOut c k s (rd_of add) (s.registers tp)
+SumIsLeftOut = IsLeftOut IsAddTp SumGoes

@@ -1,16 +1,18 @@
 -- RV32: relocations with wrapped addends, and what instructions with them compute, modulo 2^32
 -- (RISC-V unprivileged ISA, "RV32I Base Integer Instruction Set": registers have 32 bits).
-use Rattle.std.specs.Prelude.{◌≡◌, ◌≢◌, ℕ, ◌<◌, ◌+◌, ◌%◌, ◌^◌, ◌/◌, ℤ, pos, ◌+ℤ◌, ◌*ℤ◌, ⊤, List, []}
-use Rattle.std.specs.Prelude.{◌∷◌, length, Option, Some, Result, Ok, IsSomeAnd}
-use Rattle.linker_final.specs.Imports.{Addresses, AreAddresses, BType, CbType, CjType, CluiType}
-use Rattle.linker_final.specs.Imports.{Computed, IType, IsApplied, IsRow, IsValue, JType, Operands}
-use Rattle.linker_final.specs.Imports.{PremiseHolds, Rela, RiscV, RiscVInstruction, RiscVRelocation}
-use Rattle.linker_final.specs.Imports.{RowInfo, SType, Step, Symbol, UType, UiType, cast_unsigned}
-use Rattle.linker_final.specs.Imports.{clui_row, entry_and_addend, even, here, int_rem_euclid}
-use Rattle.linker_final.specs.Imports.{low_load, low_store, number_at, number_of_bytes, of_entry}
-use Rattle.linker_final.specs.Imports.{place, plt_address, relocation_in, riscv_form}
-use Rattle.linker_final.specs.Imports.{riscv_relocation, riscv_row, symbol_address, tls_base}
-use Rattle.linker_final.specs.Imports.{upper_and_low, w64, without_bit_0}
+use Rattle.linker_final.specs.Imports.{Addresses, AreAddresses, BType, Call, CbType, CjType}
+use Rattle.linker_final.specs.Imports.{Computed, EntryAddresses, IsApplied, IsRow, IsValue, JType}
+use Rattle.linker_final.specs.Imports.{Jump, Operands, Pairs, PremiseHolds, Rela, Relocated, RiscV}
+use Rattle.linker_final.specs.Imports.{RiscVRelocation, RowInfo, Step, Symbol, UType, after_rewrite}
+use Rattle.linker_final.specs.Imports.{cast_unsigned, entry_and_addend, even, field, from_le_bytes}
+use Rattle.linker_final.specs.Imports.{here, int_rem_euclid, low_load, low_store, number_at}
+use Rattle.linker_final.specs.Imports.{number_of_bytes, place, plt_address, rd_of, relocation_in}
+use Rattle.linker_final.specs.Imports.{riscv_form, riscv_row, symbol_address, w16, w64, word_of}
+use Rattle.std.specs.Prelude.{Bool, IsSomeAnd, List, None, Ok, Option, Result, Some, [], drop}
+use Rattle.std.specs.Prelude.{false, length, nat_le, pos, true, ℕ, ℤ, ⊤, ◌≡◌, ◌≢◌, ◌<◌, ◌+◌, ◌%◌}
+use Rattle.std.specs.Prelude.{◌^◌, ◌/◌, ◌∷◌, ◌==◌, ◌&&◌, if◌then◌else◌}
+use Rattle.linker_laws.specs.RiscVMachine.{Hart, Instruction, adds, executed, fetched, jal, jumps}
+use Rattle.linker_laws.specs.RiscVMachine.{register, sums}
 use Rattle.linker_laws.specs.Schemes.{zero}
 use Rattle.linker_elf.specs.Elf.{IsWithin}
 use Rattle.linker_elf.specs.Reach.{reach_of, riscv_pair_bounds}
@@ -18,6 +20,8 @@ use Rattle.linker_elf.specs.Rows.{Bounds}
 use Rattle.linker_section.specs.RiscV32.{AreWrapped}
 use Rattle.linker_section.specs.declared.values.ValueError.{ValueError}
 use Rattle.linker_elf.specs.declared.riscv64.relocations.RiscVRelocation.TheVariants as names
+use Rattle.linker_utils.specs.RiscVRewrites.{riscv_matches}
+use Rattle.linker_utils.specs.declared.riscv64.rewrites.RewriteKind.TheVariants as kinds
 
 -- two numbers of 64 bits are the same modulo 2^32
 abbrev pub IsSame32 : ℤ → ℤ → Type 0
@@ -84,62 +88,16 @@ Law32 steps computed target =
     → let wrapped = record o { addend = addend }
     in Reaches32 steps wrapped (computed wrapped) (target o)
 
--- an upper part, and the low part of a load or an `addi` and that of a store
-abbrev pub Pairs : (Operands → ℕ) → RiscVInstruction → Option RowInfo → Step → Step
-    → (Operands → ℕ) → Type 0
-Pairs begin upper high load store target =
-    Law32 (here high ∷ load ∷ []) (upper_and_low begin upper IType) target
-    × Law32 (here high ∷ store ∷ []) (upper_and_low begin upper SType) target
-
-abbrev pub AbsoluteAddresses : Type 0
-AbsoluteAddresses =
-    Pairs zero UType (riscv_row names.R_RISCV_HI20) (here (riscv_row names.R_RISCV_LO12_I))
-    (here (riscv_row names.R_RISCV_LO12_S)) symbol_address
-    × Pairs zero CluiType (Some clui_row) (here (riscv_row names.R_RISCV_LO12_I))
-    (here (riscv_row names.R_RISCV_LO12_S)) symbol_address
-
-abbrev pub Entries : RiscVRelocation → Type 0
-Entries name =
-    Pairs place UType (riscv_row name) (of_entry low_load) (of_entry low_store) entry_and_addend
-
 abbrev pub RelativeAddresses : Type 0
 RelativeAddresses =
-    Pairs place UType (riscv_row names.R_RISCV_PCREL_HI20) low_load low_store symbol_address
-    × Entries names.R_RISCV_GOT_HI20 × Entries names.R_RISCV_TLS_GOT_HI20
-    × Entries names.R_RISCV_TLS_GD_HI20
-
--- a descriptor, by its load and by the address that is passed on
-abbrev pub Descriptor : RiscVRelocation → Type 0
-Descriptor low =
-    Law32
-    (here ((riscv_relocation names.R_RISCV_TLSDESC_HI20).row)
-    ∷ here ((riscv_relocation low).row) ∷ []) (upper_and_low place UType IType) entry_and_addend
-
-abbrev pub DescriptorAddresses : Type 0
-DescriptorAddresses =
-    Descriptor names.R_RISCV_TLSDESC_LOAD_LO12 × Descriptor names.R_RISCV_TLSDESC_ADD_LO12
-
-abbrev pub ThreadAddresses : Type 0
-ThreadAddresses =
-    Pairs tls_base UType (riscv_row names.R_RISCV_TPREL_HI20)
-    (here (riscv_row names.R_RISCV_TPREL_LO12_I)) (here (riscv_row names.R_RISCV_TPREL_LO12_S))
-    symbol_address
-
-abbrev pub Call : RiscVRelocation → Type 0
-Call name =
-    Law32 (here (riscv_row name) ∷ [])
-    (λ o x. without_bit_0 (pos o.place +ℤ (riscv_form UiType).machine x)) (even plt_address)
-
-abbrev pub Jump : RiscVRelocation → RiscVInstruction → Type 0
-Jump name f =
-    Law32 (here (riscv_row name) ∷ []) (λ o x. pos o.place +ℤ ((riscv_form f).machine x *ℤ pos 1))
-    symbol_address
+    Pairs Law32 place UType (riscv_row names.R_RISCV_PCREL_HI20) low_load low_store symbol_address
+    × EntryAddresses Law32
 
 abbrev pub Branches : Type 0
 Branches =
-    Call names.R_RISCV_CALL × Call names.R_RISCV_CALL_PLT × Jump names.R_RISCV_JAL JType
-    × Jump names.R_RISCV_BRANCH BType × Jump names.R_RISCV_RVC_JUMP CjType
-    × Jump names.R_RISCV_RVC_BRANCH CbType
+    Call Law32 names.R_RISCV_CALL × Call Law32 names.R_RISCV_CALL_PLT
+    × Jump Law32 names.R_RISCV_JAL JType × Jump Law32 names.R_RISCV_BRANCH BType
+    × Jump Law32 names.R_RISCV_RVC_JUMP CjType × Jump Law32 names.R_RISCV_RVC_BRANCH CbType
 
 -- 4 bytes hold the distance from where the formula begins
 abbrev pub Word : RiscVRelocation → (Operands → ℕ) → (Operands → ℕ) → Type 0
@@ -175,3 +133,74 @@ pub record PairIsApplied : Type 0 where
   pub applied : AreApplied
       (here (riscv_row names.R_RISCV_HI20) ∷ here (riscv_row names.R_RISCV_LO12_I) ∷ [])
       (record o { addend = addend })
+
+-- ---- `c.jal`: a call by two instructions, and the one that a rewrite makes of it ("C" and "Zca",
+-- "Control Transfer Instructions")
+
+-- `c.jal`, an instruction of RV32 alone, expands to `jal x1`. RV64 has `c.addiw` of these bits.
+abbrev pub is_cjal : ℕ → Bool
+is_cjal half = field half 0 2 == 1 && field half 13 16 == 1
+
+-- the instruction that bytes begin with, and its length
+abbrev pub fetched_32 : List ℕ → Option (ℕ × Instruction)
+fetched_32 bytes =
+    let half = from_le_bytes w16 bytes in
+    if nat_le 2 (length bytes) && is_cjal half
+    then Some (2, jal 1 ((riscv_form CjType).machine half)) else fetched bytes
+
+-- What RV32 does as RV64, modulo 2^32: `lui`, `auipc`, `jal`, `add`, `addi` and `jalr`. Others, of
+-- which it lacks some, aren't defined here.
+abbrev pub is_of_both : Instruction → Bool
+is_of_both (sums adds rd rs1 rs2 immediate) = true
+is_of_both (sums jumps rd rs1 rs2 immediate) = true
+is_of_both (sums action rd rs1 rs2 immediate) = false
+is_of_both instruction = true
+
+-- registers and addresses have 32 bits
+abbrev pub modulo_32 : Hart → Hart
+modulo_32 h = record h { pc = h.pc % 2 ^ 32; integers = λ r. h.integers r % 2 ^ 32 }
+
+abbrev pub executed_32 : Option (ℕ × Instruction) → Hart → Option Hart
+executed_32 None h = None
+executed_32 (Some i) h = if is_of_both i.1 then Some (modulo_32 (executed i.0 i.1 h)) else None
+
+-- what a hart of RV32 is after the instruction that the bytes from its pc on begin with
+abbrev pub step_32 : List ℕ → Hart → Option Hart
+step_32 bytes h = executed_32 (fetched_32 bytes) h
+
+-- After a call of n bytes at a place a hart is at a target, with the address after these bytes in
+-- ra, modulo 2^32. But for ra and the base of the call all is as before.
+pub record HasCalled (n place target base : ℕ) (before after : Hart) : Type 0 where
+  pub goes : after.pc ≡ target % 2 ^ 32
+  pub links : register after 1 ≡ (place + n) % 2 ^ 32
+  pub others : (r : ℕ) → r ≢ 1 → r ≢ base → register after r ≡ register before r % 2 ^ 32
+  pub floats : after.floats ≡ before.floats
+  pub memory : after.memory ≡ before.memory
+
+-- What stands where such a call was, with the value of a relocation whose addend is the file's
+-- modulo 2^32, does so.
+abbrev pub CallDoes : RiscVRelocation → (List ℕ → List ℕ) → (Operands → List ℕ → List ℕ → Hart → Type 0)
+    → Type 0
+CallDoes name made Does =
+    (o : Operands) (addend : ℤ) → AreAddresses o → IsSame32 addend o.addend
+    → (call code : List ℕ) → riscv_matches kinds.CallToCJal call 0
+    → Relocated (riscv_row name) (record o { addend = addend }) (made call) code
+    → (h : Hart) → h.pc ≡ o.place → Does o call code h
+
+-- `auipc` and `jalr`, which links ra, go to the target without its bit 0
+abbrev pub LongCall : RiscVRelocation → Type 0
+LongCall name =
+    CallDoes name (λ call. call) (λ o call code h.
+    IsSomeAnd (step_32 code h) (λ middle.
+    (middle.pc ≡ (o.place + 4) % 2 ^ 32)
+    × IsSomeAnd (step_32 (drop 4 code) middle)
+    (HasCalled 8 o.place (even plt_address o) (rd_of (word_of call)) h)))
+
+-- So does the `c.jal` in their place, to the target as it is, and with the base as it was.
+abbrev pub ShortCall : Type 0
+ShortCall =
+    CallDoes names.R_RISCV_RVC_JUMP (λ call. after_rewrite kinds.CallToCJal call 0)
+    (λ o call code h. IsSomeAnd (step_32 code h) (HasCalled 2 o.place (symbol_address o) 1 h))
+
+abbrev pub Calls : Type 0
+Calls = LongCall names.R_RISCV_CALL × LongCall names.R_RISCV_CALL_PLT × ShortCall

@@ -2,23 +2,23 @@
 -- object's instructions, with the values of their relocations, and new what became of them (RISC-V
 -- ELF psABI, "PC-Relative Symbol Addresses", "Local-Exec TLS Relaxation", "TLS Descriptors -> Local
 -- Exec Relaxation").
-use Rattle.std.specs.Prelude.{◌≡◌, ◌≢◌, ℕ, ◌+◌, ◌*◌, ◌<◌, ◌^◌, List, Some, IsSomeAnd, slice_get}
-use Rattle.std.specs.Prelude.{true, Option, ◌≤◌, drop, length, ◌⊎◌, ◌-◌, ◌%◌, ◌==◌, take}
-use Rattle.std.specs.Prelude.{if◌then◌else◌}
-use Rattle.linker_final.specs.Imports.{Action, Addresses, Agree, AreAddresses, AreOf, Choice}
-use Rattle.linker_final.specs.Imports.{Decision, Group, IsNameOf, Kept, Kind, Kinds, Operands, Rela}
-use Rattle.linker_final.specs.Imports.{Relaxation, Relocated, Rewritten, RewrittenWithSymbol, RiscV}
+use Rattle.linker_final.specs.Imports.{Addresses, Agree, AreAddresses, AreBefore, AreDeleted}
+use Rattle.linker_final.specs.Imports.{CallBecomes, Choice, Decision, Group, IsLoadFromGot, IsLow12}
+use Rattle.linker_final.specs.Imports.{IsLowOffset, IsNameOf, Kept, Kinds, LoadBecomes, LowPartBy}
+use Rattle.linker_final.specs.Imports.{OffsetBecomes, Operands, Rela, Relaxation, Relocated}
+use Rattle.linker_final.specs.Imports.{Rewritten, RewrittenWithSymbol, RiscV, RiscV64}
 use Rattle.linker_final.specs.Imports.{RiscVRelocation, RowInfo, Site as site, State, Symbol}
-use Rattle.linker_final.specs.Imports.{UiType, anything, decision_at, deleted_of, difference_64}
-use Rattle.linker_final.specs.Imports.{entry_and_addend, even, loaded, moved, of_link, offset_at}
-use Rattle.linker_final.specs.Imports.{operands_with, pair_row, plt_address, put, r_type_of, rd_of}
-use Rattle.linker_final.specs.Imports.{register, relocation_in, riscv_name, riscv_row}
-use Rattle.linker_final.specs.Imports.{riscv_scope_in, rs1_of, same, stores, stores_float, sum_64}
-use Rattle.linker_final.specs.Imports.{symbol_address, thread_offset, value_of, with_register}
-use Rattle.linker_laws.specs.RiscVRewriteLaws.{IsLow12, IsLowOffset, action_at, after_rewrite}
-use Rattle.linker_laws.specs.RiscVRewriteLaws.{low_row, offset_row, word_of, of_entry}
-use Rattle.linker_runs.specs.Machines.{RiscV64}
+use Rattle.linker_final.specs.Imports.{UiType, ZeroLuiGoes, action_at, after_rewrite, decision_at}
+use Rattle.linker_final.specs.Imports.{deleted_of, difference_64, even, low_row, moved, of_link}
+use Rattle.linker_final.specs.Imports.{offset_at, offset_row, operands_with, pair_row, plt_address}
+use Rattle.linker_final.specs.Imports.{put, r_type_of, rd_of, relocation_in, riscv_name, riscv_row}
+use Rattle.linker_final.specs.Imports.{riscv_scope_in, rs1_of, same, seen, sum_64, symbol_address}
+use Rattle.linker_final.specs.Imports.{thread_offset, upper, upper_from, uses, value_of, word_of}
+use Rattle.linker_laws.specs.RiscVMachine.{Action, register, stores, stores_float}
 use Rattle.linker_rewriting.specs.declared.groups.Scope.TheVariants.{Grouped, NotRelaxable}
+use Rattle.std.specs.Prelude.{IsSomeAnd, List, Option, Some, drop, length, slice_get, take, true, ℕ}
+use Rattle.std.specs.Prelude.{◌≡◌, ◌≢◌, ◌+◌, ◌*◌, ◌<◌, ◌^◌, ◌≤◌, ◌⊎◌, ◌-◌, ◌%◌, ◌==◌, if◌then◌else◌}
+use Rattle.linker_laws.specs.RiscVGroups.{Code, Has, IsLeftOut, Stands, SumGoes, link}
 use Rattle.linker_base.specs.Rewrite.{rewritten}
 use Rattle.linker_elf.specs.Originals.{HasWord}
 use Rattle.linker_elf.specs.declared.elf.RelocationKind.TheVariants.{PltRelative}
@@ -29,9 +29,6 @@ use Rattle.linker_final.specs.Packed.{IsBefore, IsKeptInstruction, IsPacked, IsR
 use Rattle.linker_final.specs.Packed.{IsSiteOf, IsUnwritten, Packed, StayTogether, architecture_of}
 use Rattle.linker_final.specs.Packed.{final_instruction, place_of, site_bytes, site_len}
 use Rattle.linker_final.specs.Packed.{site_offset, site_place, site_target}
-use Rattle.linker_laws.specs.RiscVGroups.{AreBefore, AreDeleted, AreNops, Code, Descriptor, Has}
-use Rattle.linker_laws.specs.RiscVGroups.{IsCall, IsLeftOut, LeavesAddress, LoadFromGot, LowPartBy}
-use Rattle.linker_laws.specs.RiscVGroups.{Stands, link, seen, upper, upper_from, uses}
 use Rattle.linker_rewriting.specs.GlobalPointer.{address_of, base_for, based_relocation}
 use Rattle.linker_rewriting.specs.GlobalPointer.{is_low_word, low_r_type}
 use Rattle.linker_rewriting.specs.RiscVPcrelGroups.{IsHighIn}
@@ -47,6 +44,10 @@ use Rattle.linker_elf.specs.declared.riscv64.relocations.RiscVRelocation.TheVari
 use Rattle.linker_utils.specs.declared.riscv64.rewrites.RewriteKind.TheVariants as kinds
 use Rattle.linker_utils.specs.declared.architecture.Relaxation.TheVariants as relaxations
 use Rattle.linker_final.specs.Packed as shorter
+
+-- the object's instruction of the relocation at an index
+abbrev pub object : Linked → ℕ → List ℕ
+object l i = instruction_at l.section (offset_of l i)
 
 -- the relocation at an index has a name, and its instruction is rewritten
 pub record IsRewrittenOf (l : Linked) (name : RiscVRelocation) (i : ℕ) : Type 0 where
@@ -66,46 +67,11 @@ pub record AreOfPair (l : Linked) (i j : ℕ) : Type 0 where
   pub high_becomes : first.chosen.relocation ≡ r_type_of (riscv_name names.R_RISCV_PCREL_HI20)
   pub low_becomes : second.chosen.relocation ≡ r_type_of (riscv_name names.R_RISCV_PCREL_LO12_I)
 
--- The pair is a group, with what new has. The entry holds S + A, and both addresses are of a kind.
-abbrev pub LoadIsAlike : Linked → ℕ → (Operands → Code → Type 0) → Type 0
-LoadIsAlike l i NewHas =
-    let o = (relocation_in l.relocations i).offset in
-    let auipc = instruction_at l.section o in
-    let ld = instruction_at l.section (o + 4) in
-    let base = rd_of (word_of auipc) in
-    let rd = rd_of (word_of ld) in
-    rs1_of (word_of ld) ≡ base → base ≢ 0
-    → (c : Code) (x y : Operands) (k : Kinds) (kind : Kind) (s : State)
-    → AreAddresses x → AreAddresses y → AreBefore c 8 8 x y s → loaded 8 s.memory (entry_and_addend x) ≡ symbol_address x
-    → AreOf (link c) 8 kind (symbol_address x) (symbol_address y)
-    → (old : Has 4 c.old x.place (riscv_row names.R_RISCV_GOT_HI20) x auipc)
-    → Has 4 c.old (sum_64 x.place 4) (riscv_row names.R_RISCV_PCREL_LO12_I) (of_entry x) ld
-    → NewHas y c
-    → Group (of_link (link c)) 2 k s (with_register rd kind (with_register base anything k))
-    (put rd (symbol_address x) (sum_64 x.place 8)
-    (put base (upper_from x.place old.relocated) (sum_64 x.place 4) s))
-
 -- ---- what is deleted before them
 
 -- the four bytes of an instruction
 abbrev pub IsDeleted : Linked → ℕ → Type 0
 IsDeleted l i = deleted_of (decision_at l.decisions i) ≡ deleted_from 0 4
-
--- A `lui` of a number of 12 bits is deleted, which is a group.
-abbrev pub HighPartGoes : Linked → ℕ → Type 0
-HighPartGoes l i =
-    let lui = instruction_at l.section (relocation_in l.relocations i).offset in
-    (x : Operands) (c : Code) (k : Kinds) (s : State) → AreDeleted c 4 s → IsLowOffset x
-    → Has 4 c.old s.pc (riscv_row names.R_RISCV_TPREL_HI20) x lui
-    → IsLeftOut c k s (rd_of (word_of lui)) 0
-
--- So is an `add` of the thread pointer to a register with 0.
-abbrev pub SumGoes : Linked → ℕ → Type 0
-SumGoes l i =
-    let add = instruction_at l.section (relocation_in l.relocations i).offset in
-    (c : Code) (k : Kinds) (s : State) → AreDeleted c 4 s
-    → register (seen s) (rs1_of (word_of add)) ≡ 0 → s.registers tp < 2 ^ 64
-    → Stands 4 c.old s.pc add → IsLeftOut c k s (rd_of (word_of add)) (s.registers tp)
 
 -- ---- TLS descriptors
 
@@ -124,18 +90,12 @@ pub record IsOfDescriptor (l : Linked) (high : ℕ) (name : RiscVRelocation) (di
   pub decided : decision_at l.decisions n ≡ RewrittenWithSymbol chosen subject
   pub kind_is : chosen.kind ≡ relaxations.RiscV kind
 
--- The object's sequence, whose high part is at an index, is a group. New has n nops where the first
--- instructions were, and then m others from an address on. What is said of the operands holds.
+-- The object's sequence, whose high part is at an index, becomes some nops and m instructions.
 abbrev pub OffsetIsAlike : Linked → ℕ → ℕ → (Operands → Type 0) → (Operands → Code → ℕ → Type 0)
     → Type 0
 OffsetIsAlike l high m Said NewHas =
-    let o = (relocation_in l.relocations high).offset in
-    (c : Code) (n at : ℕ) (x y : Operands) (k k' : Kinds) (s s' : State)
-    → Descriptor c x (thread_offset x) k s k' s' (instruction_at l.section o)
-    (instruction_at l.section (o + 4)) (instruction_at l.section (o + 8))
-    (instruction_at l.section (o + 12))
-    → thread_offset x ≡ thread_offset y → Said y → AreNops c n m x at → NewHas y c at
-    → Group (of_link (link c)) (n + m) k s k' s'
+    let at = λ n. instruction_at l.section (offset_of l high + n) in
+    OffsetBecomes m Said NewHas (object l high) (at 4) (at 8) (at 12)
 
 -- The bytes of an instruction that became a nop of four bytes are one.
 abbrev pub IsNop : List ℕ → List ℕ → Type 0
@@ -166,17 +126,17 @@ pub record IsAddiOfLoad (l : Linked) (high low : ℕ) : Type 0 where
   pub rewritten : IsOfDescriptor l high names.R_RISCV_PCREL_LO12_I 4 kinds.LdToAddi low
   pub becomes : rewritten.chosen.relocation ≡ r_type_of (riscv_name names.R_RISCV_LO12_I)
 
--- The object's pair is a group, in whose place new has n instructions, where S + A is the same in
--- both layouts, and what is said of the operands holds.
-abbrev pub AddressIsAlike : Linked → ℕ → ℕ → (Operands → Type 0) → (Operands → Code → Type 0)
-    → Type 0
-AddressIsAlike l high n Said NewHas =
-    let o = (relocation_in l.relocations high).offset in
-    let auipc = instruction_at l.section o in
-    let ld = instruction_at l.section (o + 4) in
-    (c : Code) (x y : Operands) (k : Kinds) (s : State) → AreBefore c 8 (4 * n) x y s
-    → (load : LoadFromGot c x s auipc ld) → symbol_address x ≡ symbol_address y → Said y → NewHas y c
-    → LeavesAddress n c x k s auipc ld load
+-- The object's pair, of which something is known, becomes n instructions.
+abbrev pub LoadIsAlike : Linked → ℕ → ℕ → (ℕ → ℕ → Type 0) → (Operands → Type 0)
+    → (Operands → Code → Type 0) → Type 0
+LoadIsAlike l high n IsKnown Said NewHas =
+    let ld = instruction_at l.section (offset_of l high + 4) in
+    IsKnown (word_of (object l high)) (word_of ld)
+    → LoadBecomes n Said NewHas (object l high) ld
+
+-- the `ld` is over the register of the `auipc`
+abbrev pub IsOver : ℕ → ℕ → Type 0
+IsOver auipc ld = (rs1_of ld ≡ rd_of auipc) × (rd_of auipc ≢ 0)
 
 -- ---- of what is left by the call that rewrites
 
@@ -333,17 +293,19 @@ abbrev pub low_law : RiscVRelocation → (l : Linked) → ℕ → New l → Acti
 low_law name l i new action =
     LowPartBy offset_row thread_offset (λ s. s.registers tp) (λ k. k.registers tp ≡ same)
     (λ y c. HasOwn l new name (offset_row action) i y c.new y.place)
-    (instruction_at l.section (offset_of l i)) action
+    (object l i) action
 
 abbrev pub law : (l : Linked) (i : ℕ) → Lawful l i → New l → Type 0
 law l i (load j of alone) new =
-    LoadIsAlike l i (λ y c. HasNamed l new names.R_RISCV_PCREL_HI20 i y c.new y.place
+    LoadIsAlike l i 2 IsOver AreAddresses (λ y c.
+    HasNamed l new names.R_RISCV_PCREL_HI20 i y c.new y.place
     × HasLow l new i j y c.new (sum_64 y.place 4))
 law l i (fixed j high low) new =
-    AddressIsAlike l i 2 AreAddresses (λ y c. HasNamed l new names.R_RISCV_HI20 i y c.new y.place
+    LoadIsAlike l i 2 IsLoadFromGot AreAddresses (λ y c.
+    HasNamed l new names.R_RISCV_HI20 i y c.new y.place
     × HasNamed l new names.R_RISCV_LO12_I j y c.new (sum_64 y.place 4))
 law l i (low_address j high low) new =
-    AddressIsAlike l i 1 IsLow12 (λ y c.
+    LoadIsAlike l i 1 IsLoadFromGot IsLow12 (λ y c.
     HasNamed l new names.R_RISCV_LO12_I j y c.new y.place)
 law l i (descriptor add call of_add of_call) new =
     OffsetIsAlike l i 2 AreAddresses (λ y c at.
@@ -356,8 +318,9 @@ law l i (low_part of) new =
     IsSomeAnd (action_at l.section (offset_of l i)) (low_law names.R_RISCV_TPREL_LO12_I l i new)
 law l i (low_store of) new =
     IsSomeAnd (action_at l.section (offset_of l i)) (low_law names.R_RISCV_TPREL_LO12_S l i new)
-law l i (high_part of) new = HighPartGoes l i
-law l i (sum of) new = SumGoes l i
+law l i (high_part of) new =
+    ZeroLuiGoes names.R_RISCV_TPREL_HI20 IsLowOffset (λ c. AreDeleted c 4) (object l i)
+law l i (sum of) new = SumGoes (λ c. AreDeleted c 4) (object l i)
 
 -- ---- nops
 
@@ -365,14 +328,14 @@ law l i (sum of) new = SumGoes l i
 -- field in the final ones.
 abbrev pub BecomesNop : (l : Linked) → New l → ℕ → Type 0
 BecomesNop l anywhere i =
-    IsNop (instruction_at l.section (offset_of l i)) (instruction_at l.rewritten (offset_of l i))
+    IsNop (object l i) (instruction_at l.rewritten (offset_of l i))
 BecomesNop l (final linked) i =
     UntouchedInstruction l i → IsWrittenByNoOther l i (offset_of l i)
-    → IsNop (instruction_at l.section (offset_of l i)) (instruction_at l.final (offset_of l i))
+    → IsNop (object l i) (instruction_at l.final (offset_of l i))
 BecomesNop l (packed p joined riscv) i =
     UntouchedInstruction l i → StayTogether p (offset_of l i) 4
     → IsUnwritten p (place_of p (offset_of l i)) 4
-    → IsNop (instruction_at l.section (offset_of l i)) (final_instruction p (offset_of l i))
+    → IsNop (object l i) (final_instruction p (offset_of l i))
 
 -- of every instruction of a descriptor that became one
 abbrev pub NopsOf : RiscVRelocation → Type 0
@@ -511,13 +474,10 @@ call_row = pair_row PltRelative 64 UiType
 abbrev pub IsOfCall : RiscVRelocation → Type 0
 IsOfCall name = (name ≡ names.R_RISCV_CALL) ⊎ (name ≡ names.R_RISCV_CALL_PLT)
 
--- Old has a call, `auipc` and `jalr`, with the value of its relocation, in a layout of its own. New
--- has n bytes of final ones, which are m instructions, and leads to a target. They are a group.
+-- A call of the object becomes n bytes of m instructions that go to a target.
 abbrev pub CallIsAlike : List ℕ → Operands → ℕ → ℕ → ℕ → List ℕ → RiscVRelocation → Type 0
-CallIsAlike call y n m target code name =
-    (c : Code) (x : Operands) (k : Kinds) (s : State) → AreAddresses x → AreBefore c 8 n x y s
-    → target ≡ c.moved (even plt_address x) → (old : Has 8 c.old x.place (riscv_row name) x call)
-    → Stands n c.new y.place code → IsCall c m x k s call old.relocated
+CallIsAlike call y n m target code =
+    CallBecomes call y n m target (λ c. Stands n c.new y.place code)
 
 -- the call at an offset of the section
 abbrev pub call_at : Packed → ℕ → List ℕ
@@ -572,20 +532,15 @@ LongCallsStay =
 abbrev pub LuiIsLeftOut : RiscVRelocation → (Operands → Type 0) → Type 0
 LuiIsLeftOut name IsLow =
     (p : Packed) → IsPacked p → architecture_of p.machine ≡ RiscV → (o : ℕ)
-    → HasWord p.section.bytes o IsLui
-    → shorter.AreDeleted p o 4 → (x : Operands) → IsLow x → (c : Code) (k : Kinds) (s : State)
-    → IsBefore p o c.moved s.pc → Has 4 c.old s.pc (riscv_row name) x (drop o p.section.bytes)
-    → IsLeftOut c k s (rd_of (word_at p.section.bytes o)) 0
+    → HasWord p.section.bytes o IsLui → shorter.AreDeleted p o 4
+    → ZeroLuiGoes name IsLow (λ c s. IsBefore p o c.moved s.pc) (drop o p.section.bytes)
 
 -- So is an `add` of the thread pointer to a register with 0.
 abbrev pub SumIsLeftOut : Type 0
 SumIsLeftOut =
     (p : Packed) → IsPacked p → architecture_of p.machine ≡ RiscV → (o : ℕ)
-    → HasWord p.section.bytes o IsAddTp
-    → shorter.AreDeleted p o 4 → (c : Code) (k : Kinds) (s : State) → IsBefore p o c.moved s.pc
-    → register (seen s) (rs1_of (word_at p.section.bytes o)) ≡ 0 → s.registers tp < 2 ^ 64
-    → Stands 4 c.old s.pc (drop o p.section.bytes)
-    → IsLeftOut c k s (rd_of (word_at p.section.bytes o)) (s.registers tp)
+    → HasWord p.section.bytes o IsAddTp → shorter.AreDeleted p o 4
+    → SumGoes (λ c s. IsBefore p o c.moved s.pc) (drop o p.section.bytes)
 
 abbrev pub HighPartsAreLeftOut : Type 0
 HighPartsAreLeftOut =

@@ -11,7 +11,6 @@ ghost use Rattle.linker_final.specs.LoongArchExecuted as loongarch_executed;
 ghost use Rattle.linker_final.specs.LoongArchTable as loongarch_table;
 ghost use Rattle.linker_final.specs.Ppc64Executed as ppc64_executed;
 ghost use Rattle.linker_final.specs.Ppc64Table as ppc64_table;
-ghost use Rattle.linker_final.specs.RiscV32Executed as riscv32_executed;
 ghost use Rattle.linker_final.specs.RiscVExecuted as riscv_executed;
 ghost use Rattle.linker_final.specs.RiscVTable as riscv_table;
 ghost use Rattle.linker_final.specs.X86Executed as x86_executed;
@@ -34,7 +33,7 @@ pub fn riscv64()
 
 /// RV32: what `lui`, `auipc`, `jal`, `addi`, `jalr`, `add`, `c.j`, `c.jal`, `c.lui` and `c.li` do.
 pub fn riscv32()
-    ensures steps { riscv32_executed.Agrees }
+    ensures steps { riscv_executed.Agrees32 }
 {}
 
 /// LoongArch: immediates of 20, 16 and 12 bits, branches, `pcaddu18i` with `jirl`, numbers by two

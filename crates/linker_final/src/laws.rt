@@ -8,9 +8,9 @@ ghost use Rattle.linker_final.specs.Final as final_bytes;
 ghost use Rattle.linker_final.specs.LoongArchSection as loongarch64_section;
 ghost use Rattle.linker_final.specs.Ppc64Section as ppc64_section;
 ghost use Rattle.linker_final.specs.RiscV32 as riscv32;
-ghost use Rattle.linker_final.specs.RiscV32Calls as riscv32_calls;
 ghost use Rattle.linker_final.specs.RiscVSection as riscv64_section;
 ghost use Rattle.linker_final.specs.X86Section as x86_64_section;
+ghost use Rattle.linker_laws.specs.RiscVRelocationLaws as riscv_laws;
 
 /// All architectures: what no rewrite took. Each byte that neither a rewrite nor a field has is the
 /// object's. Each relocation that is neither rewritten nor taken along is the object's, and its
@@ -119,10 +119,10 @@ pub fn riscv32_values()
 /// or `auipc` with a low part, also through the GOT and for each model of TLS, calls, jumps,
 /// branches, and words of 4 bytes. By `worked::riscv32` the premises of a pair can hold.
 pub fn riscv32_instructions()
-    ensures absolute { riscv32.AbsoluteAddresses }
+    ensures absolute { riscv_laws.AbsoluteAddresses riscv32.Law32 }
     ensures relative { riscv32.RelativeAddresses }
-    ensures descriptors { riscv32.DescriptorAddresses }
-    ensures thread { riscv32.ThreadAddresses }
+    ensures descriptors { riscv_laws.DescriptorAddresses riscv32.Law32 }
+    ensures thread { riscv_laws.ThreadAddresses riscv32.Law32 }
     ensures branches { riscv32.Branches }
     ensures words { riscv32.Words }
 {
@@ -134,7 +134,7 @@ pub fn riscv32_instructions()
 /// `jalr` without bit 0, and leave in ra the address after their bytes: pc + 8 and pc + 2. All else
 /// stays, but for the register of the `auipc`.
 pub fn riscv32_calls()
-    ensures { riscv32_calls.Calls }
+    ensures { riscv32.Calls }
 {
     linker_laws::relocations::riscv64();
 }

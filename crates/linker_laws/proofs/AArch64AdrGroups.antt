@@ -1,12 +1,11 @@
 -- AArch64's groups that become `adr`.
 use Rattle.linker_laws.proofs.Imports.{Add, AreAddresses, Code, Has, IsAdd64, IsAddress, IsIntoOwnSource, IsPair, Kinds, LdSt, List, OfPages, Operands, Program, Some, Stands, State, aarch64_form, added, and_le_r, ap, arith, bit_and, bit_at, drop, eqb-true, executed, field, following, go_to, in_64_bits, ints, link, load_64, loaded, machine, nop, page, pos, put, rd_of, refl, run, seen, step, sum_64, sym, symbol_address, word_of, write_x, ℕ, ◌%◌, ◌*ℤ◌, ◌+ℤ◌, ◌+◌, ◌/◌, ◌<◌, ◌^◌, ◌∙◌, ◌≡◌, ◌≢◌}
+use Rattle.linker_laws.specs.AArch64Groups.{Leaves, IsRelocated, IsRewritten}
 use Rattle.linker_elf.specs.declared.aarch64.relocations.AArch64Relocation.TheVariants as names
-use Rattle.linker_laws.specs.AArch64Groups.{Leaves}
 use Rattle.linker_laws.specs.AArch64Groups as groups
 use Rattle.linker_laws.specs.AArch64Machine.{execute, go_on}
 use Rattle.linker_laws.specs.AArch64Machine as aarch64_machine
 use Rattle.linker_laws.specs.AArch64RelocationLaws as relocation_laws
-use Rattle.linker_laws.specs.AArch64RewriteLaws.{IsRelocated, IsRewritten}
 use Rattle.linker_laws.proofs.AArch64Groups.{below_32, load_goes, nop_goes, sets, sets_at, sets_twice}
 use Rattle.linker_laws.proofs.AArch64Near.{near_after, near_here, small_after}
 use Rattle.linker_laws.proofs.AArch64Pages.{add_is, ldst_is, offset_reads}

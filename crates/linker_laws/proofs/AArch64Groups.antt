@@ -1,10 +1,10 @@
 -- AArch64's groups.
 use Rattle.linker_laws.proofs.Imports.{Agree, AreOf, Has, IsLdr64, IsPair, List, Operands, Program, ReplaceWithNop, Some, State, and_parts, anything, ap, ap₂, arith, branch_target, cond-false, eq-eqb, eqb, eqb-true, executed, field, following, go_to, half, link, load_64, loaded, machine, ne_eqb, nop, page, put, rd_of, refl, rn_of, run, seen, step, subst, sum_64, sym, symbol_address, thread_offset, word_of, ℕ, ◌+◌, ◌/◌, ◌<◌, ◌==◌, ◌^◌, ◌∙◌, ◌≡◌}
+use Rattle.linker_laws.specs.AArch64Groups.{IsRewritten}
 use Rattle.linker_elf.specs.declared.aarch64.relocations.AArch64Relocation.TheVariants as names
 use Rattle.linker_laws.specs.AArch64Groups as groups
 use Rattle.linker_laws.specs.AArch64Machine.{execute, moved}
 use Rattle.linker_laws.specs.AArch64RelocationLaws as relocation_laws
-use Rattle.linker_laws.specs.AArch64RewriteLaws.{IsRewritten}
 use Rattle.linker_laws.proofs.AArch64Halves.{HasHigh, high_steps, low_steps}
 use Rattle.linker_laws.proofs.AArch64Pairs.{word_is, adds_pair, loads, word_made}
 use Rattle.linker_laws.proofs.AArch64Steps.{branch_leads, set}

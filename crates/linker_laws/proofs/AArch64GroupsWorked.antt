@@ -1,10 +1,9 @@
 -- The worked programs of AArch64.
 use Rattle.linker_laws.proofs.Imports.{Agree, AreOfOneRegister, AreStored, Bool, ChangesOpen, Code, Covered, Descriptor, Group, Groups, Has, IsAdd64, IsLdr64, IsPair, IsSomeAnd, Kind, Kinds, List, None, Operands, Other, Some, Stands, State, [], anything, ap, arith, called, cond-false, ends, false, following, from_le_bytes, go_to, group, half, if◌then◌else◌, inl, inr, link, lit<, load_64, machine, of_byte, of_link, other, place_sum, pos, put, refl, run, same, seen, subst, sym, true, w64, with_register, word_of, ℕ, ◌*◌, ◌+◌, ◌-◌, ◌<◌, ◌==◌, ◌∙◌, ◌∷◌, ◌≡◌, ◌⊎◌}
+use Rattle.linker_laws.specs.AArch64Groups.{does, IsRelocated}
 use Rattle.linker_elf.specs.declared.aarch64.relocations.AArch64Relocation.TheVariants as names
 use Rattle.linker_elf.specs.declared.aarch64.relocations.AArch64Relocation.{AArch64Relocation}
-use Rattle.linker_laws.specs.AArch64Groups.{does}
 use Rattle.linker_laws.specs.AArch64GroupsWorked.{IsAddress, IsOffset, IsPassed, IsRun, IsWorked, code, entries, first_adr, is_entry, known, new_halves, new_load, new_moves, old_branches, old_descriptor, old_halves, old_load, old_sum, others, second_adr, starting, words}
-use Rattle.linker_laws.specs.AArch64RewriteLaws.{IsRelocated}
 use Rattle.linker_laws.proofs.Agreement.{agree_put}
 use Rattle.linker_laws.proofs.CoveredRuns.{holds_of}
 use Rattle.linker_laws.proofs.Relocated.{applied, small}

@@ -5,8 +5,8 @@ use Rattle.linker_laws.proofs.Instructions.{reads_bits, field_sum, relative, sym
 use Rattle.linker_laws.proofs.AArch64WideMoves.{movn_first}
 use Rattle.linker_laws.proofs.AArch64Pages.{offset_reads, IsUnsigned}
 use Rattle.linker_laws.proofs.Sums.{sum_below, difference_below, page_halves_sum, taken_off, cast_is, euclid, lift, lifted_is, page_below, page_parts}
-use Rattle.linker_laws.specs.AArch64RewriteLaws.{IsRelocated}
-use Rattle.linker_laws.specs.AArch64RewriteLaws as aarch64_laws
+use Rattle.linker_laws.specs.AArch64Groups.{IsRelocated}
+use Rattle.linker_laws.specs.AArch64Groups as aarch64_laws
 use Rattle.linker_laws.specs.AArch64Machine.{State, moved, loaded}
 use Rattle.linker_laws.proofs.AArch64Moves.{movk_lifted, movz_is_no_movk}
 use Rattle.linker_laws.proofs.AArch64Pairs.{word_made}

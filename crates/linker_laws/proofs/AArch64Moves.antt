@@ -1,9 +1,9 @@
 -- The moves of an offset from the thread pointer.
 use Rattle.linker_laws.proofs.Imports.{AArch64, AreAddresses, IsAddress, List, Movkz, Movnz, Operands, Some, TpOff, aarch64_form, ap, arith, bit_at, cond-false, difference_64, eq-eqb, eqb, false, field, following, in_64_bits, int_rem_euclid, int_rem_euclid_is, ints, is_movk, movk, movn_or_movz, nat_lt, ne_eqb, not, plain_written, pos, rd_of, read_x, refl, shift_of, step, subst, sum_64, sym, symbol_address, thread_offset, unsigned_abs, with_moved, word_of, ℕ, ℤ, ◌%◌, ◌&&◌, ◌*ℤ◌, ◌*◌, ◌+ℤ◌, ◌+◌, ◌-ℤ◌, ◌-◌, ◌<◌, ◌^◌, ◌∙◌, ◌≡◌, ◌≢◌}
+use Rattle.linker_laws.specs.AArch64Groups.{IsRelocated}
 use Rattle.linker_elf.specs.declared.aarch64.relocations.AArch64Relocation.TheVariants as names
 use Rattle.linker_laws.specs.AArch64RelocationLaws as relocation_laws
 use Rattle.linker_laws.proofs.Sums.{lift, lifted_is, sum_below}
-use Rattle.linker_laws.specs.AArch64RewriteLaws.{IsRelocated}
 use Rattle.linker_laws.specs.AArch64Machine.{State, moved}
 use Rattle.linker_laws.proofs.AArch64Steps.{set, step_move, step_movk, address_is, read_back}
 use Rattle.linker_laws.proofs.AArch64Words.{movnz_after, movk_after}

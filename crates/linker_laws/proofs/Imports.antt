@@ -51,19 +51,18 @@ pub use Rattle.linker_elf.specs.declared.ppc64.relocations.Ppc64Relocation.{Ppc6
 pub use Rattle.linker_elf.specs.declared.riscv64.forms.RiscVInstruction.{RiscVInstruction}
 pub use Rattle.linker_elf.specs.declared.riscv64.forms.RiscVInstruction.TheVariants.{CjType, CluiType, IType, JType, SType, UType, UiType}
 pub use Rattle.linker_elf.specs.declared.x86_64.relocations.X86_64Relocation.{X86_64Relocation}
-pub use Rattle.linker_laws.specs.AArch64Groups.{Code, Descriptor, EndsInNops, Groups, Has, OfPages, Stands, called, executed, link, machine, seen}
+pub use Rattle.linker_laws.specs.AArch64Groups.{BeginsRewrittenAt, Code, Descriptor, EndsInNops, Groups, Has, IsPair, OfPages, Stands, called, executed, following, link, machine, seen, with_entry}
 pub use Rattle.linker_laws.specs.AArch64Machine.{add, added, adr, adr_address, adrp, adrp_address, b, bl, blr, branch_target, continue, in_64_bits, is_adr, ldr, load_64, movk_64, next_pc, read_x, step, with_moved, write_x, write_x_or_sp}
 pub use Rattle.linker_laws.specs.AArch64RelocationLaws.{got_page, movk, movn_or_movz, movz, page_and_offset}
-pub use Rattle.linker_laws.specs.AArch64RewriteLaws.{BeginsRewrittenAt, IsPair, following, with_entry}
 pub use Rattle.linker_laws.specs.Chains.{Compose, both, of_chain}
 pub use Rattle.linker_laws.specs.Changes.{ChangesOpen, IsKept, OthersAgree, go_to, put, with_register}
 pub use Rattle.linker_laws.specs.Machine.{AreBytes, Memory, Relocated, loaded, moved, stored, wrapped}
 pub use Rattle.linker_laws.specs.Ppc64RelocationLaws.{adjusted, adjusted_quarters, unadjusted, unadjusted_quarters, upper_parts}
 pub use Rattle.linker_laws.specs.Ppc64RewriteLaws.{IsRelocated, IsRewritten, LowHalfLeads, Use, access_number, accesses, at_place, ds_access, entry_from_toc, four_on, from_thread, from_toc, is_d_over, is_over_base, prefixed_of, prefixed_target, thread_offset, word_of}
+pub use Rattle.linker_laws.specs.RiscVGroups.{AreApart, BeginsAt, HasRoom, IsLoadFromGot, IsLow12, LoadFromGot, LowPartOf, action_at, after_rewrite, continued, left, low_row, of_entry, of_place, offset_row, t0, upper, upper_from, uses, with_stored}
 pub use Rattle.linker_laws.specs.RiscVGroups.AreUsed.{as_loaded, as_loaded_float, as_stored, as_stored_float, as_sum, as_target, as_whole, as_word}
 pub use Rattle.linker_laws.specs.RiscVMachine.{Action, Hart, Instruction, Steps, action_of, adds, adds_word, auipc, boxed, bytes_of, cli_immediate, fetched, goes_to, i_type, jal, jumps, load_number, loads, loads_float, lui, of_clui, of_half, of_word, rs1_of, rs2_of, s_type, stores, stores_float, sums, with_action, with_float, with_integer}
 pub use Rattle.linker_laws.specs.RiscVRelocationLaws.{AbsoluteAddresses, DescriptorAddresses, EntryAddresses, RelativeAddresses, ThreadAddresses, even, upper_and_low, without_bit_0}
-pub use Rattle.linker_laws.specs.RiscVRewriteLaws.{IsLoadFromGot, IsLow12, action_at, after_rewrite, low_row, of_entry, offset_row, t0}
 pub use Rattle.linker_laws.specs.Schemes.{AreAddresses, IsAddress, Law, Premise, PremiseHolds, Step, entry_address, entry_and_addend, got_base, none, number_at, of_values, of_words, place, plt_address, size_and_addend, symbol_address, tls_base, without_low}
 pub use Rattle.linker_laws.specs.Simulation.{Agree, AreOf, AreStored, Comparison, Covered, CoversRuns, Following, Follows, GoesOnToo, Group, IsCovered, Kind, Kinds, Link, Next, Other, Program, Simulates, State, Stops, StopsToo, anything, by_group, by_other, code, ends, group, half, of_link, other, run, same, stopping, uncovered}
 pub use Rattle.linker_laws.specs.SimulationWorked.{AreRuns, IsChainWorked, all_same, case_less_base, chain, entry, first_known, first_new, first_old, new_address, of_byte, packed, put_byte, put_out, with_byte, words}

@@ -2,7 +2,7 @@
 use Rattle.linker_laws.proofs.Imports.{All-drop, Branch26, Call36, InstructionWritten, IsAddress, List, LoongArch64, Operands, Relocated, ap, arith, bits_to, call36_high, call36_low, drop, field, from_le_bytes, ints, length-drop, loongarch_row, nat_tests, ored_cleared, plt_address, pos, reach, refl, signed, w64, word_of, wrapped, ℕ, ℤ, ◌*ℤ◌, ◌++◌, ◌+ℤ◌, ◌/◌, ◌<◌, ◌^◌, ◌∙◌, ◌≡◌, ◌≢◌}
 use Rattle.linker_utils.specs.LoongArchRewrites.{IsCall, rj_of, rd_of}
 use Rattle.linker_elf.specs.declared.loongarch64.relocations.LoongArch64Relocation.TheVariants as names
-use Rattle.linker_laws.specs.LoongArchRewriteLaws.{pair}
+use Rattle.linker_laws.specs.LoongArchMachine.{pair}
 use Rattle.linker_laws.specs.LoongArchMachine.{State, decode, far_address, register_target, pcaddu_18, jirl, b, bl}
 use Rattle.linker_laws.proofs.AArch64Steps.{address_is, in_two_steps}
 use Rattle.linker_laws.proofs.AArch64Words.{field_kept, top_kept}

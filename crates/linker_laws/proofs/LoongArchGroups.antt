@@ -1,5 +1,5 @@
 -- LoongArch's groups.
-use Rattle.linker_laws.proofs.Imports.{Agree, AreAddresses, AreOf, Bool, Branch26, ChangesOpen, Group, InstructionWritten, IsAddress, IsWithin, Kind, Kinds, List, LoongArch64, LoongArch64Relocation, Operands, OthersAgree, Relocated, RowIsWithin, Shift10, Shift5, Some, State, ValueIsWithin, anything, ap, ap₂, arith, cast_signed, cond-false, difference_64, drop, entry_and_addend, eq-eqb, false, field, go_to, half, if◌then◌else◌, loaded, loongarch_form, loongarch_row, ne_eqb, not, of_link, or_shifted, page, pcalau12i, plt_address, pos, put, refl, run, same, signed, subst, suc, sum_64, sym, symbol_address, thread_offset, tls_base, true, w64, with_register, word_of, wrapped, ℕ, ℤ, ◌*ℤ◌, ◌*◌, ◌+ℤ◌, ◌+◌, ◌-◌, ◌/◌, ◌<◌, ◌==◌, ◌^◌, ◌∙◌, ◌≡◌, ◌≢◌}
+use Rattle.linker_laws.proofs.Imports.{Agree, AreAddresses, AreOf, Bool, Branch26, ChangesOpen, Group, InstructionWritten, IsAddress, IsWithin, Kind, Kinds, List, LoongArch64, LoongArch64Relocation, Operands, OthersAgree, Relocated, RowIsWithin, Shift10, Shift5, Some, State, ValueIsWithin, anything, ap, ap₂, arith, cast_signed, cond-false, difference_64, drop, entry_and_addend, eq-eqb, false, field, go_to, half, if◌then◌else◌, loaded, loongarch_form, loongarch_row, ne_eqb, not, of_link, of_place, or_shifted, page, pcalau12i, plt_address, pos, put, refl, run, same, signed, subst, suc, sum_64, sym, symbol_address, thread_offset, tls_base, true, w64, with_register, word_of, wrapped, ℕ, ℤ, ◌*ℤ◌, ◌*◌, ◌+ℤ◌, ◌+◌, ◌-◌, ◌/◌, ◌<◌, ◌==◌, ◌^◌, ◌∙◌, ◌≡◌, ◌≢◌}
 use Rattle.linker_utils.specs.LoongArchRewrites.{IsCall, IsLowOfDescriptor, rj_of, signed_12, signed_32, IsAddi, IsCallOfDescriptor, IsLd, IsLoadOfDescriptor, IsPcalau12i, rd_of, unsigned_12}
 use Rattle.linker_elf.specs.declared.loongarch64.relocations.LoongArch64Relocation.TheVariants as names
 use Rattle.linker_laws.specs.LoongArchGroups as groups
@@ -7,8 +7,7 @@ use Rattle.linker_laws.specs.LoongArchGroups.{AreBefore, AreDeleted, Code, HighH
 use Rattle.linker_laws.specs.LoongArchMachine as loongarch_machine
 use Rattle.linker_laws.specs.LoongArchMachine.{action_of, added, branch_target, execute, far_address, read, register_target, step, used}
 use Rattle.linker_laws.specs.LoongArchRelocationLaws as relocation_laws
-use Rattle.linker_laws.specs.LoongArchRewriteLaws.{Fits32, IsPair, IsRelocated, IsRewritten, high_offset, near_entry}
-use Rattle.linker_laws.specs.RiscVGroups.{of_place}
+use Rattle.linker_laws.specs.LoongArchGroups.{Fits32, IsPair, IsRelocated, IsRewritten, high_offset, near_entry}
 use Rattle.linker_laws.proofs.AArch64Pairs.{word_made}
 use Rattle.linker_laws.proofs.AArch64Steps.{address_is}
 use Rattle.linker_laws.proofs.Agreement.{agree_go, agree_open, agree_put, agree_put_old, both_parts, both_true, group_of, last_counts, one_written, others_agree}
@@ -164,22 +163,20 @@ old_sets c k s n u wx wy next small old new nop first =
 -- New has nothing.
 nothing_left : (c : Code) (k : Kinds) (s : State) (n u wx : ℕ) → AreDeleted c 4 s → n < 32
     → loaded 4 c.old s.pc ≡ wx → step wx (seen c.processor s) ≡ Some (leaves n u (seen c.processor s))
-    → Group (of_link (link c)) 0 k s (with_unless_zero n anything k) (put_unless_zero n u (s.pc + 4) s)
+    → Group (of_link (link c)) 0 k s (with_unless_zero n anything k) (put_unless_zero n u (sum_64 s.pc 4) s)
 nothing_left c k s n u wx d small old first =
-    let below = d.small in
-    let next : sum_64 s.pc 4 ≡ s.pc + 4 = omega (arith, below) in
+    let next : sum_64 s.pc 4 ≡ s.pc + 4 = omega (arith, d.small) in
     record {
       more = 0;
-      old_goes =
-          sets c.processor c.old s s.pc wx n u refl old small first
-          ∙ ap (λ a. Some (put_unless_zero n u a s)) next;
-      new_goes = λ t agree. old_writes c k s t n (s.pc + 4) agree below u t.pc (agree.pc ∙ d.moved);
+      old_goes = sets c.processor c.old s s.pc wx n u refl old small first;
+      new_goes = λ t agree.
+          old_writes c k s t n (sum_64 s.pc 4) agree (sum_below s.pc 4) u t.pc (agree.pc ∙ d.moved ∙ ap c.moved (sym next));
       forward = λ none. advances (n == 0);
     }
   where
-    advances : (b : Bool) → s.pc < (if b then go_to (s.pc + 4) s else put n u (s.pc + 4) s).pc
-    advances true = omega arith
-    advances false = omega arith
+    advances : (b : Bool) → s.pc < (if b then go_to (sum_64 s.pc 4) s else put n u (sum_64 s.pc 4) s).pc
+    advances true = omega (arith, d.small)
+    advances false = omega (arith, d.small)
 
 -- ---- high halves
 
@@ -254,15 +251,15 @@ nop_is : (before nop : List ℕ) → IsRewritten kinds.ReplaceWithNop before nop
 nop_is before nop made = word_made (λ _. 0x03400000) before nop (omega arith) made
 
 pub no_high_half : (name : LoongArch64Relocation) → ArePages name → groups.HighHalfToNop name
-no_high_half name page c x k s pcala nop small at next is made fits old stands =
+no_high_half name page pcala nop is made c x k s gone small at fits old =
     let n = rd_of (word_of pcala) in
     let m = page x pcala old.relocated is small fits old.applied in
-    old_sets c k s n (near_entry x) (word_of old.relocated) (word_of nop) next (below_32 (word_of pcala))
-    (ap (loaded 4 c.old) at ∙ old.stands) stands (nop_is pcala nop made)
+    old_sets c k s n (near_entry x) (word_of old.relocated) (word_of nop) gone.0 (below_32 (word_of pcala))
+    (ap (loaded 4 c.old) at ∙ old.stands) gone.1 (nop_is pcala nop made)
     (page_step x n (word_of old.relocated) (near_entry x) (seen c.processor s) m.is at m.page)
 
 pub are_deleted_descriptor_high_halves : groups.HighHalfIsDeleted names.R_LARCH_TLS_DESC_PC_HI20
-are_deleted_descriptor_high_halves c x k s pcala d small at is fits old =
+are_deleted_descriptor_high_halves pcala is c x k s d small at fits old =
     let n = rd_of (word_of pcala) in
     let m = page_of_descriptor x pcala old.relocated is small fits old.applied in
     nothing_left c k s n (near_entry x) (word_of old.relocated) d (below_32 (word_of pcala))
@@ -320,7 +317,7 @@ short_or y n low ori of into made fits b t =
     ∙ ori_bits y ori of b ∙ (let z : field d 0 12 ≡ d = omega arith in z) ∙ offset_is y)
 
 pub are_short_low_halves : groups.LowHalfToOriZero
-are_short_low_halves x y ld ori of is made fits b =
+are_short_low_halves x y ld ori of is made b fits =
     low_half _ x y ld of is
     (λ c k s t agree held. short_or y (rd_of (word_of ld)) ld ori of refl made fits b (seen c.processor t))
 
@@ -351,7 +348,7 @@ are_descriptor_low_halves x y addi ori of is made b =
     (or_value y 4 (word_of of) (seen c.processor t) (makes.0 t agree) (ori_bits y ori of b) ∙ makes.1))
 
 pub are_short_descriptor_low_halves : groups.LowOfDescriptorToOriZero
-are_short_descriptor_low_halves x y addi ori of is made fits b =
+are_short_descriptor_low_halves x y addi ori of is made b fits =
     low_of_descriptor (λ c k s y number. thread_offset y ≡ number) x y addi of is
     (λ c k s t number agree makes.
     short_or y 4 addi ori of is.1 made fits b (seen c.processor t)
@@ -378,12 +375,12 @@ load_sets p s ld is small =
     ap (λ w. step w u) is ∙ ap (λ a. Some (leaves 1 (loaded 8 s.memory a) u)) (whole (s.registers 4) small)
 
 pub are_descriptor_loads : groups.LoadOfDescriptorToNop
-are_descriptor_loads ld nop is made c k s next small old new =
-    old_sets c k s 1 (loaded 8 s.memory (s.registers 4)) (word_of ld) (word_of nop) next (omega arith) old new
+are_descriptor_loads ld nop is made c k s gone small old =
+    old_sets c k s 1 (loaded 8 s.memory (s.registers 4)) (word_of ld) (word_of nop) gone.0 (omega arith) old gone.1
     (nop_is ld nop made) (load_sets c.processor s ld is small)
 
 pub are_deleted_descriptor_loads : groups.LoadOfDescriptorIsDeleted
-are_deleted_descriptor_loads c k s ld d is small old =
+are_deleted_descriptor_loads ld is c k s d small old =
     nothing_left c k s 1 (loaded 8 s.memory (s.registers 4)) (word_of ld) d (omega arith) old (load_sets c.processor s ld is small)
 
 module _ (c : Code) (s : State) (jirl : List ℕ) (is : IsCallOfDescriptor (word_of jirl)) (offset executes : ℕ) (k k' : Kinds)
@@ -415,15 +412,15 @@ module _ (c : Code) (s : State) (jirl : List ℕ) (is : IsCallOfDescriptor (word
       (agree_go (link c) k s t back next agree (sum_below s.pc 4) at) (sum_below s.pc 4) at (sym has)) changes
 
 pub are_descriptor_calls : groups.CallOfDescriptorToNop
-are_descriptor_calls jirl nop is made c s next new offset executes k k' s' small held old returns changes =
+are_descriptor_calls jirl nop is made c offset executes k k' s s' gone small held old returns changes =
     let after = sum_64 (c.moved s.pc) 4 in
     group_of (link c) 0 executes (called c s jirl is offset executes k k' s' small old returns) (λ t agree.
     holds_of (run 1 (machine c.processor c.new) t) (Agree (link c) k' s') (go_to after t)
-    (passes c.processor c.new t (c.moved s.pc) (word_of nop) agree.pc new (nop_is jirl nop made))
-    (agreed c s jirl is offset executes k k' s' small t agree (held t agree) changes after next))
+    (passes c.processor c.new t (c.moved s.pc) (word_of nop) agree.pc gone.1 (nop_is jirl nop made))
+    (agreed c s jirl is offset executes k k' s' small t agree (held t agree) changes after gone.0))
 
 pub are_deleted_descriptor_calls : groups.CallOfDescriptorIsDeleted
-are_deleted_descriptor_calls c s jirl d is offset executes k k' s' small held old returns changes =
+are_deleted_descriptor_calls jirl is c offset executes k k' s s' d small held old returns changes =
     let below = d.small in
     let next : sum_64 s.pc 4 ≡ s.pc + 4 = omega (arith, below) in
     let back = changes.pc in
@@ -439,7 +436,7 @@ are_deleted_descriptor_calls c s jirl d is offset executes k k' s' small held ol
 -- ---- local-exec
 
 pub are_high_offsets : groups.OffsetLu12iIsDeleted
-are_high_offsets c x k s lu12i d small at is fits old =
+are_high_offsets lu12i is c x k s d small at fits old =
     let n = rd_of (word_of lu12i) in
     let w = word_of old.relocated in
     nothing_left c k s n 0 w d (below_32 (word_of lu12i)) (ap (loaded 4 c.old) at ∙ old.stands)
@@ -447,7 +444,7 @@ are_high_offsets c x k s lu12i d small at is fits old =
     (no_high_part x lu12i old.relocated small fits old.applied))
 
 pub are_sums : groups.SumIsDeleted
-are_sums c k s add d is none wide stands =
+are_sums add is c k s d none wide stands =
     let w = word_of add in
     let n = rd_of w in
     let u = seen c.processor s in

@@ -1,6 +1,6 @@
 -- The worked program of LoongArch.
 use Rattle.linker_laws.proofs.Imports.{Agree, IsSomeAnd, List, LoongArch64Relocation, Operands, [], all_same, and_parts, ap, arith, ends, eqb-true, false, group, ints, lit<, nat_tests, place_sum, pos, refl, run, same, true, words, ℕ, ◌+◌, ◌-◌, ◌<◌, ◌==◌, ◌∷◌, ◌≡◌}
-use Rattle.linker_laws.specs.LoongArchRewriteLaws.{IsRelocated}
+use Rattle.linker_laws.specs.LoongArchGroups.{IsRelocated}
 use Rattle.linker_laws.proofs.Agreement.{runs}
 use Rattle.linker_laws.specs.LoongArchGroups.{Has, Stands, Groups, link, machine}
 use Rattle.linker_laws.specs.LoongArchGroupsWorked.{EndsAt, IsWorked, code, moved, new, old, starting}
@@ -95,8 +95,8 @@ is_worked g =
     (applied (pos 0x3120) 0x18000004 refl (refl, tt, λ e. refl) refl (lit< tt) tt refl refl) refl)
     same (record { at = refl; place = refl; next = refl }) refl)
     (group 2 0 2 _ _ _ _ _ _
-    (g.high_offsets code short _ _ (0x05 ∷ 0x00 ∷ 0x00 ∷ 0x14 ∷ []) (record { small = lit< tt; moved = refl })
-    (small short refl) refl refl (omega (arith, ints), omega (arith, ints))
+    (g.high_offsets (0x05 ∷ 0x00 ∷ 0x00 ∷ 0x14 ∷ []) refl code short _ _ (record { small = lit< tt; moved = refl })
+    (small short refl) refl (omega (arith, ints), omega (arith, ints))
     (has (0x05 ∷ 0x00 ∷ 0x00 ∷ 0x14 ∷ [])
     (applied (pos 0x920) 0x14000005 refl (refl, tt, λ e. refl) refl (lit< tt) tt refl refl) refl))
     (group 1 1 1 _ _ _ _ _ _

@@ -6,7 +6,7 @@ use Rattle.linker_laws.proofs.Applied.{value_is, taken_bits}
 use Rattle.linker_laws.proofs.Instructions.{row_of, reads_bits, relative, unbiased}
 use Rattle.linker_laws.proofs.LoongArchAddresses.{page_distance}
 use Rattle.linker_laws.proofs.Sums.{sum_below, difference_below, page_halves_sum, taken_off, plus, cast_is, cast_low, euclid, lifted_is, signed_12, page_below, page_parts}
-use Rattle.linker_laws.specs.LoongArchRewriteLaws.{high_offset, near_page, IsRelocated}
+use Rattle.linker_laws.specs.LoongArchGroups.{high_offset, near_entry, IsRelocated}
 use Rattle.linker_laws.specs.LoongArchMachine.{State, step, execute, read, write, go_on, page_address, high_part, sum_of, ored}
 use Rattle.linker_laws.proofs.AArch64Steps.{address_is}
 use Rattle.linker_laws.proofs.LoongArchSteps.{loaded_of}
@@ -31,7 +31,7 @@ pub page_made : {kind : RelocationKind} {mask : Option PageMask} {range : Allowe
     ≡ Some (cast_signed w64 (page_distance entry_and_addend o)) → (before after : List ℕ)
     (step : IsApplied (row_of kind 12 32 (LoongArch64 Shift5) mask range a bias thunkable implicit) o before after)
     → IsWithin (Some (bit_bounds 32 Signed)) step.value
-    → wrapped (pcalau12i o.place (word_of after)) ≡ near_page (entry_and_addend o)
+    → wrapped (pcalau12i o.place (word_of after)) ≡ near_entry o
 page_made {kind} {mask} {range} {a} {bias} {thunkable} {implicit} o small e before after step within =
     let t = entry_and_addend o in
     let m = page_distance entry_and_addend o in
@@ -57,15 +57,15 @@ page_made {kind} {mask} {range} {a} {bias} {thunkable} {implicit} o small e befo
     regroup z k = omega (arith, ints)
 
 -- what leads from that page to the address
-from_page : (t : ℕ) → t < 2 ^ 64 → wrapped (pos (near_page t) +ℤ signed 12 (t % 2 ^ 12)) ≡ t
+from_page : (t : ℕ) → t < 2 ^ 64 → wrapped (pos (page (sum_64 t 0x800)) +ℤ signed 12 (t % 2 ^ 12)) ≡ t
 from_page t small =
     let x0 = sum_64 t 0x800 in
-    let z = pos (near_page t) +ℤ signed 12 (t % 2 ^ 12) in
+    let z = pos (page (sum_64 t 0x800)) +ℤ signed 12 (t % 2 ^ 12) in
     let low : signed 12 (t % 2 ^ 12) +ℤ pos 0x800 ≡ pos (x0 % 2 ^ 12) =
     signed_12 (t % 2 ^ 12) (omega arith)
     ∙ ap pos (let e : (t % 2 ^ 12 + 0x800) % 2 ^ 12 ≡ x0 % 2 ^ 12 = omega arith in e) in
     let sum : z +ℤ pos 0x800 ≡ pos x0 =
-    regroup (near_page t) (signed 12 (t % 2 ^ 12)) ∙ ap (λ y. pos (near_page t) +ℤ y) low
+    regroup (page (sum_64 t 0x800)) (signed 12 (t % 2 ^ 12)) ∙ ap (λ y. pos (page (sum_64 t 0x800)) +ℤ y) low
     ∙ ap pos (let e : page x0 + x0 % 2 ^ 12 ≡ x0 = omega arith in e) in
     let there : IsAddress (z +ℤ pos 0x800) x0 =
     lifted_is (z +ℤ pos 0x800) 0 x0 (ap (λ y. y +ℤ pos (0 * 2 ^ 64)) sum ∙ none x0)
@@ -160,11 +160,11 @@ pub nop_step : (x : ℕ) (t : State) → x ≡ 0x03400000 → step x t ≡ Some 
 nop_step x t is = ap (λ w. step w t) is
 
 -- the 12 bits of a low half are those of an address, which is reached from its page
-pub reached : (t f p : ℕ) → t < 2 ^ 64 → f ≡ field (sum_64 t 0) 0 12 → p ≡ near_page t
+pub reached : (t f p : ℕ) → t < 2 ^ 64 → f ≡ field (sum_64 t 0) 0 12 → p ≡ page (sum_64 t 0x800)
     → wrapped (pos p +ℤ signed 12 f) ≡ t
 reached t f p small e is =
     ap (λ q. wrapped (pos q +ℤ signed 12 f)) is
-    ∙ ap (λ l. wrapped (pos (near_page t) +ℤ signed 12 l)) (e ∙ (let low : field (sum_64 t 0) 0 12 ≡ t % 2 ^ 12 = omega arith in low))
+    ∙ ap (λ l. wrapped (pos (page (sum_64 t 0x800)) +ℤ signed 12 l)) (e ∙ (let low : field (sum_64 t 0) 0 12 ≡ t % 2 ^ 12 = omega arith in low))
     ∙ from_page t small
 
 -- the bits of the offset in `ori`
@@ -206,7 +206,7 @@ addi_bits o before after b =
 
 -- the old low half
 pub descriptor_low : (o : Operands) (s : State) (addi addi1 : List ℕ) → IsLowOfDescriptor (word_of addi)
-    → read 4 s ≡ near_page (entry_and_addend o)
+    → read 4 s ≡ near_entry o
     → IsRelocated names.R_LARCH_TLS_DESC_PC_LO12 o addi addi1
     → step (word_of addi1) s ≡ Some (put 4 (entry_and_addend o) s)
 descriptor_low o s addi addi1 is page_is a =

@@ -3,7 +3,7 @@ use Rattle.linker_laws.proofs.Imports.{AreAddresses, IsWithin, List, Operands, R
 use Rattle.linker_utils.specs.LoongArchRewrites.{signed_32, signed_12, adds_low12, rj_of, rd_of}
 use Rattle.linker_elf.specs.declared.loongarch64.relocations.LoongArch64Relocation.TheVariants as names
 use Rattle.linker_laws.proofs.Applied.{value_is, taken_bits}
-use Rattle.linker_laws.specs.LoongArchRewriteLaws as laws
+use Rattle.linker_laws.specs.LoongArchGroups as laws
 use Rattle.linker_laws.specs.LoongArchMachine.{State, step, read, go_on, decode, execute, high_part, sum_of, add_d, action_of, used}
 use Rattle.linker_laws.proofs.LoongArchHalves.{high_made}
 use Rattle.linker_laws.proofs.LoongArchSteps.{written}

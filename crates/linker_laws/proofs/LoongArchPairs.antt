@@ -2,7 +2,7 @@
 use Rattle.linker_laws.proofs.Imports.{AbsoluteLowPart, BitMasking, InstructionWritten, IsAddress, IsWritten, List, LoongArch64, Operands, Shift10, Shift5, Some, [], ap, arith, cases_lt, cast_negative, cast_signed, eqb, false, field, inl, inr, ints, is_jirl, loaded, loongarch_form, pcalau12i, plain_written, pos, refl, signed, subst, to_z_pos, w64, word_of, wrapped, ℕ, ℤ, ◌*ℤ◌, ◌+ℤ◌, ◌+◌, ◌/◌, ◌<ℤ◌, ◌<◌, ◌^◌, ◌∙◌, ◌∷◌, ◌≡◌, ◌≢◌, ◌≤ℤ◌}
 use Rattle.linker_utils.specs.LoongArchRewrites.{rj_of, rd_of}
 use Rattle.linker_utils.specs.declared.loongarch64.rewrites.RewriteKind.TheVariants as kinds
-use Rattle.linker_laws.specs.LoongArchRewriteLaws as laws
+use Rattle.linker_laws.specs.LoongArchGroups as laws
 use Rattle.linker_laws.specs.LoongArchMachine.{State, step, run, page_address, near_address, sum_of}
 use Rattle.linker_laws.proofs.AArch64Pairs.{word_made}
 use Rattle.linker_laws.proofs.AArch64Steps.{address_is}

@@ -1,8 +1,8 @@
 -- RISC-V: what loads, stores and sums leave of states that agree.
-use Rattle.linker_laws.proofs.Imports.{Agree, AreOf, AreStored, Kind, Kinds, Memory, State, anything, ap, ap₂, arith, as_loaded, as_loaded_float, as_stored, as_stored_float, as_sum, as_target, as_whole, as_word, boxed, bytes_of, cases_lt, code, cond-false, cond-true, difference_64, goes_to, half, if◌then◌else◌, inl, inr, int_rem_euclid, le-ltb, load_number, loaded, lt-ltb, nat_lt, nat_tests, pos, put, refl, rem_below, rs2_of, same, stored, subst, suc, sum_64, sym, true≢false, with_float, with_integer, with_register, zero, ℕ, ℤ, ◌%◌, ◌*◌, ◌+◌, ◌-◌, ◌<◌, ◌==◌, ◌^◌, ◌∙◌, ◌≡◌, ◌≤◌, ◌⊎◌}
+use Rattle.linker_laws.proofs.Imports.{Agree, AreApart, AreOf, AreStored, BeginsAt, HasRoom, Kind, Kinds, Memory, State, anything, ap, ap₂, arith, as_loaded, as_loaded_float, as_stored, as_stored_float, as_sum, as_target, as_whole, as_word, boxed, bytes_of, cases_lt, code, cond-false, cond-true, difference_64, goes_to, half, if◌then◌else◌, inl, inr, int_rem_euclid, le-ltb, left, load_number, loaded, lt-ltb, nat_lt, nat_tests, pos, put, refl, rem_below, rs2_of, same, stored, subst, suc, sum_64, sym, true≢false, with_float, with_integer, with_register, with_stored, zero, ℕ, ℤ, ◌%◌, ◌*◌, ◌+◌, ◌-◌, ◌<◌, ◌==◌, ◌^◌, ◌∙◌, ◌≡◌, ◌≤◌, ◌⊎◌}
 use Rattle.linker_laws.specs.Machine.{extended}
 use Rattle.linker_laws.specs.RiscVGroups as groups
-use Rattle.linker_laws.specs.RiscVGroups.{AreApart, BeginsAt, Code, HasRoom, left, link, seen, with_stored}
+use Rattle.linker_laws.specs.RiscVGroups.{Code, link, seen}
 use Rattle.linker_laws.specs.RiscVMachine.{register}
 use Rattle.linker_laws.proofs.Agreement.{agree_put, both_parts}
 use Rattle.linker_laws.proofs.RiscVDescriptors.{whole_number}

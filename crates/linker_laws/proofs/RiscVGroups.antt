@@ -1,8 +1,8 @@
 -- RISC-V's groups.
-use Rattle.linker_laws.proofs.Imports.{Absolute, AbsoluteAddresses, Action, Agree, AreAddresses, AreBytes, AreOf, Bool, CjType, CluiType, DescriptorAddresses, EntryAddresses, GotRelative, GotTpOff, Group, Hart, IType, Instruction, IsApplied, IsCallPair, IsLoadFromGot, IsLow12, IsSomeAnd, IsTrue, IsWithin, JType, Kind, Kinds, List, Operands, Option, OthersAgree, PltRelative, Program, Relative, RelativeAddresses, RelativeRiscVLow12, RelocationKind, RowInfo, SType, Some, State, ThreadAddresses, TlsDesc, TpOff, UType, UiType, [], action_at, action_of, add-one, adds, adds_word, after_rewrite, anything, ap, ap₂, arith, auipc, cast_signed, difference_64, drop, drop-take, entry_and_addend, even, false, field, from_le_bytes, go_to, goes_to, i_type, if◌then◌else◌, int_rem_euclid, ints, jal, jumps, le_refl, length, load_number, loaded, loads, loads_float, low_12_bounds, low_row, lui, moved, ne_eqb, of_entry, of_half, of_link, of_word, offset_row, option_map, pair_row, place_sum, plt_address, pos, put, refl, rewritten, riscv_form, riscv_places, riscv_row, rs1_of, rs2_of, run, s_type, same, signed, stores, stores_float, subst, suc, suc-add, sum, sum_64, sums, sym, symbol_address, t0, take, take-take, thread_offset, true, w16, w32, w64, with_action, with_integer, with_register, word_of, word_of_front, wrapped, zero, ℕ, ℤ, ⊤, ◌%◌, ◌*◌, ◌+ℤ◌, ◌+◌, ◌-ℤ◌, ◌-◌, ◌<◌, ◌==◌, ◌^◌, ◌∙◌, ◌∷◌, ◌≡◌, ◌≢◌, ◌≤◌}
+use Rattle.linker_laws.proofs.Imports.{Absolute, AbsoluteAddresses, Action, Agree, AreAddresses, AreBytes, AreOf, Bool, CjType, CluiType, DescriptorAddresses, EntryAddresses, GotRelative, GotTpOff, Group, Hart, IType, Instruction, IsApplied, IsCallPair, IsLoadFromGot, IsLow12, IsSomeAnd, IsTrue, IsWithin, JType, Kind, Kinds, Law, List, LoadFromGot, LowPartOf, Operands, Option, OthersAgree, PltRelative, Program, Relative, RelativeAddresses, RelativeRiscVLow12, RelocationKind, RowInfo, SType, Some, State, ThreadAddresses, TlsDesc, TpOff, UType, UiType, [], action_at, action_of, add-one, adds, adds_word, after_rewrite, anything, ap, ap₂, arith, auipc, cast_signed, continued, difference_64, drop, drop-take, entry_and_addend, even, false, field, from_le_bytes, go_to, goes_to, i_type, if◌then◌else◌, int_rem_euclid, ints, jal, jumps, le_refl, left, length, load_number, loaded, loads, loads_float, low_12_bounds, low_row, lui, moved, ne_eqb, of_entry, of_half, of_link, of_word, offset_row, option_map, pair_row, place_sum, plt_address, pos, put, refl, rewritten, riscv_form, riscv_places, riscv_row, rs1_of, rs2_of, run, s_type, same, signed, stores, stores_float, subst, suc, suc-add, sum, sum_64, sums, sym, symbol_address, t0, take, take-take, thread_offset, true, upper, upper_from, uses, w16, w32, w64, with_action, with_integer, with_register, word_of, word_of_front, wrapped, zero, ℕ, ℤ, ⊤, ◌%◌, ◌*◌, ◌+ℤ◌, ◌+◌, ◌-ℤ◌, ◌-◌, ◌<◌, ◌==◌, ◌^◌, ◌∙◌, ◌∷◌, ◌≡◌, ◌≢◌, ◌≤◌}
 use Rattle.linker_riscv64.specs.RiscVFields.{funct3_of, opcode_of, rd_of}
 use Rattle.linker_utils.specs.RiscVRewrites.{rewrites_word, with_rs1, a0, adds_low12, call_to_jal, clui_to_cli, half_at, hi20_to_clui, IsLui, load_to_addi, of_destination, riscv_matches, tail_to_cj, tail_to_jal}
-use Rattle.linker_laws.specs.RiscVGroups.{AreBefore, AreDeleted, Code, Has, Stands, bytes_at, continued, instruction_at, left, link, machine, seen, LowPartOf, upper, upper_from, uses}
+use Rattle.linker_laws.specs.RiscVGroups.{AreBefore, AreDeleted, Code, Has, Stands, bytes_at, instruction_at, link, machine, seen}
 use Rattle.linker_laws.specs.RiscVMachine.{add, executed, register, step, used}
 use Rattle.linker_laws.proofs.AArch64Moves.{distance_is}
 use Rattle.linker_laws.proofs.AArch64Steps.{in_two_steps}
@@ -149,13 +149,13 @@ lui_goes_away kind number of c x k s bytes d is low h =
     (lui_goes c.others c.old s kind x bytes h.relocated s.pc _ rd refl next h.stands refl 0 a is none)
 
 pub are_high_parts : groups.LuiIsDeleted
-are_high_parts c x k s bytes d m = lui_goes_away Absolute symbol_address of_address c x k s bytes d
+are_high_parts bytes m is c x k s d = lui_goes_away Absolute symbol_address of_address c x k s bytes d is
 
 pub are_high_offsets : groups.OffsetLuiIsDeleted
-are_high_offsets c x k s bytes d m = lui_goes_away TpOff thread_offset of_offset c x k s bytes d
+are_high_offsets bytes m is c x k s d = lui_goes_away TpOff thread_offset of_offset c x k s bytes d is
 
 pub are_sums : groups.SumIsDeleted
-are_sums c k s bytes d is none wide stands =
+are_sums bytes is c k s d none wide stands =
     let word = word_of bytes in
     let rd = rd_of word in
     let i : Instruction = add rd (rs1_of word) (rs2_of word) in
@@ -599,7 +599,7 @@ cj_goes others code at r target bytes stands quadrant function none leads t here
     ∙ ap (λ m. goes_to m (with_integer r (sum_64 at 2) (seen t))) leads)
 
 jal_group : groups.CallTo names.R_RISCV_CALL 4 names.R_RISCV_JAL groups.IsJal
-jal_group c x y k s call jump sx sy at target pair some is old new =
+jal_group y call jump sy pair some is c x k s sx at target old new =
     let r = rd_of (word_of (drop 4 call)) in
     let a = new.applied in
     let op : opcode_of (word_of jump) ≡ 0x6f = omega (arith, is) in
@@ -611,7 +611,7 @@ jal_group c x y k s call jump sx sy at target pair some is old new =
     (jump_leads y jump new.relocated a.applied a.len sy))
 
 cj_group : groups.CallTo names.R_RISCV_CALL 2 names.R_RISCV_RVC_JUMP groups.IsCj
-cj_group c x y k s call jump sx sy at target pair some is old new =
+cj_group y call jump sy pair some is c x k s sx at target old new =
     let a = new.applied in
     let there = is.1 in
     let low_bits : field (from_le_bytes w16 jump) 0 2 ≡ 1 = omega (arith, there) in
@@ -623,7 +623,7 @@ cj_group c x y k s call jump sx sy at target pair some is old new =
     (short_jump_leads y jump new.relocated a.applied a.len low_bits function sy))
 
 long_group : groups.CallStays names.R_RISCV_CALL
-long_group c x y k s call sx sy at target pair some old new =
+long_group y call sy pair some c x k s sx at target old new =
     let base = rd_of (word_of call) in
     let v = upper_from x.place old.relocated in
     let v' = upper_from y.place new.relocated in
@@ -660,15 +660,14 @@ are_rewritten_calls call = (
 -- ---- loads from the GOT
 
 -- Old has the address in rY.
-pair_loads : EntryAddresses → (c : Code) (x : Operands) (s : State) (auipc_bytes ld : List ℕ) → s.pc ≡ x.place
-    → AreAddresses x → IsLoadFromGot (word_of auipc_bytes) (word_of ld)
-    → loaded 8 s.memory (entry_and_addend x) ≡ symbol_address x
-    → (old : Has 4 c.old x.place (riscv_row names.R_RISCV_GOT_HI20) x auipc_bytes)
-    → Has 4 c.old (sum_64 x.place 4) (riscv_row names.R_RISCV_PCREL_LO12_I) (of_entry x) ld
+pair_loads : EntryAddresses Law → (c : Code) (x : Operands) (s : State) (auipc_bytes ld : List ℕ) → s.pc ≡ x.place
+    → IsLoadFromGot (word_of auipc_bytes) (word_of ld) → (load : LoadFromGot c x s auipc_bytes ld)
     → run 2 (machine c.others c.old) s
     ≡ Some (put (rd_of (word_of ld)) (symbol_address x) (sum_64 x.place 8)
-    (put (rd_of (word_of auipc_bytes)) (upper_from x.place old.relocated) (sum_64 x.place 4) s))
-pair_loads entries c x s auipc_bytes ld at sx is holds old old_ld =
+    (put (rd_of (word_of auipc_bytes)) (upper_from x.place load.high.relocated) (sum_64 x.place 4) s))
+pair_loads entries c x s auipc_bytes ld at is load =
+    let old = load.high in
+    let old_ld = load.low in
     let x1 = rd_of (word_of auipc_bytes) in
     let y1 = rd_of (word_of ld) in
     let a1 = old.applied.applied in
@@ -678,18 +677,41 @@ pair_loads entries c x s auipc_bytes ld at sx is holds old old_ld =
     let v = upper_from x.place old.relocated in
     let loads_from : moved v i ≡ entry_and_addend x =
     moved_twice x.place u i
-    ∙ address_is _ _ (entries.0.0 x sx x.place auipc_bytes old.relocated a1 tt x.place ld old_ld.relocated a2 tt) in
+    ∙ address_is _ _ (entries.0.0 x load.small x.place auipc_bytes old.relocated a1 tt x.place ld old_ld.relocated a2 tt) in
     let p = machine c.others c.old in
     let s1 = put x1 v (sum_64 x.place 4) s in
     let value : load_number 3 (loaded 8 s.memory (moved (register (seen s1) x1) i)) ≡ symbol_address x =
     ap (λ n. load_number 3 (loaded 8 s.memory (moved n i))) (written x1 v (seen s) is.not_zero)
-    ∙ ap (λ n. load_number 3 (loaded 8 s.memory n)) loads_from ∙ ap (load_number 3) holds
+    ∙ ap (λ n. load_number 3 (loaded 8 s.memory n)) loads_from ∙ ap (load_number 3) load.entry
     ∙ whole_number (symbol_address x) (sum_below x.symbol _) in
     run_first 1 p s s1 _
     (auipc_goes c.others c.old s GotRelative x auipc_bytes old.relocated x.place _ x1 at refl old.stands refl a1 is.first)
     (once p s1 (put y1 (symbol_address x) (sum_64 x.place 8) s1)
     (load_goes c.others c.old s1 RelativeRiscVLow12 (of_entry x) ld old_ld.relocated (sum_64 x.place 4) _ y1 refl
     (eight x.place) old_ld.stands refl x1 (symbol_address x) a2 is.second.0 is.second.1 is.base value))
+
+-- So it has in new, from a state that agrees but for the pc.
+load_group : EntryAddresses Law → (n : ℕ) (c : Code) (x y : Operands) (k : Kinds) (kind : Kind) (s : State)
+    (auipc_bytes ld : List ℕ) → IsLoadFromGot (word_of auipc_bytes) (word_of ld) → AreBefore c 8 (4 * suc n) x y s
+    → (load : LoadFromGot c x s auipc_bytes ld) → AreOf (link c) 8 kind (symbol_address x) (symbol_address y)
+    → let x1 = rd_of (word_of auipc_bytes) in
+    let y1 = rd_of (word_of ld) in
+    let v = upper_from x.place load.high.relocated in
+    ((t : State) → t.pc ≡ y.place → Agree (link c) k s t → (u : State)
+    × Agree (link c) (with_register x1 anything k) (put x1 v s.pc s) u
+    × (run (suc n) (machine c.others c.new) t ≡ Some (put y1 (symbol_address y) (sum_64 y.place (4 * suc n)) u)))
+    → Group (of_link (link c)) (suc n) k s (with_register y1 kind (with_register x1 anything k))
+    (put y1 (symbol_address x) (sum_64 x.place 8) (put x1 v (sum_64 x.place 4) s))
+load_group entries n c x y k kind s auipc_bytes ld is at load are goes =
+    let x1 = rd_of (word_of auipc_bytes) in
+    let y1 = rd_of (word_of ld) in
+    let v = upper_from x.place load.high.relocated in
+    let after = sum_64 y.place (4 * suc n) in
+    group_of (link c) n 1 (pair_loads entries c x s auipc_bytes ld at.at is load) (λ t agree.
+    let new = goes t (agree.pc ∙ ap c.moved at.at ∙ sym at.place) agree in
+    holds_of (run (suc n) (machine c.others c.new) t) _ (put y1 (symbol_address y) after new.0) new.2
+    (agree_put (link c) (with_register x1 anything k) (put x1 v s.pc s) new.0 y1 kind (symbol_address x) (symbol_address y)
+    (sum_64 x.place 8) after new.1 (sum_below x.place 8) at.next are))
 
 -- the `addi` of a `ld`
 abbrev IsAddiOf : ℕ → ℕ → ℕ → Type 0
@@ -714,92 +736,81 @@ destination_made op bytes small inside =
     word_there bytes 0 (of_destination op) inside
     (let e : of_destination op (word_of bytes) < 2 ^ 32 = omega (arith, small) in e)
 
-pub are_loads : EntryAddresses → RelativeAddresses → groups.GotToAddress
-are_loads entries relative c x y k kind s auipc_bytes ld sx sy at inside is holds are old old_ld new new_ld =
+pub are_loads : EntryAddresses Law → RelativeAddresses → groups.GotToAddress
+are_loads entries relative auipc_bytes ld inside is c x y k kind s at load are sy new =
     let x1 = rd_of (word_of auipc_bytes) in
     let y1 = rd_of (word_of ld) in
     let before' = after_rewrite kinds.LdToAddi ld 0 in
-    let a3 = new.applied.applied in
-    let a4 = new_ld.applied.applied in
-    let u' = (riscv_form UType).machine (word_of new.relocated) in
-    let i' = (riscv_form IType).machine (word_of new_ld.relocated) in
-    let v = upper_from x.place old.relocated in
-    let v' = upper_from y.place new.relocated in
-    let addi = addi_made ld old_ld.applied.old_bytes inside in
-    let leads : moved v' i' ≡ symbol_address y =
-    moved_twice y.place u' i'
-    ∙ address_is _ _ (relative.0 y sy y.place auipc_bytes new.relocated a3 tt y.place before' new_ld.relocated a4 tt) in
+    let a1 = new.0.applied.applied in
+    let a2 = new.1.applied.applied in
+    let u = (riscv_form UType).machine (word_of new.0.relocated) in
+    let i = (riscv_form IType).machine (word_of new.1.relocated) in
+    let v = upper_from x.place load.high.relocated in
+    let v' = upper_from y.place new.0.relocated in
+    let addi = addi_made ld load.low.applied.old_bytes inside in
+    let leads : moved v' i ≡ symbol_address y =
+    moved_twice y.place u i
+    ∙ address_is _ _ (relative.0 y sy y.place auipc_bytes new.0.relocated a1 tt y.place before' new.1.relocated a2 tt) in
     let q = machine c.others c.new in
-    group_of (link c) 1 1 (pair_loads entries c x s auipc_bytes ld at.at sx is holds old old_ld) (λ t agree.
-    let here = agree.pc ∙ ap c.moved at.at ∙ sym at.place in
-    let t1 = put x1 v' (sum_64 y.place 4) t in
-    let value' : moved (register (seen t1) x1) i' ≡ symbol_address y =
-    ap (λ n. moved n i') (written x1 v' (seen t) is.not_zero) ∙ leads in
-    holds_of (run 2 q t) _ (put y1 (symbol_address y) (sum_64 y.place 8) t1)
-    (run_first 1 q t t1 _
-    (auipc_goes c.others c.new t Relative y auipc_bytes new.relocated y.place _ x1 here refl new.stands refl a3 is.first)
-    (once q t1 (put y1 (symbol_address y) (sum_64 y.place 8) t1)
-    (sum_goes c.others c.new t1 RelativeRiscVLow12 y before' new_ld.relocated (sum_64 y.place 4) _ y1 refl
-    (eight y.place) new_ld.stands addi.2 x1 (symbol_address y) a4 addi.0 addi.1 (addi.3 ∙ is.base) value')))
-    (agree_put (link c) (with_register x1 anything k) (put x1 v s.pc s) (put x1 v' t.pc t) y1 kind
-    (symbol_address x) (symbol_address y) (sum_64 x.place 8) (sum_64 y.place 8)
-    (agree_put (link c) k s t x1 anything v v' s.pc t.pc agree agree.small agree.pc tt)
-    (sum_below x.place 8) at.next are))
+    load_group entries 1 c x y k kind s auipc_bytes ld is at load are (λ t here agree.
+    let t1 = put x1 v' (sum_64 y.place 4) t in (
+      put x1 v' t.pc t,
+      agree_put (link c) k s t x1 anything v v' s.pc t.pc agree agree.small agree.pc tt,
+      run_first 1 q t t1 _
+          (auipc_goes c.others c.new t Relative y auipc_bytes new.0.relocated y.place _ x1 here refl new.0.stands refl a1 is.first)
+          (once q t1 (put y1 (symbol_address y) (sum_64 y.place 8) t1)
+          (sum_goes c.others c.new t1 RelativeRiscVLow12 y before' new.1.relocated (sum_64 y.place 4) _ y1 refl
+          (eight y.place) new.1.stands addi.2 x1 (symbol_address y) a2 addi.0 addi.1 (addi.3 ∙ is.base)
+          (ap (λ n. moved n i) (written x1 v' (seen t) is.not_zero) ∙ leads))),
+    ))
 
-pub are_fixed_addresses : EntryAddresses → AbsoluteAddresses → groups.GotToFixedAddress
-are_fixed_addresses entries absolute c x y k s auipc_bytes ld at load sy one new new_ld =
-    let is = load.instructions in
+pub are_fixed_addresses : EntryAddresses Law → AbsoluteAddresses Law → groups.GotToFixedAddress
+are_fixed_addresses entries absolute auipc_bytes ld auipc_inside inside is c x y k kind s at load are sy new =
     let x1 = rd_of (word_of auipc_bytes) in
     let y1 = rd_of (word_of ld) in
     let before = after_rewrite kinds.AuipcToLui auipc_bytes 0 in
     let before' = after_rewrite kinds.LdToAddi ld 0 in
-    let a1 = new.applied.applied in
-    let a2 = new_ld.applied.applied in
-    let u = (riscv_form UType).machine (word_of new.relocated) in
-    let i = (riscv_form IType).machine (word_of new_ld.relocated) in
+    let a1 = new.0.applied.applied in
+    let a2 = new.1.applied.applied in
+    let u = (riscv_form UType).machine (word_of new.0.relocated) in
+    let i = (riscv_form IType).machine (word_of new.1.relocated) in
     let v = upper_from x.place load.high.relocated in
-    let n = symbol_address x in
     let below = sum_below y.symbol _ in
-    let made = destination_made 0x37 auipc_bytes (omega arith) load.auipc_inside in
+    let made = destination_made 0x37 auipc_bytes (omega arith) auipc_inside in
     let op : opcode_of (word_of before) ≡ 0x37 =
     ap opcode_of made ∙ (let e : opcode_of (of_destination 0x37 (word_of auipc_bytes)) ≡ 0x37 = omega arith in e) in
     let rd : rd_of (word_of before) ≡ x1 =
     ap rd_of made ∙ (let e : rd_of (of_destination 0x37 (word_of auipc_bytes)) ≡ rd_of (word_of auipc_bytes) = omega arith in e) in
-    let addi = addi_made ld load.low.applied.old_bytes load.ld_inside in
-    let value : moved (wrapped u) i ≡ n =
+    let addi = addi_made ld load.low.applied.old_bytes inside in
+    let value : moved (wrapped u) i ≡ symbol_address y =
     in_two_steps u i
     ∙ distance_is (u +ℤ i) 0 (symbol_address y) (omega arith) below
-    (absolute.0.0 y sy y.place before new.relocated a1 tt y.place before' new_ld.relocated a2 tt)
-    ∙ (let e : difference_64 (symbol_address y) 0 ≡ symbol_address y = omega (arith, below) in e) ∙ sym one in
+    (absolute.0.0 y sy y.place before new.0.relocated a1 tt y.place before' new.1.relocated a2 tt)
+    ∙ (let e : difference_64 (symbol_address y) 0 ≡ symbol_address y = omega (arith, below) in e) in
     let q = machine c.others c.new in
-    group_of (link c) 1 1 (pair_loads entries c x s auipc_bytes ld at.at load.small is load.entry load.high load.low) (λ t agree.
-    let here = agree.pc ∙ ap c.moved at.at ∙ sym at.place in
-    let t1 = put x1 (wrapped u) (sum_64 y.place 4) t in
-    let value' : moved (register (seen t1) x1) i ≡ n =
-    ap (λ n. moved n i) (written x1 (wrapped u) (seen t) is.not_zero) ∙ value in
-    holds_of (run 2 q t) _ (put y1 n (sum_64 y.place 8) t1)
-    (run_first 1 q t t1 _
-    (lui_goes c.others c.new t Absolute y before new.relocated y.place _ x1 here refl new.stands rd (wrapped u) a1 op refl)
-    (once q t1 (put y1 n (sum_64 y.place 8) t1)
-    (sum_goes c.others c.new t1 Absolute y before' new_ld.relocated (sum_64 y.place 4) _ y1 refl
-    (eight y.place) new_ld.stands addi.2 x1 n a2 addi.0 addi.1 (addi.3 ∙ is.base) value')))
-    (agree_put (link c) (with_register x1 anything k) (put x1 v s.pc s) (put x1 (wrapped u) t.pc t) y1 same
-    n n (sum_64 x.place 8) (sum_64 y.place 8)
-    (agree_put (link c) k s t x1 anything v (wrapped u) s.pc t.pc agree agree.small agree.pc tt)
-    (sum_below x.place 8) at.next refl))
+    load_group entries 1 c x y k kind s auipc_bytes ld is at load are (λ t here agree.
+    let t1 = put x1 (wrapped u) (sum_64 y.place 4) t in (
+      put x1 (wrapped u) t.pc t,
+      agree_put (link c) k s t x1 anything v (wrapped u) s.pc t.pc agree agree.small agree.pc tt,
+      run_first 1 q t t1 _
+          (lui_goes c.others c.new t Absolute y before new.0.relocated y.place _ x1 here refl new.0.stands rd (wrapped u) a1 op refl)
+          (once q t1 (put y1 (symbol_address y) (sum_64 y.place 8) t1)
+          (sum_goes c.others c.new t1 Absolute y before' new.1.relocated (sum_64 y.place 4) _ y1 refl
+          (eight y.place) new.1.stands addi.2 x1 (symbol_address y) a2 addi.0 addi.1 (addi.3 ∙ is.base)
+          (ap (λ n. moved n i) (written x1 (wrapped u) (seen t) is.not_zero) ∙ value))),
+    ))
 
-pub are_low_addresses : EntryAddresses → groups.GotToLowAddress
-are_low_addresses entries c x y k s auipc_bytes ld at load one is_low new =
+pub are_low_addresses : EntryAddresses Law → groups.GotToLowAddress
+are_low_addresses entries auipc_bytes ld inside is c x y k kind s at load are is_low new =
     let x1 = rd_of (word_of auipc_bytes) in
     let y1 = rd_of (word_of ld) in
     let before = after_rewrite kinds.LdToAddiZero ld 0 in
     let a = new.applied.applied in
     let i = (riscv_form IType).machine (word_of new.relocated) in
     let v = upper_from x.place load.high.relocated in
-    let n = symbol_address x in
     let o = symbol_address y in
     let below = sum_below y.symbol _ in
-    let made = destination_made 0x13 ld (omega arith) load.ld_inside in
+    let made = destination_made 0x13 ld (omega arith) inside in
     let w = word_of ld in
     let op : opcode_of (word_of before) ≡ 0x13 =
     ap opcode_of made ∙ (let e : opcode_of (of_destination 0x13 w) ≡ 0x13 = omega arith in e) in
@@ -809,26 +820,22 @@ are_low_addresses entries c x y k s auipc_bytes ld at load one is_low new =
     ap rd_of made ∙ (let e : rd_of (of_destination 0x13 w) ≡ rd_of w = omega arith in e) in
     let rs1 : rs1_of (word_of before) ≡ 0 =
     ap rs1_of made ∙ (let e : rs1_of (of_destination 0x13 w) ≡ 0 = omega arith in e) in
-    let value : moved 0 i ≡ n =
+    let value : moved 0 i ≡ o =
     ap (λ p. moved 0 (signed 12 p)) (i_stands Absolute y o before new.relocated a below (of_address.0 IType y))
     ∙ low_sum 0 o (o % 2 ^ 32 % 4096) below (low_12_number o below is_low) refl
-    ∙ (let e : sum_64 0 o ≡ o = omega (arith, below) in e) ∙ sym one in
+    ∙ (let e : sum_64 0 o ≡ o = omega (arith, below) in e) in
     let q = machine c.others c.new in
-    group_of (link c) 0 1
-    (pair_loads entries c x s auipc_bytes ld at.at load.small load.instructions load.entry load.high load.low) (λ t agree.
-    let here = agree.pc ∙ ap c.moved at.at ∙ sym at.place in
-    holds_of (run 1 q t) _ (put y1 n (sum_64 y.place 4) t)
-    (once q t (put y1 n (sum_64 y.place 4) t)
-    (sum_goes c.others c.new t Absolute y before new.relocated y.place _ y1 here refl new.stands rd 0 n a op f rs1 value))
-    (agree_put (link c) (with_register x1 anything k) (put x1 v s.pc s) t y1 same
-    n n (sum_64 x.place 8) (sum_64 y.place 4)
-    (agree_put_old (link c) k s t x1 anything v s.pc agree agree.small agree.pc tt)
-    (sum_below x.place 8) at.next refl))
+    load_group entries 0 c x y k kind s auipc_bytes ld is at load are (λ t here agree. (
+      t,
+      agree_put_old (link c) k s t x1 anything v s.pc agree agree.small agree.pc tt,
+      once q t (put y1 o (sum_64 y.place 4) t)
+          (sum_goes c.others c.new t Absolute y before new.relocated y.place _ y1 here refl new.stands rd 0 o a op f rs1 value),
+    ))
 
 -- ---- TLS descriptors
 
 -- The sequence ends at the function.
-descriptor_goes : DescriptorAddresses → (c : Code) (x : Operands) (offset : ℕ) (k : Kinds) (s : State)
+descriptor_goes : DescriptorAddresses Law → (c : Code) (x : Operands) (offset : ℕ) (k : Kinds) (s : State)
     (k' : Kinds) (s' : State) (auipc_bytes ld addi jalr : List ℕ)
     → (d : groups.Descriptor c x offset k s k' s' auipc_bytes ld addi jalr)
     → run 4 (machine c.others c.old) s
@@ -965,7 +972,7 @@ passes c (suc n) x k s t at small nops agree =
     kept false kind x y are = are
 
 -- The function returns after the sequence, and new leaves the same in a0.
-descriptor_group : DescriptorAddresses → (c : Code) (n m offset at : ℕ) (x : Operands) (k k' : Kinds)
+descriptor_group : DescriptorAddresses Law → (c : Code) (n m offset at : ℕ) (x : Operands) (k k' : Kinds)
     (s s' : State) (auipc_bytes ld addi jalr : List ℕ)
     → groups.Descriptor c x offset k s k' s' auipc_bytes ld addi jalr → groups.AreNops c n (suc m) x at
     → ((t u : State) → Agree (link c) k s t → u.memory ≡ t.memory → u.pc ≡ at
@@ -991,8 +998,10 @@ descriptor_group descriptors c n m offset at x k k' s s' auipc_bytes ld addi jal
       forward = λ none. absurd (omega (arith, none));
     }
 
-pub are_to_local_exec : DescriptorAddresses → ThreadAddresses → groups.DescriptorToLocalExec
-are_to_local_exec descriptors thread c n at x y k k' s s' auipc_bytes ld addi jalr d sy one nops long_addi long_jalr high low =
+pub are_to_local_exec : DescriptorAddresses Law → ThreadAddresses Law → groups.DescriptorToLocalExec
+are_to_local_exec descriptors thread auipc_bytes ld addi jalr long_addi long_jalr c n at x y k k' s s' d one sy nops new =
+    let high = new.0 in
+    let low = new.1 in
     let u = (riscv_form UType).machine (word_of high.relocated) in
     let l = (riscv_form IType).machine (word_of low.relocated) in
     let before = after_rewrite kinds.AddiToLui addi 0 in
@@ -1020,8 +1029,8 @@ are_to_local_exec descriptors thread c n at x y k k' s s' auipc_bytes ld addi ja
     (ap (λ n. moved n l) (written 10 (wrapped u) (seen t) ten) ∙ value))
     ∙ ap Some (last_counts 10 (wrapped u) offset (sum_64 at 4) (sum_64 at 8) t)))
 
-pub are_to_short_local_exec : DescriptorAddresses → groups.DescriptorToShortLocalExec
-are_to_short_local_exec descriptors c n at x y k k' s s' auipc_bytes ld addi jalr d one is_low nops long_jalr low =
+pub are_to_short_local_exec : DescriptorAddresses Law → groups.DescriptorToShortLocalExec
+are_to_short_local_exec descriptors auipc_bytes ld addi jalr long_jalr c n at x y k k' s s' d one is_low nops low =
     let l = (riscv_form IType).machine (word_of low.relocated) in
     let before' = after_rewrite kinds.CallToAddiZero jalr 0 in
     let a2 = low.applied.applied in
@@ -1039,7 +1048,7 @@ are_to_short_local_exec descriptors c n at x y k k' s s' auipc_bytes ld addi jal
     (sum_goes c.others c.new t TpOff y before' low.relocated at _ 10 here refl low.stands (ap rd_of w2) 0
     (thread_offset x) a2 (ap opcode_of w2) (ap funct3_of w2) (ap rs1_of w2) value))
 
-pub are_to_initial_exec : DescriptorAddresses → EntryAddresses → groups.DescriptorToInitialExec
+pub are_to_initial_exec : DescriptorAddresses Law → EntryAddresses Law → groups.DescriptorToInitialExec
 are_to_initial_exec descriptors entries c n offset x y k k' s s' auipc_bytes ld addi jalr d sy wide holds nops long_addi long_jalr high low =
     let u = (riscv_form UType).machine (word_of high.relocated) in
     let l = (riscv_form IType).machine (word_of low.relocated) in

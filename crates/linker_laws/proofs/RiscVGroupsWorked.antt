@@ -1,6 +1,6 @@
 -- The worked program of RISC-V.
-use Rattle.linker_laws.proofs.Imports.{Agree, IsApplied, IsSomeAnd, Kinds, List, Operands, Option, Other, RowInfo, Some, State, [], adds, after_rewrite, all_same, anything, ap, arith, as_stored, as_sum, difference_64, ends, false, goes_to, group, inr, ints, length, lit<, lit≤, moved as plus, nat_tests, of_link, other, place_sum, pos, put, refl, run, same, stores, subst, sum_64, sym, true, unsigned_abs, with_integer, with_register, words, ℕ, ◌%◌, ◌+◌, ◌-◌, ◌<◌, ◌^◌, ◌∷◌, ◌≡◌, ◌≤◌}
-use Rattle.linker_laws.specs.RiscVGroups.{Groups, Has, Stands, link, machine, HasRoom, left, of_place, seen, uses, with_stored}
+use Rattle.linker_laws.proofs.Imports.{Agree, HasRoom, IsApplied, IsSomeAnd, Kinds, List, Operands, Option, Other, RowInfo, Some, State, [], adds, after_rewrite, all_same, anything, ap, arith, as_stored, as_sum, difference_64, ends, false, goes_to, group, inr, ints, left, length, lit<, lit≤, moved as plus, nat_tests, of_link, of_place, other, place_sum, pos, put, refl, run, same, stores, subst, sum_64, sym, true, unsigned_abs, uses, with_integer, with_register, with_stored, words, ℕ, ◌%◌, ◌+◌, ◌-◌, ◌<◌, ◌^◌, ◌∷◌, ◌≡◌, ◌≤◌}
+use Rattle.linker_laws.specs.RiscVGroups.{Groups, Has, Stands, link, machine, seen}
 use Rattle.linker_laws.specs.RiscVGroupsWorked.{EndsAt, IsWorked, code, moved, new, old, others, starting}
 use Rattle.linker_utils.specs.declared.riscv64.rewrites.RewriteKind.TheVariants as kinds
 use Rattle.linker_laws.proofs.Relocated.{small, all_small, are_bytes, applied}
@@ -151,8 +151,8 @@ unfolding place_sum has
 is_worked g =
     runs (link code) starts
     (group 5 0 6 _ _ _ _ _ _
-    (g.no_high_parts code high _ _ lui (record { small = lit< tt; moved = refl }) (lit≤ tt, refl)
-    refl (omega (arith, ints), omega (arith, ints))
+    (g.no_high_parts lui (lit≤ tt, refl) refl code high _ _ (record { small = lit< tt; moved = refl })
+    (omega (arith, ints), omega (arith, ints))
     (has _ _ _ _ _ lui lui
     (applied (pos 0x120) 0x7b7 refl (refl, tt, λ e. refl) refl (lit< tt) tt refl refl) refl refl refl refl))
     (group 4 1 5 _ _ _ _ _ _
@@ -174,22 +174,27 @@ is_worked g =
     (applied (pos 0x128) 0xa03023 refl (refl, tt, λ e. refl) refl (lit< tt) tt refl refl) refl refl refl refl)
     (g.accesses code (stores 3) 0xa7b023 0x128 _ _ _ refl (as_stored 3 (inr refl) room)))
     (group 2 2 2 _ _ _ _ _ _
-    (g.got code load sum_at _ same _ auipc ld (small load refl) (small sum_at refl)
-    (record { at = refl; small = lit< tt; place = refl; next = refl }) (lit≤ tt)
+    (g.got auipc ld (lit≤ tt)
     (record { first = refl; second = (refl, refl); base = refl; not_zero = λ e. omega arith })
-    refl refl
-    (has _ _ _ _ _ auipc (0x97 ∷ 0x25 ∷ 0x00 ∷ 0x00 ∷ [])
-    (applied (pos 0x2004) 0x597 refl (refl, tt, λ e. refl) refl (lit< tt) tt refl refl) refl refl refl refl)
-    (has _ _ _ _ _ ld (0x83 ∷ 0xb5 ∷ 0x45 ∷ 0x00 ∷ [])
-    (applied (pos 0x2004) 0x5b583 refl (refl, tt, λ e. refl) refl (lit< tt) tt refl refl) refl refl refl refl)
-    (has _ _ _ _ _ auipc (0x97 ∷ 0x35 ∷ 0x00 ∷ 0x00 ∷ [])
-    (applied (pos 0x2ff8) 0x597 refl (refl, tt, λ e. refl) refl (lit< tt) tt refl refl) refl refl refl refl)
-    (has _ _ _ _ _ (0x93 ∷ 0x85 ∷ 0x05 ∷ 0x00 ∷ []) (0x93 ∷ 0x85 ∷ 0x85 ∷ 0xff ∷ [])
-    (applied (pos 0x2ff8) 0x58593 refl (refl, tt, λ e. refl) refl (lit< tt) tt refl refl) refl refl refl refl))
+    code load sum_at _ same _ (record { at = refl; small = lit< tt; place = refl; next = refl })
+    (record {
+      small = small load refl;
+      entry = refl;
+      high = has _ _ _ _ _ auipc (0x97 ∷ 0x25 ∷ 0x00 ∷ 0x00 ∷ [])
+          (applied (pos 0x2004) 0x597 refl (refl, tt, λ e. refl) refl (lit< tt) tt refl refl) refl refl refl refl;
+      low = has _ _ _ _ _ ld (0x83 ∷ 0xb5 ∷ 0x45 ∷ 0x00 ∷ [])
+          (applied (pos 0x2004) 0x5b583 refl (refl, tt, λ e. refl) refl (lit< tt) tt refl refl) refl refl refl refl;
+    })
+    refl (small sum_at refl) (
+      has _ _ _ _ _ auipc (0x97 ∷ 0x35 ∷ 0x00 ∷ 0x00 ∷ [])
+          (applied (pos 0x2ff8) 0x597 refl (refl, tt, λ e. refl) refl (lit< tt) tt refl refl) refl refl refl refl,
+      has _ _ _ _ _ (0x93 ∷ 0x85 ∷ 0x05 ∷ 0x00 ∷ []) (0x93 ∷ 0x85 ∷ 0x85 ∷ 0xff ∷ [])
+          (applied (pos 0x2ff8) 0x58593 refl (refl, tt, λ e. refl) refl (lit< tt) tt refl refl) refl refl refl refl,
+    ))
     (group 1 1 1 _ _ _ _ _ _
-    (g.calls.1 code calling jumping _ _ call (after_rewrite kinds.CallToJal call 0) (small calling refl) (small jumping refl)
-    (record { at = refl; small = lit< tt; place = refl; next = refl }) refl
+    (g.calls.1 jumping call (after_rewrite kinds.CallToJal call 0) (small jumping refl)
     (record { auipc_opcode = refl; jalr_opcode = refl; jalr_function = refl; base = refl }) (λ e. omega arith) refl
+    code calling _ _ (small calling refl) (record { at = refl; small = lit< tt; place = refl; next = refl }) refl
     (has _ _ _ _ _ call (0x97 ∷ 0x00 ∷ 0x00 ∷ 0x00 ∷ 0xe7 ∷ 0x80 ∷ 0xc0 ∷ 0x00 ∷ [])
     (applied (pos 0xc) 0x80e700000097 refl (refl, tt, λ e. refl) refl (lit< tt) tt refl refl) refl refl refl refl)
     (has _ _ _ _ _ (0xef ∷ 0x00 ∷ 0x00 ∷ 0x00 ∷ 0xe7 ∷ 0x80 ∷ 0x00 ∷ 0x00 ∷ [])

@@ -1,20 +1,60 @@
 -- AArch64: rewritten instructions are groups of the simulation. No code moves.
 use Rattle.std.specs.Prelude.{◌≡◌, ◌≢◌, ℕ, Bool, true, ◌*◌, ◌/◌, ◌^◌, ◌<◌, ◌==◌, ◌&&◌, List, Option}
-use Rattle.std.specs.Prelude.{Some, None, drop}
-use Rattle.linker_laws.specs.Imports.{AArch64Relocation, Operands, page, sum_64}
-use Rattle.linker_utils.specs.AArch64Rewrites.{rn_of, AreOfDescriptor, IsAdd64, IsAdrp}
-use Rattle.linker_utils.specs.AArch64Rewrites.{IsIntoOwnSource, IsLdr64, rd_of}
+use Rattle.std.specs.Prelude.{Some, None, drop, ⊤, ◌-◌, IsSomeAnd}
+use Rattle.linker_laws.specs.Imports.{IsApplied, IsRewritable, Operands, Rewrite, page, rewritten}
+use Rattle.linker_laws.specs.Imports.{sum_64}
+use Rattle.linker_elf.specs.declared.aarch64.relocations.AArch64Relocation.{AArch64Relocation}
+use Rattle.linker_elf.specs.AArch64Relocations.{aarch64_row}
+use Rattle.linker_utils.specs.AArch64Rewrites.{AreOfDescriptor, AreOfOneRegister, IsAdd64, IsAdrp}
+use Rattle.linker_utils.specs.AArch64Rewrites.{IsIntoOwnSource, IsLdr64, aarch64_rewrite, rd_of}
+use Rattle.linker_utils.specs.AArch64Rewrites.{rn_of}
 use Rattle.linker_elf.specs.declared.aarch64.relocations.AArch64Relocation.TheVariants as names
 use Rattle.linker_laws.specs.AArch64Machine as aarch64_machine
 use Rattle.linker_laws.specs.AArch64Machine.{is_b, is_bl, load_64, step}
-use Rattle.linker_laws.specs.AArch64RewriteLaws.{IsPair, IsRelocated, IsRewritten, following}
-use Rattle.linker_laws.specs.AArch64RewriteLaws.{thread_offset, with_entry, word_of}
 use Rattle.linker_laws.specs.Changes.{ChangesOpen, OthersAgree, go_to, put, with_register}
 use Rattle.linker_laws.specs.Machine.{loaded}
 use Rattle.linker_laws.specs.Schemes.{AreAddresses, plt_address, symbol_address}
-use Rattle.linker_laws.specs.Simulation.{State, Program, Machine, Link, Kinds, Agree, Group}
+use Rattle.linker_laws.specs.Simulation.{Agree, Group, Kinds, Link, Machine, Program, State}
 use Rattle.linker_laws.specs.Simulation.{anything, half, of_link, run, same}
 use Rattle.linker_utils.specs.declared.aarch64.rewrites.RewriteKind.TheVariants as kinds
+use Rattle.linker_utils.specs.declared.aarch64.rewrites.RewriteKind.{RewriteKind}
+pub use Rattle.linker_laws.specs.Machine.{BeginsRewritten, word_of}
+pub use Rattle.linker_laws.specs.Schemes.{following, thread_offset}
+
+-- ---- instructions as bytes
+
+-- A relocation is applied to an instruction's bytes.
+abbrev pub IsRelocated : AArch64Relocation → Operands → List ℕ → List ℕ → Type 0
+IsRelocated name o before after = IsSomeAnd (aarch64_row name) (λ row. IsApplied row o before after)
+
+abbrev pub IsRewritten : RewriteKind → List ℕ → List ℕ → Type 0
+IsRewritten kind before after =
+    IsSomeAnd (aarch64_rewrite kind) (λ r. BeginsRewritten r before after)
+
+-- So do a section's bytes from the window on, after a rewrite of the section.
+abbrev pub BeginsRewrittenAt : Option Rewrite → List ℕ → ℕ → Type 0
+BeginsRewrittenAt None section o = ⊤
+BeginsRewrittenAt (Some r) section o =
+    IsRewritable r section o
+    → BeginsRewritten r (drop (o - r.back) section)
+    (drop (o - r.back) (rewritten (Some r) section o))
+
+abbrev pub InSections : Type 0
+InSections =
+    (kind : RewriteKind) (section : List ℕ) (o : ℕ)
+    → BeginsRewrittenAt (aarch64_rewrite kind) section o
+
+-- the operands with another GOT entry
+abbrev pub with_entry : ℕ → Operands → Operands
+with_entry entry o = record o { got_entry = entry }
+
+-- `adrp xN`, and an instruction with P from xN into xN, which are executed next
+pub record IsPair (P : ℕ → Type 0) (o : Operands) (s : aarch64_machine.State)
+    (adrp second : List ℕ) : Type 0 where
+  pub small : AreAddresses o
+  pub at : s.pc ≡ o.place
+  pub one_register : AreOfOneRegister (word_of adrp) (word_of second)
+  pub second_is : P (word_of second)
 
 -- ---- the machine
 

@@ -2,9 +2,11 @@
 -- Arm Architecture Reference Manual for A-profile, DDI 0487, C6.2).
 use Rattle.std.specs.Prelude.{ℕ, List, [], ◌∷◌, map, length, ℤ, pos, ◌+◌, ◌*◌, ◌+ℤ◌, ◌-ℤ◌, ◌*ℤ◌}
 use Rattle.std.specs.Prelude.{◌^◌, ◌==◌, ◌&&◌, not}
-use Rattle.linker_laws.specs.Imports.{AArch64Relocation, Add, Adr, Bcond, JumpCall, LdSt, Ldr}
-use Rattle.linker_laws.specs.Imports.{LdrRegister, Movkz, Movnz, Operands, Signed, TstBr}
-use Rattle.linker_laws.specs.Imports.{aarch64_row, bit_at, int_rem_euclid, is_movk, page}
+use Rattle.linker_laws.specs.Imports.{Add, Adr, Bcond, JumpCall, LdSt, Ldr, LdrRegister, Movkz}
+use Rattle.linker_laws.specs.Imports.{Movnz, Operands, TstBr, bit_at, int_rem_euclid, is_movk, page}
+use Rattle.linker_elf.specs.declared.aarch64.relocations.AArch64Relocation.{AArch64Relocation}
+use Rattle.linker_elf.specs.declared.elf.Sign.TheVariants.{Signed}
+use Rattle.linker_elf.specs.AArch64Relocations.{aarch64_row}
 use Rattle.linker_elf.specs.AArch64.{aarch64_form, shift_of}
 use Rattle.linker_elf.specs.declared.aarch64.forms.AArch64Instruction.{AArch64Instruction}
 use Rattle.linker_elf.specs.declared.aarch64.relocations.AArch64Relocation.TheVariants as names

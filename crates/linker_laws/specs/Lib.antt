@@ -2,8 +2,6 @@ pub mod AArch64Groups
 pub mod AArch64GroupsWorked
 pub mod AArch64Machine
 pub mod AArch64RelocationLaws
-pub mod AArch64RewriteLaws
-pub mod AArch64Worked
 pub mod Chains
 pub mod Changes
 pub mod Differences
@@ -12,7 +10,6 @@ pub mod LoongArchGroups
 pub mod LoongArchGroupsWorked
 pub mod LoongArchMachine
 pub mod LoongArchRelocationLaws
-pub mod LoongArchRewriteLaws
 pub mod Machine
 pub mod Ppc64Groups
 pub mod Ppc64GroupsWorked
@@ -24,7 +21,6 @@ pub mod RiscVGroups
 pub mod RiscVGroupsWorked
 pub mod RiscVMachine
 pub mod RiscVRelocationLaws
-pub mod RiscVRewriteLaws
 pub mod Schemes
 pub mod Simulation
 pub mod SimulationWorked

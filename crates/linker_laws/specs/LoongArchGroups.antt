@@ -1,28 +1,67 @@
 -- LoongArch: rewritten instructions are groups of the simulation. Code gets shorter, so what is
 -- old's and what is new's stand at places of their own.
 use Rattle.std.specs.Prelude.{◌≡◌, ℕ, ◌+◌, ◌-◌, ◌/◌, ◌^◌, ◌<◌, ◌==◌, ◌&&◌, nat_lt, if◌then◌else◌}
-use Rattle.std.specs.Prelude.{List, drop, Option, Some, None, IsTrue, option_map, ⊤}
-use Rattle.linker_laws.specs.Imports.{LoongArch64Relocation, Operands, RewriteKind, RowIsWithin}
-use Rattle.linker_laws.specs.Imports.{loongarch_row, sum_64, unwrap_or}
+use Rattle.std.specs.Prelude.{List, drop, Option, Some, None, IsTrue, option_map, ⊤, IsSomeAnd}
+use Rattle.linker_laws.specs.Imports.{IsApplied, Operands, loongarch_row, page, sum_64, unwrap_or}
+use Rattle.linker_elf.specs.declared.loongarch64.relocations.LoongArch64Relocation.{LoongArch64Relocation}
+use Rattle.linker_utils.specs.declared.loongarch64.rewrites.RewriteKind.{RewriteKind}
+use Rattle.linker_elf.specs.Choices.{RowIsWithin}
 use Rattle.linker_base.specs.declared.rewrite.DeletedBytes.{DeletedBytes}
-use Rattle.linker_utils.specs.LoongArchRewrites.{adds_low12, rj_of, IsAddTp, IsAddi, IsCall}
+use Rattle.linker_utils.specs.LoongArchRewrites.{AreOfOneRegister, IsAddTp, IsAddi, IsCall}
 use Rattle.linker_utils.specs.LoongArchRewrites.{IsCallOfDescriptor, IsLd, IsLoadOfDescriptor}
 use Rattle.linker_utils.specs.LoongArchRewrites.{IsLowOfDescriptor, IsLu12i, IsPcalau12i}
-use Rattle.linker_utils.specs.LoongArchRewrites.{loongarch_deleted, rd_of, signed_12, tp}
+use Rattle.linker_utils.specs.LoongArchRewrites.{adds_low12, loongarch_deleted, loongarch_rewrite}
+use Rattle.linker_utils.specs.LoongArchRewrites.{rd_of, rj_of, signed_12, signed_32, tp}
 use Rattle.linker_utils.specs.LoongArchRewrites.{unsigned_12}
 use Rattle.linker_elf.specs.declared.loongarch64.relocations.LoongArch64Relocation.TheVariants as names
 use Rattle.linker_laws.specs.Changes.{ChangesOpen, OthersAgree, go_to, put, with_register}
 use Rattle.linker_laws.specs.LoongArchMachine as loongarch_machine
 use Rattle.linker_laws.specs.LoongArchMachine.{Action, action_of, far_address, go_on, step, used}
-use Rattle.linker_laws.specs.LoongArchRewriteLaws.{Fits32, IsPair, IsRelocated, IsRewritten}
-use Rattle.linker_laws.specs.LoongArchRewriteLaws.{following, high_offset, near_entry}
-use Rattle.linker_laws.specs.LoongArchRewriteLaws.{thread_offset, word_of}
 use Rattle.linker_laws.specs.Machine.{Relocated, loaded}
 use Rattle.linker_laws.specs.RiscVGroups.{of_place}
 use Rattle.linker_laws.specs.Schemes.{AreAddresses, entry_and_addend, plt_address, symbol_address}
-use Rattle.linker_laws.specs.Simulation.{State, Program, Machine, Link, Kind, Kinds, Agree, AreOf}
-use Rattle.linker_laws.specs.Simulation.{Group, anything, half, of_link, run, same}
+use Rattle.linker_laws.specs.Simulation.{Agree, AreOf, Group, Kind, Kinds, Link, Machine, Program}
+use Rattle.linker_laws.specs.Simulation.{State, anything, half, of_link, run, same}
 use Rattle.linker_utils.specs.declared.loongarch64.rewrites.RewriteKind.TheVariants as kinds
+pub use Rattle.linker_laws.specs.Machine.{BeginsRewritten, word_of}
+pub use Rattle.linker_laws.specs.Schemes.{following, thread_offset}
+
+-- ---- instructions as bytes
+
+-- A relocation is applied to an instruction's bytes.
+abbrev pub IsRelocated : LoongArch64Relocation → Operands → List ℕ → List ℕ → Type 0
+IsRelocated name o before after =
+    IsSomeAnd (loongarch_row name) (λ row. IsApplied row o before after)
+
+abbrev pub IsRewritten : RewriteKind → List ℕ → List ℕ → Type 0
+IsRewritten kind before after =
+    IsSomeAnd (loongarch_rewrite kind) (λ r. BeginsRewritten r before after)
+
+-- the value of a relocation, which nothing else checks, is a number of 32 bits in two's complement
+abbrev pub Fits32 : LoongArch64Relocation → Operands → Type 0
+Fits32 name o = RowIsWithin (loongarch_row name) signed_32 o
+
+-- `pcalau12i rd`, and an instruction with P from rd into rd
+pub record IsPair (P : ℕ → Type 0) (pcala second : List ℕ) : Type 0 where
+  pub one_register : AreOfOneRegister (word_of pcala) (word_of second)
+  pub second_is : P (word_of second)
+
+-- a pair that loads a GOT entry, or makes its address, with its relocations applied
+pub record LoadsEntry (high low : LoongArch64Relocation) (o : Operands)
+    (pcala ld pcala_of_entry ld_of_entry : List ℕ) : Type 0 where
+  pub fits : Fits32 high o
+  pub first : IsRelocated high o pcala pcala_of_entry
+  pub second : IsRelocated low (following 4 o) ld ld_of_entry
+
+-- ---- numbers
+
+-- the offset without its low 12 bits
+abbrev pub high_offset : Operands → ℕ
+high_offset o = page (thread_offset o)
+
+-- the page from which a number of 12 bits in two's complement leads to the GOT entry
+abbrev pub near_entry : Operands → ℕ
+near_entry o = page (sum_64 (entry_and_addend o) 0x800)
 
 -- ---- the machine
 
@@ -129,11 +168,12 @@ put_unless_zero r x next s = if r == 0 then go_to next s else put r x next s
 abbrev pub with_unless_zero : ℕ → Kind → Kinds → Kinds
 with_unless_zero r kind k = if r == 0 then k else with_register r kind k
 
--- a group of an instruction that leaves a number in a register, of which new has nothing
-abbrev pub IsLeftOut : Code → Kinds → State → ℕ → ℕ → Type 0
-IsLeftOut c k s r number =
-    Group (of_link (link c)) 0 k s (with_unless_zero r anything k)
-    (put_unless_zero r number (s.pc + 4) s)
+-- A group of an instruction that leaves a number in a register, which may be anything then. New
+-- has n instructions.
+abbrev pub IsLeftOut : ℕ → Code → Kinds → State → ℕ → ℕ → Type 0
+IsLeftOut n c k s r number =
+    Group (of_link (link c)) n k s (with_unless_zero r anything k)
+    (put_unless_zero r number (sum_64 s.pc 4) s)
 
 -- Whatever state of new agrees, it has a number in a register.
 abbrev pub NewHas : Code → Kinds → State → ℕ → ℕ → Type 0
@@ -211,16 +251,49 @@ EntriesToPcaddi =
 
 -- ---- instructions alone, whatever stands before them
 
--- Each is rewritten by itself. The bytes before are in old, with a relocation by operands x. The
--- bytes after are in new, and were made with a relocation by operands y.
+-- What is said of an instruction that is rewritten by itself. The bytes before are in old, with a
+-- relocation by the first operands. The bytes after are in new, and were made with a relocation by
+-- the second ones.
+abbrev pub InstructionLaw : Type 1
+InstructionLaw = List ℕ → List ℕ → Operands → Operands → Type 0
+
+-- It is said of an instruction with P after a rewrite and a relocation.
+abbrev pub Becomes : (ℕ → Type 0) → RewriteKind → LoongArch64Relocation → InstructionLaw → Type 0
+Becomes P kind name Law =
+    (x y : Operands) (before rewritten after : List ℕ) → P (word_of before)
+    → IsRewritten kind before rewritten → IsRelocated name y rewritten after → Law before after x y
+
+-- where new's offset has 12 bits
+abbrev pub OfShortOffset : InstructionLaw → InstructionLaw
+OfShortOffset Law before after x y =
+    RowIsWithin (loongarch_row names.R_LARCH_TLS_LE_LO12) unsigned_12 y → Law before after x y
+
+-- What is said of an instruction of old, in whose place new has n instructions that do nothing.
+abbrev pub GoneLaw : Type 1
+GoneLaw = ℕ → (Code → State → Type 0) → List ℕ → Type 0
+
+-- a `nop`
+abbrev pub HasNop : List ℕ → Code → State → Type 0
+HasNop nop c s = IsFollowed c 4 4 s × Stands c.new (c.moved s.pc) nop
+
+abbrev pub BecomesNop : (ℕ → Type 0) → GoneLaw → Type 0
+BecomesNop P Law =
+    (before nop : List ℕ) → P (word_of before) → IsRewritten kinds.ReplaceWithNop before nop
+    → Law 1 (HasNop nop) before
+
+-- or none
+abbrev pub IsGone : Code → State → Type 0
+IsGone c = AreDeleted c (deleted_by kinds.Delete)
+
+abbrev pub IsDeleted : (ℕ → Type 0) → GoneLaw → Type 0
+IsDeleted P Law = (before : List ℕ) → P (word_of before) → Law 0 IsGone before
 
 -- old's number and new's of index h
 abbrev pub AreHalves : Code → ℕ → ℕ → ℕ → Type 0
 AreHalves c h old new = (c.old_half h ≡ old) × (c.new_half h ≡ new)
 
 -- `pcalau12i rd` makes the entry's page in old, and the instruction after a number in new.
-abbrev pub HighHalf : (name after_name : LoongArch64Relocation) → (Operands → ℕ) → List ℕ → List ℕ
-    → Operands → Operands → Type 0
+abbrev pub HighHalf : (name after_name : LoongArch64Relocation) → (Operands → ℕ) → InstructionLaw
 HighHalf name after_name number before after x y =
     (c : Code) (h : ℕ) (k : Kinds) (s : State) → AreAddresses x → AreBefore c 4 4 x y s
     → AreHalves c h (near_entry x) (number y) → Fits32 name x → Fits32 after_name y
@@ -230,17 +303,15 @@ HighHalf name after_name number before after x y =
     (put_unless_zero n (near_entry x) (sum_64 x.place 4) s)
 
 -- of initial-exec or of a TLS descriptor: `lu12i.w rd`
-abbrev pub HighOffset : LoongArch64Relocation → List ℕ → List ℕ → Operands → Operands → Type 0
+abbrev pub HighOffset : LoongArch64Relocation → InstructionLaw
 HighOffset name = HighHalf name names.R_LARCH_TLS_LE_HI20 high_offset
 
 abbrev pub HighHalfToLu12i : LoongArch64Relocation → Type 0
 HighHalfToLu12i name =
-    (x y : Operands) (pcala lu12i lu12i_of : List ℕ) → IsPcalau12i (word_of pcala)
-    → IsRewritten kinds.PcalaToLu12i pcala lu12i
-    → IsRelocated names.R_LARCH_TLS_LE_HI20 y lu12i lu12i_of → HighOffset name pcala lu12i_of x y
+    Becomes IsPcalau12i kinds.PcalaToLu12i names.R_LARCH_TLS_LE_HI20 (HighOffset name)
 
 -- of a TLS descriptor: `pcalau12i rd` of a GOT entry of initial-exec
-abbrev pub HighEntry : List ℕ → List ℕ → Operands → Operands → Type 0
+abbrev pub HighEntry : InstructionLaw
 HighEntry before after x y =
     AreAddresses y
     → HighHalf names.R_LARCH_TLS_DESC_PC_HI20 names.R_LARCH_TLS_IE_PC_HI20 near_entry
@@ -251,29 +322,22 @@ PageOfDescriptor =
     (x y : Operands) (pcala pcala_of : List ℕ) → IsPcalau12i (word_of pcala)
     → IsRelocated names.R_LARCH_TLS_IE_PC_HI20 y pcala pcala_of → HighEntry pcala pcala_of x y
 
--- where the offset has 12 bits: `nop`
-abbrev pub HighHalfToNop : LoongArch64Relocation → Type 0
-HighHalfToNop name =
-    (c : Code) (x : Operands) (k : Kinds) (s : State) (pcala nop : List ℕ)
-    → AreAddresses x → s.pc ≡ x.place → IsFollowed c 4 4 s → IsPcalau12i (word_of pcala)
-    → IsRewritten kinds.ReplaceWithNop pcala nop → Fits32 name x
-    → Has c.old name x pcala → Stands c.new (c.moved s.pc) nop
-    → let n = rd_of (word_of pcala) in
-    Group (of_link (link c)) 1 k s (with_unless_zero n anything k)
-    (put_unless_zero n (near_entry x) (sum_64 s.pc 4) s)
+-- where the offset has 12 bits: `nop`, or nothing
+abbrev pub HighHalfGoes : LoongArch64Relocation → GoneLaw
+HighHalfGoes name n Goes pcala =
+    (c : Code) (x : Operands) (k : Kinds) (s : State) → Goes c s → AreAddresses x → s.pc ≡ x.place
+    → Fits32 name x → Has c.old name x pcala
+    → IsLeftOut n c k s (rd_of (word_of pcala)) (near_entry x)
 
--- or nothing
+abbrev pub HighHalfToNop : LoongArch64Relocation → Type 0
+HighHalfToNop name = BecomesNop IsPcalau12i (HighHalfGoes name)
+
 abbrev pub HighHalfIsDeleted : LoongArch64Relocation → Type 0
-HighHalfIsDeleted name =
-    (c : Code) (x : Operands) (k : Kinds) (s : State) (pcala : List ℕ)
-    → AreDeleted c (deleted_by kinds.Delete) s → AreAddresses x → s.pc ≡ x.place
-    → IsPcalau12i (word_of pcala) → Fits32 name x → Has c.old name x pcala
-    → IsLeftOut c k s (rd_of (word_of pcala)) (near_entry x)
+HighHalfIsDeleted name = IsDeleted IsPcalau12i (HighHalfGoes name)
 
 -- `ld.d rd, rj` of initial-exec, where rj has the entry's page and the entry holds the offset. The
 -- instruction after leaves the offset too, where a premise holds.
-abbrev pub LowHalfIf : (Code → Kinds → State → Type 0) → List ℕ → List ℕ → Operands → Operands
-    → Type 0
+abbrev pub LowHalfIf : (Code → Kinds → State → Type 0) → InstructionLaw
 LowHalfIf Holds before after x y =
     (c : Code) (k : Kinds) (s : State) → AreAddresses x → AreBefore c 4 4 x y s
     → thread_offset x ≡ thread_offset y → loaded 8 s.memory (entry_and_addend x) ≡ thread_offset x
@@ -284,30 +348,24 @@ LowHalfIf Holds before after x y =
     (put_unless_zero n (thread_offset x) (sum_64 x.place 4) s)
 
 -- `ori rd, rj`, where rj has the offset's high part in new
-abbrev pub LowHalf : List ℕ → List ℕ → Operands → Operands → Type 0
+abbrev pub LowHalf : InstructionLaw
 LowHalf before after x y =
     LowHalfIf (λ c k s. NewHas c k s (rj_of (word_of before)) (high_offset y)) before after x y
 
 abbrev pub LowHalfToOri : Type 0
-LowHalfToOri =
-    (x y : Operands) (ld ori ori_of : List ℕ) → IsLd (word_of ld)
-    → IsRewritten kinds.LowToOri ld ori → IsRelocated names.R_LARCH_TLS_LE_LO12 y ori ori_of
-    → LowHalf ld ori_of x y
+LowHalfToOri = Becomes IsLd kinds.LowToOri names.R_LARCH_TLS_LE_LO12 LowHalf
 
 -- `ori rd, zero`, where the offset has 12 bits
 abbrev pub LowHalfToOriZero : Type 0
 LowHalfToOriZero =
-    (x y : Operands) (ld ori ori_of : List ℕ) → IsLd (word_of ld)
-    → IsRewritten kinds.LowToOriZero ld ori
-    → RowIsWithin (loongarch_row names.R_LARCH_TLS_LE_LO12) unsigned_12 y
-    → IsRelocated names.R_LARCH_TLS_LE_LO12 y ori ori_of → LowHalfIf (λ c k s. ⊤) ld ori_of x y
+    Becomes IsLd kinds.LowToOriZero names.R_LARCH_TLS_LE_LO12
+    (OfShortOffset (LowHalfIf (λ c k s. ⊤)))
 
 -- ---- TLS descriptors, each instruction alone
 
 -- `addi.d a0, a0`, where `a0` has the page, makes the descriptor's address. The instruction after
 -- makes a number that new's premises say.
-abbrev pub LowOfDescriptor : (Code → Kinds → State → Operands → ℕ → Type 0) → List ℕ → List ℕ
-    → Operands → Operands → Type 0
+abbrev pub LowOfDescriptor : (Code → Kinds → State → Operands → ℕ → Type 0) → InstructionLaw
 LowOfDescriptor NewMakes before after x y =
     (c : Code) (h : ℕ) (k : Kinds) (s : State) → AreAddresses x → AreBefore c 4 4 x y s
     → register s 4 ≡ near_entry x → c.old_half h ≡ entry_and_addend x
@@ -322,18 +380,13 @@ MakesOffset c k s y number = NewHas c k s 4 (high_offset y) × (thread_offset y 
 
 abbrev pub LowOfDescriptorToOri : Type 0
 LowOfDescriptorToOri =
-    (x y : Operands) (addi ori ori_of : List ℕ) → IsLowOfDescriptor (word_of addi)
-    → IsRewritten kinds.LowToOri addi ori → IsRelocated names.R_LARCH_TLS_LE_LO12 y ori ori_of
-    → LowOfDescriptor MakesOffset addi ori_of x y
+    Becomes IsLowOfDescriptor kinds.LowToOri names.R_LARCH_TLS_LE_LO12 (LowOfDescriptor MakesOffset)
 
 -- `ori a0, zero` leaves it, where it has 12 bits.
 abbrev pub LowOfDescriptorToOriZero : Type 0
 LowOfDescriptorToOriZero =
-    (x y : Operands) (addi ori ori_of : List ℕ) → IsLowOfDescriptor (word_of addi)
-    → IsRewritten kinds.LowToOriZero addi ori
-    → RowIsWithin (loongarch_row names.R_LARCH_TLS_LE_LO12) unsigned_12 y
-    → IsRelocated names.R_LARCH_TLS_LE_LO12 y ori ori_of
-    → LowOfDescriptor (λ c k s y number. thread_offset y ≡ number) addi ori_of x y
+    Becomes IsLowOfDescriptor kinds.LowToOriZero names.R_LARCH_TLS_LE_LO12
+    (OfShortOffset (LowOfDescriptor (λ c k s y number. thread_offset y ≡ number)))
 
 -- `a0` has the page of an entry of initial-exec, and `ld.d a0, a0` loads what that holds.
 abbrev pub LoadsOffset : Code → Kinds → State → Operands → ℕ → Type 0
@@ -343,77 +396,63 @@ LoadsOffset c k s y number =
 
 abbrev pub LowOfDescriptorToLoad : Type 0
 LowOfDescriptorToLoad =
-    (x y : Operands) (addi ld ld_of : List ℕ) → IsLowOfDescriptor (word_of addi)
-    → IsRewritten kinds.AddiToLd addi ld → IsRelocated names.R_LARCH_TLS_IE_PC_LO12 y ld ld_of
-    → LowOfDescriptor LoadsOffset addi ld_of x y
+    Becomes IsLowOfDescriptor kinds.AddiToLd names.R_LARCH_TLS_IE_PC_LO12
+    (LowOfDescriptor LoadsOffset)
 
--- `ld.d ra, a0, 0` loads the function's address, and new has a `nop`.
-abbrev pub LoadOfDescriptor : List ℕ → List ℕ → Type 0
-LoadOfDescriptor before after =
-    (c : Code) (k : Kinds) (s : State) → IsFollowed c 4 4 s → s.registers 4 < 2 ^ 64
-    → Stands c.old s.pc before → Stands c.new (c.moved s.pc) after
-    → Group (of_link (link c)) 1 k s (with_register 1 anything k)
+-- `ld.d ra, a0, 0` loads the function's address, and new has a `nop`, or nothing.
+abbrev pub LoadGoes : GoneLaw
+LoadGoes n Goes ld =
+    (c : Code) (k : Kinds) (s : State) → Goes c s → s.registers 4 < 2 ^ 64
+    → Stands c.old s.pc ld
+    → Group (of_link (link c)) n k s (with_register 1 anything k)
     (put 1 (loaded 8 s.memory (s.registers 4)) (sum_64 s.pc 4) s)
 
 abbrev pub LoadOfDescriptorToNop : Type 0
-LoadOfDescriptorToNop =
-    (ld nop : List ℕ) → IsLoadOfDescriptor (word_of ld) → IsRewritten kinds.ReplaceWithNop ld nop
-    → LoadOfDescriptor ld nop
+LoadOfDescriptorToNop = BecomesNop IsLoadOfDescriptor LoadGoes
 
--- Or it has nothing.
 abbrev pub LoadOfDescriptorIsDeleted : Type 0
-LoadOfDescriptorIsDeleted =
-    (c : Code) (k : Kinds) (s : State) (ld : List ℕ) → AreDeleted c (deleted_by kinds.Delete) s
-    → IsLoadOfDescriptor (word_of ld) → s.registers 4 < 2 ^ 64 → Stands c.old s.pc ld
-    → Group (of_link (link c)) 0 k s (with_register 1 anything k)
-    (put 1 (loaded 8 s.memory (s.registers 4)) (s.pc + 4) s)
+LoadOfDescriptorIsDeleted = IsDeleted IsLoadOfDescriptor LoadGoes
 
--- `jirl ra, ra, 0` calls the function, which leaves an offset in `a0`. New has n instructions in
--- place of the call, and has the offset there. What else the function changes may be anything then,
--- as is `ra`. By the psABI ("TLS Descriptors") it changes no other register, and returns by `ra`.
--- It saves others below the stack pointer. Where the thread has no block yet, it makes one.
-abbrev pub HasOffset : ℕ → Code → State → List ℕ → Type 0
-HasOffset n c s jirl =
-    (offset executes : ℕ) (k k' : Kinds) (s' : State)
+-- `jirl ra, ra, 0` calls the function, which leaves an offset in `a0`. New has the offset there, and
+-- a `nop`, or nothing. What else the function changes may be anything then, as is `ra`. By the psABI
+-- ("TLS Descriptors") it changes no other register, and returns by `ra`. It saves others below the
+-- stack pointer. Where the thread has no block yet, it makes one.
+abbrev pub CallGoes : GoneLaw
+CallGoes n Goes jirl =
+    (c : Code) (offset executes : ℕ) (k k' : Kinds) (s s' : State) → Goes c s
     → s.registers 1 < 2 ^ 64 → NewHas c k s 4 offset → Stands c.old s.pc jirl
     → run executes (machine c.processor c.old) (put 1 (sum_64 s.pc 4) (s.registers 1) s) ≡ Some s'
     → ChangesOpen (with_register 4 same k) (put 4 offset (sum_64 s.pc 4) s) k' s'
     → Group (of_link (link c)) n k s k' s'
 
--- a `nop`
-abbrev pub CallOfDescriptor : List ℕ → List ℕ → Type 0
-CallOfDescriptor before after =
-    (c : Code) (s : State) → IsFollowed c 4 4 s → Stands c.new (c.moved s.pc) after
-    → HasOffset 1 c s before
-
 abbrev pub CallOfDescriptorToNop : Type 0
-CallOfDescriptorToNop =
-    (jirl nop : List ℕ) → IsCallOfDescriptor (word_of jirl)
-    → IsRewritten kinds.ReplaceWithNop jirl nop → CallOfDescriptor jirl nop
+CallOfDescriptorToNop = BecomesNop IsCallOfDescriptor CallGoes
 
--- or nothing
 abbrev pub CallOfDescriptorIsDeleted : Type 0
-CallOfDescriptorIsDeleted =
-    (c : Code) (s : State) (jirl : List ℕ) → AreDeleted c (deleted_by kinds.Delete) s
-    → IsCallOfDescriptor (word_of jirl) → HasOffset 0 c s jirl
+CallOfDescriptorIsDeleted = IsDeleted IsCallOfDescriptor CallGoes
 
 -- ---- local-exec, where the offset has 12 bits
 
--- `lu12i.w rd`, which leaves 0, is deleted.
-abbrev pub OffsetLu12iIsDeleted : Type 0
-OffsetLu12iIsDeleted =
-    (c : Code) (x : Operands) (k : Kinds) (s : State) (lu12i : List ℕ)
-    → AreDeleted c (deleted_by kinds.Delete) s → AreAddresses x → s.pc ≡ x.place
-    → IsLu12i (word_of lu12i)
+-- `lu12i.w rd` leaves 0.
+abbrev pub OffsetGoes : GoneLaw
+OffsetGoes n Goes lu12i =
+    (c : Code) (x : Operands) (k : Kinds) (s : State) → Goes c s → AreAddresses x → s.pc ≡ x.place
     → RowIsWithin (loongarch_row names.R_LARCH_TLS_LE_LO12_R) signed_12 x
-    → Has c.old names.R_LARCH_TLS_LE_HI20_R x lu12i → IsLeftOut c k s (rd_of (word_of lu12i)) 0
+    → Has c.old names.R_LARCH_TLS_LE_HI20_R x lu12i
+    → IsLeftOut n c k s (rd_of (word_of lu12i)) 0
 
--- So is `add.d rd, rj, tp`, where rj has 0.
+abbrev pub OffsetLu12iIsDeleted : Type 0
+OffsetLu12iIsDeleted = IsDeleted IsLu12i OffsetGoes
+
+-- `add.d rd, rj, tp`, where rj has 0
+abbrev pub SumGoes : GoneLaw
+SumGoes n Goes add =
+    (c : Code) (k : Kinds) (s : State) → Goes c s → register s (rj_of (word_of add)) ≡ 0
+    → s.registers tp < 2 ^ 64 → Stands c.old s.pc add
+    → IsLeftOut n c k s (rd_of (word_of add)) (s.registers tp)
+
 abbrev pub SumIsDeleted : Type 0
-SumIsDeleted =
-    (c : Code) (k : Kinds) (s : State) (add : List ℕ) → AreDeleted c (deleted_by kinds.Delete) s
-    → IsAddTp (word_of add) → register s (rj_of (word_of add)) ≡ 0 → s.registers tp < 2 ^ 64
-    → Stands c.old s.pc add → IsLeftOut c k s (rd_of (word_of add)) (s.registers tp)
+SumIsDeleted = IsDeleted IsAddTp SumGoes
 
 -- what an instruction does with a sum
 abbrev pub uses : Processor → Action → ℕ → ℕ → State → State
@@ -421,7 +460,7 @@ uses p action rd sum s = left s (go_on (used action rd sum (seen p s)))
 
 -- An instruction adds the low part of an offset to a register that has the thread pointer's number,
 -- and the instruction after to the thread pointer. What it does with the sum keeps agreement.
-abbrev pub LowPart : List ℕ → List ℕ → Operands → Operands → Type 0
+abbrev pub LowPart : InstructionLaw
 LowPart before after x y =
     let word = word_of before in
     (c : Code) (k k' : Kinds) (s : State) → AreBefore c 4 4 x y s
@@ -436,9 +475,8 @@ LowPart before after x y =
 
 abbrev pub LowPartFromThreadPointer : Type 0
 LowPartFromThreadPointer =
-    (x y : Operands) (low base base_of : List ℕ) → IsTrue (adds_low12 (word_of low / 2 ^ 22))
-    → IsRewritten kinds.BaseToTp low base → IsRelocated names.R_LARCH_TLS_LE_LO12_R y base base_of
-    → LowPart low base_of x y
+    Becomes (λ word. IsTrue (adds_low12 (word / 2 ^ 22))) kinds.BaseToTp
+    names.R_LARCH_TLS_LE_LO12_R LowPart
 
 -- ---- calls
 

@@ -2,11 +2,11 @@
 -- address can be read and written, and code is apart from memory.
 use Rattle.std.specs.Prelude.{ℕ, pos, ◌+ℤ◌, ◌*ℤ◌, ◌*◌, ◌/◌, ◌%◌, ◌^◌, ◌==◌, List, [], ◌∷◌, Option}
 use Rattle.std.specs.Prelude.{Some, None, IsSomeAnd, ◌≡◌, Bool, false, bit_or, bit_and}
-use Rattle.std.specs.Prelude.{if◌then◌else◌, ◌-◌, slice_get}
+use Rattle.std.specs.Prelude.{if◌then◌else◌, ◌-◌, slice_get, ◌≢◌, ◌||◌}
 use Rattle.linker_laws.specs.Imports.{Branch26, Shift5, field, loongarch_form, pcalau12i, signed}
 use Rattle.linker_laws.specs.Imports.{sum_64, unwrap_or}
-use Rattle.linker_utils.specs.LoongArchRewrites.{adds_low12, rj_of, rd_of}
-use Rattle.linker_laws.specs.Machine.{Memory, wrapped, extended, loaded, stored}
+use Rattle.linker_utils.specs.LoongArchRewrites.{adds_low12, rd_of, rj_of}
+use Rattle.linker_laws.specs.Machine.{Memory, extended, loaded, stored, word_of, wrapped}
 
 -- ---- the state
 
@@ -213,3 +213,27 @@ pub record AreAlikeBut (differing : ℕ → Bool) (s t : State) : Type 0 where
 -- The old code runs from one state and the new code from another, and P holds of the ends.
 abbrev pub EndSo : List ℕ → State → List ℕ → State → (State → State → Type 0) → Type 0
 EndSo old s new t P = IsSomeAnd (run old s) (λ u. IsSomeAnd (run new t) (λ v. P u v))
+
+abbrev pub no_register : ℕ → Bool
+no_register n = false
+
+-- the words of two instructions
+abbrev pub pair : List ℕ → List ℕ → List ℕ
+pair first second = word_of first ∷ word_of second ∷ []
+
+-- A register has its own number in each.
+pub record HaveMade (n number new_number at new_at : ℕ) (s t : State) : Type 0 where
+  pub alike : AreAlikeBut (λ m. m == n) s t
+  pub made : read n s ≡ number
+  pub new_made : read n t ≡ new_number
+  pub next : s.pc ≡ at
+  pub new_next : t.pc ≡ new_at
+
+-- Each state is at the target of its layout. They are alike but for the register of the `pcaddu18i`
+-- and the link register, which has the address after the call.
+pub record HaveCalled (link base back new_back target new_target : ℕ) (s t : State) : Type 0 where
+  pub alike : AreAlikeBut (λ m. m == link || m == base) s t
+  pub links : link ≢ 0 → read link s ≡ back
+  pub new_links : link ≢ 0 → read link t ≡ new_back
+  pub at_target : s.pc ≡ target
+  pub at_new_target : t.pc ≡ new_target

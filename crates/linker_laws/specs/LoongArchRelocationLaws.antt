@@ -1,10 +1,11 @@
 -- LoongArch: what relocated instructions compute (LoongArch ELF psABI, "Relocation Types";
 -- LoongArch Reference Manual, volume 1).
 use Rattle.std.specs.Prelude.{ℕ, [], ◌∷◌, ℤ, pos, ◌+◌, ◌*◌, ◌+ℤ◌, ◌*ℤ◌, ◌^◌, not}
-use Rattle.linker_laws.specs.Imports.{Branch21, Branch26, LoongArch64Relocation, Operands, Shift10}
-use Rattle.linker_laws.specs.Imports.{Shift5, Signed, field, int_rem_euclid, is_jirl}
-use Rattle.linker_laws.specs.Imports.{loongarch_form, loongarch_row, pcalau12i, reach, signed}
-use Rattle.linker_laws.specs.Imports.{upper_and_lower_value}
+use Rattle.linker_laws.specs.Imports.{Branch21, Branch26, Operands, Shift10, Shift5, field}
+use Rattle.linker_laws.specs.Imports.{int_rem_euclid, is_jirl, loongarch_form, loongarch_row}
+use Rattle.linker_laws.specs.Imports.{pcalau12i, reach, signed, upper_and_lower_value}
+use Rattle.linker_elf.specs.declared.loongarch64.relocations.LoongArch64Relocation.{LoongArch64Relocation}
+use Rattle.linker_elf.specs.declared.elf.Sign.TheVariants.{Signed}
 use Rattle.linker_elf.specs.declared.loongarch64.forms.LoongArch64Instruction.{LoongArch64Instruction}
 use Rattle.linker_elf.specs.declared.loongarch64.relocations.LoongArch64Relocation.TheVariants as names
 use Rattle.linker_laws.specs.Differences.{AddsDistance, AddsDistance6}

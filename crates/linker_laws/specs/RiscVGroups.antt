@@ -3,28 +3,29 @@
 use Rattle.std.specs.Prelude.{◌≡◌, ◌≢◌, ℕ, zero, suc, ◌+◌, ◌-◌, ◌*◌, ◌^◌, ◌<◌, ◌≤◌, ◌%◌, ◌==◌}
 use Rattle.std.specs.Prelude.{false, nat_lt, if◌then◌else◌, List, [], ◌∷◌, take, drop, length}
 use Rattle.std.specs.Prelude.{Option, Some, None, IsSomeAnd, ⊤, ◌⊎◌}
-use Rattle.linker_laws.specs.Imports.{IsCallPair, IsWithin, Operands, RowInfo, UType, cast_signed}
-use Rattle.linker_laws.specs.Imports.{clui_row, difference_64, from_le_bytes, low_12_bounds}
-use Rattle.linker_laws.specs.Imports.{riscv_form, riscv_relocation, riscv_row, sum_64, w16, w64}
-use Rattle.linker_elf.specs.declared.riscv64.relocations.RiscVRelocation.{RiscVRelocation}
-use Rattle.linker_riscv64.specs.RiscVFields.{rd_of}
-use Rattle.linker_utils.specs.RiscVRewrites.{a0, IsAddTp, IsLui, half_at, riscv_matches, tp}
+use Rattle.linker_laws.specs.Imports.{Operands, RiscVRelocation, RowInfo, UType, cast_signed}
+use Rattle.linker_laws.specs.Imports.{clui_row, difference_64, from_le_bytes, rewritten, riscv_form}
+use Rattle.linker_laws.specs.Imports.{riscv_relocation, riscv_row, sum_64, w16, w64}
+use Rattle.linker_riscv64.specs.RiscVCalls.{IsCallPair, word_at}
+use Rattle.linker_elf.specs.Elf.{IsWithin}
+use Rattle.linker_elf.specs.Choices.{low_12_bounds, symbol_and_addend}
+use Rattle.linker_riscv64.specs.RiscVFields.{funct3_of, opcode_of, rd_of}
+use Rattle.linker_utils.specs.RiscVRewrites.{IsAddTp, IsAddiToA0, IsAuipc, IsCallOfDescriptor, IsLd}
+use Rattle.linker_utils.specs.RiscVRewrites.{IsLui, a0, half_at, riscv_matches, riscv_rewrite, tp}
 use Rattle.linker_elf.specs.declared.riscv64.relocations.RiscVRelocation.TheVariants as names
 use Rattle.linker_laws.specs.Changes.{ChangesOpen, OthersAgree, put, with_register}
 use Rattle.linker_laws.specs.Machine.{Relocated, loaded, moved, wrapped}
-use Rattle.linker_laws.specs.RiscVMachine.{Action, Hart, register, rs1_of, rs2_of, step, used, adds}
-use Rattle.linker_laws.specs.RiscVMachine.{adds_word, bytes_of, jumps, loads, loads_float, stores}
-use Rattle.linker_laws.specs.RiscVMachine.{stores_float}
+use Rattle.linker_laws.specs.RiscVMachine.{Action, Hart, action_of, adds, adds_word, bytes_of}
+use Rattle.linker_laws.specs.RiscVMachine.{jumps, loads, loads_float, register, rs1_of, rs2_of}
+use Rattle.linker_laws.specs.RiscVMachine.{step, stores, stores_float, used}
 use Rattle.linker_laws.specs.RiscVRelocationLaws.{even}
-use Rattle.linker_laws.specs.RiscVRewriteLaws.{AreOfDescriptor}
-use Rattle.linker_laws.specs.RiscVRewriteLaws.{IsLoadFromGot, IsLow12, IsLowOffset, action_at}
-use Rattle.linker_laws.specs.RiscVRewriteLaws.{after_rewrite, low_row, of_entry, offset_row, t0}
-use Rattle.linker_laws.specs.RiscVRewriteLaws.{thread_offset, word_of}
 use Rattle.linker_laws.specs.Schemes.{AreAddresses, entry_and_addend, plt_address, symbol_address}
-use Rattle.linker_laws.specs.Simulation.{State, Program, Machine, Link, Kind, Kinds, Agree, AreOf}
-use Rattle.linker_laws.specs.Simulation.{Group, anything, code as counted, of_link, run, same}
+use Rattle.linker_laws.specs.Simulation.{Agree, AreOf, Group, Kind, Kinds, Link, Machine, Program}
+use Rattle.linker_laws.specs.Simulation.{State, anything, code as counted, of_link, run, same}
 use Rattle.linker_utils.specs.declared.riscv64.rewrites.RewriteKind.{RewriteKind}
 use Rattle.linker_utils.specs.declared.riscv64.rewrites.RewriteKind.TheVariants as kinds
+pub use Rattle.linker_laws.specs.Machine.{word_of}
+pub use Rattle.linker_laws.specs.Schemes.{thread_offset}
 
 -- ---- the machine
 
@@ -116,7 +117,20 @@ abbrev pub IsLeftOut : Code → Kinds → State → ℕ → ℕ → Type 0
 IsLeftOut c k s rd number =
     Group (of_link (link c)) 0 k s (with_register rd anything k) (put rd number (s.pc + 4) s)
 
--- ---- high parts
+-- the section after a rewrite at an offset
+abbrev pub after_rewrite : RewriteKind → List ℕ → ℕ → List ℕ
+after_rewrite kind section o = rewritten (riscv_rewrite kind) section o
+
+-- ---- high parts (psABI, "Compressed LUI Relaxation", "Zero-page Relaxation", "Local-Exec TLS
+-- Relaxation")
+
+-- S + A is a number of 12 bits in two's complement
+abbrev pub IsLow12 : Operands → Type 0
+IsLow12 x = IsWithin (Some low_12_bounds) (symbol_and_addend x)
+
+-- the offset is a number of 12 bits in two's complement
+abbrev pub IsLowOffset : Operands → Type 0
+IsLowOffset x = IsWithin (Some low_12_bounds) (cast_signed w64 (thread_offset x))
 
 -- what `lui` leaves
 abbrev pub upper : List ℕ → ℕ
@@ -148,12 +162,18 @@ CluiBecomesCli =
     → Group (of_link (link c)) 1 k s (with_register (rd_of (word_of lui)) same k)
     (put (rd_of (word_of lui)) 0 (sum_64 x.place 4) s)
 
--- A `lui` of S + A, or of an offset, that is a number of 12 bits is deleted. In old it leaves 0.
+-- In old a `lui` of S + A, or of an offset, that is a number of 12 bits leaves 0. New has nothing of
+-- it, where it is gone.
+abbrev pub ZeroLuiGoes : RiscVRelocation → (Operands → Type 0) → (Code → State → Type 0) → List ℕ
+    → Type 0
+ZeroLuiGoes name IsLow IsGone lui =
+    (c : Code) (x : Operands) (k : Kinds) (s : State) → IsGone c s → IsLow x
+    → Has 4 c.old s.pc (riscv_row name) x lui → IsLeftOut c k s (rd_of (word_of lui)) 0
+
 abbrev pub DeletedLui : RewriteKind → RiscVRelocation → (Operands → Type 0) → Type 0
 DeletedLui kind name IsLow =
-    (c : Code) (x : Operands) (k : Kinds) (s : State) (lui : List ℕ) → AreDeleted c 4 s
-    → riscv_matches kind lui 0 → IsLui (word_of lui) → IsLow x
-    → Has 4 c.old s.pc (riscv_row name) x lui → IsLeftOut c k s (rd_of (word_of lui)) 0
+    (lui : List ℕ) → riscv_matches kind lui 0 → IsLui (word_of lui)
+    → ZeroLuiGoes name IsLow (λ c. AreDeleted c 4) lui
 
 abbrev pub LuiIsDeleted : Type 0
 LuiIsDeleted = DeletedLui kinds.Hi20Delete names.R_RISCV_HI20 IsLow12
@@ -161,15 +181,34 @@ LuiIsDeleted = DeletedLui kinds.Hi20Delete names.R_RISCV_HI20 IsLow12
 abbrev pub OffsetLuiIsDeleted : Type 0
 OffsetLuiIsDeleted = DeletedLui kinds.Delete names.R_RISCV_TPREL_HI20 IsLowOffset
 
--- So is an `add` of the thread pointer to a register that has 0.
+-- So does an `add` of the thread pointer to a register that has 0 go.
+abbrev pub SumGoes : (Code → State → Type 0) → List ℕ → Type 0
+SumGoes IsGone add =
+    (c : Code) (k : Kinds) (s : State) → IsGone c s
+    → register (seen s) (rs1_of (word_of add)) ≡ 0 → s.registers tp < 2 ^ 64
+    → Stands 4 c.old s.pc add → IsLeftOut c k s (rd_of (word_of add)) (s.registers tp)
+
 abbrev pub SumIsDeleted : Type 0
-SumIsDeleted =
-    (c : Code) (k : Kinds) (s : State) (add : List ℕ) → AreDeleted c 4 s
-    → IsAddTp (word_of add) → register (seen s) (rs1_of (word_of add)) ≡ 0
-    → s.registers tp < 2 ^ 64 → Stands 4 c.old s.pc add
-    → IsLeftOut c k s (rd_of (word_of add)) (s.registers tp)
+SumIsDeleted = (add : List ℕ) → IsAddTp (word_of add) → SumGoes (λ c. AreDeleted c 4) add
 
 -- ---- low parts
+
+-- the relocation of a low part: stores have their own
+abbrev pub low_row : Action → Option RowInfo
+low_row (stores f) = riscv_row names.R_RISCV_LO12_S
+low_row (stores_float f) = riscv_row names.R_RISCV_LO12_S
+low_row action = riscv_row names.R_RISCV_LO12_I
+
+-- what the instruction at an offset does with its sum
+abbrev pub action_at : List ℕ → ℕ → Option Action
+action_at section o =
+    action_of (opcode_of (word_at section o)) (funct3_of (word_at section o))
+
+-- that of a low part of an offset from the thread pointer
+abbrev pub offset_row : Action → Option RowInfo
+offset_row (stores f) = riscv_row names.R_RISCV_TPREL_LO12_S
+offset_row (stores_float f) = riscv_row names.R_RISCV_TPREL_LO12_S
+offset_row action = riscv_row names.R_RISCV_TPREL_LO12_I
 
 -- what the instruction of a word does with a sum
 abbrev pub uses : Action → ℕ → ℕ → State → State
@@ -229,26 +268,29 @@ IsCall c n x k s call relocated =
     (put link_register (sum_64 x.place 8) (even plt_address x)
     (put base (upper_from x.place relocated) (sum_64 x.place 4) s))
 
+-- New has n bytes of m instructions, which go to a target.
+abbrev pub CallBecomes : List ℕ → Operands → ℕ → ℕ → ℕ → (Code → Type 0) → RiscVRelocation → Type 0
+CallBecomes call y n m target NewHas name =
+    (c : Code) (x : Operands) (k : Kinds) (s : State) → AreAddresses x → AreBefore c 8 n x y s
+    → target ≡ c.moved (even plt_address x) → (old : Has 8 c.old x.place (riscv_row name) x call)
+    → NewHas c → IsCall c m x k s call old.relocated
+
 -- They become a jump of n bytes that links rY.
 abbrev pub CallTo : RiscVRelocation → ℕ → RiscVRelocation → (List ℕ → ℕ → Type 0) → Type 0
 CallTo name n new_name IsJump =
-    (c : Code) (x y : Operands) (k : Kinds) (s : State) (call jump : List ℕ)
-    → AreAddresses x → AreAddresses y → AreBefore c 8 n x y s
-    → symbol_address y ≡ c.moved (even plt_address x)
+    (y : Operands) (call jump : List ℕ) → AreAddresses y
     → IsCallPair (word_of call) (word_of (drop 4 call)) → rd_of (word_of call) ≢ 0
     → IsJump jump (rd_of (word_of (drop 4 call)))
-    → (old : Has 8 c.old x.place (riscv_row name) x call)
-    → Has n c.new y.place (riscv_row new_name) y jump → IsCall c 1 x k s call old.relocated
+    → CallBecomes call y n 1 (symbol_address y)
+    (λ c. Has n c.new y.place (riscv_row new_name) y jump) name
 
 -- They stay, with the value of their relocation in each layout.
 abbrev pub CallStays : RiscVRelocation → Type 0
 CallStays name =
-    (c : Code) (x y : Operands) (k : Kinds) (s : State) (call : List ℕ)
-    → AreAddresses x → AreAddresses y → AreBefore c 8 8 x y s
-    → even plt_address y ≡ c.moved (even plt_address x)
+    (y : Operands) (call : List ℕ) → AreAddresses y
     → IsCallPair (word_of call) (word_of (drop 4 call)) → rd_of (word_of call) ≢ 0
-    → (old : Has 8 c.old x.place (riscv_row name) x call)
-    → Has 8 c.new y.place (riscv_row name) y call → IsCall c 2 x k s call old.relocated
+    → CallBecomes call y 8 2 (even plt_address y) (λ c. Has 8 c.new y.place (riscv_row name) y call)
+    name
 
 -- `jal` of a register, and `c.j`, of distance 0
 abbrev pub IsJal : List ℕ → ℕ → Type 0
@@ -341,71 +383,90 @@ AccessesAgree =
     → (t : State) → Agree (link c) k s t
     → Agree (link c) k' (uses action word sum s) (uses action word sum t)
 
--- ---- loads of addresses from the GOT
+-- ---- loads of addresses from the GOT (psABI, linker relaxation)
 
--- `auipc rX` and `ld rY` over rX, of an entry that holds the address, become `auipc rX` and
--- `addi rY`. Then rY has the address in both, which are of a kind.
-abbrev pub GotToAddress : Type 0
-GotToAddress =
-    (c : Code) (x y : Operands) (k : Kinds) (kind : Kind) (s : State) (auipc ld : List ℕ)
-    → AreAddresses x → AreAddresses y → AreBefore c 8 8 x y s → 4 ≤ length ld
-    → IsLoadFromGot (word_of auipc) (word_of ld)
-    → loaded 8 s.memory (entry_and_addend x) ≡ symbol_address x
-    → AreOf (link c) 8 kind (symbol_address x) (symbol_address y)
-    → (old : Has 4 c.old x.place (riscv_row names.R_RISCV_GOT_HI20) x auipc)
-    → Has 4 c.old (sum_64 x.place 4) (riscv_row names.R_RISCV_PCREL_LO12_I) (of_entry x) ld
-    → Has 4 c.new y.place (riscv_row names.R_RISCV_PCREL_HI20) y auipc
-    → Has 4 c.new (sum_64 y.place 4) (riscv_row names.R_RISCV_PCREL_LO12_I) y
-    (after_rewrite kinds.LdToAddi ld 0)
-    → let base = rd_of (word_of auipc) in
-    let rd = rd_of (word_of ld) in
-    Group (of_link (link c)) 2 k s (with_register rd kind (with_register base anything k))
-    (put rd (symbol_address x) (sum_64 x.place 8)
-    (put base (upper_from x.place old.relocated) (sum_64 x.place 4) s))
+-- `auipc rX`, and `ld rY` over rX
+pub record IsLoadFromGot (auipc ld : ℕ) : Type 0 where
+  pub first : IsAuipc auipc
+  pub second : IsLd ld
+  pub base : rs1_of ld ≡ rd_of auipc
+  pub not_zero : rd_of auipc ≢ 0
 
--- such instructions in old
+-- the operands of a low part whose high part requires a GOT entry
+abbrev pub of_entry : Operands → Operands
+of_entry y = record y { symbol = y.got_entry }
+
+-- `auipc rX` and `ld rY` of an entry that holds the address stand in old.
 pub record LoadFromGot (c : Code) (x : Operands) (s : State) (auipc ld : List ℕ) : Type 0 where
   pub small : AreAddresses x
-  pub auipc_inside : 4 ≤ length auipc
-  pub ld_inside : 4 ≤ length ld
-  pub instructions : IsLoadFromGot (word_of auipc) (word_of ld)
   pub entry : loaded 8 s.memory (entry_and_addend x) ≡ symbol_address x
   pub high : Has 4 c.old x.place (riscv_row names.R_RISCV_GOT_HI20) x auipc
   pub low :
       Has 4 c.old (sum_64 x.place 4) (riscv_row names.R_RISCV_PCREL_LO12_I) (of_entry x) ld
 
--- In place of such instructions new runs n others, and rY has the address in both, which is the
--- same.
-abbrev pub LeavesAddress : ℕ → (c : Code) (x : Operands) (k : Kinds) (s : State) (auipc ld : List ℕ)
-    → LoadFromGot c x s auipc ld → Type 0
-LeavesAddress n c x k s auipc ld load =
-    let base = rd_of (word_of auipc) in
+-- They are a group, in whose place new has n instructions. What is said of new's operands holds.
+-- Then rY has the address in both, which are of a kind.
+abbrev pub LoadBecomes : ℕ → (Operands → Type 0) → (Operands → Code → Type 0) → List ℕ → List ℕ
+    → Type 0
+LoadBecomes n Said NewHas auipc ld =
+    (c : Code) (x y : Operands) (k : Kinds) (kind : Kind) (s : State) → AreBefore c 8 (4 * n) x y s
+    → (load : LoadFromGot c x s auipc ld)
+    → AreOf (link c) 8 kind (symbol_address x) (symbol_address y) → Said y → NewHas y c
+    → let base = rd_of (word_of auipc) in
     let rd = rd_of (word_of ld) in
-    Group (of_link (link c)) n k s (with_register rd same (with_register base anything k))
+    Group (of_link (link c)) n k s (with_register rd kind (with_register base anything k))
     (put rd (symbol_address x) (sum_64 x.place 8)
     (put base (upper_from x.place load.high.relocated) (sum_64 x.place 4) s))
 
--- They become `lui rX` and `addi rY` over rX, where the address is the same in both layouts.
+-- `auipc rX` and `addi rY` over rX
+abbrev pub GotToAddress : Type 0
+GotToAddress =
+    (auipc ld : List ℕ) → 4 ≤ length ld → IsLoadFromGot (word_of auipc) (word_of ld)
+    → LoadBecomes 2 AreAddresses
+    (λ y c. Has 4 c.new y.place (riscv_row names.R_RISCV_PCREL_HI20) y auipc
+    × Has 4 c.new (sum_64 y.place 4) (riscv_row names.R_RISCV_PCREL_LO12_I) y
+    (after_rewrite kinds.LdToAddi ld 0)) auipc ld
+
+-- `lui rX` and `addi rY` over rX
 abbrev pub GotToFixedAddress : Type 0
 GotToFixedAddress =
-    (c : Code) (x y : Operands) (k : Kinds) (s : State) (auipc ld : List ℕ)
-    → AreBefore c 8 8 x y s → (load : LoadFromGot c x s auipc ld) → AreAddresses y
-    → symbol_address x ≡ symbol_address y
-    → Has 4 c.new y.place (riscv_row names.R_RISCV_HI20) y (after_rewrite kinds.AuipcToLui auipc 0)
-    → Has 4 c.new (sum_64 y.place 4) (riscv_row names.R_RISCV_LO12_I) y
-    (after_rewrite kinds.LdToAddi ld 0)
-    → LeavesAddress 2 c x k s auipc ld load
+    (auipc ld : List ℕ) → 4 ≤ length auipc → 4 ≤ length ld
+    → IsLoadFromGot (word_of auipc) (word_of ld)
+    → LoadBecomes 2 AreAddresses
+    (λ y c. Has 4 c.new y.place (riscv_row names.R_RISCV_HI20) y
+    (after_rewrite kinds.AuipcToLui auipc 0)
+    × Has 4 c.new (sum_64 y.place 4) (riscv_row names.R_RISCV_LO12_I) y
+    (after_rewrite kinds.LdToAddi ld 0)) auipc ld
 
--- They become `addi rY, x0` alone, where it is a number of 12 bits.
+-- `addi rY, x0` alone, where the address is a number of 12 bits
 abbrev pub GotToLowAddress : Type 0
 GotToLowAddress =
-    (c : Code) (x y : Operands) (k : Kinds) (s : State) (auipc ld : List ℕ)
-    → AreBefore c 8 4 x y s → (load : LoadFromGot c x s auipc ld) → symbol_address x ≡ symbol_address y → IsLow12 y
-    → Has 4 c.new y.place (riscv_row names.R_RISCV_LO12_I) y
-    (after_rewrite kinds.LdToAddiZero ld 0)
-    → LeavesAddress 1 c x k s auipc ld load
+    (auipc ld : List ℕ) → 4 ≤ length ld → IsLoadFromGot (word_of auipc) (word_of ld)
+    → LoadBecomes 1 IsLow12
+    (λ y c. Has 4 c.new y.place (riscv_row names.R_RISCV_LO12_I) y
+    (after_rewrite kinds.LdToAddiZero ld 0)) auipc ld
 
--- ---- TLS descriptors
+-- ---- TLS descriptors (psABI, "TLS Descriptors -> Initial Exec Relaxation", "TLS Descriptors ->
+-- Local Exec Relaxation")
+
+-- `t0` is register 5.
+abbrev pub t0 : ℕ
+t0 = 5
+
+-- `auipc rX`, `ld rY` over rX, `addi a0` over rX, and `jalr t0` over rY
+pub record AreOfDescriptor (auipc ld addi jalr : ℕ) : Type 0 where
+  pub first : IsAuipc auipc
+  pub second : IsLd ld
+  pub third : IsAddiToA0 addi
+  pub fourth : IsCallOfDescriptor jalr
+  pub base_of_ld : rs1_of ld ≡ rd_of auipc
+  pub base_of_addi : rs1_of addi ≡ rd_of auipc
+  pub base_of_jalr : rs1_of jalr ≡ rd_of ld
+  pub base_not_zero : rd_of auipc ≢ 0
+  pub function_not_zero : rd_of ld ≢ 0
+  -- the `ld` keeps rX, and the `addi` keeps rY
+  pub apart : rd_of ld ≢ rd_of auipc
+  pub function_not_a0 : rd_of ld ≢ a0
 
 -- the state in which `jalr t0` calls the descriptor's function
 abbrev pub called : Operands → ℕ → ℕ → ℕ → State → State
@@ -453,28 +514,33 @@ pub record AreNops (c : Code) (n m : ℕ) (x : Operands) (at : ℕ) : Type 0 whe
   pub place : at ≡ sum_64 (c.moved x.place) (4 * n)
   pub next : sum_64 at (4 * m) ≡ c.moved (sum_64 x.place 16)
 
+-- The sequence is a group, in whose place new has n nops and then m instructions. What is said of
+-- new's operands holds.
+abbrev pub OffsetBecomes : ℕ → (Operands → Type 0) → (Operands → Code → ℕ → Type 0)
+    → (auipc ld addi jalr : List ℕ) → Type 0
+OffsetBecomes m Said NewHas auipc ld addi jalr =
+    (c : Code) (n at : ℕ) (x y : Operands) (k k' : Kinds) (s s' : State)
+    → Descriptor c x (thread_offset x) k s k' s' auipc ld addi jalr
+    → thread_offset x ≡ thread_offset y → Said y → AreNops c n m x at → NewHas y c at
+    → Group (of_link (link c)) (n + m) k s k' s'
+
 -- `lui a0` and `addi a0, a0` of the offset
 abbrev pub DescriptorToLocalExec : Type 0
 DescriptorToLocalExec =
-    (c : Code) (n at : ℕ) (x y : Operands) (k k' : Kinds) (s s' : State)
-    (auipc ld addi jalr : List ℕ)
-    → Descriptor c x (thread_offset x) k s k' s' auipc ld addi jalr → AreAddresses y
-    → thread_offset x ≡ thread_offset y → AreNops c n 2 x at → length addi ≡ 4 → length jalr ≡ 4
-    → Has 4 c.new at (riscv_row names.R_RISCV_TPREL_HI20) y (after_rewrite kinds.AddiToLui addi 0)
-    → Has 4 c.new (sum_64 at 4) (riscv_row names.R_RISCV_TPREL_LO12_I) y
-    (after_rewrite kinds.CallToAddi jalr 0)
-    → Group (of_link (link c)) (n + 2) k s k' s'
+    (auipc ld addi jalr : List ℕ) → length addi ≡ 4 → length jalr ≡ 4
+    → OffsetBecomes 2 AreAddresses
+    (λ y c at. Has 4 c.new at (riscv_row names.R_RISCV_TPREL_HI20) y
+    (after_rewrite kinds.AddiToLui addi 0)
+    × Has 4 c.new (sum_64 at 4) (riscv_row names.R_RISCV_TPREL_LO12_I) y
+    (after_rewrite kinds.CallToAddi jalr 0)) auipc ld addi jalr
 
 -- `addi a0, x0` alone, where the offset has 12 bits
 abbrev pub DescriptorToShortLocalExec : Type 0
 DescriptorToShortLocalExec =
-    (c : Code) (n at : ℕ) (x y : Operands) (k k' : Kinds) (s s' : State)
-    (auipc ld addi jalr : List ℕ)
-    → Descriptor c x (thread_offset x) k s k' s' auipc ld addi jalr
-    → thread_offset x ≡ thread_offset y → IsLowOffset y → AreNops c n 1 x at → length jalr ≡ 4
-    → Has 4 c.new at (riscv_row names.R_RISCV_TPREL_LO12_I) y
-    (after_rewrite kinds.CallToAddiZero jalr 0)
-    → Group (of_link (link c)) (n + 1) k s k' s'
+    (auipc ld addi jalr : List ℕ) → length jalr ≡ 4
+    → OffsetBecomes 1 IsLowOffset
+    (λ y c at. Has 4 c.new at (riscv_row names.R_RISCV_TPREL_LO12_I) y
+    (after_rewrite kinds.CallToAddiZero jalr 0)) auipc ld addi jalr
 
 -- `auipc a0` and `ld a0` of an entry that holds the number that the function returns, whatever
 -- state of new agrees

@@ -11,6 +11,7 @@ ghost use Rattle.linker_laws.specs.AArch64RelocationLaws as aarch64_laws;
 ghost use Rattle.linker_laws.specs.LoongArchRelocationLaws as loongarch_laws;
 ghost use Rattle.linker_laws.specs.Ppc64RelocationLaws as ppc64_laws;
 ghost use Rattle.linker_laws.specs.RiscVRelocationLaws as riscv_laws;
+ghost use Rattle.linker_laws.specs.Schemes as schemes;
 ghost use Rattle.linker_laws.specs.X86RelocationLaws as x86_laws;
 
 /// AArch64: `adrp` with `add`, loads and stores, also through the GOT and for each model of TLS;
@@ -73,11 +74,11 @@ pub fn ppc64()
 /// for each model of TLS; calls, which clear bit 0 of the sum; jumps and branches; differences of
 /// labels.
 pub fn riscv64()
-    ensures absolute { riscv_laws.AbsoluteAddresses }
+    ensures absolute { riscv_laws.AbsoluteAddresses schemes.Law }
     ensures relative { riscv_laws.RelativeAddresses }
-    ensures entries { riscv_laws.EntryAddresses }
-    ensures descriptors { riscv_laws.DescriptorAddresses }
-    ensures thread { riscv_laws.ThreadAddresses }
+    ensures entries { riscv_laws.EntryAddresses schemes.Law }
+    ensures descriptors { riscv_laws.DescriptorAddresses schemes.Law }
+    ensures thread { riscv_laws.ThreadAddresses schemes.Law }
     ensures calls { riscv_laws.Calls }
     ensures jumps { riscv_laws.Jumps }
     ensures distances { riscv_laws.Distances }

@@ -3,8 +3,8 @@
 //!
 //! The functions do nothing.
 
-ghost use Rattle.linker_laws.specs.AArch64RewriteLaws as aarch64_laws;
-ghost use Rattle.linker_laws.specs.AArch64Worked as aarch64_worked;
+ghost use Rattle.linker_laws.specs.AArch64Groups as aarch64_laws;
+ghost use Rattle.linker_laws.specs.AArch64GroupsWorked as aarch64_worked;
 ghost use Rattle.linker_laws.specs.RiscVExamples as riscv_examples;
 ghost use Rattle.linker_laws.specs.X86Examples as x86_examples;
 
