@@ -3,6 +3,7 @@
 use Rattle.std.specs.Prelude.{◌≡◌, ℕ, ◌<◌, ◌/◌, ◌==◌, ◌||◌, ◌&&◌, not, Bool, true, false, List}
 use Rattle.std.specs.Prelude.{length, Option, Some, None, slice_get}
 use Rattle.linker_rewriting.specs.Imports.{Rela, Symbol, SymbolFacts, relocation_in}
+use Rattle.linker_rewriting.specs.declared.facts.RelaxContext.{RelaxContext as Passed}
 
 -- Its address isn't that of a definition. A thread-local one that nothing defines is at the thread
 -- pointer (`address_in`), so that offsets may be computed as of a definition.
@@ -34,6 +35,10 @@ AgreeBelow facts symbols bytes limit =
 -- about none of a section's relocations
 abbrev pub Agree : List SymbolFacts → List Symbol → List ℕ → Type 0
 Agree facts symbols bytes = AgreeBelow facts symbols bytes (length bytes / 24)
+
+-- what is said of the two tables that a context has
+abbrev pub of_tables {ℓ} : {X : Type ℓ} → (List SymbolFacts → List Symbol → X) → Passed → X
+of_tables Is s = Is s.symbols.now s.values.now
 
 -- a symbol is that of the first relocation about which they do
 pub record IsContradiction (facts : List SymbolFacts) (symbols : List Symbol) (bytes : List ℕ)

@@ -377,6 +377,12 @@ AreBased addresses values gp before after limit =
     (n : ℕ) → n < limit
     → relocation_in after n ≡ based_relocation addresses values gp (relocation_in before n)
 
+-- all are placed
+abbrev pub ArePlaced : Addresses → List Symbol → ℕ → List ℕ → List ℕ → Type 0
+ArePlaced addresses values gp bytes section =
+    (n : ℕ) → n < length bytes / 24
+    → is_placed addresses values gp section (relocation_in bytes n) ≡ true
+
 -- the relocation with an index is the first that isn't placed
 pub record IsFirstUnplaced (addresses : Addresses) (values : List Symbol) (gp : ℕ)
     (bytes section : List ℕ) (n : ℕ) : Type 0 where

@@ -1,12 +1,11 @@
 //! Whether the instruction of a relocation can be rewritten, if each other one of its group can.
 
-ghost use Rattle.std.specs.Prelude.{◌≡◌, ◌+◌, ◌<◌, ◌≤◌, slice_get, IfSome, true};
+ghost use Rattle.std.specs.Prelude.{◌≡◌, ◌+◌, ◌<◌, ◌≤◌, slice_get, true};
 ghost use Rattle.linker_utils.specs.Relaxations.{relaxation_skipped};
 ghost use Rattle.linker_section.specs.Relocations.{relocation_at};
 ghost use Rattle.linker_rewriting.specs.Candidates as spec;
-ghost use Rattle.linker_rewriting.specs.Decisions.{IsThere};
-ghost use Rattle.linker_rewriting.specs.declared.decisions.Decision.TheVariants.{Rewritten};
 ghost use Rattle.linker_rewriting.specs.Facts.{context_of};
+ghost use Rattle.linker_rewriting.specs.Inner.Passed.{CanBeRewritten, at_site};
 
 use crate::facts::{OutputFacts, RelaxContext, SymbolFacts, link_facts};
 use crate::phases::Phase;
@@ -17,6 +16,9 @@ use linker_section::facts::{Addresses, Symbol};
 use linker_section::relocations::{Rela, relocation_at};
 use linker_utils::architecture::{Relaxation, choose, may_be_skipped};
 use linker_utils::elf::{Architecture, Choice, LinkFacts, Operands};
+
+/// A rewrite, and the `r_type` of its relocation after it.
+pub(crate) type Chosen = Choice<Relaxation, u32>;
 
 #[inline(always)]
 pub(crate) fn is_tls_get_addr(symbols: &[SymbolFacts], symbol: u32) -> bool
@@ -85,12 +87,10 @@ pub(crate) fn candidate_by(
     context: &RelaxContext<'_>,
     site: &Site<'_>,
     facts: &Option<LinkFacts>,
-) -> Option<Choice<Relaxation, u32>>
+) -> Option<Chosen>
     requires { site.now.index + 3 ≤ usize.MAX }
-    ensures candidate { spec.IsCandidateWith (context_of context.now) site.now.relocations.now
-        site.now.section.now site.now.index site.now.relocation facts.now result }
-    ensures there { IfSome result
-        (λ chosen. IsThere (Rewritten chosen) site.now.section.now site.now.relocation.offset) }
+    ensures candidate { at_site spec.IsCandidateWith context.now site.now facts.now result }
+    ensures there { CanBeRewritten site.now result }
 {
     let Some(facts) = facts else {
         return None;
@@ -127,15 +127,10 @@ fn own_facts(context: &RelaxContext<'_>, site: &Site<'_>) -> Option<LinkFacts>
 /// The rewrite of the instruction of the relocation with an index by its own symbol, as
 /// `candidate_by` says.
 #[inline(always)]
-pub(crate) fn candidate(
-    context: &RelaxContext<'_>,
-    site: &Site<'_>,
-) -> Option<Choice<Relaxation, u32>>
+pub(crate) fn candidate(context: &RelaxContext<'_>, site: &Site<'_>) -> Option<Chosen>
     requires { site.now.index + 3 ≤ usize.MAX }
-    ensures candidate { spec.IsCandidate (context_of context.now) site.now.relocations.now
-        site.now.section.now site.now.index site.now.relocation result }
-    ensures there { IfSome result
-        (λ chosen. IsThere (Rewritten chosen) site.now.section.now site.now.relocation.offset) }
+    ensures candidate { at_site spec.IsCandidate context.now site.now result }
+    ensures there { CanBeRewritten site.now result }
 {
     candidate_by(context, site, &own_facts(context, site))
 }
@@ -161,8 +156,7 @@ fn at_base(facts: Option<LinkFacts>) -> Option<LinkFacts>
 #[inline(always)]
 pub(crate) fn is_matched(context: &RelaxContext<'_>, site: &Site<'_>) -> bool
     requires { site.now.index + 3 ≤ usize.MAX }
-    ensures { spec.IsMatched (context_of context.now) site.now.relocations.now site.now.section.now
-        site.now.index site.now.relocation result }
+    ensures { at_site spec.IsMatched context.now site.now result }
 {
     candidate_by(context, site, &at_base(own_facts(context, site))).is_some()
 }

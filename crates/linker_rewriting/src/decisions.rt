@@ -8,11 +8,11 @@ ghost use Rattle.linker_section.specs.Relocations.{relocation_in, relocation_at}
 ghost use Rattle.linker_rewriting.specs.Decisions as spec;
 ghost use Rattle.linker_rewriting.specs.Facts.{context_of};
 ghost use Rattle.linker_rewriting.specs.Inner.Calls.{IsLeft};
-ghost use Rattle.linker_rewriting.specs.Inner.Left.{AreKept};
+ghost use Rattle.linker_rewriting.specs.Inner.Passed.{CanStand, StayUnless, at_site};
 ghost use Rattle.linker_rewriting.specs.RiscVPcrelGroups.{IsInLabel, IsLabelNote};
 ghost use Rattle.linker_rewriting.specs.TocIndirection.{subject_of};
 
-use crate::candidates::candidate;
+use crate::candidates::{Chosen, candidate};
 use crate::facts::{OutputFacts, RelaxContext, SymbolFacts};
 use crate::groups::{Scope, UnrelaxableGroups, group_stays, scope_in};
 use crate::phases::Phase;
@@ -161,8 +161,8 @@ impl Decision {
 fn is_next_rewritten(context: &RelaxContext<'_>, site: &Site<'_>) -> bool
     requires { site.now.index + 4 ≤ usize.MAX }
     ensures { spec.IsRewrittenAt (context_of context.now) site.now.relocations.now
-        site.now.section.now (site.now.index + 1) (relocation_at site.now.relocations.now
-        (site.now.index + 1)) result }
+        site.now.section.now (site.now.index + 1)
+        (relocation_at site.now.relocations.now (site.now.index + 1)) result }
 {
     let index = site.index + 1;
     let Some(relocation) = relocation_at(site.relocations, index) else {
@@ -202,7 +202,7 @@ pub(crate) fn subject_of(relocation: &Rela) -> Subject
 }
 
 #[inline(always)]
-fn label_decision(phase: Phase, chosen: Choice<Relaxation, u32>, high: &Rela) -> Decision
+fn label_decision(phase: Phase, chosen: Chosen, high: &Rela) -> Decision
     ensures { result ≡ spec.label_decision phase chosen high.now }
 {
     if takes_symbol(phase, chosen.relocation) {
@@ -221,8 +221,7 @@ fn decide_label(stays: bool, context: &RelaxContext<'_>, site: &Site<'_>) -> Dec
         site.now.relocation.r_type true }
     requires noted { IsLabelNote (context_of context.now) site.now.relocations.now
         site.now.section.now site.now.relocation stays }
-    ensures decision { spec.IsLabelDecision (context_of context.now) site.now.relocations.now
-        site.now.section.now site.now.index site.now.relocation result }
+    ensures decision { at_site spec.IsLabelDecision context.now site.now result }
     ensures there { spec.IsThere result site.now.section.now site.now.relocation.offset }
 {
     if stays {
@@ -249,10 +248,9 @@ fn decide(rule: &Groups<'_>, stays: bool, site: &Site<'_>) -> Option<Decision>
     requires noted { IsInLabel rule.now.context.now.architecture rule.now.context.now.phase
         site.now.relocation.r_type true → IsLabelNote (context_of rule.now.context.now)
         site.now.relocations.now site.now.section.now site.now.relocation stays }
-    ensures decision { spec.IsDecision (context_of rule.now.context.now) rule.now.kept.now
-        site.now.relocations.now site.now.section.now site.now.index site.now.relocation result }
-    ensures there { IfSome result
-        (λ d. spec.IsThere d site.now.section.now site.now.relocation.offset) }
+    ensures decision { at_site (λ s. spec.IsDecision s rule.now.kept.now) rule.now.context.now
+        site.now result }
+    ensures there { CanStand site.now result }
 {
     let (context, symbol) = (rule.context, site.relocation.symbol);
     let is_grouped = match scope_in(context.architecture, context.phase, site.relocation.r_type) {
@@ -406,8 +404,7 @@ fn decide_all(
     ensures decided { OnOk result (spec.AreAllDecided (spec.IsDecidedAfter (context_of context.now)
         kept.now relocations.now section.now) spec.start_by spec.end_by context.now.architecture
         relocations.now section.now (decisions_in decisions.new)) }
-    ensures left { IfOk result (λ changes. changes ≡ false
-        → AreKept (decisions_in decisions.new) (length relocations.now / 24)) }
+    ensures left { IfOk result (λ changes. StayUnless changes relocations.now decisions.new) }
     ensures form { OnOk result (spec.EachIs IsWrittenDecision relocations.now decisions.new) }
     ensures others_stay { spec.RestStays relocations.now decisions.old decisions.new }
     ensures rejected { IfErr result (spec.IsRejectedIn (context_of context.now) kept.now
@@ -445,8 +442,7 @@ pub(crate) fn decide_section(
     ensures decided { OnOk result (spec.AreAllDecided (spec.IsDecidedAfter (context_of context.now)
         kept.now relocations.now section.now) spec.start_by spec.end_by context.now.architecture
         relocations.now section.now (decisions_in decisions.new)) }
-    ensures left { IfOk result (λ changes. changes ≡ false
-        → AreKept (decisions_in decisions.new) (length relocations.now / 24)) }
+    ensures left { IfOk result (λ changes. StayUnless changes relocations.now decisions.new) }
     ensures form { OnOk result (spec.EachIs IsWrittenDecision relocations.now decisions.new) }
     ensures others_stay { spec.RestStays relocations.now decisions.old decisions.new }
     ensures rejected { IfErr result (spec.IsRejectedIn (context_of context.now) kept.now

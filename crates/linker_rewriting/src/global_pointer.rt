@@ -8,11 +8,11 @@ ghost use Rattle.std.specs.Prelude.{IfSome, IfErr, IfOk, OnOk, OnErr, IsTrue, �
 ghost use Rattle.std.specs.Prelude.{◌==◌, true, MatchOption, None, ⊤};
 ghost use Rattle.std.specs.Int.{w32, from_le_bytes};
 ghost use Rattle.linker_rewriting.specs.Numbers.{decisions_in, IsWrittenDecision};
-ghost use Rattle.linker_rewriting.specs.Agreement.{Agree, IsContradiction};
-ghost use Rattle.linker_rewriting.specs.Decisions.{AllCanBeMade, IsThere, IsWithin, EachIs};
-ghost use Rattle.linker_rewriting.specs.Decisions.{RestStays, deletions_by, IsRejectedFirst};
-ghost use Rattle.linker_rewriting.specs.Decisions.{pairs_in};
+ghost use Rattle.linker_rewriting.specs.Agreement.{Agree, IsContradiction, of_tables};
+ghost use Rattle.linker_rewriting.specs.Decisions.{EachIs, IsRejectedFirst, IsWithin, RestStays};
 ghost use Rattle.linker_rewriting.specs.Facts.{context_of};
+ghost use Rattle.linker_rewriting.specs.Inner.Passed.{AreListed, AreMakeable, CanStand, at_site};
+ghost use Rattle.linker_rewriting.specs.Inner.Passed.{by_bases};
 ghost use Rattle.linker_riscv64.specs.RiscVCalls.{word_at};
 ghost use Rattle.linker_riscv64.specs.RiscVFields.{opcode_of, funct3_of};
 ghost use Rattle.linker_utils.specs.RiscVRewrites.{adds_low12, with_rs1};
@@ -24,7 +24,7 @@ use crate::decisions::{
     Decision, DecisionNumbers, Deletion, RewritingError, decision_in, subject_of,
 };
 use crate::facts::{OutputFacts, RelaxContext, SymbolFacts, address_in, contradiction};
-use crate::relocations::{Site, relocation_in};
+use crate::relocations::{Site, relocation_in, site};
 use crate::riscv_pcrel_groups::{high_at, is_beyond, label_at};
 use crate::rules::{Rule, decide_by};
 use crate::sections::list_deletions;
@@ -96,22 +96,6 @@ fn labelled(context: &RelaxContext<'_>, relocations: &[u8], relocation: &Rela) -
     }
 }
 
-/// The relocation whose symbol and addend are those of a part.
-fn part_subject(
-    context: &RelaxContext<'_>,
-    relocations: &[u8],
-    relocation: &Rela,
-    part: Part,
-) -> Option<Rela>
-    ensures { spec.IsSubject context.now.addresses.now context.now.values.now relocations.now
-        relocation.now part result }
-{
-    match part {
-        Part::Labelled(_) => labelled(context, relocations, relocation),
-        Part::High(_) | Part::Low(_) => Some(*relocation),
-    }
-}
-
 /// What a relocation is of an address, and the relocation whose symbol and addend are its own.
 fn member_of(
     context: &RelaxContext<'_>,
@@ -121,8 +105,10 @@ fn member_of(
     ensures { spec.IsMember (context_of context.now) relocations.now relocation.now result }
 {
     let part = part_of(context.architecture, relocation.r_type)?;
-    let subject = part_subject(context, relocations, relocation, part)?;
-    Some((part, subject))
+    match part {
+        Part::Labelled(_) => Some((part, labelled(context, relocations, relocation)?)),
+        Part::High(_) | Part::Low(_) => Some((part, *relocation)),
+    }
 }
 
 /// Whether 12 signed bits hold the distance of an address from another one.
@@ -232,9 +218,8 @@ struct Parts<'a> {
 #[inline(always)]
 fn fits(parts: &Parts<'_>, site: &Site<'_>, member: &(Part, Rela)) -> bool
     requires { site.now.index < length site.now.relocations.now / 24 }
-    ensures { result ≡ spec.fits (context_of parts.now.context.now) parts.now.gp parts.now.ascends
-        site.now.relocations.now site.now.section.now site.now.index site.now.relocation
-        member.now }
+    ensures { result ≡ at_site (λ s. spec.fits s parts.now.gp parts.now.ascends)
+        parts.now.context.now site.now member.now }
 {
     let (context, relocation) = (parts.context, &site.relocation);
     let (relocations, index) = (site.relocations, site.index);
@@ -251,8 +236,8 @@ fn fits(parts: &Parts<'_>, site: &Site<'_>, member: &(Part, Rela)) -> bool
 fn keeping_symbol(parts: &Parts<'_>, site: &Site<'_>) -> Option<usize>
     requires index { site.now.index < length site.now.relocations.now / 24 }
     requires ascending { IsTrue parts.now.ascends ↔ IsAscending site.now.relocations.now }
-    ensures { spec.IsKeepingSymbol (context_of parts.now.context.now) parts.now.gp
-        site.now.relocations.now site.now.section.now site.now.index site.now.relocation result }
+    ensures { at_site (λ s. spec.IsKeepingSymbol s parts.now.gp) parts.now.context.now site.now
+        result }
 {
     let Some(member) = member_of(parts.context, site.relocations, &site.relocation) else {
         return None;
@@ -285,10 +270,8 @@ pub fn survey_global_pointer(
 ) -> Result<(), usize>
     ensures surveyed { OnOk result (spec.AreSymbolsSurveyed (context_of context.now) gp
         relocations.now section.now kept.old kept.new (length relocations.now / 24)) }
-    ensures agree { OnOk result (Agree context.now.symbols.now context.now.values.now
-        relocations.now) }
-    ensures contradiction { IfErr result (IsContradiction context.now.symbols.now
-        context.now.values.now relocations.now) }
+    ensures agree { OnOk result (of_tables Agree context.now relocations.now) }
+    ensures contradiction { IfErr result (of_tables IsContradiction context.now relocations.now) }
     ensures unchanged { OnErr result (kept.new ≡ kept.old) }
 {
     if let Some(symbol) = contradiction(context.symbols, context.values, relocations) {
@@ -300,14 +283,8 @@ pub fn survey_global_pointer(
         ascends: is_ascending(relocations),
     };
     for index in 0..relocations_len(relocations) {
-        let site = Site {
-            relocations,
-            section,
-            index,
-            relocation: relocation_in(relocations, index),
-        };
-        let symbol = keeping_symbol(&parts, &site);
-        keep_word(kept, symbol);
+        let site = site!(relocations, section, index);
+        keep_word(kept, keeping_symbol(&parts, &site));
     }
     Ok(())
 }
@@ -341,11 +318,9 @@ struct Symbols<'a, 'b> {
 fn decide_part(rule: &Symbols<'_, '_>, site: &Site<'_>) -> Option<Decision>
     requires index { site.now.index < length site.now.relocations.now / 24 }
     requires ascending { IsTrue rule.now.parts.ascends ↔ IsAscending site.now.relocations.now }
-    ensures decision { spec.IsPartDecided (context_of rule.now.parts.context.now) rule.now.parts.gp
-        rule.now.kept.now site.now.relocations.now site.now.section.now site.now.index
-        site.now.relocation result }
-    ensures there { IfSome result
-        (λ d. IsThere d site.now.section.now site.now.relocation.offset) }
+    ensures decision { at_site (λ s. spec.IsPartDecided s rule.now.parts.gp rule.now.kept.now)
+        rule.now.parts.context.now site.now result }
+    ensures there { CanStand site.now result }
     ensures within { IfSome result (IsWithin spec.part_start spec.part_end
         site.now.relocation.offset) }
     ensures ends { IfSome result (λ d. (limit : ℕ) → site.now.relocation.offset ≤ limit → length
@@ -503,21 +478,17 @@ pub fn rewrite_global_pointer(
     decisions: &mut [DecisionNumbers],
     deleted: &mut [Deletion],
 ) -> Result<usize, RewritingError>
-    ensures agree { OnOk result (Agree context.now.symbols.now context.now.values.now
-        relocations.old) }
+    ensures agree { OnOk result (of_tables Agree context.now relocations.old) }
     ensures rewritten { OnOk result (spec.ArePartsRewrittenAs (context_of context.now) gp kept.now
         relocations.old relocations.new section.now (decisions_in decisions.new)) }
-    ensures within { OnOk result (AllCanBeMade relocations.old section.now
-        (decisions_in decisions.new) (length relocations.old / 24)) }
-    ensures listed { IfOk result (λ len. take len (pairs_in deleted.new)
-        ≡ deletions_by relocations.old (decisions_in decisions.new)
-        (length relocations.old / 24)) }
+    ensures within { OnOk result (AreMakeable relocations.old section.now decisions.new) }
+    ensures listed { IfOk result (AreListed relocations.old decisions.new deleted.new) }
     ensures form { OnOk result (EachIs IsWrittenDecision relocations.old decisions.new) }
     ensures others_stay { RestStays relocations.old decisions.old decisions.new }
     ensures deletions_stay { IfOk result (λ len. drop len deleted.new ≡ drop len deleted.old) }
-    ensures rejected { IfErr result (IsRejectedFirst context.now.symbols.now context.now.values.now
-        relocations.old (spec.ArePartsRejected (context_of context.now) gp kept.now relocations.old
-        section.now (decisions_in decisions.new) (length deleted.old))) }
+    ensures rejected { IfErr result (of_tables IsRejectedFirst context.now relocations.old
+        (spec.ArePartsRejected (context_of context.now) gp kept.now relocations.old section.now
+        (decisions_in decisions.new) (length deleted.old))) }
     ensures surveyed { IfErr result (spec.MeansSymbolsUnsurveyed (context_of context.now) gp
         relocations.old section.now kept.now) }
     ensures entries { OnErr result (relocations.new ≡ relocations.old) }
@@ -565,8 +536,7 @@ struct Bases<'a> {
 /// The base register that reaches what a relocation refers to, x0 or x3, and the address that it
 /// has.
 fn base_of(bases: &Bases<'_>, relocation: &Rela) -> Option<(u32, u64)>
-    ensures base { result ≡ spec.base_of bases.now.addresses.now bases.now.values.now bases.now.gp
-        relocation.now }
+    ensures base { result ≡ by_bases spec.base_of bases.now relocation.now }
     ensures register { IfSome result (λ base. base.0 ≤ 3) }
 {
     let value = bases.values.get(relocation.symbol as usize)?;
@@ -583,8 +553,7 @@ fn base_of(bases: &Bases<'_>, relocation: &Rela) -> Option<(u32, u64)>
 /// Whether a relocation is of no low part without a base, or its instruction is in the section and
 /// a base reaches what it refers to.
 fn is_placed(bases: &Bases<'_>, section: &[u8], relocation: &Rela) -> bool
-    ensures { result ≡ spec.is_placed bases.now.addresses.now bases.now.values.now bases.now.gp
-        section.now relocation.now }
+    ensures { result ≡ by_bases spec.is_placed bases.now section.now relocation.now }
 {
     match low_r_type(relocation.r_type) {
         Some(_) => has_word(section, relocation.offset) && base_of(bases, relocation).is_some(),
@@ -593,10 +562,8 @@ fn is_placed(bases: &Bases<'_>, section: &[u8], relocation: &Rela) -> bool
 }
 
 fn first_unplaced(bases: &Bases<'_>, relocations: &[u8], section: &[u8]) -> Option<usize>
-    ensures { MatchOption result ((n : ℕ) → n < length relocations.now / 24
-        → spec.is_placed bases.now.addresses.now bases.now.values.now bases.now.gp section.now
-        (relocation_in relocations.now n) ≡ true) (spec.IsFirstUnplaced bases.now.addresses.now
-        bases.now.values.now bases.now.gp relocations.now section.now) }
+    ensures { MatchOption result (by_bases spec.ArePlaced bases.now relocations.now section.now)
+        (by_bases spec.IsFirstUnplaced bases.now relocations.now section.now) }
 {
     for index in 0..relocations_len(relocations) {
         let relocation = relocation_in(relocations, index);
@@ -616,12 +583,10 @@ fn with_base(register: u32, word: u32) -> u32
 
 /// Writes the base of a low part. Returns its relocation after it.
 fn set_base(bases: &Bases<'_>, section: &mut [u8], relocation: &Rela) -> Rela
-    requires { spec.is_placed bases.now.addresses.now bases.now.values.now bases.now.gp section.old
-        relocation.now ≡ true }
-    ensures section { section.new ≡ spec.based_section bases.now.addresses.now bases.now.values.now
-        bases.now.gp section.old relocation.now }
-    ensures relocation { result ≡ spec.based_relocation bases.now.addresses.now bases.now.values.now
-        bases.now.gp relocation.now }
+    requires { by_bases spec.is_placed bases.now section.old relocation.now ≡ true }
+    ensures section { section.new ≡ by_bases spec.based_section bases.now section.old
+        relocation.now }
+    ensures relocation { result ≡ by_bases spec.based_relocation bases.now relocation.now }
 {
     let Some(r_type) = low_r_type(relocation.r_type) else {
         return *relocation;
@@ -640,12 +605,11 @@ fn set_base(bases: &Bases<'_>, section: &mut [u8], relocation: &Rela) -> Rela
 }
 
 fn set_bases(bases: &Bases<'_>, relocations: &mut [u8], section: &mut [u8])
-    requires { (n : ℕ) → n < length relocations.old / 24 → spec.is_placed bases.now.addresses.now
-        bases.now.values.now bases.now.gp section.old (relocation_in relocations.old n) ≡ true }
-    ensures relocations { spec.AreBased bases.now.addresses.now bases.now.values.now bases.now.gp
-        relocations.old relocations.new (length relocations.old / 24) }
-    ensures section { section.new ≡ spec.section_based bases.now.addresses.now bases.now.values.now
-        bases.now.gp relocations.old section.old (length relocations.old / 24) }
+    requires { by_bases spec.ArePlaced bases.now relocations.old section.old }
+    ensures relocations { by_bases spec.AreBased bases.now relocations.old relocations.new
+        (length relocations.old / 24) }
+    ensures section { section.new ≡ by_bases spec.section_based bases.now relocations.old
+        section.old (length relocations.old / 24) }
 {
     for index in 0..relocations_len(relocations) {
         let relocation = relocation_in(relocations, index);
@@ -676,9 +640,8 @@ pub fn finish_gp_relaxation(
         relocations.new (length relocations.old / 24)) }
     ensures section { OnOk result (section.new ≡ spec.section_based addresses.now values.now gp
         relocations.old section.old (length relocations.old / 24)) }
-    ensures placed { OnOk result ((n : ℕ) → n < length relocations.old / 24
-        → spec.is_placed addresses.now values.now gp section.old (relocation_in relocations.old n)
-        ≡ true) }
+    ensures placed { OnOk result
+        (spec.ArePlaced addresses.now values.now gp relocations.old section.old) }
     ensures first { IfErr result
         (spec.IsFirstUnplaced addresses.now values.now gp relocations.old section.old) }
     ensures bytes { OnErr result (section.new ≡ section.old) }

@@ -3,7 +3,7 @@
 
 ghost use Rattle.std.specs.Prelude.{◌≡◌, ◌≤◌, ◌<◌, ◌*◌, ◌/◌, ◌^◌, ◌↔◌, length, IsTrue, IfErr};
 ghost use Rattle.std.specs.Prelude.{IfSome, IfNone, OnOk, MatchOption};
-ghost use Rattle.linker_rewriting.specs.Agreement.{Agree};
+ghost use Rattle.linker_rewriting.specs.Agreement.{Agree, of_tables};
 ghost use Rattle.linker_rewriting.specs.Kept as spec;
 ghost use Rattle.linker_section.specs.Sections.{AreAllRelocated};
 ghost use Rattle.linker_section.specs.Relocations.{relocation_in};
@@ -217,8 +217,7 @@ pub fn relocate_rewritten_section(
     memory: &mut [u64],
 ) -> Result<(), WritingError>
     requires memory { length relocations.now / 24 ≤ length memory.old }
-    ensures agree { OnOk result (Agree context.now.symbols.now context.now.values.now
-        relocations.now) }
+    ensures agree { OnOk result (of_tables Agree context.now relocations.now) }
     ensures stubs { OnOk result (spec.HaveStubs context.now.architecture context.now.symbols.now
         context.now.values.now relocations.now (length relocations.now / 24)) }
     ensures kept { OnOk result (spec.AreAsKept context.now.output.now context.now.symbols.now

@@ -4,18 +4,20 @@ ghost use Rattle.std.specs.Prelude.{◌≡◌, ◌+◌, ◌<◌, ◌≤◌, ◌/
 ghost use Rattle.std.specs.Prelude.{slice_get};
 ghost use Rattle.linker_section.specs.Relocations.{relocation_in};
 ghost use Rattle.linker_section.specs.Values.{IsAscending};
-ghost use Rattle.linker_rewriting.specs.Decisions.{IsThere, decision_at, EachIs, RestStays};
+ghost use Rattle.linker_rewriting.specs.Decisions.{EachIs, RestStays};
 ghost use Rattle.linker_rewriting.specs.Numbers.{decisions_in, IsWrittenDecision};
 ghost use Rattle.linker_rewriting.specs.Facts.{context_of};
 ghost use Rattle.linker_rewriting.specs.RiscVPcrelGroups as spec;
-ghost use Rattle.linker_rewriting.specs.Notes.{is_note, AreHighsNoted, IsNoteOf, AreLabelsNoted};
+ghost use Rattle.linker_rewriting.specs.Inner.Passed.{AreAllHighsNoted, AreAllLabelsNoted, AreSet};
+ghost use Rattle.linker_rewriting.specs.Inner.Passed.{CanBeRewritten, at_site};
+ghost use Rattle.linker_rewriting.specs.Notes.{is_note, IsNoteOf};
 
-use crate::candidates::candidate_by;
+use crate::candidates::{Chosen, candidate_by};
 use crate::decisions::{Decision, DecisionNumbers, decision_in};
 use crate::facts::{OutputFacts, RelaxContext, SymbolFacts, link_facts};
 use crate::groups::{Scope, scope_in};
 use crate::phases::Phase;
-use crate::relocations::{Site, relocation_in};
+use crate::relocations::{Site, relocation_in, site};
 use crate::sequences::is_marked_at;
 use linker_section::facts::{Addresses, Symbol};
 use linker_section::relocations::{Rela, first_from, is_ascending, relocations_len};
@@ -45,21 +47,6 @@ pub(crate) fn is_beyond(relocations: &[u8], at: u64, index: usize) -> bool
     SEARCHED <= index && relocation_in(relocations, index - SEARCHED).offset == at
 }
 
-/// Where a search ends that begins at an index, of n relocations.
-fn search_end(first: usize, len: usize) -> usize
-    requires { first ≤ len }
-    ensures from { first ≤ result }
-    ensures within { result ≤ len }
-    ensures near { result ≤ first + spec.searched }
-    ensures far { (len ≤ result) ⊎ (first + spec.searched ≤ result) }
-{
-    if len - first < SEARCHED {
-        len
-    } else {
-        first + SEARCHED
-    }
-}
-
 /// The index of the first relocation with an `r_type` at an offset, among those that are searched
 /// of relocations that ascend. So it takes O(log n).
 pub(crate) fn high_at(relocations: &[u8], r_type: u32, at: u64) -> Option<usize>
@@ -67,7 +54,7 @@ pub(crate) fn high_at(relocations: &[u8], r_type: u32, at: u64) -> Option<usize>
     ensures high { IsAscending relocations.now → spec.IsHighAt relocations.now r_type at result }
 {
     let first = first_from(relocations, at);
-    for index in first..search_end(first, relocations_len(relocations)) {
+    for index in first..relocations_len(relocations).min(first + SEARCHED) {
         let relocation = relocation_in(relocations, index);
         if relocation.offset != at {
             return None;
@@ -160,13 +147,11 @@ pub(crate) fn label_candidate(
     context: &RelaxContext<'_>,
     site: &Site<'_>,
     high: usize,
-) -> Option<Choice<Relaxation, u32>>
+) -> Option<Chosen>
     requires index { site.now.index + 3 ≤ usize.MAX }
     requires high { high < length site.now.relocations.now / 24 }
-    ensures candidate { spec.IsLabelCandidate (context_of context.now) site.now.relocations.now
-        site.now.section.now site.now.index site.now.relocation high result }
-    ensures there { IfSome result (λ chosen. IsThere (Decision.Rewritten chosen)
-        site.now.section.now site.now.relocation.offset) }
+    ensures candidate { at_site spec.IsLabelCandidate context.now site.now high result }
+    ensures there { CanBeRewritten site.now result }
 {
     let part = relocation_in(site.relocations, high);
     let marked = is_label_marked(context, site, high);
@@ -178,8 +163,8 @@ pub(crate) fn label_candidate(
 fn lacking(context: &RelaxContext<'_>, site: &Site<'_>) -> Option<usize>
     requires { site.now.index + 3 ≤ usize.MAX }
     ensures within { IfSome result (λ high. high < length site.now.relocations.now / 24) }
-    ensures lacking { IsAscending site.now.relocations.now → spec.IsLacking (context_of context.now)
-        site.now.relocations.now site.now.section.now site.now.index site.now.relocation result }
+    ensures lacking { IsAscending site.now.relocations.now
+        → at_site spec.IsLacking context.now site.now result }
 {
     if !is_in_label(context.architecture, context.phase, site.relocation.r_type) {
         return None;
@@ -203,8 +188,7 @@ pub(crate) fn is_note(decision: &Decision) -> bool
 
 pub(crate) fn set_all(relocations: &[u8], decision: Decision, decisions: &mut [DecisionNumbers])
     requires { length relocations.now / 24 ≤ length decisions.old }
-    ensures set { (n : ℕ) → n < length relocations.now / 24
-        → decision_at (decisions_in decisions.new) n ≡ decision }
+    ensures set { AreSet relocations.now decision decisions.new }
     ensures form { EachIs IsWrittenDecision relocations.now decisions.new }
     ensures others { RestStays relocations.now decisions.old decisions.new }
 {
@@ -223,18 +207,12 @@ fn note_highs(
 )
     requires ascending { IsAscending relocations.now }
     requires enough { length relocations.now / 24 ≤ length decisions.old }
-    requires clear { (n : ℕ) → n < length relocations.now / 24
-        → decision_at (decisions_in decisions.old) n ≡ Decision.Kept }
-    ensures noted { AreHighsNoted (context_of context.now) relocations.now section.now (decisions_in decisions.new) (length relocations.now / 24) }
+    requires clear { AreSet relocations.now Decision.Kept decisions.old }
+    ensures noted { AreAllHighsNoted context.now relocations.now section.now decisions.new }
     ensures others { RestStays relocations.now decisions.old decisions.new }
 {
     for index in 0..relocations_len(relocations) {
-        let site = Site {
-            relocations,
-            section,
-            index,
-            relocation: relocation_in(relocations, index),
-        };
+        let site = site!(relocations, section, index);
         let Some(high) = lacking(context, &site) else {
             continue;
         };
@@ -269,8 +247,8 @@ fn copy_notes(
 )
     requires ascending { IsAscending relocations.now }
     requires enough { length relocations.now / 24 ≤ length decisions.old }
-    requires noted { AreHighsNoted (context_of context.now) relocations.now section.now (decisions_in decisions.old) (length relocations.now / 24) }
-    ensures noted { AreLabelsNoted (context_of context.now) relocations.now section.now (decisions_in decisions.new) 0 }
+    requires noted { AreAllHighsNoted context.now relocations.now section.now decisions.old }
+    ensures noted { AreAllLabelsNoted context.now relocations.now section.now decisions.new }
     ensures others { RestStays relocations.now decisions.old decisions.new }
 {
     for index in 0..relocations_len(relocations) {
@@ -300,7 +278,7 @@ pub(crate) fn note_labels(
     decisions: &mut [DecisionNumbers],
 )
     requires enough { length relocations.now / 24 ≤ length decisions.old }
-    ensures noted { AreLabelsNoted (context_of context.now) relocations.now section.now (decisions_in decisions.new) 0 }
+    ensures noted { AreAllLabelsNoted context.now relocations.now section.now decisions.new }
     ensures others { RestStays relocations.now decisions.old decisions.new }
 {
     if !has_labels(context.architecture, context.phase) {

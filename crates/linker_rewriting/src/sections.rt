@@ -4,15 +4,15 @@
 //! goes, with its instruction or since another's rewrite takes it along, gets the type 0, so that
 //! indexes stay. After an error the section and its relocations are as before.
 
-ghost use Rattle.std.specs.Prelude.{◌≡◌, ◌↔◌, ◌<◌, ◌≤◌, ◌+◌, ◌/◌, ℕ, length, take, drop};
-ghost use Rattle.std.specs.Prelude.{IfErr, IfOk, IfSome, IfNone, IsTrue, OnOk, OnErr, true, false};
+ghost use Rattle.std.specs.Prelude.{◌≡◌, ◌↔◌, ◌<◌, ◌≤◌, ◌+◌, ◌/◌, ℕ, length, drop};
+ghost use Rattle.std.specs.Prelude.{IfErr, IfOk, IfSome, IfNone, IsTrue, OnOk, OnErr, true};
 ghost use Rattle.linker_section.specs.Relocations.{relocation_in};
 ghost use Rattle.linker_rewriting.specs.Numbers.{decisions_in, numbers_in, IsKeptDecision};
 ghost use Rattle.linker_rewriting.specs.Numbers.{IsWrittenDecision};
-ghost use Rattle.linker_rewriting.specs.Agreement.{Agree};
-ghost use Rattle.linker_rewriting.specs.Decisions.{pairs_in};
+ghost use Rattle.linker_rewriting.specs.Agreement.{Agree, of_tables};
 ghost use Rattle.linker_rewriting.specs.Facts.{pre_layout, context_of};
-ghost use Rattle.linker_rewriting.specs.Inner.Left.{AreKept};
+ghost use Rattle.linker_rewriting.specs.Inner.Passed.{AreAllApart, AreListed, AreMakeable};
+ghost use Rattle.linker_rewriting.specs.Inner.Passed.{StayUnless};
 ghost use Rattle.linker_rewriting.specs.Rewritten.{section_after, relocation_after, AreDone};
 ghost use Rattle.linker_rewriting.specs.Rewritten.{AreRelocationsAfter, OthersStay, IsRewrittenAs};
 ghost use Rattle.linker_rewriting.specs.Rewritten.{AreDecidedAs, AreMadeAs, LabelsAreWhole};
@@ -99,11 +99,9 @@ fn fits(decision: &Decision, number: u32, section: &[u8], offset: u64) -> bool
 
 /// Keeps a number of the bytes that each decision rewrites, if anything changes.
 fn keep_bytes(changes: bool, relocations: &[u8], section: &[u8], decisions: &mut [DecisionNumbers])
-    requires left { changes ≡ false → AreKept (decisions_in decisions.old)
-        (length relocations.now / 24) }
+    requires left { StayUnless changes relocations.now decisions.old }
     requires enough { length relocations.now / 24 ≤ length decisions.old }
-    requires made { spec.AllCanBeMade relocations.now section.now (decisions_in decisions.old)
-        (length relocations.now / 24) }
+    requires made { AreMakeable relocations.now section.now decisions.old }
     requires form { spec.EachIs IsWrittenDecision relocations.now decisions.old }
     ensures decisions { decisions_in decisions.new ≡ decisions_in decisions.old }
     ensures bytes { spec.AllKeepBytes relocations.now section.now (decisions_in decisions.new)
@@ -134,8 +132,7 @@ fn check_decisions(
     ensures fit { OnOk result (spec.AllStillFit relocations.now section.now
         (decisions_in decisions.now) (numbers_in decisions.now)
         (length relocations.now / 24)) }
-    ensures apart { OnOk result (spec.AreApart relocations.now (decisions_in decisions.now)
-        (length relocations.now / 24)) }
+    ensures apart { OnOk result (AreAllApart relocations.now decisions.now) }
     ensures unmade { IfErr result (spec.IsUnmade relocations.now section.now
         (decisions_in decisions.now) (numbers_in decisions.now)) }
 {
@@ -193,12 +190,9 @@ pub(crate) fn make_all(
     relocations: &mut [u8],
     section: &mut [u8],
 )
-    requires left { changes ≡ false → AreKept (decisions_in decisions.now)
-        (length relocations.old / 24) }
-    requires made { spec.AllCanBeMade relocations.old section.old (decisions_in decisions.now)
-        (length relocations.old / 24) }
-    requires apart { spec.AreApart relocations.old (decisions_in decisions.now)
-        (length relocations.old / 24) }
+    requires left { StayUnless changes relocations.old decisions.now }
+    requires made { AreMakeable relocations.old section.old decisions.now }
+    requires apart { AreAllApart relocations.old decisions.now }
     requires enough { length relocations.old / 24 ≤ length decisions.now }
     ensures relocations { AreRelocationsAfter (decisions_in decisions.now) relocations.old
         relocations.new (length relocations.old / 24) }
@@ -388,15 +382,12 @@ pub(crate) fn list_deletions(
     decisions: &[DecisionNumbers],
     deleted: &mut [Deletion],
 ) -> Option<usize>
-    requires left { changes ≡ false → AreKept (decisions_in decisions.now)
-        (length relocations.now / 24) }
+    requires left { StayUnless changes relocations.now decisions.now }
     requires enough { length relocations.now / 24 ≤ length decisions.now }
     requires fit { (n : ℕ) → n < length relocations.now / 24
         → spec.deleted_end (relocation_in relocations.now n).offset
         (spec.deleted_of (spec.decision_at (decisions_in decisions.now) n)) ≤ u64.MAX }
-    ensures listed { IfSome result (λ len. take len (spec.pairs_in deleted.new)
-        ≡ spec.deletions_by relocations.now (decisions_in decisions.now)
-        (length relocations.now / 24)) }
+    ensures listed { IfSome result (AreListed relocations.now decisions.now deleted.new) }
     ensures others_stay { IfSome result (λ len. drop len deleted.new ≡ drop len deleted.old) }
     ensures short { IfNone result (length deleted.old
         < length (spec.deletions_by relocations.now (decisions_in decisions.now)
@@ -465,15 +456,11 @@ pub fn rewrite_placed_section(
     decisions: &mut [DecisionNumbers],
     deleted: &mut [Deletion],
 ) -> Result<usize, RewritingError>
-    ensures agree { OnOk result (Agree context.now.symbols.now context.now.values.now
-        relocations.old) }
+    ensures agree { OnOk result (of_tables Agree context.now relocations.old) }
     ensures rewritten { OnOk result (IsRewrittenAs (context_of context.now) kept.now relocations.old
         relocations.new section.old section.new (decisions_in decisions.new)) }
-    ensures within { OnOk result (spec.AllCanBeMade relocations.old section.old
-        (decisions_in decisions.new) (length relocations.old / 24)) }
-    ensures listed { IfOk result (λ len. take len (spec.pairs_in deleted.new)
-        ≡ spec.deletions_by relocations.old (decisions_in decisions.new)
-        (length relocations.old / 24)) }
+    ensures within { OnOk result (AreMakeable relocations.old section.old decisions.new) }
+    ensures listed { IfOk result (AreListed relocations.old decisions.new deleted.new) }
     ensures labels { OnOk result (LabelsAreWhole (context_of context.now) relocations.old
         (decisions_in decisions.new) (length relocations.old / 24)) }
     ensures form { OnOk result (spec.EachIs IsWrittenDecision relocations.old decisions.new) }

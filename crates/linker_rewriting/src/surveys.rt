@@ -3,9 +3,10 @@
 ghost use Rattle.std.specs.Prelude.{◌≡◌, ◌+◌, ◌<◌, ◌≤◌, ◌/◌, ℕ, length, slice_get, OnOk};
 ghost use Rattle.std.specs.Prelude.{IfErr, OnErr};
 ghost use Rattle.linker_section.specs.Relocations.{relocation_in};
-ghost use Rattle.linker_rewriting.specs.Agreement.{Agree, IsContradiction};
+ghost use Rattle.linker_rewriting.specs.Agreement.{Agree, IsContradiction, of_tables};
 ghost use Rattle.linker_rewriting.specs.Facts.{context_of};
-ghost use Rattle.linker_rewriting.specs.Inner.RelocationTypes.{KeepsNone};
+ghost use Rattle.linker_rewriting.specs.Inner.RelocationTypes.{IsNextKeeping};
+ghost use Rattle.linker_rewriting.specs.Inner.Passed.{at_site};
 ghost use Rattle.linker_rewriting.specs.Surveys as spec;
 
 use crate::candidates::{candidate, is_matched, is_tls_get_addr};
@@ -13,7 +14,7 @@ use crate::facts::{OutputFacts, RelaxContext, SymbolFacts, contradiction, pre_la
 use crate::groups::{Group, Scope, UnrelaxableGroups, scope_in, symbol_of_group};
 use crate::phases::Phase;
 use crate::r_types::{is_surveyed, of_each};
-use crate::relocations::{Site, relocation_in};
+use crate::relocations::{Site, relocation_in, site};
 use linker_section::relocations::{Rela, relocations_len};
 use linker_utils::elf::Architecture;
 use linker_utils::ppc64::Ppc64Relocation;
@@ -53,8 +54,7 @@ fn keep_threads(kept: &mut [UnrelaxableGroups], stay: bool)
 #[inline(always)]
 fn keeping(context: &RelaxContext<'_>, site: &Site<'_>) -> Option<Group>
     requires { site.now.index + 3 ≤ usize.MAX }
-    ensures { spec.IsKeeping (context_of context.now) site.now.relocations.now site.now.section.now
-        site.now.index site.now.relocation result }
+    ensures { at_site spec.IsKeeping context.now site.now result }
 {
     match scope_in(context.architecture, context.phase, site.relocation.r_type) {
         Scope::Grouped(group) => match candidate(context, site) {
@@ -72,28 +72,20 @@ fn keeping(context: &RelaxContext<'_>, site: &Site<'_>) -> Option<Group>
     }
 }
 
-/// Whether a relocation of PowerPC64 marks the call of `__tls_get_addr` at an offset.
-#[inline(always)]
-fn marks_call(offset: u64, mark: &Rela) -> bool
-    ensures { result ≡ spec.marks_call offset mark.now }
-{
-    let is_mark = mark.r_type == Ppc64Relocation::R_PPC64_TLSGD.r_type()
-        || mark.r_type == Ppc64Relocation::R_PPC64_TLSLD.r_type();
-    is_mark && mark.offset == offset
-}
-
-/// Whether the relocation before is the mark at the same place.
+/// Whether the relocation before is a mark of PowerPC64 of the call of `__tls_get_addr` at the same
+/// place.
 #[inline(always)]
 fn is_marked(site: &Site<'_>) -> bool
     requires { site.now.index ≤ length site.now.relocations.now / 24 }
     ensures { result ≡ spec.is_marked site.now.relocations.now site.now.index site.now.relocation }
 {
-    let (relocations, index) = (site.relocations, site.index);
-    1 <= index
-        && marks_call(
-            site.relocation.offset,
-            &relocation_in(relocations, index - 1),
-        )
+    if site.index < 1 {
+        return false;
+    }
+    let mark = relocation_in(site.relocations, site.index - 1);
+    let is_mark = mark.r_type == Ppc64Relocation::R_PPC64_TLSGD.r_type()
+        || mark.r_type == Ppc64Relocation::R_PPC64_TLSLD.r_type();
+    is_mark && mark.offset == site.relocation.offset
 }
 
 /// Whether a relocation is one whose mark a survey looks for: a use of `__tls_get_addr` on
@@ -139,11 +131,7 @@ fn next_in(
     requires architecture { architecture ≡ context.now.architecture }
     requires phase { phase ≡ context.now.phase }
     requires from { from ≤ length relocations.now / 24 }
-    ensures from { from ≤ result }
-    ensures within { result ≤ length relocations.now / 24 }
-    ensures between { (n : ℕ) → from ≤ n → n < result
-        → KeepsNone context.now.architecture context.now.phase context.now.symbols.now
-        (relocation_in relocations.now n) }
+    ensures { IsNextKeeping context.now relocations.now from result }
 {
     let len = relocations_len(relocations);
     for index in from..len {
@@ -161,11 +149,7 @@ fn next_in(
 /// The same, compiled for each architecture and phase.
 fn next_keeping(context: &RelaxContext<'_>, relocations: &[u8], from: usize) -> usize
     requires from { from ≤ length relocations.now / 24 }
-    ensures from { from ≤ result }
-    ensures within { result ≤ length relocations.now / 24 }
-    ensures between { (n : ℕ) → from ≤ n → n < result
-        → KeepsNone context.now.architecture context.now.phase context.now.symbols.now
-        (relocation_in relocations.now n) }
+    ensures { IsNextKeeping context.now relocations.now from result }
 {
     of_each!(
         context.architecture,
@@ -188,15 +172,9 @@ fn survey_in(
     let len = relocations_len(relocations);
     let mut index = next_keeping(context, relocations, 0);
     while index < len {
-        let relocation = relocation_in(relocations, index);
-        let site = Site {
-            relocations,
-            section,
-            index,
-            relocation,
-        };
+        let site = site!(relocations, section, index);
         let group = keeping(context, &site);
-        keep_group(kept, group, relocation.symbol);
+        keep_group(kept, group, site.relocation.symbol);
         let unmarked = is_unmarked(context, &site);
         keep_threads(kept, unmarked);
         index = next_keeping(context, relocations, index + 1);
@@ -262,10 +240,8 @@ pub fn survey_placed_section(
 ) -> Result<(), usize>
     ensures surveyed { OnOk result (spec.IsSurveyedIn (context_of context.now) relocations.now
         section.now kept.old kept.new (length relocations.now / 24)) }
-    ensures agree { OnOk result (Agree context.now.symbols.now context.now.values.now
-        relocations.now) }
-    ensures contradiction { IfErr result (IsContradiction context.now.symbols.now
-        context.now.values.now relocations.now) }
+    ensures agree { OnOk result (of_tables Agree context.now relocations.now) }
+    ensures contradiction { IfErr result (of_tables IsContradiction context.now relocations.now) }
     ensures unchanged { OnErr result (kept.new ≡ kept.old) }
 {
     if let Some(symbol) = contradiction(context.symbols, context.values, relocations) {

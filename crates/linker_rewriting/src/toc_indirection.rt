@@ -10,18 +10,19 @@
 ghost use Rattle.std.specs.Prelude.{◌≡◌, ◌⊎◌, ◌↔◌, ◌+◌, ◌<◌, ◌≤◌, ◌/◌, ℕ, length};
 ghost use Rattle.std.specs.Prelude.{IfSome, IfErr, OnOk, OnErr, true, ⊤};
 ghost use Rattle.linker_rewriting.specs.Numbers.{decisions_in, IsWrittenDecision};
-ghost use Rattle.linker_rewriting.specs.Agreement.{Agree, IsContradiction};
-ghost use Rattle.linker_rewriting.specs.Decisions.{IsThere, start_by, end_by, EachIs, RestStays};
+ghost use Rattle.linker_rewriting.specs.Agreement.{Agree, IsContradiction, of_tables};
+ghost use Rattle.linker_rewriting.specs.Decisions.{start_by, end_by, EachIs, RestStays};
 ghost use Rattle.linker_rewriting.specs.Facts.{context_of};
+ghost use Rattle.linker_rewriting.specs.Inner.Passed.{CanBeRewritten, CanStand, at_site};
 ghost use Rattle.linker_rewriting.specs.Inner.TocIndirection.{IsThatWord, with_r_type};
 ghost use Rattle.linker_rewriting.specs.TocIndirection as spec;
 ghost use Rattle.linker_section.specs.Relocations.{relocation_in};
 
-use crate::candidates::candidate_by;
+use crate::candidates::{Chosen, candidate_by};
 use crate::decisions::{Decision, DecisionNumbers, RewritingError, span_of, subject_of};
 use crate::facts::{OutputFacts, RelaxContext, SymbolFacts, address_in, contradiction, link_facts};
 use crate::phases::Phase;
-use crate::relocations::{Site, relocation_in};
+use crate::relocations::{Site, relocation_in, site};
 use crate::riscv_pcrel_groups::high_at;
 use crate::rules::{Rule, decide_by};
 use crate::sections::make_all;
@@ -106,18 +107,12 @@ fn with_r_type(r_type: u32, relocation: &Rela) -> Rela
 
 /// The rewrite of a load, if each other one of the word is rewritten.
 #[inline(always)]
-fn load_candidate(
-    words: &Words<'_>,
-    site: &Site<'_>,
-    load: (u32, usize),
-) -> Option<Choice<Relaxation, u32>>
+fn load_candidate(words: &Words<'_>, site: &Site<'_>, load: (u32, usize)) -> Option<Chosen>
     requires index { site.now.index + 3 ≤ usize.MAX }
     requires within { load.1 < length words.now.relocations.now / 24 }
-    ensures candidate { spec.IsLoadCandidate (context_of words.now.context.now)
-        words.now.relocations.now site.now.relocations.now site.now.section.now site.now.index
-        site.now.relocation load result }
-    ensures there { IfSome result (λ chosen. IsThere (Decision.Rewritten chosen)
-        site.now.section.now site.now.relocation.offset) }
+    ensures candidate { at_site (λ s. spec.IsLoadCandidate s words.now.relocations.now)
+        words.now.context.now site.now load result }
+    ensures there { CanBeRewritten site.now result }
 {
     let (entry, word) = load;
     let word = relocation_in(words.relocations, word);
@@ -155,9 +150,8 @@ pub(crate) fn keep_word(kept: &mut [bool], word: Option<usize>)
 #[inline(always)]
 fn keeping_word(words: &Words<'_>, site: &Site<'_>) -> Option<usize>
     requires { site.now.index + 3 ≤ usize.MAX }
-    ensures { spec.IsKeepingWord (context_of words.now.context.now) words.now.start
-        words.now.relocations.now site.now.relocations.now site.now.section.now site.now.index
-        site.now.relocation result }
+    ensures { at_site (λ s. spec.IsKeepingWord s words.now.start words.now.relocations.now)
+        words.now.context.now site.now result }
 {
     let load = load_of(words, &site.relocation)?;
     match load_candidate(words, site, load) {
@@ -190,10 +184,8 @@ pub fn survey_toc_loads(
 ) -> Result<(), usize>
     ensures surveyed { OnOk result (spec.AreLoadsSurveyed (context_of context.now) words_start
         words.now relocations.now section.now kept.old kept.new (length relocations.now / 24)) }
-    ensures agree { OnOk result (Agree context.now.symbols.now context.now.values.now
-        relocations.now) }
-    ensures contradiction { IfErr result (IsContradiction context.now.symbols.now
-        context.now.values.now relocations.now) }
+    ensures agree { OnOk result (of_tables Agree context.now relocations.now) }
+    ensures contradiction { IfErr result (of_tables IsContradiction context.now relocations.now) }
     ensures unchanged { OnErr result (kept.new ≡ kept.old) }
 {
     if let Some(symbol) = contradiction(context.symbols, context.values, relocations) {
@@ -205,14 +197,8 @@ pub fn survey_toc_loads(
         relocations: words,
     };
     for index in 0..relocations_len(relocations) {
-        let site = Site {
-            relocations,
-            section,
-            index,
-            relocation: relocation_in(relocations, index),
-        };
-        let word = keeping_word(&words, &site);
-        keep_word(kept, word);
+        let site = site!(relocations, section, index);
+        keep_word(kept, keeping_word(&words, &site));
     }
     Ok(())
 }
@@ -227,11 +213,10 @@ struct Loads<'a, 'b> {
 /// What becomes of a relocation. None if it loads a word that doesn't stay, but can't be rewritten.
 fn decide_load(rule: &Loads<'_, '_>, site: &Site<'_>) -> Option<Decision>
     requires { site.now.index + 3 ≤ usize.MAX }
-    ensures decision { spec.IsLoadDecided (context_of rule.now.words.context.now)
-        rule.now.words.start rule.now.words.relocations.now rule.now.kept.now
-        site.now.relocations.now site.now.section.now site.now.index site.now.relocation result }
-    ensures there { IfSome result
-        (λ d. IsThere d site.now.section.now site.now.relocation.offset) }
+    ensures decision { at_site (λ s. spec.IsLoadDecided s rule.now.words.start
+        rule.now.words.relocations.now rule.now.kept.now) rule.now.words.context.now site.now
+        result }
+    ensures there { CanStand site.now result }
 {
     let words = &rule.words;
     let Some(load) = load_of(words, &site.relocation) else {
@@ -336,8 +321,7 @@ pub fn rewrite_toc_loads(
     section: &mut [u8],
     decisions: &mut [DecisionNumbers],
 ) -> Result<(), RewritingError>
-    ensures agree { OnOk result (Agree context.now.symbols.now context.now.values.now
-        relocations.old) }
+    ensures agree { OnOk result (of_tables Agree context.now relocations.old) }
     ensures rewritten { OnOk result (spec.AreLoadsRewrittenAs (context_of context.now) words_start
         words.now kept.now relocations.old relocations.new section.old section.new
         (decisions_in decisions.new)) }

@@ -1,7 +1,8 @@
 -- Which relocations are rewritten in a phase, and for which a survey asks.
-use Rattle.std.specs.Prelude.{◌≡◌, ℕ, Bool, true, false, List, slice_get}
+use Rattle.std.specs.Prelude.{◌≡◌, ◌<◌, ◌≤◌, ◌/◌, ℕ, Bool, true, false, List, length, slice_get}
 use Rattle.linker_rewriting.specs.Imports.{Architecture, Grouped, IfGroupMatches, NotRelaxable}
-use Rattle.linker_rewriting.specs.Imports.{Phase, Rela, Scope, SymbolFacts}
+use Rattle.linker_rewriting.specs.Imports.{Phase, Rela, Scope, SymbolFacts, relocation_in}
+use Rattle.linker_rewriting.specs.declared.facts.RelaxContext.{RelaxContext as Passed}
 use Rattle.linker_rewriting.specs.Groups.{IsScopeIn}
 use Rattle.linker_rewriting.specs.Surveys.{needs_mark}
 
@@ -30,3 +31,10 @@ abbrev pub KeepsNone : Architecture → Phase → List SymbolFacts → Rela → 
 KeepsNone architecture phase symbols r =
     IsOfNone architecture phase r.r_type
     × (needs_mark phase architecture (slice_get symbols r.symbol) ≡ false)
+
+-- those from an index on, and below the next one, are so
+pub record IsNextKeeping (s : Passed) (bytes : List ℕ) (first next : ℕ) : Type 0 where
+  pub from : first ≤ next
+  pub within : next ≤ length bytes / 24
+  pub between : (n : ℕ) → first ≤ n → n < next
+      → KeepsNone s.architecture s.phase s.symbols.now (relocation_in bytes n)

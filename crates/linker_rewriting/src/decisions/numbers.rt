@@ -156,13 +156,10 @@ impl DecisionNumbers {
         ensures bytes { spec.number_of result ≡ number }
         ensures form { spec.IsKeptDecision result }
     {
-        of_choice(
-            1,
-            choice,
-            Subject {
-                symbol: number,
-                addend: 0,
-            },
-        )
+        let bytes = Subject {
+            symbol: number,
+            addend: 0,
+        };
+        of_choice(1, choice, bytes)
     }
 }

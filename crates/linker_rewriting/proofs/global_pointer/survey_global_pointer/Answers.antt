@@ -8,7 +8,7 @@ loop-index-preserved c =
     let k = c.loop-index.index in
     let s = context_of a.context.now in
     more_words (KeepsSymbol s a.gp a.relocations.now a.section.now) a.kept.now c.loop-index.kept
-    c.keep_word.new.kept k c.keeping_symbol-symbol.result c.loop-index.invariant
-    (subst (λ r. IsKeepingSymbol s a.gp a.relocations.now a.section.now k r c.keeping_symbol-symbol.result)
-    c.relocation_in.ensures c.keeping_symbol-symbol.ensures)
+    c.keep_word.new.kept k c.keeping_symbol.result c.loop-index.invariant
+    (subst (λ r. IsKeepingSymbol s a.gp a.relocations.now a.section.now k r c.keeping_symbol.result)
+    c.relocation_in.ensures c.keeping_symbol.ensures)
     c.keep_word.ensures

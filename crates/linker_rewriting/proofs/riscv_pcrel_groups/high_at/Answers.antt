@@ -1,17 +1,21 @@
-use Rattle.linker_rewriting.proofs.Imports.{arith, below_more, false, inl, inr, is_high, relocation_in, subst, ℕ, ◌<◌, ◌≡◌, ◌≤◌, ◌⊎◌}
+use Rattle.linker_rewriting.proofs.Imports.{arith, below_more, cases_lt, false, inl, inr, is_high, relocation_in, subst, ℕ, ◌<◌, ◌≡◌, ◌≤◌, ◌⊎◌}
+use Rattle.std.specs.Prelude.{min}
 use Rattle.linker_rewriting.proofs.LabelGroups.{isnt_r_type, found, none_at, none_searched}
 use Rattle.linker_rewriting.proofs.riscv_pcrel_groups.high_at.Goals as goal
 
-inside : {index end len count : ℕ} → index < end → end ≤ len → len ≡ count → index < count
-inside less most same = omega (arith, less, most, same)
+inside : {index end count : ℕ} (len far : ℕ) → index < end → end ≡ min len far → len ≡ count → index < count
+inside len far less is same = omega (arith, less, is, same)
 
-below : {index end far : ℕ} → index < end → end ≤ far → index < far
-below less most = omega (arith, less, most)
+below : {index end : ℕ} (len far : ℕ) → index < end → end ≡ min len far → index < far
+below len far less is = omega (arith, less, is)
 
-ended : {index end len count far : ℕ} → (len ≤ end) ⊎ (far ≤ end) → end ≤ index → len ≡ count
+ended : {index end count : ℕ} (len far : ℕ) → end ≡ min len far → end ≤ index → len ≡ count
     → (count ≤ index) ⊎ (far ≤ index)
-ended (inl all) most same = inl (omega (arith, all, most, same))
-ended (inr some) most same = inr (omega (arith, some, most))
+ended len far is most same =
+    elim (cases_lt len far) [
+      | inl all ↦ inl (omega (arith, all, is, most, same))
+      | inr some ↦ inr (omega (arith, some, is, most))
+    ]
 
 pub loop-index-preserved : goal.loop-index-preserved
 loop-index-preserved c k from below =
@@ -27,8 +31,8 @@ returns-then-relocation-r_type-clause-high c =
     let a = c.args in
     λ ascending. found a.relocations.now a.r_type a.at c.first_from-first.result c.loop-index.index
     c.relocation_in-relocation.result (c.first_from-first.ensures.before ascending)
-    c.loop-index.invariant (inside c.loop-index-test.true c.search_end-index-end.ensures.within c.relocations_len.ensures)
-    (below c.loop-index-test.true c.search_end-index-end.ensures.near)
+    c.loop-index.invariant (inside _ _ c.loop-index-test.true c.min-index-end.ensures c.relocations_len.ensures)
+    (below _ _ c.loop-index-test.true c.min-index-end.ensures)
     c.relocation_in-relocation.ensures c.if-relocation-at.false c.if-relocation-r_type.true
 
 pub returns-then-relocation-at-clause-high : goal.returns-then-relocation-at-clause-high
@@ -37,7 +41,7 @@ returns-then-relocation-at-clause-high c =
     λ ascending. none_at a.relocations.now a.r_type a.at c.first_from-first.result c.loop-index.index ascending
     (c.first_from-first.ensures.before ascending) (c.first_from-first.ensures.following ascending)
     c.loop-index.invariant c.loop-index.auto.index
-    (inside c.loop-index-test.true c.search_end-index-end.ensures.within c.relocations_len.ensures)
+    (inside _ _ c.loop-index-test.true c.min-index-end.ensures c.relocations_len.ensures)
     (subst (λ r. r.offset ≡ a.at → ⊥) c.relocation_in-relocation.ensures c.if-relocation-at.true)
 
 pub returns-clause-high : goal.returns-clause-high
@@ -46,4 +50,4 @@ returns-clause-high c =
     λ ascending. none_searched a.relocations.now a.r_type a.at c.first_from-first.result c.loop-index.index ascending
     (c.first_from-first.ensures.before ascending) (c.first_from-first.ensures.following ascending)
     c.loop-index.invariant
-    (ended c.search_end-index-end.ensures.far c.loop-index-test.false c.relocations_len.ensures)
+    (ended _ _ c.min-index-end.ensures c.loop-index-test.false c.relocations_len.ensures)

@@ -36,7 +36,7 @@ returns-in_default-end_after-clause-rejected g c =
       λ n below. (are.decided n below).decides,
       overlapping Decides S E a.relocations.now (map decision_in c.loop-index.decisions) end k c.loop-index.is_taken d
           made.decides are.taken_is
-          (subst (λ x. IsEndAfter (S d x.offset) (E d x.offset) end None) c.relocation_in-relocation.ensures
+          (subst (λ x. IsEndAfter (S d x.offset) (E d x.offset) end None) c.relocation_in.ensures
           (subst (λ x. IsEndAfter (x.0) (x.1) end None) c.span-start.ensures
           (subst (IsEndAfter (c.span-start.result.0) (c.span-start.result.1) end) c.in_default-end_after.is c.end_after.ensures)))
           are.ends.reached,
@@ -58,7 +58,7 @@ loop-index-preserved g c =
     let within : k < length c.loop-index.decisions =
     (let t = c.loop-index-test.true in let e = c.relocations_len-index-end.ensures in let f = c.requires.enough in let l = c.loop-index.auto.decisions in omega (arith, t, e, f, l)) in
     let grow : IsGrown S E a.relocations.now k d c.loop-index.end end =
-    subst (λ x. IsEndAfter (S d x.offset) (E d x.offset) c.loop-index.end (Some end)) c.relocation_in-relocation.ensures
+    subst (λ x. IsEndAfter (S d x.offset) (E d x.offset) c.loop-index.end (Some end)) c.relocation_in.ensures
     (subst (λ x. IsEndAfter (x.0) (x.1) c.loop-index.end (Some end)) c.span-start.ensures
     (subst (IsEndAfter (c.span-start.result.0) (c.span-start.result.1) c.loop-index.end) c.in-Some-end_after.is c.end_after.ensures)) in
     let f = decision_in in
@@ -118,7 +118,7 @@ decide-requires-clause-noted g c =
 
 pub span-start-requires : goal.span-start-requires
 span-start-requires g c =
-    let o = c.relocation_in-relocation.result.offset in
+    let o = c.relocation_in.result.offset in
     subst (λ x. IfSome x (λ d. (limit : ℕ) → o ≤ limit → length c.args.section.now ≤ limit → g.R.Rule.end d o ≤ limit))
     c.in-Some.is c.decide.ensures.ends 0xffffffffffffffff (omega arith) (omega arith)
 

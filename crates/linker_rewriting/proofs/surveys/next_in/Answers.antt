@@ -14,7 +14,25 @@ loop-index-preserved c =
     (c.is_surveyed.ensures c.if-is_surveyed.false, sym c.needs_mark.ensures ∙ c.if-needs_mark.false)))) in
     λ n from less. all n less from
 
-pub returns-clause-between : goal.returns-clause-between
-returns-clause-between c =
+pub returns-then-is_surveyed : goal.returns-then-is_surveyed
+returns-then-is_surveyed c =
+    let e = c.relocations_len-len.ensures in
+    let t = c.loop-index-test.true in
+    record { from = c.loop-index.auto.index; within = omega (arith, t, e); between = c.loop-index.invariant }
+
+pub returns-then-needs_mark : goal.returns-then-needs_mark
+returns-then-needs_mark c =
+    let e = c.relocations_len-len.ensures in
+    let t = c.loop-index-test.true in
+    record { from = c.loop-index.auto.index; within = omega (arith, t, e); between = c.loop-index.invariant }
+
+pub returns : goal.returns
+returns c =
+    let e = c.relocations_len-len.ensures in
     let t = c.loop-index-test.false in
-    λ n from less. c.loop-index.invariant n from (omega (arith, t, less))
+    let f = c.requires.from in
+    record {
+      from = omega (arith, e, f);
+      within = omega (arith, e);
+      between = λ n from less. c.loop-index.invariant n from (omega (arith, t, less));
+    }

@@ -8,7 +8,7 @@ loop-index-preserved c =
     let a = c.args in
     let k = c.loop-index.index in
     let s = context_of a.context.now in
-    let same = c.relocation_in-relocation.ensures in
+    let same = c.relocation_in.ensures in
     record {
       within = c.next_keeping-index-in-loop-index.ensures.within;
       surveyed = left_between s a.relocations.now a.section.now a.kept.now c.keep_threads.new.kept (k + 1) c.next_keeping-index-in-loop-index.result c.next_keeping-index-in-loop-index.ensures.from

@@ -8,7 +8,7 @@ loop-index-preserved c =
     let k = c.loop-index.index in
     let s = context_of a.context.now in
     more_words (KeepsWord s a.words_start a.words.now a.relocations.now a.section.now) a.kept.now c.loop-index.kept
-    c.keep_word.new.kept k c.keeping_word-word.result c.loop-index.invariant
-    (subst (λ r. IsKeepingWord s a.words_start a.words.now a.relocations.now a.section.now k r c.keeping_word-word.result)
-    c.relocation_in.ensures c.keeping_word-word.ensures)
+    c.keep_word.new.kept k c.keeping_word.result c.loop-index.invariant
+    (subst (λ r. IsKeepingWord s a.words_start a.words.now a.relocations.now a.section.now k r c.keeping_word.result)
+    c.relocation_in.ensures c.keeping_word.ensures)
     c.keep_word.ensures

@@ -1,0 +1,67 @@
+-- What contracts say of contexts, sites and decisions, as the code has them.
+use Rattle.std.specs.Prelude.{◌≡◌, ◌<◌, ◌/◌, ℕ, List, Bool, false, length, take, Option, IfSome}
+use Rattle.linker_rewriting.specs.Imports.{Addresses, Choice, Decision, Rela, Relaxation, Rewritten}
+use Rattle.linker_rewriting.specs.Imports.{Symbol}
+use Rattle.linker_rewriting.specs.Decisions.{AllCanBeMade, AreApart, IsThere, decision_at}
+use Rattle.linker_rewriting.specs.Decisions.{deletions_by, pairs_in}
+use Rattle.linker_rewriting.specs.Facts.{RelaxContext, context_of}
+use Rattle.linker_rewriting.specs.Inner.Left.{AreKept}
+use Rattle.linker_rewriting.specs.Notes.{AreHighsNoted, AreLabelsNoted}
+use Rattle.linker_rewriting.specs.Numbers.{decisions_in}
+use Rattle.linker_rewriting.specs.declared.decisions.Deletion.{Deletion}
+use Rattle.linker_rewriting.specs.declared.decisions.numbers.DecisionNumbers.{DecisionNumbers}
+use Rattle.linker_rewriting.specs.declared.facts.RelaxContext.{RelaxContext as Passed}
+use Rattle.linker_rewriting.specs.declared.global_pointer.Bases.{Bases}
+use Rattle.linker_rewriting.specs.declared.relocations.Site.{Site}
+
+-- a fact of a relocation with an index, in a context
+abbrev pub at_site {ℓ} : {X : Type ℓ} → (RelaxContext → List ℕ → List ℕ → ℕ → Rela → X) → Passed → Site → X
+at_site Is context site =
+    Is (context_of context) site.relocations.now site.section.now site.index site.relocation
+
+-- the decision, if any, can be made there
+abbrev pub CanStand : Site → Option Decision → Type 0
+CanStand site = λ decision. IfSome decision (λ d. IsThere d site.section.now site.relocation.offset)
+
+-- so can the rewrite
+abbrev pub CanBeRewritten : Site → Option (Choice Relaxation ℕ) → Type 0
+CanBeRewritten site = λ chosen.
+    IfSome chosen (λ c. IsThere (Rewritten c) site.section.now site.relocation.offset)
+
+-- a fact by addresses, symbols and the global pointer
+abbrev pub by_bases {ℓ} : {X : Type ℓ} → (Addresses → List Symbol → ℕ → X) → Bases → X
+by_bases Is bases = Is bases.addresses.now bases.values.now bases.gp
+
+-- all can be made
+abbrev pub AreMakeable : List ℕ → List ℕ → List DecisionNumbers → Type 0
+AreMakeable bytes section decisions =
+    AllCanBeMade bytes section (decisions_in decisions) (length bytes / 24)
+
+-- their bytes are apart
+abbrev pub AreAllApart : List ℕ → List DecisionNumbers → Type 0
+AreAllApart bytes decisions = AreApart bytes (decisions_in decisions) (length bytes / 24)
+
+-- all relocations stay, unless something changes
+abbrev pub StayUnless : Bool → List ℕ → List DecisionNumbers → Type 0
+StayUnless changes bytes decisions =
+    changes ≡ false → AreKept (decisions_in decisions) (length bytes / 24)
+
+-- so many deletions are listed: all that decisions have
+abbrev pub AreListed : List ℕ → List DecisionNumbers → List Deletion → ℕ → Type 0
+AreListed bytes decisions deleted len =
+    take len (pairs_in deleted) ≡ deletions_by bytes (decisions_in decisions) (length bytes / 24)
+
+-- each is the same decision
+abbrev pub AreSet : List ℕ → Decision → List DecisionNumbers → Type 0
+AreSet bytes decision decisions =
+    (n : ℕ) → n < length bytes / 24 → decision_at (decisions_in decisions) n ≡ decision
+
+-- the groups that stay, at their high parts
+abbrev pub AreAllHighsNoted : Passed → List ℕ → List ℕ → List DecisionNumbers → Type 0
+AreAllHighsNoted s bytes section decisions =
+    AreHighsNoted (context_of s) bytes section (decisions_in decisions) (length bytes / 24)
+
+-- and at each relocation of a label
+abbrev pub AreAllLabelsNoted : Passed → List ℕ → List ℕ → List DecisionNumbers → Type 0
+AreAllLabelsNoted s bytes section decisions =
+    AreLabelsNoted (context_of s) bytes section (decisions_in decisions) 0
