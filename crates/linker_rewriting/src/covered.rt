@@ -3,10 +3,10 @@
 ghost use Rattle.std.specs.Prelude.{◌≡◌, ◌<◌, ◌≤◌, ◌/◌, length, true, false};
 ghost use Rattle.linker_elf.specs.declared.elf.RowInfo.{RowInfo};
 ghost use Rattle.linker_rewriting.specs.Numbers.{decisions_in};
-ghost use Rattle.linker_rewriting.specs.Decisions.{AllCanBeMade, AreApart, IsFirstCovered};
-ghost use Rattle.linker_rewriting.specs.Decisions.{start_at, end_at};
-ghost use Rattle.linker_rewriting.specs.Inner.Places.{IsBounded, AreBounded, AreBelow, IsPlace};
-ghost use Rattle.linker_rewriting.specs.Inner.Places.{IsPlaceBeside};
+ghost use Rattle.linker_rewriting.specs.Decisions.{IsFirstCovered, start_at, end_at};
+ghost use Rattle.linker_rewriting.specs.Inner.Passed.{AreAllApart, AreMakeable};
+ghost use Rattle.linker_rewriting.specs.Inner.Places.{AreBelow, AreSearchable, IsPlace, IsThePlace};
+ghost use Rattle.linker_rewriting.specs.Inner.Places.{in_windows};
 ghost use Rattle.linker_section.specs.Fields.{IsField, field_end};
 
 use crate::decisions::{Decision, DecisionNumbers, decision_in, span_of};
@@ -29,40 +29,34 @@ struct Place {
     above: u64,
 }
 
+/// The bytes that the decisions of a section write and delete.
+#[derive(Clone, Copy)]
+struct Windows<'a> {
+    relocations: &'a [u8],
+    decisions: &'a [DecisionNumbers],
+}
+
 /// Where the bytes begin and end that the decision with an index writes or deletes.
 #[inline(always)]
-fn span_at(relocations: &[u8], decisions: &[DecisionNumbers], index: usize) -> (u64, u64)
-    requires within { index < length relocations.now / 24 }
-    requires enough { length relocations.now / 24 ≤ length decisions.now }
-    requires bounded { IsBounded relocations.now (decisions_in decisions.now) index }
-    ensures { result ≡ (
-      start_at relocations.now (decisions_in decisions.now) index,
-      end_at relocations.now (decisions_in decisions.now) index,
-    ) }
+fn span_at(windows: &Windows<'_>, index: usize) -> (u64, u64)
+    requires within { index < length windows.now.relocations.now / 24 }
+    requires searchable { AreSearchable windows.now }
+    ensures { result ≡ (in_windows start_at windows.now index, in_windows end_at windows.now index) }
 {
-    let decision = decision_in(decisions, index);
-    span_of(&decision, relocation_in(relocations, index).offset)
+    let decision = decision_in(windows.decisions, index);
+    span_of(&decision, relocation_in(windows.relocations, index).offset)
 }
 
 /// An index that is no more than another, below which all bytes end at or below an offset.
-fn place_before(
-    relocations: &[u8],
-    decisions: &[DecisionNumbers],
-    offset: u64,
-    from: usize,
-) -> usize
-    requires within { from ≤ length relocations.now / 24 }
-    requires enough { length relocations.now / 24 ≤ length decisions.now }
-    requires bounded { AreBounded relocations.now (decisions_in decisions.now)
-        (length relocations.now / 24) }
-    requires apart { AreApart relocations.now (decisions_in decisions.now)
-        (length relocations.now / 24) }
+fn place_before(windows: &Windows<'_>, offset: u64, from: usize) -> usize
+    requires within { from ≤ length windows.now.relocations.now / 24 }
+    requires searchable { AreSearchable windows.now }
     ensures within { result ≤ from }
-    ensures below { AreBelow relocations.now (decisions_in decisions.now) result offset }
+    ensures below { in_windows AreBelow windows.now result offset }
 {
     let mut at = from;
     while at > 0 {
-        let (start, end) = span_at(relocations, decisions, at - 1);
+        let (start, end) = span_at(windows, at - 1);
         if start < end && end <= offset {
             return at;
         }
@@ -73,32 +67,20 @@ fn place_before(
 
 /// The place, from an index on, before the first bytes that end after an offset, beside those of
 /// the decision with another index. Those before it end at or below that offset, and `below`.
-fn place_from(
-    relocations: &[u8],
-    decisions: &[DecisionNumbers],
-    index: usize,
-    offset: u64,
-    from: usize,
-    below: u64,
-) -> Place
-    requires within { from ≤ length relocations.now / 24 }
-    requires enough { length relocations.now / 24 ≤ length decisions.now }
-    requires bounded { AreBounded relocations.now (decisions_in decisions.now)
-        (length relocations.now / 24) }
-    requires apart { AreApart relocations.now (decisions_in decisions.now)
-        (length relocations.now / 24) }
-    requires below { AreBelow relocations.now (decisions_in decisions.now) from below }
+fn place_from(windows: &Windows<'_>, index: usize, offset: u64, from: usize, below: u64) -> Place
+    requires within { from ≤ length windows.now.relocations.now / 24 }
+    requires searchable { AreSearchable windows.now }
+    requires below { in_windows AreBelow windows.now from below }
     requires low { below ≤ offset }
-    ensures { IsPlaceBeside relocations.now (decisions_in decisions.now)
-        (length relocations.now / 24) index offset result }
+    ensures { IsThePlace windows.now index offset result }
 {
-    let len = relocations_len(relocations);
+    let len = relocations_len(windows.relocations);
     let mut below = below;
     for at in from..len {
-        if let Decision::Kept = decision_in(decisions, at) {
+        if let Decision::Kept = decision_in(windows.decisions, at) {
             continue;
         }
-        let (start, end) = span_at(relocations, decisions, at);
+        let (start, end) = span_at(windows, at);
         if end <= start {
             continue;
         }
@@ -125,28 +107,17 @@ fn place_from(
 /// The same, from any place on. What is before it is passed again only where it ends after the
 /// offset.
 #[inline(always)]
-fn place_beside(
-    relocations: &[u8],
-    decisions: &[DecisionNumbers],
-    index: usize,
-    offset: u64,
-    place: Place,
-) -> Place
-    requires enough { length relocations.now / 24 ≤ length decisions.now }
-    requires bounded { AreBounded relocations.now (decisions_in decisions.now)
-        (length relocations.now / 24) }
-    requires apart { AreApart relocations.now (decisions_in decisions.now)
-        (length relocations.now / 24) }
-    requires place { IsPlace relocations.now (decisions_in decisions.now)
-        (length relocations.now / 24) place }
-    ensures { IsPlaceBeside relocations.now (decisions_in decisions.now)
-        (length relocations.now / 24) index offset result }
+fn place_beside(windows: &Windows<'_>, index: usize, offset: u64, place: Place) -> Place
+    requires searchable { AreSearchable windows.now }
+    requires place { in_windows IsPlace windows.now (length windows.now.relocations.now / 24)
+        place }
+    ensures { IsThePlace windows.now index offset result }
 {
     if place.below <= offset {
-        return place_from(relocations, decisions, index, offset, place.at, place.below);
+        return place_from(windows, index, offset, place.at, place.below);
     }
-    let from = place_before(relocations, decisions, offset, place.at);
-    place_from(relocations, decisions, index, offset, from, offset)
+    let from = place_before(windows, offset, place.at);
+    place_from(windows, index, offset, from, offset)
 }
 
 /// Whether the field of the relocation at an index ends after a start.
@@ -184,15 +155,17 @@ pub(crate) fn first_covered(
     decisions: &[DecisionNumbers],
 ) -> Option<usize>
     requires enough { length relocations.now / 24 ≤ length decisions.now }
-    requires made { AllCanBeMade relocations.now section.now (decisions_in decisions.now)
-        (length relocations.now / 24) }
-    requires apart { AreApart relocations.now (decisions_in decisions.now)
-        (length relocations.now / 24) }
+    requires made { AreMakeable relocations.now section.now decisions.now }
+    requires apart { AreAllApart relocations.now decisions.now }
     ensures { IsFirstCovered architecture relocations.now section.now
         (decisions_in decisions.now) (length relocations.now / 24) result }
 {
+    let windows = Windows {
+        relocations,
+        decisions,
+    };
     let count = relocations_len(relocations);
-    let first = place_from(relocations, decisions, count, 0, 0, 0);
+    let first = place_from(&windows, count, 0, 0, 0);
     if first.at == count {
         return None;
     }
@@ -208,7 +181,7 @@ pub(crate) fn first_covered(
         if let Decision::Consumed = decision_in(decisions, index) {
             continue;
         }
-        place = place_beside(relocations, decisions, index, offset, place);
+        place = place_beside(&windows, index, offset, place);
         if place.at == count {
             continue;
         }

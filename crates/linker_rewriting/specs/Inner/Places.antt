@@ -1,8 +1,10 @@
 -- Where in a list of decisions those are that write or delete bytes, beside an offset.
-use Rattle.std.specs.Prelude.{◌≡◌, ◌≢◌, ℕ, ◌<◌, ◌≤◌, List}
+use Rattle.std.specs.Prelude.{◌≡◌, ◌≢◌, ℕ, ◌<◌, ◌≤◌, ◌/◌, List, length}
 use Rattle.linker_rewriting.specs.Imports.{Decision, offset_at}
-use Rattle.linker_rewriting.specs.Decisions.{start_at, end_at}
+use Rattle.linker_rewriting.specs.Decisions.{AreApart, start_at, end_at}
+use Rattle.linker_rewriting.specs.Numbers.{decisions_in}
 use Rattle.linker_rewriting.specs.declared.covered.Place.{Place}
+use Rattle.linker_rewriting.specs.declared.covered.Windows.{Windows}
 
 -- the decision with an index writes or deletes bytes
 abbrev pub IsWindow : List ℕ → List Decision → ℕ → Type 0
@@ -42,3 +44,16 @@ pub record IsPlaceBeside (bytes : List ℕ) (decisions : List Decision) (limit i
   pub other : place.at < limit → place.at ≢ index
   pub ends : place.at < limit → offset < end_at bytes decisions place.at
   pub begins : place.at < limit → place.above ≡ start_at bytes decisions place.at
+
+-- what holds of the decisions of a section, as the code passes them on
+abbrev pub in_windows {ℓ} : {X : Type ℓ} → (List ℕ → List Decision → X) → Windows → X
+in_windows Is windows = Is windows.relocations.now (decisions_in windows.decisions.now)
+
+-- each relocation has one, and their bytes are apart
+pub record AreSearchable (windows : Windows) : Type 0 where
+  pub enough : length windows.relocations.now / 24 ≤ length windows.decisions.now
+  pub bounded : in_windows AreBounded windows (length windows.relocations.now / 24)
+  pub apart : in_windows AreApart windows (length windows.relocations.now / 24)
+
+abbrev pub IsThePlace : Windows → ℕ → ℕ → Place → Type 0
+IsThePlace windows = in_windows IsPlaceBeside windows (length windows.relocations.now / 24)

@@ -5,11 +5,15 @@ use Rattle.linker_rewriting.proofs.covered.first_covered.Goals as goal
 no_end : (start end : ℕ) → start < end → end ≤ 0 → ⊥
 no_end start end some none = omega arith
 
-pub place_from-first-requires-clause-bounded : goal.place_from-first-requires-clause-bounded
-place_from-first-requires-clause-bounded c =
+pub place_from-first-requires-clause-searchable : goal.place_from-first-requires-clause-searchable
+place_from-first-requires-clause-searchable c =
     let a = c.args in
-    are_bounded a.relocations.now a.section.now (map decision_in a.decisions.now)
-    (length a.relocations.now / 24) (omega arith) c.requires.made
+    record {
+      enough = c.requires.enough;
+      bounded = are_bounded a.relocations.now a.section.now (map decision_in a.decisions.now)
+          (length a.relocations.now / 24) (omega arith) c.requires.made;
+      apart = c.requires.apart;
+    }
 
 pub returns-then-first-count : goal.returns-then-first-count
 returns-then-first-count c n less covered =
@@ -52,11 +56,15 @@ loop-index-preserved-in-Consumed c =
       place = c.loop-index.invariant.place;
     }
 
-pub place_beside-place-requires-clause-bounded : goal.place_beside-place-requires-clause-bounded
-place_beside-place-requires-clause-bounded c =
+pub place_beside-place-requires-clause-searchable : goal.place_beside-place-requires-clause-searchable
+place_beside-place-requires-clause-searchable c =
     let a = c.args in
-    are_bounded a.relocations.now a.section.now (map decision_in a.decisions.now)
-    (length a.relocations.now / 24) (omega arith) c.requires.made
+    record {
+      enough = c.requires.enough;
+      bounded = are_bounded a.relocations.now a.section.now (map decision_in a.decisions.now)
+          (length a.relocations.now / 24) (omega arith) c.requires.made;
+      apart = c.requires.apart;
+    }
 
 pub loop-index-preserved-then-place-count : goal.loop-index-preserved-then-place-count
 loop-index-preserved-then-place-count c =

@@ -6,8 +6,8 @@ pub loop-at-preserved-in-Kept : goal.loop-at-preserved-in-Kept
 loop-at-preserved-in-Kept c =
     let a = c.args in
     let k = c.loop-at.at in
-    let bytes = a.relocations.now in
-    let ds = map decision_in a.decisions.now in
+    let bytes = a.windows.now.relocations.now in
+    let ds = map decision_in a.windows.now.decisions.now in
     let none : IsWindow bytes ds k → ⊥ = no_window bytes ds k (sym c.decision_in.ensures ∙ c.in-Kept.is) in
     record {
       below = below_more (λ n. IsWindow bytes ds n → end_at bytes ds n ≤ c.loop-at.below) k
@@ -23,8 +23,8 @@ pub loop-at-preserved-then-end-start : goal.loop-at-preserved-then-end-start
 loop-at-preserved-then-end-start c =
     let a = c.args in
     let k = c.loop-at.at in
-    let bytes = a.relocations.now in
-    let ds = map decision_in a.decisions.now in
+    let bytes = a.windows.now.relocations.now in
+    let ds = map decision_in a.windows.now.decisions.now in
     let none : IsWindow bytes ds k → ⊥ =
     no_bytes (start_at bytes ds k) (end_at bytes ds k) (subst (λ x. x.1 ≤ x.0) c.span_at-start.ensures c.if-end-start.true) in
     record {
@@ -38,12 +38,12 @@ pub loop-at-preserved-then-at-index : goal.loop-at-preserved-then-at-index
 loop-at-preserved-then-at-index c =
     let a = c.args in
     let k = c.loop-at.at in
-    let bytes = a.relocations.now in
-    let ds = map decision_in a.decisions.now in
+    let bytes = a.windows.now.relocations.now in
+    let ds = map decision_in a.windows.now.decisions.now in
     let less : k < length bytes / 24 =
     (let t = c.loop-at-test.true in let e = c.relocations_len-len.ensures in omega (arith, t, e)) in
     record {
-      below = below_window bytes ds (length bytes / 24) k (c.span_at-start.result.1) c.requires.apart less
+      below = below_window bytes ds (length bytes / 24) k (c.span_at-start.result.1) c.requires.searchable.apart less
           (subst (λ x. x.0 < x.1) c.span_at-start.ensures c.if-end-start.false)
           (subst (λ x. end_at bytes ds k ≤ x.1) (sym c.span_at-start.ensures) (no_more (end_at bytes ds k)));
       passed = below_more (λ n. n ≢ a.index → IsWindow bytes ds n → end_at bytes ds n ≤ a.offset) k
@@ -54,8 +54,8 @@ pub returns-then-offset-end : goal.returns-then-offset-end
 returns-then-offset-end c =
     let a = c.args in
     let k = c.loop-at.at in
-    let bytes = a.relocations.now in
-    let ds = map decision_in a.decisions.now in
+    let bytes = a.windows.now.relocations.now in
+    let ds = map decision_in a.windows.now.decisions.now in
     let some : IsWindow bytes ds k =
     subst (λ x. x.0 < x.1) c.span_at-start.ensures c.if-end-start.false in
     record {
@@ -63,7 +63,7 @@ returns-then-offset-end c =
         within = let t = c.loop-at-test.true in let e = c.relocations_len-len.ensures in omega (arith, t, e);
         below = c.loop-at.invariant.below;
         above = subst (λ s. AreAbove bytes ds (length bytes / 24) k s) (sym (ap (λ x. x.0) c.span_at-start.ensures))
-            (above_window bytes ds (length bytes / 24) k c.requires.apart some);
+            (above_window bytes ds (length bytes / 24) k c.requires.searchable.apart some);
       };
       passed = c.loop-at.invariant.passed;
       writes = λ _. some;
@@ -76,12 +76,12 @@ pub loop-at-preserved : goal.loop-at-preserved
 loop-at-preserved c =
     let a = c.args in
     let k = c.loop-at.at in
-    let bytes = a.relocations.now in
-    let ds = map decision_in a.decisions.now in
+    let bytes = a.windows.now.relocations.now in
+    let ds = map decision_in a.windows.now.decisions.now in
     let less : k < length bytes / 24 =
     (let t = c.loop-at-test.true in let e = c.relocations_len-len.ensures in omega (arith, t, e)) in
     record {
-      below = below_window bytes ds (length bytes / 24) k (c.span_at-start.result.1) c.requires.apart less
+      below = below_window bytes ds (length bytes / 24) k (c.span_at-start.result.1) c.requires.searchable.apart less
           (subst (λ x. x.0 < x.1) c.span_at-start.ensures c.if-end-start.false)
           (subst (λ x. end_at bytes ds k ≤ x.1) (sym c.span_at-start.ensures) (no_more (end_at bytes ds k)));
       passed = below_more (λ n. n ≢ a.index → IsWindow bytes ds n → end_at bytes ds n ≤ a.offset) k

@@ -3,7 +3,7 @@ use Rattle.linker_rewriting.proofs.covered.place_from.Given as goal
 
 abbrev pub invariant-loop-at : goal.invariant-loop-at
 invariant-loop-at l = record {
-  below : AreBelow l.relocations (map decision_in l.decisions) l.at l.below;
-  passed : (n : ℕ) → n < l.at → n ≢ l.index → IsWindow l.relocations (map decision_in l.decisions) n
-      → end_at l.relocations (map decision_in l.decisions) n ≤ l.offset;
+  below : AreBelow l.windows.relocations.now (map decision_in l.windows.decisions.now) l.at l.below;
+  passed : (n : ℕ) → n < l.at → n ≢ l.index → IsWindow l.windows.relocations.now (map decision_in l.windows.decisions.now) n
+      → end_at l.windows.relocations.now (map decision_in l.windows.decisions.now) n ≤ l.offset;
 }

@@ -4,8 +4,8 @@ use Rattle.linker_rewriting.proofs.covered.span_at.Goals as goal
 pub span_of-requires : goal.span_of-requires
 span_of-requires c =
     let a = c.args in
-    let ds = map decision_in a.decisions.now in
+    let ds = map decision_in a.windows.now.decisions.now in
     let same = c.relocation_in.ensures in
     subst (λ d. end_by d c.relocation_in.result.offset ≤ 0xffffffffffffffff) (sym c.decision_in-decision.ensures)
     (subst (λ r. end_by (decision_at ds a.index) r.offset ≤ 0xffffffffffffffff) (sym same)
-    (c.requires.bounded (subst (λ r. r.offset ≤ 0xffffffffffffffff) same (omega arith))))
+    (c.requires.searchable.bounded a.index c.requires.within (subst (λ r. r.offset ≤ 0xffffffffffffffff) same (omega arith))))
