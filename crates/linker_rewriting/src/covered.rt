@@ -41,7 +41,8 @@ struct Windows<'a> {
 fn span_at(windows: &Windows<'_>, index: usize) -> (u64, u64)
     requires within { index < length windows.now.relocations.now / 24 }
     requires searchable { AreSearchable windows.now }
-    ensures { result ≡ (in_windows start_at windows.now index, in_windows end_at windows.now index) }
+    ensures { result
+        ≡ (in_windows start_at windows.now index, in_windows end_at windows.now index) }
 {
     let decision = decision_in(windows.decisions, index);
     span_of(&decision, relocation_in(windows.relocations, index).offset)
