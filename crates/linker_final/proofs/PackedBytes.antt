@@ -515,10 +515,10 @@ loongarch name = the_row (loongarch_row name)
 
 pub riscv_branches : riscv_laws.Jumps → RiscVBranchesGo
 riscv_branches law = (
-  λ is_32. goes (RiscV is_32) (riscv riscv_names.R_RISCV_JAL) _ _ (riscv_form JType).machine 1 symbol_address refl refl refl (λ a symbol r. refl) (λ y. tt) law.0,
-  λ is_32. goes (RiscV is_32) (riscv riscv_names.R_RISCV_BRANCH) _ _ (riscv_form BType).machine 1 symbol_address refl refl refl (λ a symbol r. refl) (λ y. tt) law.1,
-  λ is_32. goes (RiscV is_32) (riscv riscv_names.R_RISCV_RVC_JUMP) _ _ (riscv_form CjType).machine 1 symbol_address refl refl refl (λ a symbol r. refl) (λ y. tt) law.2,
-  λ is_32. goes (RiscV is_32) (riscv riscv_names.R_RISCV_RVC_BRANCH) _ _ (riscv_form CbType).machine 1 symbol_address refl refl refl (λ a symbol r. refl) (λ y. tt) law.3,
+  λ isa. goes (RiscV isa) (riscv riscv_names.R_RISCV_JAL) _ _ (riscv_form JType).machine 1 symbol_address refl refl refl (λ a symbol r. refl) (λ y. tt) law.0,
+  λ isa. goes (RiscV isa) (riscv riscv_names.R_RISCV_BRANCH) _ _ (riscv_form BType).machine 1 symbol_address refl refl refl (λ a symbol r. refl) (λ y. tt) law.1,
+  λ isa. goes (RiscV isa) (riscv riscv_names.R_RISCV_RVC_JUMP) _ _ (riscv_form CjType).machine 1 symbol_address refl refl refl (λ a symbol r. refl) (λ y. tt) law.2,
+  λ isa. goes (RiscV isa) (riscv riscv_names.R_RISCV_RVC_BRANCH) _ _ (riscv_form CbType).machine 1 symbol_address refl refl refl (λ a symbol r. refl) (λ y. tt) law.3,
 )
 
 pub loongarch_branches : loongarch_laws.Branches → LoongArchBranchesGo

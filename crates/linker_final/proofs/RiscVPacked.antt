@@ -1,5 +1,17 @@
 -- RISC-V: calls in the final bytes of a packed section, and what is deleted of it.
-use Rattle.linker_final.proofs.Imports.{All-drop, All-take, AreAddresses, AreBytes, AreDeleted as IsGone, CallStays, DeletedLui, HasWord, IsApplied, IsBefore, IsCallPair, IsLow12, IsLowOffset, IsLui, IsSomeAnd, List, Operands, Packed, RiscV, RiscVRelocation, Site, SiteBecomes, Some, State, ap, architecture_of, arith, cases_Bool, cj_goes, drop, drop-drop, eqb-true, even, false, false≢true, field, from_le_bytes, if◌then◌else◌, inl, inr, jal_goes, jump_group, length, length-drop, link_register, offset_at, operands_with, place_of, plt_address, rd_of, refl, relocation_in, riscv_matches, riscv_relocation, site_bytes, site_len, site_offset, site_place, site_target, subst, sym, take, take_all, true, value_of, w16, w32, word_at, ℕ, ◌%◌, ◌&&◌, ◌+◌, ◌-◌, ◌<◌, ◌==◌, ◌^◌, ◌||◌, ◌∙◌, ◌≡◌, ◌≢◌, ◌≤◌}
+use Rattle.linker_final.proofs.Imports.{All-drop, All-take, AreAddresses, AreBytes}
+use Rattle.linker_final.proofs.Imports.{AreDeleted as IsGone, CallStays, DeletedLui, HasWord}
+use Rattle.linker_final.proofs.Imports.{IsApplied, IsBefore, IsCallPair, IsLow12, IsLowOffset}
+use Rattle.linker_final.proofs.Imports.{IsLui, IsSomeAnd, List, Operands, Packed, RiscV}
+use Rattle.linker_final.proofs.Imports.{RiscVRelocation, Site, SiteBecomes, Some, State, ap}
+use Rattle.linker_final.proofs.Imports.{architecture_of, arith, cj_goes, drop, drop-drop, eqb-true}
+use Rattle.linker_final.proofs.Imports.{even, false, field, from_le_bytes, if◌then◌else◌, inl, inr}
+use Rattle.linker_final.proofs.Imports.{jal_goes, jump_group, length, length-drop, link_register}
+use Rattle.linker_final.proofs.Imports.{offset_at, operands_with, place_of, plt_address, rd_of}
+use Rattle.linker_final.proofs.Imports.{refl, relocation_in, riscv_matches, riscv_relocation}
+use Rattle.linker_final.proofs.Imports.{site_bytes, site_len, site_offset, site_place, site_target}
+use Rattle.linker_final.proofs.Imports.{subst, sym, take, take_all, value_of, w16, w32, word_at, ℕ}
+use Rattle.linker_final.proofs.Imports.{◌%◌, ◌+◌, ◌-◌, ◌<◌, ◌^◌, ◌∙◌, ◌≡◌, ◌≢◌, ◌≤◌}
 use Rattle.linker_final.specs.RiscVSection.{CallIsAlike, HighPartsAreLeftOut, IsOfCall, LongCallsStay, LuiIsLeftOut, SitesCallTheSame, SumIsLeftOut, call_row, instructions_in, landing}
 use Rattle.linker_laws.specs.RiscVGroups.{Code, Groups, AreDeleted}
 use Rattle.linker_laws.proofs.RiscVMachine.{address_is}
@@ -7,21 +19,15 @@ use Rattle.linker_final.proofs.PackedBytes.{are_addresses, instructions, no_plac
 use Rattle.linker_final.proofs.Written.{back_of_pair, front_of_pair, some_value, window_length}
 use Rattle.linker_riscv64.specs.declared.calls.LinkRegister.TheVariants.{OfJalr}
 use Rattle.linker_runs.specs.Origins.{HasItsInstructions}
-use Rattle.linker_runs.specs.RiscVItems.{IsCallAt, links_short}
+use Rattle.linker_runs.specs.RiscVItems.{IsCallAt}
 use Rattle.linker_runs.specs.RiscVSites.{RiscVBecomes}
 use Rattle.linker_runs.specs.RiscVSites.RiscVBecomes.{call, jump, short_jump}
 use Rattle.linker_runs.specs.Sites.{operands_of}
 use Rattle.linker_utils.specs.declared.riscv64.rewrites.RewriteKind.{RewriteKind}
+use Rattle.linker_runs.specs.declared.packing.Isa.TheVariants.{Rv64}
 use Rattle.linker_elf.specs.declared.riscv64.relocations.RiscVRelocation.TheVariants as names
 use Rattle.linker_section.specs.Values as values
 use Rattle.linker_utils.specs.declared.riscv64.rewrites.RewriteKind.TheVariants as kinds
-
--- on RV64 only a call that links x0 becomes two bytes long
-links_none : (link : ℕ) → links_short false link ≡ true → (link == 0) ≡ true
-links_none link short = elim (cases_Bool (link == 0)) [
-  | inl none ↦ none
-  | inr some ↦ absurd (false≢true (subst (λ b. (b || false && link == 1) ≡ true) some short))
-]
 
 -- both relocations of calls have one row
 of_either : (P : RiscVRelocation → Type 0) (name : RiscVRelocation) → IsOfCall name
@@ -70,7 +76,7 @@ module _ (groups : Groups) (section : List ℕ) (o : ℕ) (bytes : AreBytes sect
 
   -- what a site becomes
   becomes : (place target n : ℕ) (final : List ℕ) → place < 2 ^ 64 → target < 2 ^ 64 → AreBytes final
-      → length final ≡ n → RiscVBecomes false section o place target final → (name : RiscVRelocation) → IsOfCall name
+      → length final ≡ n → RiscVBecomes Rv64 section o place target final → (name : RiscVRelocation) → IsOfCall name
       → CallIsAlike window (operands_of place target) n (instructions_in n) (landing n target) final name
   becomes place target n final small reach new same (short_jump len none cj) name of =
       subst (λ m. CallIsAlike window (operands_of place target) m (instructions_in m) (landing m target) final name)
@@ -80,7 +86,7 @@ module _ (groups : Groups) (section : List ℕ) (o : ℕ) (bytes : AreBytes sect
       goes : CallIsAlike window (operands_of place target) 2 1 target final names.R_RISCV_CALL
       goes c x k s sx at leads old stands =
           jump_group c x (operands_of place target) k s window 2 sx at target leads pair some old
-          (cj_goes c.others c.new place _ target final stands cj.quadrant (subst (λ b. field (from_le_bytes w16 final) 13 16 ≡ (if b then 5 else 1)) (links_none (link_register OfJalr section o) none) cj.function) (ap rd_of second_is ∙ eqb-true (link_register OfJalr section o) 0 (links_none (link_register OfJalr section o) none))
+          (cj_goes c.others c.new place _ target final stands cj.quadrant (subst (λ b. field (from_le_bytes w16 final) 13 16 ≡ (if b then 5 else 1)) none cj.function) (ap rd_of second_is ∙ eqb-true (link_register OfJalr section o) 0 none)
           (address_is _ target cj.goes))
   becomes place target n final small reach new same (jump len jal) name of =
       subst (λ m. CallIsAlike window (operands_of place target) m (instructions_in m) (landing m target) final name)

@@ -2,7 +2,7 @@
 -- packed, and then its values are written. What its final bytes are of the section before.
 use Rattle.std.specs.Prelude.{◌≡◌, ◌≢◌, ℕ, ◌+◌, ◌-◌, ◌/◌, ◌^◌, ◌<◌, ◌≤◌, List, length, take, drop}
 use Rattle.std.specs.Prelude.{slice_index, IsTrue, Ok, Some, true, false, ℤ, ◌⊎◌, ◌%◌, MatchOption}
-use Rattle.std.specs.Prelude.{None, pos, ◌+ℤ◌, ◌*ℤ◌, slice_get, IsSomeAnd, Option, Bool}
+use Rattle.std.specs.Prelude.{None, pos, ◌+ℤ◌, ◌*ℤ◌, slice_get, IsSomeAnd, Option}
 use Rattle.linker_final.specs.Imports.{Addresses, Architecture, AreAddresses, AreMoved, AreWritten}
 use Rattle.linker_final.specs.Imports.{BType, Branch21, Branch26, CbType, CjType, IsAddress}
 use Rattle.linker_final.specs.Imports.{IsApplied, IsFirstFault, IsMoved, IsRow, Item, JType}
@@ -27,6 +27,7 @@ use Rattle.linker_final.specs.declared.packed.PackError.TheVariants.{Misplaced, 
 use Rattle.linker_final.specs.declared.packed.RunSection.{RunSection}
 use Rattle.linker_runs.specs.Origins.{HasItsInstructions}
 use Rattle.linker_runs.specs.Relaxing.{end_of, item_at, items_in, len_of, offset_of}
+use Rattle.linker_runs.specs.declared.packing.Isa.{Isa}
 use Rattle.linker_runs.specs.declared.packing.Machine.{Machine}
 use Rattle.linker_runs.specs.declared.relaxation.Alignment.{Alignment}
 use Rattle.linker_runs.specs.declared.relaxation.Item.TheVariants.{Aligned, Site}
@@ -59,7 +60,7 @@ abbrev pub count : Packed → ℕ
 count p = length p.relocations_after / 24
 
 abbrev pub architecture_of : Machine → Architecture
-architecture_of (machines.RiscV is_32) = architectures.RiscV
+architecture_of (machines.RiscV isa) = architectures.RiscV
 architecture_of machines.LoongArch64 = architectures.LoongArch64
 
 -- where the byte at an offset of the section before goes
@@ -426,8 +427,8 @@ Goes machine row reads unit target =
 -- RISC-V (RISC-V unprivileged ISA, "JAL", "Conditional Branches", "Control Transfer Instructions")
 abbrev pub RiscVGoes : RiscVRelocation → RiscVInstruction → Type 0
 RiscVGoes name f =
-    (is_32 : Bool)
-    → Goes (machines.RiscV is_32) (riscv_row name) (riscv_form f).machine 1 symbol_address
+    (isa : Isa)
+    → Goes (machines.RiscV isa) (riscv_row name) (riscv_form f).machine 1 symbol_address
 
 -- each jump and branch of RISC-V that has a relocation, but for calls by two instructions
 abbrev pub RiscVBranchesGo : Type 0

@@ -39,7 +39,7 @@ fn architecture_of(machine: Machine) -> Architecture
     ensures { result ≡ architecture_of machine }
 {
     match machine {
-        Machine::RiscV { .. } => Architecture::RiscV,
+        Machine::RiscV(_) => Architecture::RiscV,
         Machine::LoongArch64 => Architecture::LoongArch64,
     }
 }

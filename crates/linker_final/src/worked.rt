@@ -29,7 +29,7 @@ use linker_rewriting::kept::{FactsSnapshot, snapshot_facts};
 use linker_rewriting::phases::Phase;
 use linker_rewriting::sections::rewrite_placed_section;
 use linker_runs::items::{ItemNumbers, Relocation, rewritten_items_into};
-use linker_runs::packing::{Machine, pack_run, packed_run_len};
+use linker_runs::packing::{Isa, Machine, pack_run, packed_run_len};
 use linker_runs::relaxation::{Item, Site, are_items, relax};
 use linker_runs::shapes::riscv64::CALL;
 use linker_section::facts::{Addresses, Symbol};
@@ -447,7 +447,7 @@ pub fn riscv64(alloc: Global) -> Result<bool, OutOfMemory>
     }));
     let mut items = [site; ITEMS];
     let Ok(2) = rewritten_items_into(
-        Machine::RiscV { is_32: false },
+        Machine::RiscV(Isa::Rv64),
         &section,
         0,
         &taken,
@@ -468,7 +468,7 @@ pub fn riscv64(alloc: Global) -> Result<bool, OutOfMemory>
     }
     let mut packed = [0; 28];
     let Ok(()) = pack_run(
-        Machine::RiscV { is_32: false },
+        Machine::RiscV(Isa::Rv64),
         &section,
         0,
         items,

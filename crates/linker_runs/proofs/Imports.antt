@@ -38,13 +38,13 @@ unfoldable pub use Rattle.linker_runs.specs.Deleting.{deletions_before}
 pub use Rattle.linker_runs.specs.Faults.{AlignmentMeets, AreSound, IsFirstAt, IsFirstFault, IsFirstOf, ItemMeets, OwnMeets, RunMeets, ShapesMeet, UnitMeets, number_of}
 pub use Rattle.linker_runs.specs.Inner.Ahead.{IsAhead, MayBeAhead}
 pub use Rattle.linker_runs.specs.Inner.Listed.{AreListedIn, Rewritten, rewritten_of}
-pub use Rattle.linker_runs.specs.Inner.LoongArch.{AreRelocated, IsKindAt, IsLongOf, IsLongOutOfReach, short_template}
+pub use Rattle.linker_runs.specs.Inner.LoongArch.{AreRelocated, IsLongOf}
 pub use Rattle.linker_runs.specs.Inner.Packing.{AreReady, IsWrittenTo}
 pub use Rattle.linker_runs.specs.Inner.Pieces.{IsPieceOf, IsWhole, code_bytes, piece_bytes}
 pub use Rattle.linker_runs.specs.Inner.Relaxing.{AreCautious, AreForced, IsAlwaysInReach, is_in_reach_cautiously}
 pub use Rattle.linker_runs.specs.Inner.Validity.{IsClearRun, ItemSuits, ShapesSuit}
 pub use Rattle.linker_runs.specs.LoongArchItems.{AreStated, IsCall36, IsPcala, LoongArchMakes}
-pub use Rattle.linker_runs.specs.LoongArchSites.{ArePagesNear, IsAddressInReach, IsAddressOutOfReach, IsBranch, IsCall36At, IsFarAddress, IsFarCall, IsPcaddi, IsPcalaAt, IsSiteAt, LoongArchAccepts, LoongArchBecomes, LoongArchCause, LoongArchIsFar, address, branch_template, call, call_template, destination, far_address, far_call, far_from_branch, far_from_call, far_from_pair, far_from_pcaddi, far_high, far_low, far_pages, high_template, jump, long_address, long_call, low_template, pcaddi_template, short_address, short_call}
+pub use Rattle.linker_runs.specs.LoongArchSites.{ArePagesNear, IsKindAt, IsLongInReach, IsLongOutOfReach, short_template, IsAddressInReach, IsAddressOutOfReach, IsBranch, IsCall36At, IsFarAddress, IsFarCall, IsPcaddi, IsPcalaAt, IsSiteAt, LoongArchAccepts, LoongArchBecomes, LoongArchCause, address, branch_template, call, call_template, destination, far_address, far_call, far_high, far_low, far_pages, high_template, jump, low_template, pcaddi_template}
 pub use Rattle.linker_runs.specs.Moved.{AreMoved, BecomesType, BeginsAt, IsMoved, gone, of_item, other, r_type_at_item}
 pub use Rattle.linker_runs.specs.Origins.{HasItsInstructions, HasLoongArchShapes, HasRiscVShapes, HasShapes}
 pub use Rattle.linker_runs.specs.Packing.{CanWrite, CodeCause, IsApart, IsCause, IsInside, IsNotIn, IsPackedRun, IsUnwritable, IsWritable, ItemAccepts, ItemBecomes, ItemCause, KeepsEnd, KeepsGap, LosesItems, Section, SiteAccepts, SiteBecomes, SiteCause, StayWhole, address_of, gap_start, is_fixed, kept_len, nop_len, nops, packed_offset, section_of, written_len}
@@ -55,7 +55,7 @@ unfoldable pub use Rattle.linker_runs.specs.Relaxing.{after_rounds, freed_before
 pub use Rattle.linker_runs.specs.Relocations.{AreMade, AreWellFormed, IsMarked, no_relocation, relocation_at}
 pub use Rattle.linker_runs.specs.Relocations.AreMade.{left_out, made, none}
 pub use Rattle.linker_runs.specs.RewrittenItems.{AreListed, ArePlaced, IsDeleted, deleted_at, deleted_before, deleted_end}
-pub use Rattle.linker_runs.specs.RiscVItems.{Aligns, AreEnoughAt, HasRiscVName, IsCallAt, IsNextAlignment, IsOfCall, IsRiscVFormed, MayBeShort, MayFree, RiscVMakes, links_short}
+pub use Rattle.linker_runs.specs.RiscVItems.{Aligns, AreEnoughAt, HasRiscVName, IsCallAt, IsNextAlignment, IsOfCall, IsRiscVFormed, MayBeShort, MayFree, RiscVMakes, has_short_jump, links_short}
 pub use Rattle.linker_runs.specs.RiscVSites.{IsJal, IsShortJump, RiscVAccepts, RiscVBecomes, RiscVCause, riscv_template, short_bytes, short_jump}
 pub use Rattle.linker_runs.specs.SectionItems.{Makes}
 pub use Rattle.linker_runs.specs.Sites.{IsOutOfReach, IsRelocated, Template, operands_of}
@@ -63,6 +63,7 @@ pub use Rattle.linker_runs.specs.Writable.{HasShapesOf, IsNear, IsNearAddress, I
 pub use Rattle.linker_runs.specs.declared.items.Relocation.{Relocation}
 pub use Rattle.linker_runs.specs.declared.packing.ItemError.{ItemError}
 pub use Rattle.linker_runs.specs.declared.packing.ItemError.TheVariants.{DeletedOutside, NoShape, NotItsFirstBytes, NotItsInstructions, OutOfReach, OutOfSection, Overlaps}
+pub use Rattle.linker_runs.specs.declared.packing.Isa.{Isa}
 pub use Rattle.linker_runs.specs.declared.packing.Machine.{Machine}
 pub use Rattle.linker_runs.specs.declared.packing.Machine.TheVariants.{LoongArch64, RiscV}
 pub use Rattle.linker_runs.specs.declared.relaxation.Alignment.{Alignment}

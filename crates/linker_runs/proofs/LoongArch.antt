@@ -1,10 +1,11 @@
 -- What calls and addresses of LoongArch become.
-use Rattle.linker_runs.proofs.Imports.{AreAddresses, AreRelocated, BitRange, Bool, Branch26, CALL36, HasLoongArchShapes, InstructionWritten, IsAddress, IsAddressInReach, IsAddressOutOfReach, IsBranch, IsCall36At, IsFarAddress, IsFarCall, IsKindAt, IsLongOf, IsLongOutOfReach, IsOutOfReach, IsPcaddi, IsPcalaAt, IsRelocated, IsSiteAt, IsSomeAnd, IsTrue, IsWithin, ItemError, List, LoongArchAccepts, LoongArchBecomes, LoongArchCause, LoongArchIsFar, NoShape, NotItsInstructions, OutOfReach, PCALA, Shapes, Shift5, Signed, Some, address, agree_below, ap, arith, bit_bounds, bits_taken, branch_template, call, call_template, destination, drop, eqb, false, far_address, far_call, far_from_branch, far_from_call, far_from_pair, far_from_pcaddi, far_high, far_low, far_pages, field, from_le_bytes, from_le_bytes-to_le_bytes_4, high_template, inl, inr, int_lt, is_jirl, is_placed, jump, length, long_address, long_call, loongarch_form, low_template, not, operands_of, pcaddi_template, places_cleared, pos, reach, refl, short_address, short_call, short_template, subst, sum_64, take, to_le_bytes, true, w32, w64, whole, window_of, ℕ, ℤ, ⊎_elim, ◌*ℤ◌, ◌*◌, ◌+ℤ◌, ◌+◌, ◌<◌, ◌^◌, ◌↔◌, ◌∙◌, ◌≡◌, ◌⊎◌}
+use Rattle.linker_runs.proofs.Imports.{AreAddresses, AreRelocated, BitRange, Bool, Branch26, CALL36, HasLoongArchShapes, InstructionWritten, IsAddress, IsAddressInReach, IsAddressOutOfReach, IsBranch, IsCall36At, IsFarAddress, IsFarCall, IsKindAt, IsLongInReach, IsLongOf, IsLongOutOfReach, IsOutOfReach, IsPcaddi, IsPcalaAt, IsRelocated, IsSiteAt, IsSomeAnd, IsTrue, IsWithin, ItemError, List, LoongArchAccepts, LoongArchBecomes, LoongArchCause, NoShape, NotItsInstructions, OutOfReach, PCALA, Shapes, Shift5, Signed, Some, address, agree_below, ap, arith, bit_bounds, bits_taken, branch_template, call, call_template, destination, drop, eqb, false, far_address, far_call, far_high, far_low, far_pages, field, from_le_bytes, from_le_bytes-to_le_bytes_4, high_template, inl, inr, int_lt, is_jirl, is_placed, jump, length, loongarch_form, low_template, not, operands_of, pcaddi_template, places_cleared, pos, reach, refl, short_template, subst, sum_64, take, to_le_bytes, true, w32, w64, whole, window_of, ℕ, ℤ, ⊎_elim, ◌*ℤ◌, ◌*◌, ◌+ℤ◌, ◌+◌, ◌<◌, ◌^◌, ◌↔◌, ◌∙◌, ◌≡◌, ◌⊎◌}
 use Rattle.linker_elf.specs.declared.elf.AnyForm.TheVariants.{LoongArch64}
 use Rattle.linker_elf.specs.declared.loongarch64.forms.LoongArch64Instruction.{LoongArch64Instruction}
 use Rattle.linker_laws.specs.LoongArchRelocationLaws.{Branches, Calls, RelativeAddresses, page_and_low}
 use Rattle.linker_runs.specs.declared.packing.loongarch64.Kind.{Kind}
 use Rattle.linker_runs.specs.declared.packing.loongarch64.Kind.TheVariants.{Call, Address}
+use Rattle.linker_runs.specs.Sites.{IsInReach}
 use Rattle.linker_runs.proofs.Sites.{kept_field, operands_small, unit_sum, in_reach}
 use Rattle.linker_base.proofs.Words.{word_of_front}
 
@@ -84,18 +85,6 @@ module _ (section : List ℕ) (o place target : ℕ) (written : List ℕ) (branc
 
 -- ---- what is accepted and rejected
 
-accepted_site : (section : List ℕ) (o kept place target : ℕ) → LoongArchAccepts section o kept place target → IsSiteAt section o
-accepted_site section o kept place target (short_call here len reached) = inl here
-accepted_site section o kept place target (long_call here len reached) = inl here
-accepted_site section o kept place target (short_address here len reached) = inr here
-accepted_site section o kept place target (long_address here len reached) = inr here
-
-accepted_len : (section : List ℕ) (o kept place target : ℕ) → LoongArchAccepts section o kept place target → (kept ≡ 4) ⊎ (kept ≡ 8)
-accepted_len section o kept place target (short_call here len reached) = inl len
-accepted_len section o kept place target (long_call here len reached) = inr len
-accepted_len section o kept place target (short_address here len reached) = inl len
-accepted_len section o kept place target (long_address here len reached) = inr len
-
 pub not_both : (section : List ℕ) (o : ℕ) → IsCall36At section o → IsPcalaAt section o → ⊥
 not_both section o (inl one) pair = let a = one.first in let b = pair.one_register.first in omega arith
 not_both section o (inr none) pair = let a = none.first in let b = pair.one_register.first in omega arith
@@ -105,51 +94,50 @@ address_excludes section o place target reached (far_pages out) = out reached.pa
 address_excludes section o place target reached (far_high out) = in_reach (high_template section o) place target reached.high out
 address_excludes section o place target reached (far_low out) = in_reach (low_template section o) (sum_64 place 4) target reached.low out
 
--- what is far isn't accepted
-far_excludes : (section : List ℕ) (o kept place target : ℕ) → LoongArchAccepts section o kept place target → LoongArchIsFar section o kept place target → ⊥
-far_excludes section o kept place target (short_call here len reached) (far_from_branch _ _ out) = in_reach (branch_template (destination section o)) place target reached out
-far_excludes section o kept place target (short_call here len reached) (far_from_call _ eight out) = omega arith
-far_excludes section o kept place target (short_call here len reached) (far_from_pcaddi pair _ out) = not_both section o here pair
-far_excludes section o kept place target (short_call here len reached) (far_from_pair pair _ out) = not_both section o here pair
-far_excludes section o kept place target (long_call here len reached) (far_from_branch _ four out) = omega arith
-far_excludes section o kept place target (long_call here len reached) (far_from_call _ _ out) = in_reach (call_template section o) place target reached out
-far_excludes section o kept place target (long_call here len reached) (far_from_pcaddi pair _ out) = not_both section o here pair
-far_excludes section o kept place target (long_call here len reached) (far_from_pair pair _ out) = not_both section o here pair
-far_excludes section o kept place target (short_address pair len reached) (far_from_branch here _ out) = not_both section o here pair
-far_excludes section o kept place target (short_address pair len reached) (far_from_call here _ out) = not_both section o here pair
-far_excludes section o kept place target (short_address pair len reached) (far_from_pcaddi _ _ out) = in_reach (pcaddi_template (destination section o)) place target reached out
-far_excludes section o kept place target (short_address pair len reached) (far_from_pair _ eight out) = omega arith
-far_excludes section o kept place target (long_address pair len reached) (far_from_branch here _ out) = not_both section o here pair
-far_excludes section o kept place target (long_address pair len reached) (far_from_call here _ out) = not_both section o here pair
-far_excludes section o kept place target (long_address pair len reached) (far_from_pcaddi _ four out) = omega arith
-far_excludes section o kept place target (long_address pair len reached) (far_from_pair _ _ out) = address_excludes section o place target reached out
+long_excludes : (section : List ℕ) (o place target : ℕ) (kind : Kind) → IsLongInReach section o kind place target → IsLongOutOfReach section o kind place target → ⊥
+long_excludes section o place target Call reached out = in_reach (call_template section o) place target reached out
+long_excludes section o place target Address reached out = address_excludes section o place target reached out
+
+-- the instructions at an offset are of one kind
+one_kind : (section : List ℕ) (o : ℕ) (kind other : Kind) → IsKindAt section o kind → IsKindAt section o other → other ≡ kind
+one_kind section o Call Call here there = refl
+one_kind section o Address Address here there = refl
+one_kind section o Call Address here there = absurd (not_both section o here there)
+one_kind section o Address Call here there = absurd (not_both section o there here)
+
+site_is : (section : List ℕ) (o : ℕ) (kind : Kind) → IsKindAt section o kind → IsSiteAt section o
+site_is section o Call here = inl here
+site_is section o Address here = inr here
+
+module _ (section : List ℕ) (o kept place target : ℕ) (kind : Kind) (here : IsKindAt section o kind) where
+  -- nothing is wrong with a site whose instructions of four or eight bytes aren't out of reach
+  pub code_not : (kept ≡ 4) ⊎ (kept ≡ 8) → (kept ≡ 4 → IsOutOfReach (short_template section o kind) place target → ⊥) → (kept ≡ 8 → IsLongOutOfReach section o kind place target → ⊥)
+      → (error : ItemError) → LoongArchCause section o kept place target error → ⊥
+  code_not len short long NotItsInstructions cause = cause (site_is section o kind here)
+  code_not len short long NoShape cause = ⊎_elim (λ (four : kept ≡ 4). cause.1 four) (λ (eight : kept ≡ 8). cause.2 eight) len
+  code_not len short long OutOfReach far =
+      ⊎_elim
+      (λ (out : (kept ≡ 4) × IsOutOfReach (short_template section o kind) place target). short out.0 out.1)
+      (λ (out : (kept ≡ 8) × IsLongOutOfReach section o kind place target). long out.0 out.1)
+      (subst (λ k. ((kept ≡ 4) × IsOutOfReach (short_template section o k) place target) ⊎ ((kept ≡ 8) × IsLongOutOfReach section o k place target)) (one_kind section o kind far.0 here far.1) far.2)
+  code_not len short long other cause = cause
 
 pub loongarch_excludes : (section : List ℕ) (o kept place target : ℕ) (error : ItemError) → LoongArchAccepts section o kept place target → LoongArchCause section o kept place target error → ⊥
-loongarch_excludes section o kept place target NotItsInstructions a cause = cause (accepted_site section o kept place target a)
-loongarch_excludes section o kept place target NoShape a cause = elim (accepted_len section o kept place target a) [
-  | inl four ↦ cause.1 four
-  | inr eight ↦ cause.2 eight
-]
-loongarch_excludes section o kept place target OutOfReach a cause = far_excludes section o kept place target a cause
-loongarch_excludes section o kept place target other a cause = cause
+loongarch_excludes section o kept place target error a cause = ⊎_elim
+    (λ (four : (kept ≡ 4) × IsInReach (short_template section o a.0) place target).
+    code_not section o kept place target a.0 a.1 (inl four.0) (λ _ out. in_reach (short_template section o a.0) place target four.1 out) (λ eight out. absurd (omega (arith, four.0, eight))) error cause)
+    (λ (eight : (kept ≡ 8) × IsLongInReach section o a.0 place target).
+    code_not section o kept place target a.0 a.1 (inr eight.0) (λ four out. absurd (omega (arith, four, eight.0))) (λ _ out. long_excludes section o place target a.0 eight.1 out) error cause)
+    a.2
 
 module _ (section : List ℕ) (o kept place target : ℕ) where
   pub short_accepts : (kind : Kind) (written : List ℕ) → IsKindAt section o kind → kept ≡ 4 → IsRelocated (short_template section o kind) place target written → LoongArchAccepts section o kept place target
-  short_accepts Call written here len applied = short_call here len (written, applied)
-  short_accepts Address written here len applied = short_address here len (written, applied)
+  short_accepts Call written here len applied = (Call, here, inl (len, (written, applied)))
+  short_accepts Address written here len applied = (Address, here, inl (len, (written, applied)))
 
   pub long_accepts : (kind : Kind) (written : List ℕ) → IsKindAt section o kind → kept ≡ 8 → IsLongOf section o kind place target written → LoongArchAccepts section o kept place target
-  long_accepts Call written here len applied = long_call here len (written, applied)
-  long_accepts Address written here len applied = long_address here len
-      (record { pages = applied.pages; high = (take 4 written, applied.high); low = (drop 4 written, applied.low) })
-
-  pub short_rejected : (kind : Kind) → IsKindAt section o kind → kept ≡ 4 → IsOutOfReach (short_template section o kind) place target → LoongArchIsFar section o kept place target
-  short_rejected Call here four out = far_from_branch here four out
-  short_rejected Address here four out = far_from_pcaddi here four out
-
-  pub long_rejected : (kind : Kind) → IsKindAt section o kind → kept ≡ 8 → IsLongOutOfReach section o kind place target → LoongArchIsFar section o kept place target
-  long_rejected Call here eight out = far_from_call here eight out
-  long_rejected Address here eight out = far_from_pair here eight out
+  long_accepts Call written here len applied = (Call, here, inr (len, (written, applied)))
+  long_accepts Address written here len applied = (Address, here, inr (len, record { pages = applied.pages; high = (take 4 written, applied.high); low = (drop 4 written, applied.low) }))
 
 -- ---- which shapes a site can have
 

@@ -1,8 +1,9 @@
 -- An address of LoongArch that stays long can be written in a run of less than 2 GiB less 8 KiB.
-use Rattle.linker_runs.proofs.Imports.{Aligned, ArePagesNear, CALL36, HasItsInstructions, IsAddressOutOfReach, IsCall36At, IsNearAddress, IsOutOfReach, IsPcalaAt, IsWithin, Item, ItemError, List, LoongArch64, LoongArchCause, NearAddressesAreWritable, NoShape, NotItsInstructions, OutOfReach, PCALA, R_LARCH_PCALA_HI20, R_LARCH_PCALA_LO12, Shift10, Shift5, Signed, Site, Some, ap, arith, bit_bounds, cases_lt, cast_negative, cast_signed, choice_of, difference_64, drop, false, false≢true, far_from_branch, far_from_call, far_from_pair, far_from_pcaddi, far_high, far_low, far_pages, freed_before, high_template, holds, inr, ints, item_at, length, length-drop, length-take, loongarch_fits, low_template, offset_of, page, place_of, pos, refl, subst, sum_64, sym, take, target_of, to_z_pos, true, w64, ℕ, ⊎_elim, ◌%◌, ◌+◌, ◌-ℤ◌, ◌-◌, ◌<◌, ◌^◌, ◌∙◌, ◌≡◌, ◌≤◌}
+use Rattle.linker_runs.proofs.Imports.{Aligned, ArePagesNear, CALL36, HasItsInstructions, IsAddressOutOfReach, IsCall36At, IsNearAddress, IsOutOfReach, IsPcalaAt, IsWithin, Item, ItemError, List, LoongArch64, LoongArchCause, NearAddressesAreWritable, PCALA, R_LARCH_PCALA_HI20, R_LARCH_PCALA_LO12, Shift10, Shift5, Signed, Site, Some, ap, arith, bit_bounds, cases_lt, cast_negative, cast_signed, choice_of, difference_64, drop, false, false≢true, far_high, far_low, far_pages, freed_before, high_template, holds, inr, ints, item_at, length, length-drop, length-take, loongarch_fits, low_template, offset_of, page, place_of, pos, refl, subst, sum_64, sym, take, target_of, to_z_pos, w64, ℕ, ⊎_elim, ◌%◌, ◌+◌, ◌-ℤ◌, ◌-◌, ◌<◌, ◌^◌, ◌∙◌, ◌≡◌, ◌≤◌}
 use Rattle.linker_elf.specs.declared.elf.AnyForm.TheVariants.{LoongArch64 as OfLoongArch}
 use Rattle.linker_elf.specs.declared.elf.RowSize.TheVariants.{BitMasking}
-use Rattle.linker_runs.proofs.LoongArch.{not_both, no_jirl}
+use Rattle.linker_runs.proofs.LoongArch.{code_not, no_jirl}
+use Rattle.linker_runs.specs.declared.packing.loongarch64.Kind.TheVariants.{Address}
 use Rattle.linker_runs.proofs.RiscVLongCalls.{whole}
 use Rattle.linker_runs.proofs.LoongArchCalls36.{shapes_differ}
 use Rattle.linker_runs.proofs.LongSites.{LongCause, is_long, long_sites}
@@ -70,13 +71,7 @@ module _ (section : List ℕ) (o start from to : ℕ) (here : IsPcalaAt section 
   pair_near (far_low out) = low_near out
 
   long_not : (error : ItemError) → LoongArchCause section o 8 (sum_64 start from) (sum_64 start to) error → ⊥
-  long_not NotItsInstructions cause = cause (inr here)
-  long_not NoShape cause = cause.2 refl
-  long_not OutOfReach (far_from_branch call _ far) = not_both section o call here
-  long_not OutOfReach (far_from_call call _ far) = not_both section o call here
-  long_not OutOfReach (far_from_pcaddi _ four far) = omega arith
-  long_not OutOfReach (far_from_pair _ _ far) = pair_near far
-  long_not other cause = cause
+  long_not = code_not section o 8 (sum_64 start from) (sum_64 start to) Address here (inr refl) (λ four. absurd (omega (arith, four))) (λ _. pair_near)
 
 module _ (bytes : List ℕ) (base start here there : ℕ) where
   address_not : (item : Item) → IsNearAddress item → HasItsInstructions LoongArch64 bytes base item

@@ -1,12 +1,13 @@
 -- A call of LoongArch that stays long can be written in a run of less than 128 GiB less 128 KiB.
-use Rattle.linker_runs.proofs.Imports.{Aligned, CALL36, HasItsInstructions, IsAligned, IsCall36At, IsInWords, IsNearCall36, IsOutOfReach, IsPcalaAt, Item, ItemError, ItemSuits, List, LoongArch64, LoongArchCause, NearCalls36AreWritable, NoShape, NotItsInstructions, OutOfReach, PCALA, R_LARCH_CALL36, Site, ap, arith, call_template, cases_lt, choice_of, drop, false, false≢true, far_from_branch, far_from_call, far_from_pair, far_from_pcaddi, freed_before, if◌then◌else◌, inl, inr, ints, item_at, length, length-drop, length-take, loongarch_fits, mul_assoc, nat_lt, offset_of, place_of, pos, refl, run_granularity, short_shape, subst, suc, sum_64, sym, take, target_of, true, zero, ℕ, ⊎_elim, ◌%◌, ◌*◌, ◌+◌, ◌-ℤ◌, ◌-◌, ◌<◌, ◌^◌, ◌∙◌, ◌≡◌, ◌≤◌}
+use Rattle.linker_runs.proofs.Imports.{Aligned, CALL36, HasItsInstructions, IsAligned, IsCall36At, IsInWords, IsNearCall36, IsOutOfReach, IsPcalaAt, Item, ItemError, ItemSuits, List, LoongArch64, LoongArchCause, NearCalls36AreWritable, PCALA, R_LARCH_CALL36, Site, ap, arith, call_template, cases_lt, choice_of, drop, false, false≢true, freed_before, inl, inr, ints, item_at, length, length-drop, length-take, loongarch_fits, mul_assoc, nat_lt, offset_of, place_of, pos, refl, run_granularity, short_shape, subst, suc, sum_64, sym, take, target_of, zero, ℕ, ⊎_elim, if◌then◌else◌, ◌%◌, ◌*◌, ◌+◌, ◌-ℤ◌, ◌-◌, ◌<◌, ◌^◌, ◌∙◌, ◌≡◌, ◌≤◌}
 use Rattle.linker_runs.proofs.Choices.{place_is}
 use Rattle.linker_runs.proofs.Frees.{exact_frees}
 use Rattle.linker_runs.proofs.Multiples.{Multiple, multiple_of, no_rest}
 use Rattle.linker_runs.proofs.Layouts.{freed_fits}
 use Rattle.linker_runs.proofs.Nearer.{Frees, place_fits}
 use Rattle.linker_runs.proofs.Units.{item_suits}
-use Rattle.linker_runs.proofs.LoongArch.{not_both}
+use Rattle.linker_runs.proofs.LoongArch.{code_not}
+use Rattle.linker_runs.specs.declared.packing.loongarch64.Kind.TheVariants.{Call}
 use Rattle.linker_runs.proofs.LongSites.{LongCause, is_long, long_sites}
 use Rattle.linker_runs.proofs.Distances.{not_rejected}
 use Rattle.linker_runs.proofs.Reaches.{up, down, fours}
@@ -52,13 +53,7 @@ module _ (section : List ℕ) (o start from to : ℕ) (here : IsCall36At section
       long = let a = length-take 8 (drop o section) in let b = length-drop o section in omega arith
 
   long_not : (error : ItemError) → LoongArchCause section o 8 (sum_64 start from) (sum_64 start to) error → ⊥
-  long_not NotItsInstructions cause = cause (inl here)
-  long_not NoShape cause = cause.2 refl
-  long_not OutOfReach (far_from_branch _ four far) = omega arith
-  long_not OutOfReach (far_from_call _ _ far) = call_near far
-  long_not OutOfReach (far_from_pcaddi pair _ far) = not_both section o here pair
-  long_not OutOfReach (far_from_pair pair _ far) = not_both section o here pair
-  long_not other cause = cause
+  long_not = code_not section o 8 (sum_64 start from) (sum_64 start to) Call here (inr refl) (λ four. absurd (omega (arith, four))) (λ _. call_near)
 
 module _ (bytes : List ℕ) (base start u here there : ℕ) where
   call_not : (item : Item) → IsNearCall36 item → IsInWords item → HasItsInstructions LoongArch64 bytes base item → ItemSuits u start item → Multiple u here → Multiple u there → here ≤ offset_of item → there ≤ target_of item

@@ -1,5 +1,5 @@
 -- The sites that relocations make are of the section's bytes.
-use Rattle.linker_runs.proofs.Imports.{Aligned, AreMade, Bool, CALL, CALL36, HasItsInstructions, HasLoongArchShapes, HasRiscVShapes, IsCall36, IsPcala, IsRiscVFormed, Item, List, LoongArch64, LoongArchMakes, Machine, MadeSitesHaveInstructions, Makes, MayBeShort, PCALA, Relocation, RiscV, RiscVMakes, Site, TAIL_C, [], ap, arith, cases_lt, get_or-append, inl, inr, item_at, left_out, length, length-append, made, no_item, none, relocation_at, subst, suc, sym, zero, ℕ, ⊎_elim, ◌++◌, ◌+◌, ◌-◌, ◌<◌, ◌∙◌, ◌∷◌, ◌≡◌, ◌≤◌}
+use Rattle.linker_runs.proofs.Imports.{Aligned, AreMade, CALL, CALL36, HasItsInstructions, HasLoongArchShapes, HasRiscVShapes, IsCall36, IsPcala, IsRiscVFormed, Isa, Item, List, LoongArch64, LoongArchMakes, Machine, MadeSitesHaveInstructions, Makes, MayBeShort, PCALA, Relocation, RiscV, RiscVMakes, Site, TAIL_C, [], ap, arith, cases_lt, get_or-append, inl, inr, item_at, left_out, length, length-append, made, no_item, none, relocation_at, subst, suc, sym, zero, ℕ, ⊎_elim, ◌++◌, ◌+◌, ◌-◌, ◌<◌, ◌∙◌, ◌∷◌, ◌≡◌, ◌≤◌}
 use Rattle.std.proofs.Math.Seq.{get_or-append_seam}
 use Rattle.linker_runs.specs.SectionItems.{IsFormed}
 
@@ -20,20 +20,20 @@ each_made Makes P (suc i) items makers (left_out before not) each j below = each
 each_made Makes P (suc i) all all_makers (made {items = items} {makers = makers} {item = item} before is) each j below =
     pushed P items item (each_made Makes P i items makers before (λ k item h. each k item (omega arith))) (each i item (omega arith) is) j below
 
-riscv_site : (is_32 : Bool) (section : List ℕ) (base : ℕ) (relocations : List Relocation) (i : ℕ) (item : Item) → IsRiscVFormed section (relocation_at relocations i) → RiscVMakes is_32 section base relocations i item → HasItsInstructions (RiscV is_32) section base item
-riscv_site is_32 section base relocations i (Aligned alignment) formed makes = tt
-riscv_site is_32 section base relocations i (Site call) formed makes =
+riscv_site : (isa : Isa) (section : List ℕ) (base : ℕ) (relocations : List Relocation) (i : ℕ) (item : Item) → IsRiscVFormed section (relocation_at relocations i) → RiscVMakes isa section base relocations i item → HasItsInstructions (RiscV isa) section base item
+riscv_site isa section base relocations i (Aligned alignment) formed makes = tt
+riscv_site isa section base relocations i (Site call) formed makes =
     let o = (relocation_at relocations i).offset in
     let place : call.offset ≡ base + o = makes.place in
     let at : o ≡ call.offset - base = omega (arith, place) in
-    let shapes : HasRiscVShapes is_32 section o call.shapes = (
+    let shapes : HasRiscVShapes isa section o call.shapes = (
       makes.is_call,
       ⊎_elim
-          (λ (short : MayBeShort is_32 section relocations i × (call.shapes ≡ TAIL_C)). inr (short.1, short.0.links))
-          (λ (other : (MayBeShort is_32 section relocations i → ⊥) × (call.shapes ≡ CALL)). inl other.1)
+          (λ (short : MayBeShort isa section relocations i × (call.shapes ≡ TAIL_C)). inr (short.1, short.0.links))
+          (λ (other : (MayBeShort isa section relocations i → ⊥) × (call.shapes ≡ CALL)). inl other.1)
           makes.shapes,
     ) in
-    (makes.len, omega (arith, place), omega (arith, place, (formed.call makes.name)), subst (λ n. HasRiscVShapes is_32 section n call.shapes) at shapes)
+    (makes.len, omega (arith, place), omega (arith, place, (formed.call makes.name)), subst (λ n. HasRiscVShapes isa section n call.shapes) at shapes)
 
 loongarch_site : (section : List ℕ) (base : ℕ) (relocations : List Relocation) (i : ℕ) (item : Item) → LoongArchMakes section base relocations i item → HasItsInstructions LoongArch64 section base item
 loongarch_site section base relocations i (Aligned alignment) makes = tt
@@ -48,7 +48,7 @@ loongarch_site section base relocations i (Site here) makes =
     (makes.0.len, omega (arith, place), omega (arith, place, site.0), subst (λ n. HasLoongArchShapes section n here.shapes) at site.1)
 
 pub site : (machine : Machine) (section : List ℕ) (base : ℕ) (relocations : List Relocation) (i : ℕ) (item : Item) → IsFormed machine section (relocation_at relocations i) → Makes machine section base relocations i item → HasItsInstructions machine section base item
-site (RiscV is_32) section base relocations i item formed makes = riscv_site is_32 section base relocations i item formed makes
+site (RiscV isa) section base relocations i item formed makes = riscv_site isa section base relocations i item formed makes
 site LoongArch64 section base relocations i item formed makes = loongarch_site section base relocations i item makes
 
 pub made_sites : MadeSitesHaveInstructions

@@ -1,5 +1,5 @@
 -- Words that are repeated, and nops.
-use Rattle.linker_runs.proofs.Imports.{Bool, List, LoongArch64, Machine, RiscV, [], ap, append-nil, append_assoc, arith, cases_Bool, drop, drop-drop, drop_at, eqb-true, if◌then◌else◌, inl, inr, length, length-append, length-take, nat_tests, nop_len, nops, refl, repeated, suc, sym, take, take-append-drop, take_at, zero, ℕ, ◌%◌, ◌*◌, ◌++◌, ◌+◌, ◌/◌, ◌==◌, ◌∙◌, ◌∷◌, ◌≡◌, ◌≤◌}
+use Rattle.linker_runs.proofs.Imports.{Isa, List, LoongArch64, Machine, RiscV, [], ap, append-nil, append_assoc, arith, cases_Bool, drop, drop-drop, drop_at, eqb-true, inl, inr, length, length-append, length-take, nat_tests, nop_len, nops, refl, repeated, suc, sym, take, take-append-drop, take_at, zero, ℕ, if◌then◌else◌, ◌%◌, ◌*◌, ◌++◌, ◌+◌, ◌/◌, ◌==◌, ◌∙◌, ◌∷◌, ◌≡◌, ◌≤◌}
 
 pub repeated_none : (word : List ℕ) → repeated word 0 ≡ []
 unfolding repeated
@@ -46,7 +46,7 @@ put_nothing xs at =
 -- ---- nops
 
 pub nops_length : (machine : Machine) (n : ℕ) → n % nop_len machine ≡ 0 → length (nops machine n) ≡ n
-nops_length (RiscV is_32) n even =
+nops_length (RiscV isa) n even =
     let word : List ℕ = 0x13 ∷ 0x00 ∷ 0x00 ∷ 0x00 ∷ [] in
     let short : List ℕ = 0x01 ∷ 0x00 ∷ [] in
     let none : List ℕ = [] in
@@ -58,5 +58,5 @@ nops_length (RiscV is_32) n even =
     length-append (repeated word (n / 4)) (if n % 4 == 2 then short else none) ∙ omega (arith, (repeated_length word (n / 4) refl), tail)
 nops_length LoongArch64 n even = repeated_length (0x00 ∷ 0x00 ∷ 0x40 ∷ 0x03 ∷ []) (n / 4) refl ∙ omega arith
 
-pub nops_two : (is_32 : Bool) (n : ℕ) → n % 4 ≡ 2 → nops (RiscV is_32) n ≡ repeated (0x13 ∷ 0x00 ∷ 0x00 ∷ 0x00 ∷ []) (n / 4) ++ 0x01 ∷ 0x00 ∷ []
-nops_two is_32 n two = ap (λ k. repeated (0x13 ∷ 0x00 ∷ 0x00 ∷ 0x00 ∷ []) (n / 4) ++ (if k == 2 then 0x01 ∷ 0x00 ∷ [] else [])) two
+pub nops_two : (isa : Isa) (n : ℕ) → n % 4 ≡ 2 → nops (RiscV isa) n ≡ repeated (0x13 ∷ 0x00 ∷ 0x00 ∷ 0x00 ∷ []) (n / 4) ++ 0x01 ∷ 0x00 ∷ []
+nops_two isa n two = ap (λ k. repeated (0x13 ∷ 0x00 ∷ 0x00 ∷ 0x00 ∷ []) (n / 4) ++ (if k == 2 then 0x01 ∷ 0x00 ∷ [] else [])) two

@@ -14,7 +14,7 @@ module _ (start base : ℕ) (items : List Item) (shapes kept freed bytes : List 
   -- a site that stays long
   near_site : (machine : Machine) → IsSite (item_at items i) → IsNearSite machine (item_at items i) → HasItsInstructions machine bytes base (item_at items i)
       → (error : ItemError) → IsUnwritable machine s (item_at items i) error → ⊥
-  near_site (RiscV is_32) site near has = near_calls is_32 start base items shapes kept freed bytes are is i within site near has
+  near_site (RiscV isa) site near has = near_calls isa start base items shapes kept freed bytes are is i within (site, near) has
   near_site LoongArch64 site near has = ⊎_elim
       (λ (call : IsNearCall36 (item_at items i)). near_calls_36 start base items shapes kept freed bytes are is i within call has)
       (λ (pair : IsNearAddress (item_at items i)). near_addresses start base items shapes kept freed bytes are is i within pair has)

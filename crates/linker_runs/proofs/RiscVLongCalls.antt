@@ -1,5 +1,5 @@
 -- A call of RISC-V that stays long can be written in a run of less than 2 GiB less 2 KiB.
-use Rattle.linker_runs.proofs.Imports.{Aligned, Bool, CALL, HasItsInstructions, HasRiscVShapes, IsAligned, IsNear, IsOutOfReach, IsSite, IsSomeAnd, Item, ItemError, List, NearCallsAreWritable, NoShape, NotItsInstructions, OfJalr, OutOfReach, R_RISCV_CALL_PLT, RiscV, RiscVCause, Shapes, Site, TAIL_C, ap, arith, choice_of, drop, false≢true, freed_before, ints, item_at, length, length-drop, length-take, link_register, links_short, negsuc, offset_of, place_of, pos, refl, riscv_fits, riscv_template, subst, sum_64, sym, take, target_of, true, ℕ, ℤ, ⊎_elim, ◌%◌, ◌+◌, ◌-ℤ◌, ◌-◌, ◌<◌, ◌^◌, ◌≡◌, ◌≤◌}
+use Rattle.linker_runs.proofs.Imports.{Aligned, CALL, HasItsInstructions, HasRiscVShapes, IsAligned, IsNear, IsOutOfReach, IsSite, IsSomeAnd, Isa, Item, ItemError, List, NearCallsAreWritable, NoShape, NotItsInstructions, OutOfReach, R_RISCV_CALL_PLT, RiscV, RiscVCause, Shapes, Site, TAIL_C, ap, arith, choice_of, drop, false, false≢true, freed_before, has_short_jump, ints, item_at, length, length-drop, length-take, negsuc, offset_of, place_of, pos, refl, riscv_fits, riscv_template, subst, sum_64, sym, take, target_of, true, ℕ, ℤ, ⊎_elim, ◌%◌, ◌+◌, ◌-ℤ◌, ◌-◌, ◌<◌, ◌^◌, ◌≡◌, ◌≤◌}
 use Rattle.linker_runs.proofs.LongSites.{IsLongSite, LongCause, long_sites}
 use Rattle.linker_runs.proofs.Distances.{not_rejected}
 
@@ -9,14 +9,14 @@ whole (pos n) = ap pos (let e : n % 1 ≡ 0 = omega arith in e)
 whole (negsuc n) = ap pos (let e : 0 - n % 1 ≡ 0 = omega arith in e)
 
 -- the shapes of calls
-longest : (is_32 : Bool) (section : List ℕ) (o : ℕ) (shapes : Shapes) → HasRiscVShapes is_32 section o shapes → (0 < shapes.count) × (shapes.longest ≡ 8)
-longest is_32 section o shapes has = ⊎_elim
+longest : (isa : Isa) (section : List ℕ) (o : ℕ) (shapes : Shapes) → HasRiscVShapes isa section o shapes → (0 < shapes.count) × (shapes.longest ≡ 8)
+longest isa section o shapes has = ⊎_elim
     (λ (call : shapes ≡ CALL). (subst (λ s. 0 < s.count) (sym call) (omega arith), ap (λ s. s.longest) call))
-    (λ (tail : (shapes ≡ TAIL_C) × (links_short is_32 (link_register OfJalr section o) ≡ true)). (subst (λ s. 0 < s.count) (sym tail.0) (omega arith), ap (λ s. s.longest) tail.0))
+    (λ (tail : (shapes ≡ TAIL_C) × (has_short_jump isa section o ≡ true)). (subst (λ s. 0 < s.count) (sym tail.0) (omega arith), ap (λ s. s.longest) tail.0))
     has.1
 
-module _ (is_32 : Bool) (section : List ℕ) (o start from to : ℕ) (there : o + 8 ≤ length section) (low : from < 2 ^ 31 - 2 ^ 11) (high : to < 2 ^ 31 - 2 ^ 11) where
-  call_near : IsSomeAnd (riscv_template is_32 section o 8) (λ t. IsOutOfReach t (sum_64 start from) (sum_64 start to)) → ⊥
+module _ (isa : Isa) (section : List ℕ) (o start from to : ℕ) (there : o + 8 ≤ length section) (low : from < 2 ^ 31 - 2 ^ 11) (high : to < 2 ^ 31 - 2 ^ 11) where
+  call_near : IsSomeAnd (riscv_template isa section o 8) (λ t. IsOutOfReach t (sum_64 start from) (sum_64 start to)) → ⊥
   call_near far =
       not_rejected start from to _ (take 8 (drop o section)) (riscv_fits R_RISCV_CALL_PLT) long (λ v. tt) (λ v e. absurd (false≢true e))
       (λ v w. (omega (arith, ints, w.0), omega (arith, ints, w.1))) refl
@@ -25,26 +25,26 @@ module _ (is_32 : Bool) (section : List ℕ) (o start from to : ℕ) (there : o 
       long : 8 ≤ length (take 8 (drop o section))
       long = let a = length-take 8 (drop o section) in let b = length-drop o section in omega arith
 
-  long_not : (shapes : Shapes) → HasRiscVShapes is_32 section o shapes → (error : ItemError) → RiscVCause is_32 section o 8 (sum_64 start from) (sum_64 start to) error → ⊥
+  long_not : (shapes : Shapes) → HasRiscVShapes isa section o shapes → (error : ItemError) → RiscVCause isa section o 8 (sum_64 start from) (sum_64 start to) error → ⊥
   long_not shapes has NotItsInstructions cause = cause has.0
   long_not shapes has NoShape cause = let no = cause.1 in cc
   long_not shapes has OutOfReach cause = call_near cause.1
   long_not shapes has other cause = cause
 
-module _ (is_32 : Bool) (bytes : List ℕ) (base start here there : ℕ) where
-  is_long : (item : Item) → IsSite item → HasItsInstructions (RiscV is_32) bytes base item → IsLongSite item
-  is_long (Site site) is has = longest is_32 bytes (site.offset - base) site.shapes has.3
+module _ (isa : Isa) (bytes : List ℕ) (base start here there : ℕ) where
+  is_long : (item : Item) → IsSite item → HasItsInstructions (RiscV isa) bytes base item → IsLongSite item
+  is_long (Site site) is has = longest isa bytes (site.offset - base) site.shapes has.3
   is_long (Aligned alignment) is has = is
 
-  call_not : (item : Item) → IsNear item → HasItsInstructions (RiscV is_32) bytes base item → (error : ItemError)
-      → LongCause (RiscV is_32) bytes base start item (offset_of item - here) (target_of item - there) error → ⊥
+  call_not : (item : Item) → IsNear item → HasItsInstructions (RiscV isa) bytes base item → (error : ItemError)
+      → LongCause (RiscV isa) bytes base start item (offset_of item - here) (target_of item - there) error → ⊥
   call_not (Site site) near has error cause =
-      long_not is_32 bytes (site.offset - base) start (site.offset - here) (target_of (Site site) - there) (omega (arith, has.1, has.2)) (omega (arith, near.0)) (omega (arith, near.1)) site.shapes has.3 error cause
+      long_not isa bytes (site.offset - base) start (site.offset - here) (target_of (Site site) - there) (omega (arith, has.1, has.2)) (omega (arith, near.0)) (omega (arith, near.1)) site.shapes has.3 error cause
   call_not (Aligned alignment) near has error cause = cause
 
 pub near_calls : NearCallsAreWritable
-near_calls is_32 start base items shapes kept freed bytes are is i within site near has =
+near_calls isa start base items shapes kept freed bytes are is i within near has =
     let here = freed_before start items (choice_of shapes) i in
     let there = freed_before start items (choice_of shapes) (place_of items (target_of (item_at items i))) in
-    long_sites (RiscV is_32) start base items shapes kept freed bytes are is i within (is_long is_32 bytes base start here there (item_at items i) site has) has
-    (call_not is_32 bytes base start here there (item_at items i) near has)
+    long_sites (RiscV isa) start base items shapes kept freed bytes are is i within (is_long isa bytes base start here there (item_at items i) near.0 has) has
+    (call_not isa bytes base start here there (item_at items i) near.1 has)

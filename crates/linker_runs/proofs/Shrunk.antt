@@ -1,5 +1,5 @@
 -- The choice of shapes and the choice of calls are one.
-use Rattle.linker_runs.proofs.Imports.{AreInReach, AreItems, Bool, CallsAreShrunkAlike, HaveNoAlignment, IsChosen, IsDeletedItem, IsGreatest, IsInReachExactly, IsRelaxation, IsRunOf, IsSite, Item, List, [], ap, arith, call_shapes, cases_eq, cases_lt, choice_of, chosen_deletions, cond, deletions_before, eqb, false, false≢true, freed_before, get_or, get_or_default, is_in_reach, item_at, kept_by, length, nat_tests, offset_of, pair_at, place_of, rank, refl, shape_reaches, subst, suc, sym, target_of, true, with_chosen, zero, ℕ, ⊎_elim, ◌-◌, ◌<◌, ◌↔◌, ◌∙◌, ◌∷◌, ◌≡◌, ◌≤◌, ◌⊎◌}
+use Rattle.linker_runs.proofs.Imports.{AreInReach, AreItems, Bool, CallsAreShrunkAlike, HaveNoAlignment, IsChosen, IsDeletedItem, IsGreatest, IsInReachExactly, IsRelaxation, IsRunOf, IsSite, Item, List, [], ap, arith, call_shapes, cases_eq, cases_lt, choice_of, chosen_deletions, cond, deletions_before, eqb, false, false≢true, freed_before, get_or, get_or_default, is_in_reach, item_at, kept_by, length, nat_tests, offset_of, pair_at, place_of, rank, refl, shape_reaches, subst, suc, sym, target_of, true, with_chosen, zero, ℕ, ⊎_elim, ◌-◌, ◌<◌, ◌↔◌, ◌∙◌, ◌∷◌, ◌≡◌, ◌≤◌}
 use Rattle.linker_runs.proofs.Translations.{KeepsLayout, translations_of}
 use Rattle.linker_riscv64.specs.Shrinking.{IsInReach}
 use Rattle.linker_runs.proofs.Covering.{takes, same_test, takes_joined, takes_left, takes_right, Loses, losing, lost, taking, taken, choosing, chosen_takes, rank_alike}

@@ -14,6 +14,7 @@ pub use Rattle.linker_runs.specs.declared.items.Relocation.{Relocation}
 pub use Rattle.linker_runs.specs.declared.items.rewritten.RewrittenItemsError.TheVariants.{Misplaced, Overlaps}
 pub use Rattle.linker_runs.specs.declared.packing.ItemError.{ItemError}
 pub use Rattle.linker_runs.specs.declared.packing.ItemError.TheVariants.{DeletedOutside, NoShape, NotItsFirstBytes, NotItsInstructions, OutOfReach, OutOfSection}
+pub use Rattle.linker_runs.specs.declared.packing.Isa.{Isa}
 pub use Rattle.linker_runs.specs.declared.packing.Machine.{Machine}
 pub use Rattle.linker_runs.specs.declared.packing.Machine.TheVariants.{LoongArch64, RiscV}
 pub use Rattle.linker_runs.specs.declared.relaxation.Alignment.{Alignment}

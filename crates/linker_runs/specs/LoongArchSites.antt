@@ -10,6 +10,8 @@ use Rattle.linker_elf.specs.LoongArch.{loongarch_form, pcalau12i, reach}
 use Rattle.linker_elf.specs.declared.elf.Sign.TheVariants.{Signed}
 use Rattle.linker_elf.specs.declared.loongarch64.relocations.LoongArch64Relocation.TheVariants as r
 use Rattle.linker_utils.specs.LoongArchRewrites.{IsAddi, IsCall, IsPair, word_at, rd_of}
+use Rattle.linker_runs.specs.declared.packing.loongarch64.Kind.{Kind}
+use Rattle.linker_runs.specs.declared.packing.loongarch64.Kind.TheVariants.{Call, Address}
 use Rattle.linker_runs.specs.Sites.{Template, operands_of, IsRelocated, IsInReach, IsOutOfReach}
 
 -- ---- sites
@@ -128,32 +130,42 @@ pub data IsAddressOutOfReach (section : List ℕ) (o place target : ℕ) : Type 
   far_low : IsOutOfReach (low_template section o) (sum_64 place 4) target
       → IsAddressOutOfReach section o place target
 
--- A site is at the offset, and of n bytes there are instructions that reach the target.
-pub data LoongArchAccepts (section : List ℕ) (o kept place target : ℕ) : Type 0 where
-  short_call : IsCall36At section o → kept ≡ 4
-      → IsInReach (branch_template (destination section o)) place target
-      → LoongArchAccepts section o kept place target
-  long_call : IsCall36At section o → kept ≡ 8 → IsInReach (call_template section o) place target
-      → LoongArchAccepts section o kept place target
-  short_address : IsPcalaAt section o → kept ≡ 4
-      → IsInReach (pcaddi_template (destination section o)) place target
-      → LoongArchAccepts section o kept place target
-  long_address : IsPcalaAt section o → kept ≡ 8 → IsAddressInReach section o place target
-      → LoongArchAccepts section o kept place target
+-- the instructions at an offset are those of a kind
+abbrev pub IsKindAt : List ℕ → ℕ → Kind → Type 0
+IsKindAt section o Call = IsCall36At section o
+IsKindAt section o Address = IsPcalaAt section o
 
--- A site is at the offset, and its instructions of n bytes don't reach the target.
-pub data LoongArchIsFar (section : List ℕ) (o kept place target : ℕ) : Type 0 where
-  far_from_branch : IsCall36At section o → kept ≡ 4
-      → IsOutOfReach (branch_template (destination section o)) place target
-      → LoongArchIsFar section o kept place target
-  far_from_call : IsCall36At section o → kept ≡ 8
-      → IsOutOfReach (call_template section o) place target
-      → LoongArchIsFar section o kept place target
-  far_from_pcaddi : IsPcalaAt section o → kept ≡ 4
-      → IsOutOfReach (pcaddi_template (destination section o)) place target
-      → LoongArchIsFar section o kept place target
-  far_from_pair : IsPcalaAt section o → kept ≡ 8 → IsAddressOutOfReach section o place target
-      → LoongArchIsFar section o kept place target
+-- the short one before its relocation
+abbrev pub short_template : List ℕ → ℕ → Kind → Template
+short_template section o Call = branch_template (destination section o)
+short_template section o Address = pcaddi_template (destination section o)
+
+-- as they are, they reach the target, or don't
+abbrev pub IsLongInReach : List ℕ → ℕ → Kind → ℕ → ℕ → Type 0
+IsLongInReach section o Call place target = IsInReach (call_template section o) place target
+IsLongInReach section o Address place target = IsAddressInReach section o place target
+
+abbrev pub IsLongOutOfReach : List ℕ → ℕ → Kind → ℕ → ℕ → Type 0
+IsLongOutOfReach section o Call place target = IsOutOfReach (call_template section o) place target
+IsLongOutOfReach section o Address place target = IsAddressOutOfReach section o place target
+
+-- A site of a kind is at the offset, of which four bytes stay or eight, and what is said of its
+-- short instruction, or of its instructions as they are, holds.
+abbrev pub StaysAs : List ℕ → ℕ → ℕ → (Kind → Type 0) → (Kind → Type 0) → Type 0
+StaysAs section o kept Short Long = (kind : Kind) × IsKindAt section o kind
+    × (((kept ≡ 4) × Short kind) ⊎ ((kept ≡ 8) × Long kind))
+
+-- of n bytes there are instructions that reach the target
+abbrev pub LoongArchAccepts : List ℕ → ℕ → ℕ → ℕ → ℕ → Type 0
+LoongArchAccepts section o kept place target =
+    StaysAs section o kept (λ kind. IsInReach (short_template section o kind) place target)
+    (λ kind. IsLongInReach section o kind place target)
+
+-- its instructions of n bytes don't reach the target
+abbrev pub LoongArchIsFar : List ℕ → ℕ → ℕ → ℕ → ℕ → Type 0
+LoongArchIsFar section o kept place target =
+    StaysAs section o kept (λ kind. IsOutOfReach (short_template section o kind) place target)
+    (λ kind. IsLongOutOfReach section o kind place target)
 
 -- why nothing is written of the eight bytes at an offset of which n stay
 abbrev pub LoongArchCause : List ℕ → ℕ → ℕ → ℕ → ℕ → ItemError → Type 0

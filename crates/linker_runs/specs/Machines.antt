@@ -1,12 +1,13 @@
 -- Architectures whose code can become shorter.
-use Rattle.linker_runs.specs.Imports.{Machine, None, Option, Some, false}
+use Rattle.linker_runs.specs.Imports.{Machine, None, Option, Some}
+use Rattle.linker_runs.specs.declared.packing.Isa.TheVariants.{Rv64}
 use Rattle.linker_runs.specs.declared.packing.Machine.TheVariants as machines
 use Rattle.linker_elf.specs.declared.elf.architecture.Architecture.{Architecture}
 use Rattle.linker_elf.specs.declared.elf.architecture.Architecture.TheVariants as architectures
 
 -- RISC-V of 64 bits
 abbrev pub RiscV64 : Machine
-RiscV64 = machines.RiscV false
+RiscV64 = machines.RiscV Rv64
 
 abbrev pub machine_of : Architecture → Option Machine
 machine_of architectures.RiscV = Some RiscV64

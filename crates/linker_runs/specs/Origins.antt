@@ -1,17 +1,17 @@
 -- Sites whose shapes are those of the instructions that are there.
-use Rattle.linker_runs.specs.Imports.{Aligned, Bool, Item, List, LoongArch64, Machine, OfJalr}
-use Rattle.linker_runs.specs.Imports.{RiscV, Shapes, Site, length, link_register, true, ℕ, ⊤}
+use Rattle.linker_runs.specs.Imports.{Aligned, Isa, Item, List, LoongArch64, Machine, RiscV, Shapes}
+use Rattle.linker_runs.specs.Imports.{Site, length, true, ℕ, ⊤}
 use Rattle.std.specs.Prelude.{◌≡◌, ◌+◌, ◌-◌, ◌≤◌, ◌⊎◌}
 use Rattle.linker_runs.specs.declared.shapes.loongarch64.TheConstants.{CALL36, PCALA}
 use Rattle.linker_runs.specs.declared.shapes.riscv64.TheConstants.{CALL, TAIL_C}
-use Rattle.linker_runs.specs.RiscVItems.{IsCallAt, links_short}
+use Rattle.linker_runs.specs.RiscVItems.{IsCallAt, has_short_jump}
 use Rattle.linker_runs.specs.LoongArchSites.{IsCall36At, IsPcalaAt}
 
 -- A call of RISC-V is at the offset that can have the shapes. Only some can be
 -- two bytes long.
-abbrev pub HasRiscVShapes : Bool → List ℕ → ℕ → Shapes → Type 0
-HasRiscVShapes is_32 section o shapes = IsCallAt section o × ((shapes ≡ CALL)
-    ⊎ ((shapes ≡ TAIL_C) × (links_short is_32 (link_register OfJalr section o) ≡ true)))
+abbrev pub HasRiscVShapes : Isa → List ℕ → ℕ → Shapes → Type 0
+HasRiscVShapes isa section o shapes = IsCallAt section o × ((shapes ≡ CALL)
+    ⊎ ((shapes ≡ TAIL_C) × (has_short_jump isa section o ≡ true)))
 
 -- A site of LoongArch is at the offset, and has its shapes.
 abbrev pub HasLoongArchShapes : List ℕ → ℕ → Shapes → Type 0
@@ -19,7 +19,7 @@ HasLoongArchShapes section o shapes = (IsCall36At section o × (shapes ≡ CALL3
     ⊎ (IsPcalaAt section o × (shapes ≡ PCALA))
 
 abbrev pub HasShapes : Machine → List ℕ → ℕ → Shapes → Type 0
-HasShapes (RiscV is_32) section o shapes = HasRiscVShapes is_32 section o shapes
+HasShapes (RiscV isa) section o shapes = HasRiscVShapes isa section o shapes
 HasShapes LoongArch64 section o shapes = HasLoongArchShapes section o shapes
 
 -- A site is eight bytes of a section that begins at an input offset, of instructions that can have

@@ -1,6 +1,6 @@
 -- What calls of RISC-V become (RISC-V ELF psABI, "Function Call Relaxation", "Compressed Tail Call
 -- Relaxation"; the instructions by the RISC-V unprivileged ISA).
-use Rattle.linker_runs.specs.Imports.{Bool, IsAddress, IsApplied, IsSomeAnd, ItemError, List}
+use Rattle.linker_runs.specs.Imports.{IsAddress, IsApplied, IsSomeAnd, Isa, ItemError, List}
 use Rattle.linker_runs.specs.Imports.{NoShape, None, NotItsInstructions, OfJalr, Option, OutOfReach}
 use Rattle.linker_runs.specs.Imports.{Some, [], drop, field, from_le_bytes, length, link_register}
 use Rattle.linker_runs.specs.Imports.{pos, riscv_row, take, to_le_bytes, true, w16, w32, w64, ℕ}
@@ -10,7 +10,7 @@ use Rattle.linker_elf.specs.declared.riscv64.forms.RiscVInstruction.TheVariants.
 use Rattle.linker_elf.specs.declared.riscv64.forms.RiscVInstruction.TheVariants.{UiType}
 use Rattle.linker_elf.specs.declared.riscv64.relocations.RiscVRelocation.TheVariants as r
 use Rattle.linker_laws.specs.RiscVRelocationLaws.{without_bit_0}
-use Rattle.linker_runs.specs.RiscVItems.{IsCallAt, links_short}
+use Rattle.linker_runs.specs.RiscVItems.{IsCallAt, has_short_jump}
 use Rattle.linker_runs.specs.Sites.{Template, operands_of, IsInReach, IsOutOfReach}
 
 -- ---- what is written
@@ -39,16 +39,16 @@ pub record IsFarCall (section : List ℕ) (o place target : ℕ) (written : List
       (target - target % 2)
 
 -- What the call at an offset of a section becomes. Only some become two bytes long.
-pub data RiscVBecomes (is_32 : Bool) (section : List ℕ) (o place target : ℕ) (written : List ℕ)
+pub data RiscVBecomes (isa : Isa) (section : List ℕ) (o place target : ℕ) (written : List ℕ)
     : Type 0 where
-  short_jump : length written ≡ 2 → links_short is_32 (link_register OfJalr section o) ≡ true
+  short_jump : length written ≡ 2 → has_short_jump isa section o ≡ true
       → IsShortJump (from_le_bytes w16 written) (link_register OfJalr section o) place target
-      → RiscVBecomes is_32 section o place target written
+      → RiscVBecomes isa section o place target written
   jump : length written ≡ 4
       → IsJal (from_le_bytes w32 written) (link_register OfJalr section o) place target
-      → RiscVBecomes is_32 section o place target written
+      → RiscVBecomes isa section o place target written
   call : length written ≡ 8 → IsFarCall section o place target written
-      → RiscVBecomes is_32 section o place target written
+      → RiscVBecomes isa section o place target written
 
 -- ---- what is accepted and rejected
 
@@ -57,9 +57,9 @@ abbrev pub short_bytes : ℕ → List ℕ
 short_bytes link = if link == 0 then 0x01 ∷ 0xa0 ∷ [] else 0x01 ∷ 0x20 ∷ []
 
 -- the instruction of n bytes before its relocation
-abbrev pub riscv_template : Bool → List ℕ → ℕ → ℕ → Option Template
-riscv_template is_32 section o kept =
-    if kept == 2 && links_short is_32 (link_register OfJalr section o)
+abbrev pub riscv_template : Isa → List ℕ → ℕ → ℕ → Option Template
+riscv_template isa section o kept =
+    if kept == 2 && has_short_jump isa section o
     then Some (record {
       row = riscv_row r.R_RISCV_RVC_JUMP;
       bytes = short_bytes (link_register OfJalr section o);
@@ -77,16 +77,16 @@ riscv_template is_32 section o kept =
     else None
 
 -- A call is at the offset, and of n bytes there is an instruction that reaches the target.
-pub record RiscVAccepts (is_32 : Bool) (section : List ℕ) (o kept place target : ℕ) : Type 0 where
+pub record RiscVAccepts (isa : Isa) (section : List ℕ) (o kept place target : ℕ) : Type 0 where
   pub call : IsCallAt section o
-  pub reached : IsSomeAnd (riscv_template is_32 section o kept) (λ t. IsInReach t place target)
+  pub reached : IsSomeAnd (riscv_template isa section o kept) (λ t. IsInReach t place target)
 
 -- why nothing is written of the eight bytes at an offset of which n stay
-abbrev pub RiscVCause : Bool → List ℕ → ℕ → ℕ → ℕ → ℕ → ItemError → Type 0
-RiscVCause is_32 section o kept place target NotItsInstructions = ¬ IsCallAt section o
-RiscVCause is_32 section o kept place target NoShape =
-    IsCallAt section o × (riscv_template is_32 section o kept ≡ None)
-RiscVCause is_32 section o kept place target OutOfReach =
+abbrev pub RiscVCause : Isa → List ℕ → ℕ → ℕ → ℕ → ℕ → ItemError → Type 0
+RiscVCause isa section o kept place target NotItsInstructions = ¬ IsCallAt section o
+RiscVCause isa section o kept place target NoShape =
+    IsCallAt section o × (riscv_template isa section o kept ≡ None)
+RiscVCause isa section o kept place target OutOfReach =
     IsCallAt section o
-    × IsSomeAnd (riscv_template is_32 section o kept) (λ t. IsOutOfReach t place target)
-RiscVCause is_32 section o kept place target other = ⊥
+    × IsSomeAnd (riscv_template isa section o kept) (λ t. IsOutOfReach t place target)
+RiscVCause isa section o kept place target other = ⊥

@@ -1,5 +1,5 @@
 -- What a relaxation made shorter can be written where the run is packed.
-use Rattle.linker_runs.specs.Imports.{Aligned, Bool, Item, ItemError, List, LoongArch64, Machine}
+use Rattle.linker_runs.specs.Imports.{Aligned, Isa, Item, ItemError, List, LoongArch64, Machine}
 use Rattle.linker_runs.specs.Imports.{OutOfReach, Relocation, RiscV, Shapes, Site, length, ℕ, ⊤}
 use Rattle.std.specs.Prelude.{◌≡◌, ◌≢◌, ◌⊎◌, ◌-◌, ◌^◌, ◌<◌}
 use Rattle.linker_runs.specs.declared.shapes.loongarch64.TheConstants.{CALL36, PCALA}
@@ -12,22 +12,25 @@ use Rattle.linker_runs.specs.Origins.{HasItsInstructions}
 use Rattle.linker_runs.specs.Packing.{section_of, IsUnwritable, IsFirstRejected}
 use Rattle.linker_runs.specs.declared.packing.RejectedItem.{RejectedItem}
 
+-- An item of a relaxed run that is so, by the index of its shape, and has its instructions can be
+-- written with the deletions of the run: `pack_run` doesn't reject it for itself, and so not because
+-- it doesn't reach its target.
+abbrev pub AreWritable : Machine → (Item → ℕ → Type 0) → Type 0
+AreWritable machine IsSo = (start base : ℕ) (items : List Item) (shapes kept freed bytes : List ℕ)
+    → AreItems start items → IsRelaxation start items shapes kept freed
+    → (i : ℕ) → i < length items → IsSo (item_at items i) (choice_of shapes i)
+    → HasItsInstructions machine bytes base (item_at items i) → (error : ItemError)
+    → ¬ IsUnwritable machine (section_of bytes base (deletions_of_run items kept) start)
+    (item_at items i) error
+
 -- a site that has a short shape
 abbrev pub IsShortened : Item → ℕ → Type 0
 IsShortened (Site site) k = k < site.shapes.count
 IsShortened (Aligned alignment) k = ⊥
 
--- A site that the relaxation made shorter can be written with the deletions of the run: `pack_run`
--- doesn't reject it for itself, and so not because it doesn't reach its target.
+-- each site that the relaxation made shorter can be written
 abbrev pub ShortSitesAreWritable : Type 0
-ShortSitesAreWritable = (machine : Machine) (start base : ℕ) (items : List Item)
-    (shapes kept freed bytes : List ℕ) → AreItems start items
-    → IsRelaxation start items shapes kept freed → (i : ℕ) → i < length items
-    → IsShortened (item_at items i) (choice_of shapes i)
-    → HasItsInstructions machine bytes base (item_at items i)
-    → (error : ItemError)
-    → ¬ IsUnwritable machine (section_of bytes base (deletions_of_run items kept) start)
-    (item_at items i) error
+ShortSitesAreWritable = (machine : Machine) → AreWritable machine IsShortened
 
 -- a site with the shapes
 abbrev pub HasShapesOf : Shapes → Item → Type 0
@@ -39,14 +42,9 @@ HasShapesOf shapes (Aligned alignment) = ⊥
 abbrev pub IsNear : Item → Type 0
 IsNear item = (offset_of item < 2 ^ 31 - 2 ^ 11) × (target_of item < 2 ^ 31 - 2 ^ 11)
 
--- Each such call of RISC-V can be written, whichever shape it has.
+-- each such call of RISC-V can be written, whichever shape it has
 abbrev pub NearCallsAreWritable : Type 0
-NearCallsAreWritable = (is_32 : Bool) (start base : ℕ) (items : List Item) (shapes kept freed bytes : List ℕ)
-    → AreItems start items → IsRelaxation start items shapes kept freed
-    → (i : ℕ) → i < length items → IsSite (item_at items i) → IsNear (item_at items i)
-    → HasItsInstructions (RiscV is_32) bytes base (item_at items i) → (error : ItemError)
-    → ¬ IsUnwritable (RiscV is_32) (section_of bytes base (deletions_of_run items kept) start)
-    (item_at items i) error
+NearCallsAreWritable = (isa : Isa) → AreWritable (RiscV isa) (λ item k. IsSite item × IsNear item)
 
 -- The site is an `R_LARCH_CALL36`. It and its target lie in the first 2 ^ 37 - 2 ^ 17 bytes of the
 -- run: `pcaddu18i` and `jirl` reach from one to the other, whatever is deleted.
@@ -55,14 +53,9 @@ pub record IsNearCall36 (item : Item) : Type 0 where
   pub offset : offset_of item < 2 ^ 37 - 2 ^ 17
   pub target : target_of item < 2 ^ 37 - 2 ^ 17
 
--- Each such call of LoongArch can be written, whichever shape it has.
+-- each such call of LoongArch can be written, whichever shape it has
 abbrev pub NearCalls36AreWritable : Type 0
-NearCalls36AreWritable = (start base : ℕ) (items : List Item) (shapes kept freed bytes : List ℕ)
-    → AreItems start items → IsRelaxation start items shapes kept freed
-    → (i : ℕ) → i < length items → IsNearCall36 (item_at items i)
-    → HasItsInstructions LoongArch64 bytes base (item_at items i) → (error : ItemError)
-    → ¬ IsUnwritable LoongArch64 (section_of bytes base (deletions_of_run items kept) start)
-    (item_at items i) error
+NearCalls36AreWritable = AreWritable LoongArch64 (λ item k. IsNearCall36 item)
 
 -- The site is a pair of LoongArch that computes an address. It and its target lie in the
 -- first 2 ^ 31 - 2 ^ 13 bytes of the run: the pages of `pcalau12i` reach from one to the
@@ -72,18 +65,13 @@ pub record IsNearAddress (item : Item) : Type 0 where
   pub offset : offset_of item < 2 ^ 31 - 2 ^ 13
   pub target : target_of item < 2 ^ 31 - 2 ^ 13
 
--- Each such pair can be written, whichever shape it has.
+-- each such pair can be written, whichever shape it has
 abbrev pub NearAddressesAreWritable : Type 0
-NearAddressesAreWritable = (start base : ℕ) (items : List Item) (shapes kept freed bytes : List ℕ)
-    → AreItems start items → IsRelaxation start items shapes kept freed
-    → (i : ℕ) → i < length items → IsNearAddress (item_at items i)
-    → HasItsInstructions LoongArch64 bytes base (item_at items i) → (error : ItemError)
-    → ¬ IsUnwritable LoongArch64 (section_of bytes base (deletions_of_run items kept) start)
-    (item_at items i) error
+NearAddressesAreWritable = AreWritable LoongArch64 (λ item k. IsNearAddress item)
 
 -- what a site has to be where it stays long
 abbrev pub IsNearSite : Machine → Item → Type 0
-IsNearSite (RiscV is_32) item = IsNear item
+IsNearSite (RiscV isa) item = IsNear item
 IsNearSite LoongArch64 item = IsNearCall36 item ⊎ IsNearAddress item
 
 -- The item at an index of the run is an alignment, a site without short shapes, or a site that has

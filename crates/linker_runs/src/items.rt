@@ -143,7 +143,7 @@ fn is_formed(machine: Machine, section: &[u8], relocation: &Relocation) -> bool
     ensures { IsTrue result ↔ IsFormed machine section.now relocation.now }
 {
     match machine {
-        Machine::RiscV { .. } => riscv64::is_formed(section, relocation),
+        Machine::RiscV(_) => riscv64::is_formed(section, relocation),
         Machine::LoongArch64 => loongarch64::is_formed(section, relocation),
     }
 }
@@ -183,7 +183,7 @@ fn ahead<R: AsRelocation>(machine: Machine, relocations: &[R], index: usize, kno
     ensures { IsAhead machine (map R.relocation relocations.now) index result }
 {
     match machine {
-        Machine::RiscV { .. } => {
+        Machine::RiscV(_) => {
             if known <= index {
                 riscv64::next_alignment(relocations, index)
             } else {
@@ -214,9 +214,7 @@ fn item_at<R: AsRelocation>(
         (Makes machine section.now base (map R.relocation relocations.now) index) }
 {
     match machine {
-        Machine::RiscV { is_32 } => {
-            riscv64::item_at(is_32, section, base, relocations, index, ahead)
-        }
+        Machine::RiscV(isa) => { riscv64::item_at(isa, section, base, relocations, index, ahead) }
         Machine::LoongArch64 => loongarch64::item_at(section, base, relocations, index),
     }
 }

@@ -34,11 +34,20 @@ use linker_base::relaxation::{DeltaSlice, RelaxDelta};
 use linker_base::rewrite::overwrite;
 use linker_utils::elf::Architecture;
 
+/// The base instruction set of RISC-V code.
+#[derive(Clone, Copy)]
+pub enum Isa {
+    /// RV32, whose C extension has `c.jal`.
+    Rv32,
+    /// RV64.
+    Rv64,
+}
+
 /// The architecture of a section's code.
 #[derive(Clone, Copy)]
 pub enum Machine {
-    /// RISC-V, whose code of 32 bits has `c.jal`.
-    RiscV { is_32: bool },
+    /// RISC-V.
+    RiscV(Isa),
     /// LoongArch of 64 bits.
     LoongArch64,
 }
@@ -50,7 +59,7 @@ impl Machine {
         ensures { result ≡ machine_of architecture }
     {
         match architecture {
-            Architecture::RiscV => Some(Machine::RiscV { is_32: false }),
+            Architecture::RiscV => Some(Machine::RiscV(Isa::Rv64)),
             Architecture::LoongArch64 => Some(Machine::LoongArch64),
             Architecture::AArch64 | Architecture::Ppc64 | Architecture::X86_64 => None,
         }
@@ -164,8 +173,8 @@ fn code_of_site(
     let place = start.wrapping_add(at.output_offset);
     let target = start.wrapping_add(position_of(deltas, site.target).output_offset);
     match machine {
-        Machine::RiscV { is_32 } => {
-            riscv64::code_of(is_32, section, site.offset - base, kept, place, target)
+        Machine::RiscV(isa) => {
+            riscv64::code_of(isa, section, site.offset - base, kept, place, target)
         }
         Machine::LoongArch64 => {
             loongarch64::code_of(section, site.offset - base, kept, place, target)
@@ -180,7 +189,7 @@ fn nop_len(machine: Machine) -> u64
     ensures some { 0 < result }
 {
     match machine {
-        Machine::RiscV { .. } => 2,
+        Machine::RiscV(_) => 2,
         Machine::LoongArch64 => 4,
     }
 }
@@ -400,7 +409,7 @@ fn put_nops(machine: Machine, packed: &mut [u8], at: u64, len: u64)
         → packed.new ≡ take at packed.old ++ nops machine len ++ drop (at + len) packed.old }
 {
     match machine {
-        Machine::RiscV { .. } => {
+        Machine::RiscV(_isa) => {
             put_words(packed, at, [0x13, 0x00, 0x00, 0x00], len / 4);
             if len % 4 == 2 {
                 put_bytes(packed, at.wrapping_add(len - 2), &[0x01, 0x00]);
@@ -504,7 +513,7 @@ pub fn has_its_instructions(machine: Machine, section: &[u8], base: u64, item: &
     }
     let offset = site.offset - base;
     match machine {
-        Machine::RiscV { is_32 } => riscv64::has_shapes(is_32, section, offset, &site.shapes),
+        Machine::RiscV(isa) => riscv64::has_shapes(isa, section, offset, &site.shapes),
         Machine::LoongArch64 => loongarch64::has_shapes(section, offset, &site.shapes),
     }
 }

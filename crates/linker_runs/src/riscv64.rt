@@ -15,6 +15,7 @@ ghost use Rattle.linker_runs.specs.RiscVItems.{Aligns};
 use crate::items::{
     AsRelocation, Relocation, has_bytes, is_marked, relocation_at, unsigned_addend,
 };
+use crate::packing::Isa;
 use crate::relaxation::{Alignment, Item, Shapes, Site};
 use crate::shapes::riscv64::{CALL, TAIL_C};
 use linker_utils::riscv64::{LinkRegister, RiscVRelocation};
@@ -133,18 +134,23 @@ pub(crate) fn link_at(section: &[u8], offset: u64) -> Option<u32>
     LinkRegister::OfJalr.named_at(section, offset)
 }
 
-/// Whether a jump of two bytes links a register: `c.j` none, and RV32's `c.jal` x1.
-#[inline(always)]
-pub(crate) fn links_short(is_32: bool, link: u32) -> bool
-    ensures { result ≡ links_short is_32 link }
-{
-    link == 0 || is_32 && link == 1
+impl Isa {
+    /// Whether a jump of two bytes links a register: `c.j` none, and RV32's `c.jal` x1.
+    #[inline(always)]
+    pub(crate) fn links_short(self, link: u32) -> bool
+        ensures { result ≡ links_short self link }
+    {
+        match self {
+            Isa::Rv32 => link == 0 || link == 1,
+            Isa::Rv64 => link == 0,
+        }
+    }
 }
 
 /// What a call at an index can become that links a register.
 #[inline]
 fn shapes_of<R: AsRelocation>(
-    is_32: bool,
+    isa: Isa,
     link: u32,
     section: &[u8],
     relocations: &[R],
@@ -155,10 +161,10 @@ fn shapes_of<R: AsRelocation>(
     requires link { link ≡ link_register OfJalr section.now
         (relocation_at (map R.relocation relocations.now) index).offset }
     requires next { IsNextAlignment (map R.relocation relocations.now) index next }
-    ensures { IsShapesOf is_32 section.now (map R.relocation relocations.now) index result }
+    ensures { IsShapesOf isa section.now (map R.relocation relocations.now) index result }
 {
     let may_compress = relocation_at(relocations, index).may_compress;
-    if may_compress && links_short(is_32, link) && may_free(6, relocations, index, next) {
+    if may_compress && isa.links_short(link) && may_free(6, relocations, index, next) {
         TAIL_C
     } else {
         CALL
@@ -168,7 +174,7 @@ fn shapes_of<R: AsRelocation>(
 /// The site of a call's relocation, if it may be relaxed.
 #[inline]
 fn site_at<R: AsRelocation>(
-    is_32: bool,
+    isa: Isa,
     section: &[u8],
     base: u64,
     relocations: &[R],
@@ -182,9 +188,9 @@ fn site_at<R: AsRelocation>(
         ≤ length section.now }
     requires next { IsNextAlignment (map R.relocation relocations.now) index next }
     ensures some { IfSome result
-        (IsRiscVSite is_32 section.now base (map R.relocation relocations.now) index) }
+        (IsRiscVSite isa section.now base (map R.relocation relocations.now) index) }
     ensures none { IfNone result ((item : items)
-        → ¬ RiscVMakes is_32 section.now base (map R.relocation relocations.now) index item) }
+        → ¬ RiscVMakes isa section.now base (map R.relocation relocations.now) index item) }
 {
     let relocation = relocation_at(relocations, index);
     if !is_marked(relocations, index, RiscVRelocation::R_RISCV_RELAX.r_type()) {
@@ -199,7 +205,7 @@ fn site_at<R: AsRelocation>(
         offset: base + relocation.offset,
         len: 8,
         target,
-        shapes: shapes_of(is_32, link, section, relocations, index, next),
+        shapes: shapes_of(isa, link, section, relocations, index, next),
     })
 }
 
@@ -223,7 +229,7 @@ pub(crate) fn is_formed(section: &[u8], relocation: &Relocation) -> bool
 /// The item that the relocation at an index makes, if it makes one.
 #[inline]
 pub(crate) fn item_at<R: AsRelocation>(
-    is_32: bool,
+    isa: Isa,
     section: &[u8],
     base: u64,
     relocations: &[R],
@@ -236,12 +242,12 @@ pub(crate) fn item_at<R: AsRelocation>(
         (relocation_at (map R.relocation relocations.now) index) }
     requires next { IsNextAlignment (map R.relocation relocations.now) index next }
     ensures { MatchOption result ((item : items)
-        → ¬ RiscVMakes is_32 section.now base (map R.relocation relocations.now) index item)
-        (RiscVMakes is_32 section.now base (map R.relocation relocations.now) index) }
+        → ¬ RiscVMakes isa section.now base (map R.relocation relocations.now) index item)
+        (RiscVMakes isa section.now base (map R.relocation relocations.now) index) }
 {
     let relocation = relocation_at(relocations, index);
     if is_of_call(&relocation) {
-        let site = site_at(is_32, section, base, relocations, index, next)?;
+        let site = site_at(isa, section, base, relocations, index, next)?;
         return Some(Item::Site(site));
     }
     if !aligns(&relocation) {

@@ -1,11 +1,12 @@
 -- Packed sections of a run, in the numbers that C sees.
 use Rattle.std.specs.Prelude.{◌≡◌, ◌≢◌, ◌+◌, ◌^◌, ◌<◌, ◌≤◌, ◌⊎◌, ◌↔◌, ℕ, List, [], ◌∷◌, length}
-use Rattle.std.specs.Prelude.{Option, None, Some, true, ◌==◌, if◌then◌else◌}
+use Rattle.std.specs.Prelude.{Option, None, Some, ◌==◌, if◌then◌else◌}
 use Rattle.linker_utils_c.specs.Imports.{Architecture, AreValidDeltas, DeletedOutside}
 use Rattle.linker_utils_c.specs.Imports.{DifferentLengths, EndsTooHigh, Item, ItemOutOfSection}
 use Rattle.linker_utils_c.specs.Imports.{ItemsOverlap, Machine, NoShape, NotItsFirstBytes}
 use Rattle.linker_utils_c.specs.Imports.{NotItsInstructions, RelaxDelta, Status, Success}
 use Rattle.linker_utils_c.specs.Imports.{TargetOutOfReach, architecture_of, deletions_of}
+use Rattle.linker_runs.specs.declared.packing.Isa.TheVariants.{Rv32}
 use Rattle.linker_runs.specs.declared.packing.Machine.TheVariants.{RiscV}
 use Rattle.linker_runs.specs.declared.packing.ItemError.{ItemError}
 use Rattle.linker_runs.specs.declared.packing.ItemError.TheVariants as errors
@@ -28,7 +29,7 @@ riscv32 = 0xf3 + 0x8000
 -- the same by e_machine, with a number of its own for RV32
 abbrev pub packing_machine : ℕ → Option Machine
 packing_machine machine =
-    if machine == riscv32 then Some (RiscV true) else packed_as (architecture_of machine)
+    if machine == riscv32 then Some (RiscV Rv32) else packed_as (architecture_of machine)
 
 -- the status of why an item isn't written
 abbrev pub item_status : ItemError → Status

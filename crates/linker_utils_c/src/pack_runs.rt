@@ -11,7 +11,9 @@ ghost use Rattle.linker_utils_c.specs.Status.{code};
 
 use crate::status::Status;
 use linker_runs::items::ItemNumbers;
-use linker_runs::packing::{ItemError, Machine, has_its_instructions, pack_run, packed_run_len};
+use linker_runs::packing::{
+    Isa, ItemError, Machine, has_its_instructions, pack_run, packed_run_len,
+};
 use linker_utils::elf::Architecture;
 use linker_utils::relaxation::RelaxDelta;
 
@@ -24,7 +26,7 @@ pub(crate) fn packing_machine(machine: u16) -> Option<Machine>
     ensures { result ≡ packing_machine machine }
 {
     if machine == RISCV32 {
-        return Some(Machine::RiscV { is_32: true });
+        return Some(Machine::RiscV(Isa::Rv32));
     }
     Machine::of(Architecture::from_machine(machine)?)
 }

@@ -8,7 +8,7 @@ use crate::shapes::fixed;
 
 /// A part of a run that relaxation may shorten, in numbers, as C has it. Any numbers are an item.
 #[repr(C)]
-#[derive(Clone, Copy)]
+#[derive(Default, Clone, Copy)]
 pub struct ItemNumbers {
     /// The input offset of its first byte.
     pub offset: u64,

@@ -6,9 +6,9 @@ ghost use Rattle.std.specs.Int.{w32, to_le_bytes};
 ghost use Rattle.linker_elf.specs.LoongArchRelocations.{loongarch_row};
 ghost use Rattle.linker_runs.specs.LoongArchSites.{IsSiteAt, IsAddressOutOfReach, LoongArchBecomes};
 ghost use Rattle.linker_runs.specs.LoongArchSites.{ArePagesNear, LoongArchAccepts, LoongArchCause};
-ghost use Rattle.linker_runs.specs.LoongArchSites.{destination};
-ghost use Rattle.linker_runs.specs.Inner.LoongArch.{IsKindAt, short_template, AreRelocated};
-ghost use Rattle.linker_runs.specs.Inner.LoongArch.{IsLongOf, IsLongOutOfReach};
+ghost use Rattle.linker_runs.specs.LoongArchSites.{destination, short_template, IsLongOutOfReach};
+ghost use Rattle.linker_runs.specs.LoongArchSites.{IsKindAt};
+ghost use Rattle.linker_runs.specs.Inner.LoongArch.{AreRelocated, IsLongOf};
 ghost use Rattle.linker_runs.specs.Origins.{HasLoongArchShapes};
 ghost use Rattle.linker_runs.specs.Inner.Pieces.{template_is, code_bytes};
 

@@ -26,7 +26,7 @@ fn short_r_type(machine: Machine, kept: u64, r_type: u32) -> u32
     ensures { result ≡ short_r_type machine kept r_type }
 {
     match machine {
-        Machine::RiscV { .. } => {
+        Machine::RiscV(_) => {
             if r_type != RiscVRelocation::R_RISCV_CALL.r_type()
                 && r_type != RiscVRelocation::R_RISCV_CALL_PLT.r_type()
             {
@@ -55,7 +55,7 @@ fn align_r_type(machine: Machine) -> u32
     ensures { result ≡ align_r_type machine }
 {
     match machine {
-        Machine::RiscV { .. } => RiscVRelocation::R_RISCV_ALIGN.r_type(),
+        Machine::RiscV(_) => RiscVRelocation::R_RISCV_ALIGN.r_type(),
         Machine::LoongArch64 => LoongArch64Relocation::R_LARCH_ALIGN.r_type(),
     }
 }

@@ -12,10 +12,10 @@ ghost use Rattle.linker_runs.specs.Origins.{HasRiscVShapes};
 ghost use Rattle.linker_runs.specs.RiscVItems.{links_short};
 ghost use Rattle.linker_runs.specs.Inner.Pieces.{template_is, code_bytes};
 
-use crate::packing::ItemError;
 use crate::packing::code::{Code, Template, pair_at, relocated};
+use crate::packing::{Isa, ItemError};
 use crate::relaxation::Shapes;
-use crate::riscv64::{link_at, links_short};
+use crate::riscv64::link_at;
 use crate::shapes::riscv64::{CALL, TAIL_C};
 use linker_elf::elf::Row;
 use linker_utils::riscv64::{self, RiscVRelocation};
@@ -55,16 +55,16 @@ fn short_jump(link: u32) -> [u8; 2]
 
 /// The instruction of which n bytes stay of a call that links a register.
 #[inline(always)]
-fn template_of(is_32: bool, section: &[u8], offset: u64, link: u32, kept: u64) -> Option<Template>
+fn template_of(isa: Isa, section: &[u8], offset: u64, link: u32, kept: u64) -> Option<Template>
     requires inside { offset + 8 ≤ length section.now }
     requires link { link ≡ link_register OfJalr section.now offset }
-    ensures none { IfNone result (riscv_template is_32 section.now offset kept ≡ None) }
+    ensures none { IfNone result (riscv_template isa section.now offset kept ≡ None) }
     ensures some { IfSome result (λ template.
-        (riscv_template is_32 section.now offset kept ≡ Some (template_is template))
+        (riscv_template isa section.now offset kept ≡ Some (template_is template))
         × (length (code_bytes template.code) ≡ kept)) }
 {
     match kept {
-        2 if links_short(is_32, link) => Some(Template {
+        2 if isa.links_short(link) => Some(Template {
             row: row_of(RiscVRelocation::R_RISCV_RVC_JUMP),
             code: Code::Half(short_jump(link)),
         }),
@@ -83,7 +83,7 @@ fn template_of(is_32: bool, section: &[u8], offset: u64, link: u32, kept: u64) -
 /// What a call becomes of which n bytes stay, at an address and for a target's.
 #[inline(always)]
 pub(crate) fn code_of(
-    is_32: bool,
+    isa: Isa,
     section: &[u8],
     offset: u64,
     kept: u64,
@@ -92,15 +92,15 @@ pub(crate) fn code_of(
 ) -> Result<Code, ItemError>
     requires { offset + 8 ≤ length section.now }
     ensures becomes { IfOk result
-        (λ code. RiscVBecomes is_32 section.now offset place target (code_bytes code)) }
+        (λ code. RiscVBecomes isa section.now offset place target (code_bytes code)) }
     ensures len { IfOk result (λ code. length (code_bytes code) ≡ kept) }
-    ensures accepts { OnOk result (RiscVAccepts is_32 section.now offset kept place target) }
-    ensures rejected { IfErr result (RiscVCause is_32 section.now offset kept place target) }
+    ensures accepts { OnOk result (RiscVAccepts isa section.now offset kept place target) }
+    ensures rejected { IfErr result (RiscVCause isa section.now offset kept place target) }
 {
     let Some(link) = link_at(section, offset) else {
         return Err(ItemError::NotItsInstructions);
     };
-    let Some(template) = template_of(is_32, section, offset, link, kept) else {
+    let Some(template) = template_of(isa, section, offset, link, kept) else {
         return Err(ItemError::NoShape);
     };
     linker_laws::relocations::riscv64();
@@ -111,19 +111,20 @@ pub(crate) fn code_of(
 }
 
 /// Whether a call that links a register can have the shapes.
-fn are_of_link(is_32: bool, link: u32, shapes: &Shapes) -> bool
-    ensures { IsTrue result ↔ ((shapes.now ≡ CALL) ⊎ ((shapes.now ≡ TAIL_C) × (links_short is_32 link ≡ true))) }
+fn are_of_link(isa: Isa, link: u32, shapes: &Shapes) -> bool
+    ensures { IsTrue result ↔ ((shapes.now ≡ CALL)
+        ⊎ ((shapes.now ≡ TAIL_C) × (links_short isa link ≡ true))) }
 {
-    *shapes == CALL || (links_short(is_32, link) && *shapes == TAIL_C)
+    *shapes == CALL || (isa.links_short(link) && *shapes == TAIL_C)
 }
 
 /// Whether a call at an offset can have the shapes.
-pub(crate) fn has_shapes(is_32: bool, section: &[u8], offset: u64, shapes: &Shapes) -> bool
+pub(crate) fn has_shapes(isa: Isa, section: &[u8], offset: u64, shapes: &Shapes) -> bool
     requires { offset + 8 ≤ length section.now }
-    ensures { IsTrue result ↔ HasRiscVShapes is_32 section.now offset shapes.now }
+    ensures { IsTrue result ↔ HasRiscVShapes isa section.now offset shapes.now }
 {
     match link_at(section, offset) {
-        Some(link) => are_of_link(is_32, link, shapes),
+        Some(link) => are_of_link(isa, link, shapes),
         None => false,
     }
 }

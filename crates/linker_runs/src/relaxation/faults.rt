@@ -245,16 +245,11 @@ pub fn first_faulty(items: &[ItemNumbers], start: u64) -> Option<ItemFault>
     ensures { MatchOption result (AreItems start (items_in items.now))
         (IsFirstFault start (items_in items.now)) }
 {
-    first_fault(&ItemList::new(items), start)
-}
-
-fn first_fault(items: &ItemList<'_>, start: u64) -> Option<ItemFault>
-    ensures { MatchOption result (AreItems start items.now) (IsFirstFault start items.now) }
-{
-    if let Some(found) = first_own_fault(items, start) {
+    let list = ItemList::new(items);
+    if let Some(found) = first_own_fault(&list, start) {
         return Some(found);
     }
-    first_run_fault(items, start)
+    first_run_fault(&list, start)
 }
 
 /// Whether `relax` and `relax_into` accept a run at an address.

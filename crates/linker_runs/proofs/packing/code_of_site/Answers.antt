@@ -30,14 +30,14 @@ returns-in-RiscV-clause-becomes c = λ valid position.
     let site = c.args.site.now in
     let r = c.code_of.result in
     subst (λ m. IfOk r (λ code. SiteBecomes m s site (code_bytes code))) (sym c.in-RiscV.is)
-    (at_site (λ place target. IfOk r (λ code. RiscVBecomes c.in-RiscV.is_32 s.bytes (site.offset - s.base) place target (code_bytes code))) c.args.deltas.now c.args.start site.offset site.target c.args.at.now c.position_of.result c.requires.at c.position_of.ensures.offset position (c.position_of.ensures.position valid) c.code_of.ensures.becomes)
+    (at_site (λ place target. IfOk r (λ code. RiscVBecomes c.in-RiscV.isa s.bytes (site.offset - s.base) place target (code_bytes code))) c.args.deltas.now c.args.start site.offset site.target c.args.at.now c.position_of.result c.requires.at c.position_of.ensures.offset position (c.position_of.ensures.position valid) c.code_of.ensures.becomes)
 
 pub returns-in-RiscV-clause-accepts : goal.returns-in-RiscV-clause-accepts
 returns-in-RiscV-clause-accepts c = λ valid position.
     let s = section_of c.args.section.now c.args.base (deletions_of c.args.deltas.now) c.args.start in
     let site = c.args.site.now in
     let r = c.code_of.result in
-    let accepts = λ (place target : ℕ). RiscVAccepts c.in-RiscV.is_32 s.bytes (site.offset - s.base) c.args.kept place target in
+    let accepts = λ (place target : ℕ). RiscVAccepts c.in-RiscV.isa s.bytes (site.offset - s.base) c.args.kept place target in
     subst (λ m. OnOk r (SiteAccepts m s site c.args.kept)) (sym c.in-RiscV.is)
     (on_ok r (accepts (address_of s site.offset) (address_of s site.target)) ((site.len ≡ 8) × accepts (address_of s site.offset) (address_of s site.target)) (λ h. (c.if-site-ne8.false, h))
     (at_site (λ place target. OnOk r (accepts place target)) c.args.deltas.now c.args.start site.offset site.target c.args.at.now c.position_of.result c.requires.at c.position_of.ensures.offset position (c.position_of.ensures.position valid) c.code_of.ensures.accepts))
@@ -47,9 +47,9 @@ returns-in-RiscV-clause-rejected c = λ valid position.
     let s = section_of c.args.section.now c.args.base (deletions_of c.args.deltas.now) c.args.start in
     let site = c.args.site.now in
     let r = c.code_of.result in
-    let causes = λ (place target : ℕ) (error : ItemError). RiscVCause c.in-RiscV.is_32 s.bytes (site.offset - s.base) c.args.kept place target error in
+    let causes = λ (place target : ℕ) (error : ItemError). RiscVCause c.in-RiscV.isa s.bytes (site.offset - s.base) c.args.kept place target error in
     subst (λ m. IfErr r (SiteCause m s site c.args.kept)) (sym c.in-RiscV.is)
-    (IfErr-weaker r (causes (address_of s site.offset) (address_of s site.target)) (SiteCause (RiscV c.in-RiscV.is_32) s site c.args.kept) (with_len (RiscV c.in-RiscV.is_32) s site c.args.kept c.if-site-ne8.false)
+    (IfErr-weaker r (causes (address_of s site.offset) (address_of s site.target)) (SiteCause (RiscV c.in-RiscV.isa) s site c.args.kept) (with_len (RiscV c.in-RiscV.isa) s site c.args.kept c.if-site-ne8.false)
     (at_site (λ place target. IfErr r (causes place target)) c.args.deltas.now c.args.start site.offset site.target c.args.at.now c.position_of.result c.requires.at c.position_of.ensures.offset position (c.position_of.ensures.position valid) c.code_of.ensures.rejected))
 
 pub returns-in-LoongArch64-clause-becomes : goal.returns-in-LoongArch64-clause-becomes

@@ -38,7 +38,7 @@ has_shapes-requires c =
 pub returns-in-RiscV : goal.returns-in-RiscV
 returns-in-RiscV c =
     rw c.in-RiscV.is
-    (has c.args.section.now c.args.base c.args.item.now c.in-Site.site c.in-Site.is (RiscV c.in-RiscV.is_32) c.has_shapes.result c.if-site-ne8.false ((c.is_inside.ensures [] 0).0 c.if-not-is_inside.false) c.has_shapes.ensures)
+    (has c.args.section.now c.args.base c.args.item.now c.in-Site.site c.in-Site.is (RiscV c.in-RiscV.isa) c.has_shapes.result c.if-site-ne8.false ((c.is_inside.ensures [] 0).0 c.if-not-is_inside.false) c.has_shapes.ensures)
 
 pub returns-in-LoongArch64 : goal.returns-in-LoongArch64
 returns-in-LoongArch64 c =

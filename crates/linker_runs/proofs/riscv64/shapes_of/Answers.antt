@@ -5,7 +5,7 @@ pub returns-then-may_free : goal.returns-then-may_free
 returns-then-may_free g c = inl (
   record {
     c_extension = ap (λ r. r.may_compress) (sym c.relocation_at-may_compress.ensures) ∙ c.if-may_compress.true;
-    links = subst (λ n. links_short c.args.is_32 n ≡ true) c.requires.link (sym c.links_short.ensures ∙ c.if-links_short.true);
+    links = subst (λ n. links_short c.args.isa n ≡ true) c.requires.link (sym c.links_short.ensures ∙ c.if-links_short.true);
     frees = c.may_free.ensures.0 (search rules);
   },
   refl,

@@ -1,5 +1,5 @@
-use Rattle.linker_runs.proofs.Imports.{IsOutOfReach, IsRelocated, arith, code_bytes, subst, ◌∙◌}
-use Rattle.linker_runs.proofs.LoongArch.{becomes_short, becomes_long, short_accepts, long_accepts, short_rejected, long_rejected}
+use Rattle.linker_runs.proofs.Imports.{IsOutOfReach, IsRelocated, arith, code_bytes, inl, inr, subst, ◌∙◌}
+use Rattle.linker_runs.proofs.LoongArch.{becomes_short, becomes_long, short_accepts, long_accepts}
 use Rattle.linker_runs.proofs.packing.loongarch64.code_of.Goals as goal
 
 pub returns-in-Some-relocated-clause-becomes : goal.returns-in-Some-relocated-clause-becomes
@@ -18,8 +18,7 @@ returns-in-Some-relocated-clause-accepts c =
 
 pub returns-in-None-clause-rejected : goal.returns-in-None-clause-rejected
 returns-in-None-clause-rejected c =
-    short_rejected c.args.section.now c.args.offset c.args.kept c.args.place c.args.target c.in-Some.kind c.in-Some.ensures c.in-4.is
-    (subst (λ t. IsOutOfReach t c.args.place c.args.target) c.short_of.ensures.template c.in-None.ensures.applied)
+    (c.in-Some.kind, c.in-Some.ensures, inl (c.in-4.is, subst (λ t. IsOutOfReach t c.args.place c.args.target) c.short_of.ensures.template c.in-None.ensures.applied))
 
 pub returns-in-Some-long_of-clause-becomes : goal.returns-in-Some-long_of-clause-becomes
 returns-in-Some-long_of-clause-becomes c =
@@ -34,4 +33,4 @@ returns-in-Some-long_of-clause-accepts c =
 
 pub returns-in-None-long_of-clause-rejected : goal.returns-in-None-long_of-clause-rejected
 returns-in-None-long_of-clause-rejected c =
-    long_rejected c.args.section.now c.args.offset c.args.kept c.args.place c.args.target c.in-Some.kind c.in-Some.ensures c.in-8.is c.in-None-long_of.ensures.long
+    (c.in-Some.kind, c.in-Some.ensures, inr (c.in-8.is, c.in-None-long_of.ensures.long))

@@ -1,4 +1,4 @@
-use Rattle.linker_runs.proofs.Imports.{CALL, TAIL_C, false≢true, inl, inr, sym, ⊎_elim, ◌∙◌}
+use Rattle.linker_runs.proofs.Imports.{CALL, TAIL_C, false, false≢true, inl, inr, sym, ⊎_elim, ◌∙◌}
 use Rattle.linker_runs.proofs.Same.{shapes_decide}
 use Rattle.linker_runs.proofs.packing.riscv64.are_of_link.Goals as goal
 
