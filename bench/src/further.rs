@@ -8,7 +8,7 @@ use crate::measure::{Beside, Report, Side};
 use crate::table::{FORMS, LOONGARCH64, MACHINES, REWRITES, RISCV, X86_64, name_of};
 use crate::{CALLS, architecture, calls_apart, section_of};
 use erased_crate::runs;
-use erased_crate::runs::{Machine, Run, has_its_instructions, pack_run};
+use erased_crate::runs::{Isa, Machine, Run, has_its_instructions, pack_run};
 use erased_crate::section::Section;
 use erased_crate::runs::first_faulty;
 use sathunne::raw::*;
@@ -822,7 +822,7 @@ fn runs(report: &mut Report, random: &mut Random) {
     for (machine, [of_call, of_mark, of_alignment], nops, call, nop) in machines {
         let name = name_of(machine);
         let of_crate = match machine {
-            RISCV => Machine::RiscV { is_32: false },
+            RISCV => Machine::RiscV(Isa::Rv64),
             _ => Machine::LoongArch64,
         };
         let mut section = vec![0; COUNT * 64];

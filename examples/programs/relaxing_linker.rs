@@ -103,7 +103,7 @@ fn main() -> Result<(), Box<dyn Error>> {
             let is_known = it.symbol != 0 && it.addend == 0;
             refers.push(Relocation::new(it, is_known.then_some(target), *may_compress));
         }
-        items.extend(section_items(Machine::RiscV { is_32: false }, section, &refers)?.items);
+        items.extend(section_items(Machine::RiscV(Isa::Rv64), section, &refers)?.items);
     }
     let items: Vec<_> = list.iter().flat_map(|it| &it.items).copied().collect();
     first_faulty(&items, START).map_or(Ok(()), Err)?;
@@ -127,7 +127,7 @@ fn main() -> Result<(), Box<dyn Error>> {
         let run = Run { start: START, items: &items[1..], deltas: deletions.deltas() };
         let len = packed_run_len(section.base, section.bytes.len(), run.deltas);
         let bytes = &mut image[(address(section.base) - START + PAGE) as usize..][..len];
-        let mut packed = run.pack(Machine::RiscV { is_32: false }, section, bytes)?;
+        let mut packed = run.pack(Machine::RiscV(Isa::Rv64), section, bytes)?;
         let mut memory = vec![0; memory_len(&packed.relocations)];
         relocate_section(&Link::new(RiscV), &object, &mut packed, &mut memory)?;
     }

@@ -16,7 +16,7 @@
 use std::error::Error;
 use std::io::{self, BufRead};
 
-use linker_utils::runs::{Alignment, Item, ItemNumbers, Machine, Relocation, Run};
+use linker_utils::runs::{Alignment, Isa, Item, ItemNumbers, Machine, Relocation, Run};
 use linker_utils::runs::{first_faulty, pack_run, packed_run_len, relax, section_items};
 use linker_utils::section::Section;
 
@@ -33,7 +33,7 @@ fn bytes_of(text: &str) -> Result<Vec<u8>, Box<dyn Error>> {
 }
 
 fn main() -> Result<(), Box<dyn Error>> {
-    let (mut machine, mut may_compress, mut start) = (Machine::RiscV { is_32: false }, false, 0);
+    let (mut machine, mut may_compress, mut start) = (Machine::RiscV(Isa::Rv64), false, 0);
     let (mut sections, mut others) = (Vec::<Input>::new(), Vec::new());
     for line in io::stdin().lock().lines() {
         let line = line?;

@@ -13,7 +13,9 @@ use linker_utils::relaxation::{
     shrink_calls, shrink_calls_into,
 };
 use linker_utils::runs::shapes::riscv64::CALL;
-use linker_utils::runs::{Alignment, Item, ItemNumbers, ItemsError, Machine, Relocation, Site};
+use linker_utils::runs::{
+    Alignment, Isa, Item, ItemNumbers, ItemsError, Machine, Relocation, Site,
+};
 use linker_utils::runs::{relax, section_items};
 use linker_utils::section::Section;
 use linker_utils::utils::read_string;
@@ -384,7 +386,7 @@ fn runs_are_not_relaxed() {
     let mut section = [0; 22];
     section[..8].copy_from_slice(&0x000080e7_00000097u64.to_le_bytes());
     let (count, made) = each_fails(
-        || section_items(Machine::RiscV { is_32: false }, &Section::new(&section, []), &relocations),
+        || section_items(Machine::RiscV(Isa::Rv64), &Section::new(&section, []), &relocations),
         |error| assert_eq!(error, ItemsError::OutOfMemory),
     );
     assert!(count > 1);

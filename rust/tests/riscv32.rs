@@ -4,7 +4,7 @@
 use linker_utils::elf::Architecture::RiscV;
 use linker_utils::elf::RelocateError::OutOfReach;
 use linker_utils::output::{StubKind, Target};
-use linker_utils::runs::{Machine, Relocation, Run, packed_run_len, relax, section_items};
+use linker_utils::runs::{Isa, Machine, Relocation, Run, packed_run_len, relax, section_items};
 use linker_utils::section::{
     Addresses, Link, Object, RelocationError, Section, Symbol, memory_len, read_rela32,
     ValueError, relocate_section, relocation_at, relocations_len, value, wrap_addends,
@@ -181,11 +181,11 @@ fn calls_are_those_of_gnu_ld() {
     };
     let relocations = [call(0, 0x24), call(8, 0x24), call(0x14, 0xbde), call(0x1c, 0x24)].concat();
     let section = Section::new(bytes, vec![]);
-    for (is_32, text) in [
-        (true, [0x2039, 0xa031, 0x00ef, 0x0140, 0x00ef, 0x3c10, 0x2009, 0x8082]),
-        (false, [0x00ef, 0x0120, 0xa039, 0x00ef, 0x0140, 0x00ef, 0x3c30, 0x00ef]),
+    for (isa, text) in [
+        (Isa::Rv32, [0x2039, 0xa031, 0x00ef, 0x0140, 0x00ef, 0x3c10, 0x2009, 0x8082]),
+        (Isa::Rv64, [0x00ef, 0x0120, 0xa039, 0x00ef, 0x0140, 0x00ef, 0x3c30, 0x00ef]),
     ] {
-        let machine = Machine::RiscV { is_32 };
+        let machine = Machine::RiscV(isa);
         let items = section_items(machine, &section, &relocations).unwrap().items;
         let plan = relax(&items, 0x10000).unwrap();
         let run = Run { start: 0x10000, items: &items, deltas: plan.deletions.deltas() };

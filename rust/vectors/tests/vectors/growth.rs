@@ -21,7 +21,7 @@ use linker_utils::rewriting::{
 };
 use linker_utils::runs::shapes::riscv64::CALL;
 use linker_utils::runs::{
-    ItemNumbers, Machine, Relocation, Run, are_items, deletions, first_faulty,
+    Isa, ItemNumbers, Machine, Relocation, Run, are_items, deletions, first_faulty,
 };
 use linker_utils::runs::{first_malformed, pack_run, packed_run_len, relax, section_items};
 use linker_utils::section::{
@@ -353,9 +353,9 @@ fn expect_sections(count: usize) {
         (LOONGARCH_CALL.repeat(count), all)
     };
     expect_growth("items of RISC-V", count, of_riscv, |(section, relocations)| {
-        assert_eq!(first_malformed(Machine::RiscV { is_32: false }, &section, &relocations), None);
+        assert_eq!(first_malformed(Machine::RiscV(Isa::Rv64), &section, &relocations), None);
         let made = section_items(
-            Machine::RiscV { is_32: false },
+            Machine::RiscV(Isa::Rv64),
             &Section::new(&section, []),
             &relocations,
         );
@@ -369,7 +369,7 @@ fn expect_sections(count: usize) {
     let to_pack = |count: usize| {
         let (section, relocations) = of_riscv(count);
         let made = section_items(
-            Machine::RiscV { is_32: false },
+            Machine::RiscV(Isa::Rv64),
             &Section::new(&section, []),
             &relocations,
         );
@@ -382,7 +382,7 @@ fn expect_sections(count: usize) {
         let mut packed = vec![0; packed_run_len(0, section.len(), deltas.deltas())];
         let run = Run { start: 0, items: &items, deltas: deltas.deltas() };
         pack_run(
-            Machine::RiscV { is_32: false },
+            Machine::RiscV(Isa::Rv64),
             &mut Section::new(section, []),
             &run,
             &mut packed,

@@ -2,6 +2,7 @@
 //! Relocations and bytes as assemblers make them.
 
 use super::{aligned, site};
+use linker_utils::runs::Isa;
 use linker_utils::runs::Machine::{self, LoongArch64};
 use linker_utils::runs::{
     self, ItemNumbers, ItemsError, Relocation, SectionItems, are_items, shapes,
@@ -9,7 +10,7 @@ use linker_utils::runs::{
 use linker_utils::section::Section;
 
 /// RV64.
-const RISCV64: Machine = Machine::RiscV { is_32: false };
+const RISCV64: Machine = Machine::RiscV(Isa::Rv64);
 
 /// The items of a section at an input offset.
 fn section_items(

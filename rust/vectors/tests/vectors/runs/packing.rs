@@ -6,7 +6,9 @@ use linker_utils::relaxation::RelaxDelta;
 use linker_utils::runs::shapes::fixed;
 use linker_utils::runs::shapes::loongarch64::{CALL36, PCALA};
 use linker_utils::runs::shapes::riscv64::{CALL, TAIL_C};
-use linker_utils::runs::{ItemError, ItemNumbers, Machine, RejectedItem, Run, are_items, pack_run};
+use linker_utils::runs::{
+    Isa, ItemError, ItemNumbers, Machine, RejectedItem, Run, are_items, pack_run,
+};
 use linker_utils::runs::{packed_run_len, relax};
 use linker_utils::section::Section;
 
@@ -122,7 +124,7 @@ fn sections_of_riscv_are_packed_as_linkers_pack_them() {
     let plan = relax(&items, 0xff08).unwrap();
     assert_eq!(plan.kept, [0, 4, 2, 8, 14]);
     let deltas = plan.deletions.deltas();
-    let machine = Machine::RiscV { is_32: false };
+    let machine = Machine::RiscV(Isa::Rv64);
     expect(machine, &RISC_V, &items[1..], deltas, Ok(()), &RISC_V_PACKED);
 }
 
@@ -155,7 +157,7 @@ fn rejected_items_of_riscv_are_named() {
         (site(0x10c, 0x1140, TAIL_C), ItemError::OutOfReach),
         (site(0x10c, 0x129, TAIL_C), ItemError::OutOfReach),
     ];
-    let machine = Machine::RiscV { is_32: false };
+    let machine = Machine::RiscV(Isa::Rv64);
     for &(item, error) in &rows {
         expect_rejected(machine, &RISC_V, &items[1..], item, deltas, error);
     }
@@ -170,7 +172,7 @@ fn items_that_lose_bytes_are_not_left_out() {
     let items = riscv_items();
     let plan = relax(&items, 0xff08).unwrap();
     let deltas = plan.deletions.deltas();
-    let machine = Machine::RiscV { is_32: false };
+    let machine = Machine::RiscV(Isa::Rv64);
     let missing = |index| Err(RejectedItem { index, error: ItemError::DeletedOutside });
     expect(machine, &RISC_V, &items[2..], deltas, missing(0), &[0xee; 34]);
     expect(machine, &RISC_V, &[items[1], items[3]], deltas, missing(1), &[0xee; 34]);
@@ -210,7 +212,7 @@ fn items_of_which_two_bytes_stay_are_rejected() {
     // `c.j` links none
     let items = [site(0x100, 0x12a, CALL)];
     let deltas = all_but_two(0x100, 8);
-    expect(Machine::RiscV { is_32: false }, &RISC_V, &items, &deltas, no_shape, &[0xee; 38]);
+    expect(Machine::RiscV(Isa::Rv64), &RISC_V, &items, &deltas, no_shape, &[0xee; 38]);
     let machine = Machine::LoongArch64;
     let items = [site(0x100, 0x140, CALL36)];
     expect(machine, &LOONGARCH, &items, &deltas, no_shape, &[0xee; 62]);

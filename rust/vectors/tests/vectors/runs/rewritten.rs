@@ -9,6 +9,7 @@ use linker_utils::rewriting::{
     DecisionNumbers, Deletion, Phase, SymbolFacts, UnrelaxableGroups, rewrite_placed_section,
     survey_placed_section,
 };
+use linker_utils::runs::Isa;
 use linker_utils::runs::Machine::{self, LoongArch64};
 use linker_utils::runs::shapes::fixed;
 use linker_utils::runs::{
@@ -19,7 +20,7 @@ use linker_utils::section::{Link, Object, Section, Symbol};
 use linker_utils::section::{memory_len, relocate_section, relocations};
 
 /// RV64.
-const RISCV64: Machine = Machine::RiscV { is_32: false };
+const RISCV64: Machine = Machine::RiscV(Isa::Rv64);
 
 /// Where the section begins in its run, and where the run does.
 const BASE: u64 = 0x100;
