@@ -533,9 +533,11 @@ absolute law = (upper UType (riscv_row riscv64.R_RISCV_HI20) law.0, upper CluiTy
 pub relative : laws.RelativeAddresses → laws.EntryAddresses Law → RelativeAddresses
 relative law of_entries = (
   pairs place UType (riscv_row riscv64.R_RISCV_PCREL_HI20) low_load low_store symbol_address symbol_32 law,
-  entries riscv64.R_RISCV_GOT_HI20 of_entries.0,
-  entries riscv64.R_RISCV_TLS_GOT_HI20 of_entries.1,
-  entries riscv64.R_RISCV_TLS_GD_HI20 of_entries.2,
+  (
+    entries riscv64.R_RISCV_GOT_HI20 of_entries.0,
+    entries riscv64.R_RISCV_TLS_GOT_HI20 of_entries.1,
+    entries riscv64.R_RISCV_TLS_GD_HI20 of_entries.2,
+  ),
 )
 
 descriptor : (low : RiscVRelocation) → laws.Descriptor Law low → laws.Descriptor Law32 low

@@ -23,7 +23,7 @@ use Rattle.linker_final.specs.Packed.{IsSiteOf, IsUnwritten, Packed, StayTogethe
 use Rattle.linker_final.specs.Packed.{final_instruction, place_of, site_after, site_bytes, site_len}
 use Rattle.linker_final.specs.Packed.{site_offset, site_place, site_target}
 use Rattle.linker_laws.specs.LoongArchGroups.{CallGoes, Code, Fits32, GoneLaw, HasNop, HighEntry}
-use Rattle.linker_laws.specs.LoongArchGroups.{HighOffset, InstructionLaw, IsGone, IsLeftOut}
+use Rattle.linker_laws.specs.LoongArchGroups.{HighOffset, InstructionLaw, IsGone}
 use Rattle.linker_laws.specs.LoongArchGroups.{IsRelocated, IsRewritten, LoadGoes, Loads, LoadsEntry}
 use Rattle.linker_laws.specs.LoongArchGroups.{LoadsOffset, LowHalf, LowOfDescriptor, LowPart, Makes}
 use Rattle.linker_laws.specs.LoongArchGroups.{MakesOffset, OffsetGoes, Stands, SumGoes, link}

@@ -94,7 +94,7 @@ pub record IsOfDescriptor (l : Linked) (high : ℕ) (name : RiscVRelocation) (di
 abbrev pub OffsetIsAlike : Linked → ℕ → ℕ → (Operands → Type 0) → (Operands → Code → ℕ → Type 0)
     → Type 0
 OffsetIsAlike l high m Said NewHas =
-    let at = λ n. instruction_at l.section (offset_of l high + n) in
+    let at = λ (n : ℕ). instruction_at l.section (offset_of l high + n) in
     OffsetBecomes m Said NewHas (object l high) (at 4) (at 8) (at 12)
 
 -- The bytes of an instruction that became a nop of four bytes are one.
