@@ -6,9 +6,9 @@ ghost use Rattle.linker_output.specs.View.{view};
 
 use crate::description::Target;
 use crate::dynamic::{DynamicType, DynamicTypes, named};
-use crate::layout::Interpreter;
+use crate::layout::{Interpreter, interpreter};
 use crate::riscv64::TARGET;
-use crate::stubs::Stub;
+use crate::stubs::{Stub, words};
 
 impl Target {
     /// The description of RV32: that of RV64 with types of words of 4 bytes, other paths, and a
@@ -33,24 +33,12 @@ impl Target {
                 ..TARGET.dynamic
             },
             interpreters: &[
-                Interpreter {
-                    flags: 0,
-                    path: "/lib/ld-linux-riscv32-ilp32.so.1",
-                },
-                Interpreter {
-                    flags: 2,
-                    path: "/lib/ld-linux-riscv32-ilp32f.so.1",
-                },
-                Interpreter {
-                    flags: 4,
-                    path: "/lib/ld-linux-riscv32-ilp32d.so.1",
-                },
+                interpreter!(0, "/lib/ld-linux-riscv32-ilp32.so.1"),
+                interpreter!(2, "/lib/ld-linux-riscv32-ilp32f.so.1"),
+                interpreter!(4, "/lib/ld-linux-riscv32-ilp32d.so.1"),
             ],
             load_stub: Stub {
-                pair: [
-                    0x17, 0x0e, 0, 0, // auipc t3, 0
-                    3, 0x2e, 0x0e, 0, // lw t3, 0(t3)
-                ],
+                pair: words!(0x0000_0e17, 0x000e_2e03), // auipc t3, 0; lw t3, 0(t3)
                 ..TARGET.load_stub
             },
             ..TARGET
