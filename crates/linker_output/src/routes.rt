@@ -4,14 +4,13 @@ ghost use Rattle.std.specs.Prelude.{◌≡◌, ◌↔◌, ◌≤◌, ◌+◌, Is
 ghost use Rattle.std.specs.Prelude.{Ok, Some, ◌==◌, ◌&&◌, not};
 ghost use Rattle.std.specs.Int.{w32, from_le_bytes};
 ghost use Rattle.linker_elf.specs.Relocate.{IsAccepted, IsCause};
-ghost use Rattle.linker_output.specs.Routes.{may_go_by_stub, has_call_form, has_toc, has_no_toc};
-ghost use Rattle.linker_output.specs.Routes.{loses_toc, lacks_toc, after_global, callee_of};
+ghost use Rattle.linker_output.specs.Routes.{may_go_by_stub, has_call_form, has_toc, loses_toc};
+ghost use Rattle.linker_output.specs.Routes.{lacks_toc, after_global};
 ghost use Rattle.linker_output.specs.Routes.{stub_target, can_restore, HasRoom, by_stub, by_jump};
-ghost use Rattle.linker_output.specs.Routes.{IsObstacle, is_served, by_reach, route_by, IsRouteOf};
+ghost use Rattle.linker_output.specs.Routes.{IsObstacle, by_reach, route_by, IsRouteOf};
 ghost use Rattle.linker_output.specs.Routes.{IsValueOf, IsRoute, IsWordRoute};
 ghost use Rattle.linker_output.specs.Inner.Routes.{IsServedRow};
 ghost use Rattle.linker_output.specs.View.{view, view_some};
-ghost use Rattle.linker_section.specs.Values.{local_entry};
 
 use crate::description::Target;
 use crate::stubs::{Stub, StubKind};
@@ -103,17 +102,6 @@ fn has_toc(architecture: Architecture, r_type: u32) -> bool
     }
 }
 
-/// Whether it is a branch of PowerPC64's code that has none.
-#[inline(always)]
-fn has_no_toc(architecture: Architecture, r_type: u32) -> bool
-    ensures { result ≡ has_no_toc architecture r_type }
-{
-    match architecture {
-        Architecture::Ppc64 => r_type == Ppc64Relocation::R_PPC64_REL24_NOTOC.r_type(),
-        _ => false,
-    }
-}
-
 /// Whether a branch to a symbol enters a function of the output itself.
 #[inline(always)]
 fn is_entered(symbol: &Symbol) -> bool
@@ -130,55 +118,42 @@ fn loses_toc(architecture: Architecture, r_type: u32, symbol: &Symbol) -> bool
     has_toc(architecture, r_type) && is_entered(symbol) && symbol.other / 32 == 1
 }
 
-/// Whether the function takes a TOC pointer that the caller hasn't.
+/// Whether the function takes a TOC pointer that the caller hasn't: one of code that has none.
 #[inline(always)]
 fn lacks_toc(architecture: Architecture, r_type: u32, symbol: &Symbol) -> bool
     ensures { result ≡ lacks_toc architecture r_type symbol.now }
 {
-    has_no_toc(architecture, r_type) && is_entered(symbol) && 1 < symbol.other / 32
+    matches!(architecture, Architecture::Ppc64)
+        && r_type == Ppc64Relocation::R_PPC64_REL24_NOTOC.r_type()
+        && is_entered(symbol)
+        && 1 < symbol.other / 32
 }
 
-/// How far after a function's global entry point its local one is.
-#[inline(always)]
-fn local_entry(other: u8) -> u64
-    ensures { result ≡ local_entry other }
-{
-    let logarithm = other / 32;
-    if logarithm < 2 { 0 } else { 1 << logarithm }
-}
-
-/// How far after a function's global entry point a stub goes.
+/// How far after a function's global entry point a stub goes: to the local one for code that has a
+/// TOC pointer.
 #[inline(always)]
 fn after_global(architecture: Architecture, r_type: u32, symbol: &Symbol) -> u64
     ensures { result ≡ after_global architecture r_type symbol.now }
 {
-    if has_toc(architecture, r_type) {
-        local_entry(symbol.other)
-    } else {
+    let logarithm = symbol.other / 32;
+    if !has_toc(architecture, r_type) || logarithm < 2 {
         0
-    }
-}
-
-/// What a stub goes to in place of a symbol.
-#[inline(always)]
-fn callee_of(architecture: Architecture, r_type: u32, symbol: &Symbol) -> u64
-    ensures { result ≡ callee_of architecture r_type symbol.now }
-{
-    if symbol.stub == 0 {
-        let offset = after_global(architecture, r_type, symbol);
-        symbol.address.wrapping_add(offset)
     } else {
-        symbol.stub
+        1 << logarithm
     }
 }
 
-/// The same with the addend.
+/// What a stub goes to in place of a symbol, with the addend.
 #[inline(always)]
 fn stub_target(architecture: Architecture, symbol: &Symbol, relocation: &Rela) -> u64
     ensures { result ≡ stub_target architecture symbol.now relocation.now }
 {
-    let callee = callee_of(architecture, relocation.r_type, symbol);
-    callee.wrapping_add(relocation.addend.cast_unsigned())
+    let addend = relocation.addend.cast_unsigned();
+    if symbol.stub != 0 {
+        return symbol.stub.wrapping_add(addend);
+    }
+    let offset = after_global(architecture, relocation.r_type, symbol);
+    symbol.address.wrapping_add(offset).wrapping_add(addend)
 }
 
 /// Whether two words are `bl`, and `nop` or `ld 2,24(1)`.
@@ -218,21 +193,14 @@ fn by_stub(
 ) -> Result<Route, RouteError>
     ensures { result ≡ by_stub kind entry loses_toc has_room target }
 {
-    if !loses_toc {
-        Ok(Route::Stub {
-            kind,
-            entry,
-            target,
-        })
-    } else if has_room {
-        Ok(Route::Stub {
-            kind,
-            entry: 0,
-            target,
-        })
-    } else {
-        Err(RouteError::NoRoom)
+    if loses_toc && !has_room {
+        return Err(RouteError::NoRoom);
     }
+    Ok(Route::Stub {
+        kind,
+        entry: if loses_toc { 0 } else { entry },
+        target,
+    })
 }
 
 /// By a stub to a far target, if there is one.
@@ -276,14 +244,6 @@ fn obstacle(row: &Row, value: i64, offset: u64, section: &[u8]) -> Option<Reloca
     obstacle_in(row, value, &section[offset as usize..])
 }
 
-/// Whether a stub may serve a branch that doesn't reach its target.
-#[inline(always)]
-fn is_served(row: &Row, symbol: &Symbol) -> bool
-    ensures { result ≡ is_served row.now symbol.now }
-{
-    may_go_by_stub(row) && (symbol.stub != 0 || !symbol.is_undefined_weak)
-}
-
 impl Target {
     /// The route of a branch whose function gets the TOC pointer as it expects.
     #[inline(always)]
@@ -299,7 +259,7 @@ impl Target {
         match obstacle {
             None => Ok(Route::Direct),
             Some(RelocateError::OutOfReach) => {
-                if is_served(row, symbol) {
+                if may_go_by_stub(row) && (symbol.stub != 0 || !symbol.is_undefined_weak) {
                     let target = stub_target(self.instructions, symbol, relocation);
                     by_jump(&self.jump_stub, false, false, target)
                 } else {
