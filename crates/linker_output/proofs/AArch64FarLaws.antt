@@ -1,9 +1,9 @@
 -- AArch64's stubs to anywhere go there.
-use Rattle.linker_output.proofs.Imports.{Bool, Fields, GoesTo, IsSomeAnd, List, None, Some, [], aarch64_name, aarch64_output, aarch64_row, ap, append-nil, arith, cast_unsigned, cond, cond-true, drop, eq-eqb, eqb, false, literal, low_bytes, number_of_bytes, operands_of, place_sum, pos, refl, registers_added, run_far, subst, sum_64, sym, true, w64, word_of, ℕ, ◌%◌, ◌*◌, ◌++◌, ◌+ℤ◌, ◌+◌, ◌<◌, ◌^◌, ◌||◌, ◌∙◌, ◌∷◌, ◌≡◌}
+use Rattle.linker_output.proofs.Imports.{Bool, Fields, IsSomeAnd, List, None, Some, [], aarch64_name, aarch64_output, aarch64_row, ap, append-nil, arith, cast_unsigned, cond, cond-true, drop, eq-eqb, eqb, false, low_bytes, number_of_bytes, operands_of, place_sum, pos, refl, run_by, subst, sum_64, sym, true, w64, ℕ, ◌%◌, ◌*◌, ◌++◌, ◌+ℤ◌, ◌+◌, ◌<◌, ◌^◌, ◌||◌, ◌∙◌, ◌∷◌, ◌≡◌}
+use Rattle.linker_output.specs.AArch64Stubs.{GoesTo, literal, registers_added, stub_step, run_stub}
 use Rattle.linker_laws.specs.AArch64Machine.{load_64, go_to, in_64_bits, write_x, adr_address, State, go_on, next_pc}
 use Rattle.linker_elf.specs.declared.aarch64.relocations.AArch64Relocation.TheVariants as r
-use Rattle.linker_output.proofs.AArch64StubLaws.{some_or}
-use Rattle.linker_output.proofs.StubWords.{applies, are_addresses}
+use Rattle.linker_output.proofs.StubWords.{applies, are_addresses, some_or}
 use Rattle.linker_output.specs.AArch64Stubs as stubs
 
 -- ---- numbers
@@ -57,7 +57,7 @@ relative_start s = above s.pc 0
 
 -- ---- by the address
 
-far_runs : (s : State) → run_far (0x58000050 ∷ 0xd61f0200 ∷ []) s
+far_runs : (s : State) → run_by (λ s. s.pc) stub_step (0x58000050 ∷ 0xd61f0200 ∷ []) s
     ≡ Some (go_to (literal 0x58000050 s) (go_on (write_x 16 (literal 0x58000050 s) s)))
 far_runs s =
     cond-true (eqb (next_pc s) (next_pc s)) _ None (eq-eqb (next_pc s) (next_pc s) refl)
@@ -77,7 +77,7 @@ reaches_go fields place target inside below code is s at loads =
     ∙ same_number n target (whole_below template half _ f.applied.written) below
     (fields.0 o (are_addresses stub place target below) template half f.applied) in
     subst (λ end. IsSomeAnd end (GoesTo target s))
-    (sym (ap (λ c. run_far (word_of c ∷ word_of (drop 4 c) ∷ []) s) bytes ∙ far_runs s))
+    (sym (ap (λ c. run_stub 2 c s) bytes ∙ far_runs s))
     (record {
       pc = value;
       registers = λ n e. kept_once (eqb n 16) (eqb n 17) _ _ e;
@@ -99,7 +99,7 @@ sum s = registers_added 0x8b110210 (second s)
 abbrev third : State → State
 third s = go_on (write_x 16 (sum s) (second s))
 
-relative_runs : (s : State) → run_far (0x58000090 ∷ 0x10000011 ∷ 0x8b110210 ∷ 0xd61f0200 ∷ []) s
+relative_runs : (s : State) → run_by (λ s. s.pc) stub_step (0x58000090 ∷ 0x10000011 ∷ 0x8b110210 ∷ 0xd61f0200 ∷ []) s
     ≡ Some (go_to (sum s) (third s))
 relative_runs s =
     cond-true (eqb (next_pc s) (next_pc s)) _ None (eq-eqb (next_pc s) (next_pc s) refl)
@@ -125,9 +125,7 @@ reaches_relative_go fields place target inside below code is s at loads =
     ∙ distance_leads n place target below
     (fields.3 o (are_addresses stub place target below) template half f.applied) in
     subst (λ end. IsSomeAnd end (GoesTo target s))
-    (sym
-    (ap (λ c. run_far (word_of c ∷ word_of (drop 4 c) ∷ word_of (drop 8 c) ∷ word_of (drop 12 c) ∷ []) s) bytes
-    ∙ relative_runs s))
+    (sym (ap (λ c. run_stub 4 c s) bytes ∙ relative_runs s))
     (record {
       pc = value;
       registers = λ n e. kept_thrice (eqb n 16) (eqb n 17) _ _ _ _ e;

@@ -1,5 +1,5 @@
 -- Runs of words, and the words of a lazy PLT's code.
-use Rattle.linker_output.proofs.Imports.{AreAddresses, Bool, LazyEntry, LazyField, List, None, Option, Some, ap, arith, cond-true, continue_by, difference_64, drop, drop_at, eq-eqb, eqb, false, ints, length, length-take, moved, negsuc, operands_at, or_parts, pos, run_by, suc, sum_64, sym, take, take_at, target_at, words, wrapped_is, ℕ, ◌*◌, ◌++◌, ◌+ℤ◌, ◌+◌, ◌/◌, ◌<◌, ◌^◌, ◌||◌, ◌∙◌, ◌∷◌, ◌≡◌, ◌≤◌}
+use Rattle.linker_output.proofs.Imports.{AreAddresses, Bool, LazyEntry, LazyField, List, None, Option, Some, [], ap, arith, cond-true, continue_by, difference_64, drop, drop_at, eq-eqb, eqb, false, ints, length, length-take, moved, negsuc, operands_at, or_parts, pos, run_by, suc, sum_64, sym, take, take_at, target_at, words, wrapped_is, ℕ, ◌*◌, ◌++◌, ◌+ℤ◌, ◌+◌, ◌/◌, ◌<◌, ◌^◌, ◌||◌, ◌∙◌, ◌∷◌, ◌≡◌, ◌≤◌}
 use Rattle.linker_output.proofs.StubWords.{word, front_word}
 
 pub run_more : {S : Type 0} (pc : S → ℕ) (step : ℕ → S → Option S) (x y : ℕ) (rest : List ℕ)
@@ -54,6 +54,12 @@ module _ (piece others code : List ℕ) (len : length piece ≡ 8) where
   one_word n w ws is first rest =
       ap (λ v. v ∷ words n (drop 4 code)) (word_of_piece is ∙ first)
       ∙ ap (λ l. w ∷ words n l) (following 4 (omega arith) is) ∙ ap (λ l. w ∷ l) rest
+
+-- code that is a pair of words and what stands after it
+pub of_pair : (n : ℕ) (code pair tail : List ℕ) → length pair ≡ 8 → code ≡ pair ++ tail
+    → words (suc (suc n)) code ≡ word pair ∷ word (drop 4 pair) ∷ words n tail
+of_pair n code (a ∷ b ∷ c ∷ d ∷ e ∷ f ∷ g ∷ h ∷ []) tail len is = ap (words (suc (suc n))) is
+of_pair n code other tail len is = absurd (omega arith)
 
 -- ---- operands
 

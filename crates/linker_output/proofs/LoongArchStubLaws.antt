@@ -1,5 +1,5 @@
 -- LoongArch's stubs go to their targets.
-use Rattle.linker_output.proofs.Imports.{AreBytes, Bool, IsCall, IsLow, IsSomeAnd, None, Option, Relocated, Some, StubCode, [], ap, append-nil, arith, cond, cond-true, drop, entry_and_addend, eq-eqb, eqb, false, field_of, high_after, ints, length, loaded, loongarch_name, loongarch_row, low_after, operands_of, pos, rd_of, refl, rj_of, subst, sum_zero, sym, true, word_of, wrapped, ℕ, ◌*ℤ◌, ◌+ℤ◌, ◌/◌, ◌<◌, ◌^◌, ◌∙◌, ◌∷◌, ◌≡◌}
+use Rattle.linker_output.proofs.Imports.{AreBytes, Bool, IsCall, IsLow, IsSomeAnd, None, Relocated, Some, [], ap, append-nil, arith, cond, cond-true, drop, entry_and_addend, eq-eqb, eqb, false, field_of, high_after, ints, length, loaded, loongarch_name, loongarch_row, low_after, operands_of, pos, rd_of, refl, rj_of, subst, sum_zero, sym, true, word_of, wrapped, ℕ, ◌*ℤ◌, ◌+ℤ◌, ◌/◌, ◌<◌, ◌^◌, ◌∙◌, ◌∷◌, ◌≡◌}
 use Rattle.linker_laws.specs.LoongArchMachine.{next_pc, register_target, execute, page_address, far_address, State, step, run, write, continue, go_to, go_on}
 use Rattle.linker_laws.proofs.LoongArchSteps.{loaded_of, set, run_pair}
 use Rattle.std.proofs.lemmas.List.Elements.{All-cons, All-nil}
@@ -7,7 +7,7 @@ use Rattle.linker_elf.specs.declared.loongarch64.relocations.LoongArch64Relocati
 use Rattle.linker_laws.specs.LoongArchRelocationLaws as relocation_laws
 use Rattle.linker_laws.proofs.LoongArchCalls.{call_is, decodes_far, decodes_jirl, new_first, new_second, target_is}
 use Rattle.linker_laws.proofs.LoongArchPairs.{loads}
-use Rattle.linker_output.proofs.StubWords.{front_word, first_is, second_is, third_is, applies, no_addend, are_addresses}
+use Rattle.linker_output.proofs.StubWords.{front_word, first_is, second_is, third_is, applies, no_addend, are_addresses, some_or}
 use Rattle.linker_output.specs.LoongArchOutput.{loongarch_output}
 use Rattle.linker_output.specs.LoongArchStubs.{GoesTo}
 use Rattle.linker_output.specs.LoongArchStubs as stubs
@@ -67,11 +67,6 @@ loads_go relative place word target inside below small code is s at holds =
       floats = refl;
       memory = refl;
     })
-
--- the code of a stub
-abbrev some_or : StubCode → Option StubCode → StubCode
-some_or other None = other
-some_or other (Some stub) = stub
 
 template_bytes : AreBytes (0x0f ∷ 0 ∷ 0 ∷ 0x1e ∷ 0xe0 ∷ 1 ∷ 0 ∷ 0x4c ∷ [])
 template_bytes =

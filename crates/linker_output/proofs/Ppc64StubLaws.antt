@@ -1,21 +1,14 @@
 -- PowerPC64's stubs go to their targets.
-use Rattle.linker_output.proofs.Imports.{Bool, Counted, D, Ds, IsAddress, IsSomeAnd, List, None, Option, Some, StubCode, TocAddresses, [], ap, arith, at_count, cond, cond-true, continue, drop, drop-drop, entered, eq-eqb, eqb, false, field, field_of, if◌then◌else◌, is_mflr, is_mtctr, is_mtlr, length, lifted, linked, loaded, moved, moved_from_link, moved_to_link, opcode_of, operands_of, place_sum, pos, ppc64_form, ppc64_name, ppc64_output, ppc64_row, ra_of, reads_ds, refl, rt_of, run, same_parts, step_counted, stepped, subst, sum_64, sym, symbol_address, three_words, true, with_state, word_of, ℕ, ◌%◌, ◌&&◌, ◌*ℤ◌, ◌++◌, ◌+ℤ◌, ◌-◌, ◌==◌, ◌^◌, ◌||◌, ◌∙◌, ◌∷◌, ◌≡◌}
-use Rattle.linker_laws.specs.Ppc64Machine.{Formats, go_on, State, step, next_pc}
+use Rattle.linker_output.proofs.Imports.{Bool, Counted, D, Ds, IsAddress, IsSomeAnd, List, Option, Some, TocAddresses, [], ap, arith, at_count, cond, drop, eqb, false, field, field_of, if◌then◌else◌, is_mflr, is_mtctr, is_mtlr, length, lifted, linked, loaded, moved, moved_from_link, moved_to_link, opcode_of, operands_of, place_sum, pos, ppc64_form, ppc64_name, ppc64_output, ppc64_row, ra_of, reads_ds, refl, rt_of, run, same_parts, step_counted, stepped, subst, sum_64, sym, symbol_address, three_words, true, with_state, word_of, words, ℕ, ◌%◌, ◌&&◌, ◌*ℤ◌, ◌++◌, ◌+ℤ◌, ◌-◌, ◌==◌, ◌^◌, ◌||◌, ◌∙◌, ◌∷◌, ◌≡◌}
+use Rattle.linker_laws.specs.Ppc64Machine.{Formats, go_on, State, step}
 use Rattle.linker_laws.proofs.Ppc64Words.{HasParts, d_after, ds_after, sum_leads, step_addis, step_ld, step_addi, set}
 use Rattle.linker_elf.specs.declared.ppc64.relocations.Ppc64Relocation.TheVariants as r
-use Rattle.linker_output.proofs.StubWords.{front_word, first_is, second_is, third_is, applies, no_addend, are_addresses}
+use Rattle.linker_output.proofs.LazyRuns.{run_more, of_pair}
+use Rattle.linker_output.proofs.StubWords.{front_word, applies, no_addend, are_addresses, some_or}
 use Rattle.linker_output.specs.Ppc64Stubs.{at, GoesTo}
 use Rattle.linker_output.specs.Ppc64Stubs as stubs
 
 -- ---- steps
-
-pub run_more : (f : Formats) (x y : ℕ) (words : List ℕ) (c d : Counted) (end : Option Counted)
-    → step_counted f x c ≡ Some d → d.state.pc ≡ next_pc c.state → run f (y ∷ words) d ≡ end
-    → run f (x ∷ y ∷ words) c ≡ end
-run_more f x y words c d end first on rest =
-    ap (continue (next_pc c.state) (λ e. run f (y ∷ words) e)) first
-    ∙ cond-true (eqb d.state.pc (next_pc c.state)) (run f (y ∷ words) d) None (eq-eqb d.state.pc (next_pc c.state) on)
-    ∙ rest
 
 -- an instruction of none of the opcodes that the further ones have
 by_tests : (p q e : Bool) → Formats → ℕ → Counted → Option Counted
@@ -76,13 +69,13 @@ pub runs : (f : Formats) (c : Counted) (x y v w : ℕ)
 runs f c x y v w first second =
     let six : List ℕ = 0x7d8903a6 ∷ 0x4e800420 ∷ [] in
     let four : List ℕ = x ∷ y ∷ six in
-    run_more f 0x7c0802a6 0x429f0005 (0x7d8802a6 ∷ 0x7c0803a6 ∷ four) c (after_1 c) _ refl refl
-    (run_more f 0x429f0005 0x7d8802a6 (0x7c0803a6 ∷ four) (after_1 c) (after_2 c) _ refl refl
-    (run_more f 0x7d8802a6 0x7c0803a6 four (after_2 c) (after_3 c) _ refl refl
-    (run_more f 0x7c0803a6 x (y ∷ six) (after_3 c) (after_4 c) _ refl refl
-    (run_more f x y six (after_4 c) (after_5 v c) _ first refl
-    (run_more f y 0x7d8903a6 (0x4e800420 ∷ []) (after_5 v c) (after_6 v w c) _ second refl
-    (run_more f 0x7d8903a6 0x4e800420 [] (after_6 v w c) (after_7 v w c) _ refl refl refl))))))
+    run_more (λ c. c.state.pc) (step_counted f) 0x7c0802a6 0x429f0005 (0x7d8802a6 ∷ 0x7c0803a6 ∷ four) c (after_1 c) _ refl refl
+    (run_more (λ c. c.state.pc) (step_counted f) 0x429f0005 0x7d8802a6 (0x7c0803a6 ∷ four) (after_1 c) (after_2 c) _ refl refl
+    (run_more (λ c. c.state.pc) (step_counted f) 0x7d8802a6 0x7c0803a6 four (after_2 c) (after_3 c) _ refl refl
+    (run_more (λ c. c.state.pc) (step_counted f) 0x7c0803a6 x (y ∷ six) (after_3 c) (after_4 c) _ refl refl
+    (run_more (λ c. c.state.pc) (step_counted f) x y six (after_4 c) (after_5 v c) _ first refl
+    (run_more (λ c. c.state.pc) (step_counted f) y 0x7d8903a6 (0x4e800420 ∷ []) (after_5 v c) (after_6 v w c) _ second refl
+    (run_more (λ c. c.state.pc) (step_counted f) 0x7d8903a6 0x4e800420 [] (after_6 v w c) (after_7 v w c) _ refl refl refl))))))
 
 kept : (a b : Bool) (w v l k r : ℕ) → (a || b) ≡ false
     → cond b w (cond b v (cond b l (cond a k r))) ≡ r
@@ -103,40 +96,19 @@ left c v w target is even =
       memory = refl;
     }
 
--- ---- the code
-
--- its words, by the pair
-module _ (code pair tail : List ℕ) (len : length pair ≡ 8)
-    (is : code ≡ ppc64_output.load_stub.head ++ (pair ++ tail)) where
-  first_at : at 20 code ≡ word_of pair
-  first_at = ap (at 20) is ∙ first_is (pair ++ tail) pair tail len refl
-
-  second_at : at 24 code ≡ word_of (drop 4 pair)
-  second_at = ap (at 24) is ∙ second_is (pair ++ tail) pair tail len refl
-
-  tail_at : drop 28 code ≡ tail
-  tail_at = ap (drop 28) is ∙ third_is (pair ++ tail) pair tail len refl
-
-  last_at : drop 32 code ≡ drop 4 tail
-  last_at = ap (drop 32) is ∙ sym (drop-drop 4 8 (pair ++ tail)) ∙ ap (drop 4) (third_is (pair ++ tail) pair tail len refl)
-
--- from where a call enters
+-- the words from where a call enters, by the pair
 entered_is : (code pair : List ℕ) (x y : ℕ) → length pair ≡ 8
     → code ≡ ppc64_output.load_stub.head ++ (pair ++ ppc64_output.load_stub.tail)
     → word_of pair ≡ x → word_of (drop 4 pair) ≡ y
-    → entered code
+    → words 8 (drop 4 code)
     ≡ 0x7c0802a6 ∷ 0x429f0005 ∷ 0x7d8802a6 ∷ 0x7c0803a6 ∷ x ∷ y ∷ 0x7d8903a6 ∷ 0x4e800420 ∷ []
 entered_is code pair x y len is first second =
     let tail = ppc64_output.load_stub.tail in
-    let a : at 4 code ≡ 0x7c0802a6 = ap (at 4) is in
-    let b : at 8 code ≡ 0x429f0005 = ap (at 8) is in
-    let d : at 12 code ≡ 0x7d8802a6 = ap (at 12) is in
-    let e : at 16 code ≡ 0x7c0803a6 = ap (at 16) is in
-    let g : at 20 code ≡ x = first_at code pair tail len is ∙ first in
-    let h : at 24 code ≡ y = second_at code pair tail len is ∙ second in
-    let i : at 28 code ≡ 0x7d8903a6 = ap word_of (tail_at code pair tail len is) in
-    let j : at 32 code ≡ 0x4e800420 = ap word_of (last_at code pair tail len is) in
-    cc
+    ap (λ c. words 8 (drop 4 c)) is
+    ∙ ap (λ ws. 0x7c0802a6 ∷ 0x429f0005 ∷ 0x7d8802a6 ∷ 0x7c0803a6 ∷ ws)
+    (of_pair 2 (pair ++ tail) pair tail len refl
+    ∙ ap (λ w. w ∷ word_of (drop 4 pair) ∷ 0x7d8903a6 ∷ 0x4e800420 ∷ []) first
+    ∙ ap (λ w. x ∷ w ∷ 0x7d8903a6 ∷ 0x4e800420 ∷ []) second)
 
 -- ---- the laws
 
@@ -174,11 +146,6 @@ loads_go toc place word target inside below small even code is f c entry holds =
     (of_machine f y 58 (after_5 v c) (after_6 v w c).state second.opcode_is refl refl refl
     (step_ld f y 12 12 (after_5 v c).state second (after.1 ∙ ap (λ n. field n 0 2) old)))))
     (left c v w target (ap (loaded 8 c.state.memory) leads ∙ holds) even)
-
--- the code of a stub
-abbrev some_or : StubCode → Option StubCode → StubCode
-some_or other None = other
-some_or other (Some stub) = stub
 
 pub jumps_go : TocAddresses → stubs.Jumps
 jumps_go toc place target inside below even code is f c entry =

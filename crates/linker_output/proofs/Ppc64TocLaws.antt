@@ -1,13 +1,14 @@
 -- PowerPC64's stubs by the TOC pointer and by prefixed instructions go to their targets.
-use Rattle.linker_output.proofs.Imports.{Bool, Counted, D, Ds, IsAddress, IsSomeAnd, List, None, Prefixed, Prefixes, Some, TocAddresses, WritesPair, [], address_is, ap, arith, at_count, by_prefixed, by_toc, code_of_words, cond, cond-true, continue, drop, drop-drop, eq-eqb, eqb, false, field, field_of, four_words, jump_to_r12, length, lifted, loaded, moved, opcode_of, operands_of, pos, ppc64_form, ppc64_name, ppc64_row, prefixed_of, ra_of, reads_ds, refl, rt_of, run, run_prefixed, same_parts, subst, sum_64, sum_zero, sym, symbol_address, take, take-append_seam, times_one, true, with_state, word_of, ℕ, ◌%◌, ◌*ℤ◌, ◌++◌, ◌+ℤ◌, ◌-◌, ◌<◌, ◌^◌, ◌||◌, ◌∙◌, ◌∷◌, ◌≡◌}
+use Rattle.linker_output.proofs.Imports.{Bool, Counted, D, Ds, IsAddress, IsSomeAnd, List, None, Prefixed, Prefixes, Some, TocAddresses, WritesPair, [], address_is, ap, arith, at_count, by_prefixed, by_toc, code_of_words, cond, cond-true, continue_by, drop, eq-eqb, eqb, false, field, field_of, jump_to_r12, length, lifted, loaded, moved, opcode_of, operands_of, pos, ppc64_form, ppc64_name, ppc64_row, prefixed_of, ra_of, reads_ds, refl, rt_of, run, run_prefixed, same_parts, step_counted, subst, sum_64, sum_zero, sym, symbol_address, take, take-append_seam, times_one, true, with_state, word_of, words, ℕ, ◌%◌, ◌*ℤ◌, ◌++◌, ◌+ℤ◌, ◌-◌, ◌<◌, ◌^◌, ◌||◌, ◌∙◌, ◌∷◌, ◌≡◌}
 use Rattle.linker_elf.specs.declared.elf.architecture.Architecture.TheVariants.{Ppc64}
 use Rattle.linker_laws.specs.Ppc64Machine.{Formats, go_on, step_prefixed, State}
 use Rattle.linker_laws.proofs.Ppc64Words.{HasParts, d_after, ds_after, sum_leads, step_addis, step_ld, set}
 use Rattle.linker_elf.specs.declared.ppc64.relocations.Ppc64Relocation.TheVariants as r
 use Rattle.linker_laws.proofs.Ppc64Prefixed.{HasPrefixedParts, prefixed_after, set_8, step_pld, step_paddi}
-use Rattle.linker_output.proofs.Ppc64StubLaws.{run_more, of_machine}
-use Rattle.linker_output.proofs.StubWords.{front_word, first_is, second_is, third_is, applies, no_addend, are_addresses}
-use Rattle.linker_output.specs.Ppc64Stubs.{at, GoesTo}
+use Rattle.linker_output.proofs.LazyRuns.{run_more, of_pair}
+use Rattle.linker_output.proofs.Ppc64StubLaws.{of_machine}
+use Rattle.linker_output.proofs.StubWords.{front_word, third_is, applies, no_addend, are_addresses}
+use Rattle.linker_output.specs.Ppc64Stubs.{GoesTo}
 use Rattle.linker_output.specs.Ppc64Stubs as stubs
 
 -- `mtctr 12` and `bctr`
@@ -47,20 +48,17 @@ left c v w target is even =
     }
 
 four_are : (code pair : List ℕ) (x y : ℕ) → length pair ≡ 8 → code ≡ pair ++ tail → word_of pair ≡ x
-    → word_of (drop 4 pair) ≡ y → four_words code ≡ x ∷ y ∷ 0x7d8903a6 ∷ 0x4e800420 ∷ []
+    → word_of (drop 4 pair) ≡ y → words 4 code ≡ x ∷ y ∷ 0x7d8903a6 ∷ 0x4e800420 ∷ []
 four_are code pair x y len is first second =
-    let a : at 0 code ≡ x = first_is code pair tail len is ∙ first in
-    let b : at 4 code ≡ y = second_is code pair tail len is ∙ second in
-    let d : at 8 code ≡ 0x7d8903a6 = ap word_of (third_is code pair tail len is) in
-    let e : at 12 code ≡ 0x4e800420 =
-    ap word_of (sym (drop-drop 4 8 code) ∙ ap (drop 4) (third_is code pair tail len is)) in
-    cc
+    of_pair 2 code pair tail len is
+    ∙ ap (λ w. w ∷ word_of (drop 4 pair) ∷ 0x7d8903a6 ∷ 0x4e800420 ∷ []) first
+    ∙ ap (λ w. x ∷ w ∷ 0x7d8903a6 ∷ 0x4e800420 ∷ []) second
 
 goes : TocAddresses → (toc word target : ℕ) → toc < 2 ^ 64 → word < 2 ^ 64 → target % 4 ≡ 0
     → (code pair : List ℕ) → length pair ≡ 8 → WritesPair Ppc64 by_toc (operands_of by_toc toc word) pair
     → code ≡ pair ++ tail → (f : Formats) (c : Counted) → c.state.registers 2 ≡ toc
     → loaded 8 c.state.memory word ≡ target
-    → IsSomeAnd (run f (four_words code) c) (GoesTo target c)
+    → IsSomeAnd (run f (words 4 code) c) (GoesTo target c)
 goes law toc word target inside below even code pair len writes is f c base holds =
     let o = operands_of by_toc toc word in
     let half = writes.0 in
@@ -86,13 +84,13 @@ goes law toc word target inside below even code pair len writes is f c base hold
     ∙ no_addend word below in
     subst (λ end. IsSomeAnd end (GoesTo target c))
     (sym (ap (λ ws. run f ws c) (four_are code pair x y len is (sym (front_word pair) ∙ ap word_of low.kept ∙ front_word half) refl)
-    ∙ run_more f x y (0x7d8903a6 ∷ 0x4e800420 ∷ []) c (after_1 v c) _
+    ∙ run_more (λ c. c.state.pc) (step_counted f) x y (0x7d8903a6 ∷ 0x4e800420 ∷ []) c (after_1 v c) _
     (of_machine f x 15 c (after_1 v c).state first.opcode_is refl refl refl
     (step_addis f x 12 2 c.state first)) refl
-    (run_more f y 0x7d8903a6 (0x4e800420 ∷ []) (after_1 v c) (after_2 v w c) _
+    (run_more (λ c. c.state.pc) (step_counted f) y 0x7d8903a6 (0x4e800420 ∷ []) (after_1 v c) (after_2 v w c) _
     (of_machine f y 58 (after_1 v c) (after_2 v w c).state second.opcode_is refl refl refl
     (step_ld f y 12 12 (after_1 v c).state second (after.1 ∙ ap (λ n. field n 0 2) old))) refl
-    (run_more f 0x7d8903a6 0x4e800420 [] (after_2 v w c) (after_3 v w c) _ refl refl refl))))
+    (run_more (λ c. c.state.pc) (step_counted f) 0x7d8903a6 0x4e800420 [] (after_2 v w c) (after_3 v w c) _ refl refl refl))))
     (left c v w target (ap (loaded 8 c.state.memory) leads ∙ holds) even)
 
 pub toc_loads_go : TocAddresses → stubs.TocLoads
@@ -130,18 +128,15 @@ prefixed_runs : (f : Formats) (c : Counted) (code pair : List ℕ) (v target : �
 prefixed_runs f c code pair v target len is steps value even =
     let front : take 8 code ≡ pair =
     ap (take 8) is ∙ ap (λ n. take n (pair ++ tail)) (sym len) ∙ take-append_seam pair tail in
-    let d : at 8 code ≡ 0x7d8903a6 = ap word_of (third_is code pair tail len is) in
-    let e : at 12 code ≡ 0x4e800420 =
-    ap word_of (sym (drop-drop 4 8 code) ∙ ap (drop 4) (third_is code pair tail len is)) in
-    let words : at 8 code ∷ at 12 code ∷ [] ≡ 0x7d8903a6 ∷ 0x4e800420 ∷ [] = cc in
+    let last : words 2 (drop 8 code) ≡ 0x7d8903a6 ∷ 0x4e800420 ∷ [] = ap (words 2) (third_is code pair tail len is) in
     let next = sum_64 c.state.pc 8 in
     let rest = run f (0x7d8903a6 ∷ 0x4e800420 ∷ []) in
     subst (λ end. IsSomeAnd end (GoesTo target c))
-    (sym (ap (λ ws. continue next (run f ws) (lifted c (step_prefixed f (prefixed_of (take 8 code)) c.state))) words
-    ∙ ap (λ b. continue next rest (lifted c (step_prefixed f (prefixed_of b) c.state))) front
-    ∙ ap (λ s. continue next rest (lifted c s)) steps
+    (sym (ap (λ ws. continue_by (λ c. c.state.pc) next (run f ws) (lifted c (step_prefixed f (prefixed_of (take 8 code)) c.state))) last
+    ∙ ap (λ b. continue_by (λ c. c.state.pc) next rest (lifted c (step_prefixed f (prefixed_of b) c.state))) front
+    ∙ ap (λ s. continue_by (λ c. c.state.pc) next rest (lifted c s)) steps
     ∙ cond-true (eqb next next) (rest (prefixed_1 v c)) None (eq-eqb next next refl)
-    ∙ run_more f 0x7d8903a6 0x4e800420 [] (prefixed_1 v c) (prefixed_2 v c) _ refl refl refl))
+    ∙ run_more (λ c. c.state.pc) (step_counted f) 0x7d8903a6 0x4e800420 [] (prefixed_1 v c) (prefixed_2 v c) _ refl refl refl))
     (prefixed_left c v target value even)
 
 -- what the instruction computes, by its 8 bytes and those that have its parts

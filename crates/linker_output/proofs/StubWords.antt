@@ -1,9 +1,14 @@
 -- The words of a stub's code, and the relocations of its fields.
-use Rattle.linker_output.proofs.Imports.{AppliesAt, AreAddresses, IsNamedValue, IsSomeAnd, List, Operands, Option, RowInfo, Some, StubCode, StubField, ap, arith, cast_unsigned, drop, drop_at, from_le_bytes, length, operands_of, pos, refl, subst, sum_64, take, w32, w64, ℕ, ◌++◌, ◌<◌, ◌^◌, ◌∙◌, ◌∷◌, ◌≡◌, ◌≤◌}
+use Rattle.linker_output.proofs.Imports.{AppliesAt, AreAddresses, IsNamedValue, IsSomeAnd, List, None, Operands, Option, RowInfo, Some, StubCode, StubField, ap, arith, cast_unsigned, drop, drop_at, from_le_bytes, length, operands_of, pos, refl, subst, sum_64, take, w32, w64, ℕ, ◌++◌, ◌<◌, ◌^◌, ◌∙◌, ◌∷◌, ◌≡◌, ◌≤◌}
 use Rattle.linker_elf.specs.ElfNames.{ElfName, IsNamed, r_type_of}
 
 abbrev pub word : List ℕ → ℕ
 word bytes = from_le_bytes w32 bytes
+
+-- the code of a stub that there is
+abbrev pub some_or : StubCode → Option StubCode → StubCode
+some_or other None = other
+some_or other (Some stub) = stub
 
 -- ---- words of code
 

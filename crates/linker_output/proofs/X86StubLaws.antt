@@ -2,8 +2,7 @@
 use Rattle.linker_output.proofs.Imports.{Some, ap, append-nil, append_assoc, arith, difference_64, drop, length, number_of_bytes, operands_of, place_field, refl, subst, sum_64, sym, take, take-append-drop, x86_64_name, x86_64_row, ◌++◌, ◌<◌, ◌^◌, ◌∙◌, ◌∷◌, ◌≡◌}
 use Rattle.linker_laws.specs.X86Machine.{load, extended, State, step}
 use Rattle.linker_elf.specs.declared.x86_64.relocations.X86_64Relocation.TheVariants as r
-use Rattle.linker_output.proofs.AArch64StubLaws.{some_or}
-use Rattle.linker_output.proofs.StubWords.{applies, are_addresses}
+use Rattle.linker_output.proofs.StubWords.{applies, are_addresses, some_or}
 use Rattle.linker_output.proofs.X86LazyLaws.{by_word, run_step, word_from_next}
 use Rattle.linker_output.specs.X86LazyPlt as lazy
 use Rattle.linker_output.specs.X86Output.{x86_64_output}

@@ -1,12 +1,13 @@
 -- AArch64: stubs go to their targets (Arm Architecture Reference Manual for A-profile, DDI 0487,
 -- C6.2).
-use Rattle.std.specs.Prelude.{◌≡◌, ◌==◌, ◌&&◌, ◌||◌, ◌/◌, ◌^◌, ◌<◌, ◌∷◌, [], ℕ, List, Bool, false}
+use Rattle.std.specs.Prelude.{◌≡◌, ◌==◌, ◌&&◌, ◌||◌, ◌/◌, ◌^◌, ◌<◌, ℕ, List, Bool, false}
 use Rattle.std.specs.Prelude.{Option, Some, None, IsSomeAnd, if◌then◌else◌, drop, pos, ◌+ℤ◌, ◌*ℤ◌}
-use Rattle.linker_utils.specs.AArch64Rewrites.{rd_of, rn_of}
-use Rattle.linker_output.specs.Imports.{AArch64, Ldr, field, number_of_bytes, sum_64, word_of}
+use Rattle.linker_output.specs.Imports.{AArch64, Ldr, field, number_of_bytes, rd_of, rn_of, sum_64}
 use Rattle.linker_elf.specs.AArch64.{aarch64_form}
-use Rattle.linker_laws.specs.AArch64Machine.{State, read_x, write_x, go_to, go_on, next_pc, load_64}
-use Rattle.linker_laws.specs.AArch64Machine.{in_64_bits, step, run, continue}
+use Rattle.linker_laws.specs.AArch64Machine as machine
+use Rattle.linker_laws.specs.AArch64Machine.{State, read_x, write_x, go_to, go_on, load_64}
+use Rattle.linker_laws.specs.AArch64Machine.{in_64_bits}
+use Rattle.linker_output.specs.LazyRuns.{words, or_else, run_by}
 use Rattle.linker_output.specs.AArch64Output.{aarch64_output}
 use Rattle.linker_output.specs.Stubs.{IsStub}
 
@@ -18,26 +19,11 @@ is_br word = word / 2 ^ 10 == 0x3587c0 && rd_of word == 0
 abbrev pub jumped : ℕ → State → Option State
 jumped word s = if is_br word then Some (go_to (read_x (rn_of word) s) s) else None
 
--- what BR at an address leaves of a run that ends there
-abbrev pub then_jumped : ℕ → ℕ → Option State → Option State
-then_jumped word at None = None
-then_jumped word at (Some t) = if t.pc == at then jumped word t else None
-
--- two instructions and BR
-abbrev pub run_stub : List ℕ → State → Option State
-run_stub code s =
-    then_jumped (word_of (drop 8 code)) (sum_64 s.pc 8)
-    (run (word_of code ∷ word_of (drop 4 code) ∷ []) s)
-
 -- ---- "BTI c"
 
 -- Indirect branches may go to it, and it does nothing.
 abbrev pub is_bti_c : ℕ → Bool
 is_bti_c word = word == 0xd503245f
-
--- it, and a stub after it
-abbrev pub run_landing : List ℕ → State → Option State
-run_landing code s = if is_bti_c (word_of code) then run_stub (drop 4 code) (go_on s) else None
 
 -- ---- the instructions of stubs to anywhere
 
@@ -57,18 +43,23 @@ is_register_add word = field word 21 32 == 0x458 && field word 10 16 == 0
 abbrev pub registers_added : ℕ → State → ℕ
 registers_added word s = sum_64 (read_x (rn_of word) s) (read_x (field word 16 21) s)
 
--- an instruction that the machine has, or one of these or BR
-abbrev pub stub_step : ℕ → State → Option State
-stub_step word s =
-    if is_literal_ldr word then Some (go_on (write_x (rd_of word) (literal word s) s)) else (
-    if is_register_add word then Some (go_on (write_x (rd_of word) (registers_added word s) s)) else (
-    if is_br word then jumped word s else step word s))
+-- ---- runs
 
--- words that stand one after the other from the state's address up
-abbrev pub run_far : List ℕ → State → Option State
-run_far [] s = Some s
-run_far (word ∷ []) s = stub_step word s
-run_far (word ∷ words) s = continue (next_pc s) (run_far words) (stub_step word s)
+-- the instructions that the machine has not
+abbrev pub further : ℕ → State → Option State
+further word s =
+    if is_bti_c word then Some (go_on s)
+    else (if is_literal_ldr word then Some (go_on (write_x (rd_of word) (literal word s) s))
+    else (if is_register_add word
+    then Some (go_on (write_x (rd_of word) (registers_added word s) s))
+    else jumped word s))
+
+abbrev pub stub_step : ℕ → State → Option State
+stub_step word s = or_else (machine.step word s) (further word s)
+
+-- n words of code
+abbrev pub run_stub : ℕ → List ℕ → State → Option State
+run_stub n code s = run_by (λ s. s.pc) stub_step (words n code) s
 
 -- ---- the laws
 
@@ -84,20 +75,20 @@ abbrev pub Loads : Type 0
 Loads =
     (place word : ℕ) → place < 2 ^ 64 → word < 2 ^ 64 → (code : List ℕ)
     → IsStub AArch64 aarch64_output.load_stub place word code
-    → (s : State) → s.pc ≡ place → IsSomeAnd (run_stub code s) (GoesTo (load_64 s.memory word) s)
+    → (s : State) → s.pc ≡ place → IsSomeAnd (run_stub 3 code s) (GoesTo (load_64 s.memory word) s)
 
 -- the same where indirect branches may go to the stub
 abbrev pub LandingLoads : Type 0
 LandingLoads =
     (place word : ℕ) → place < 2 ^ 64 → word < 2 ^ 64 → (code : List ℕ)
     → IsSomeAnd aarch64_output.landing_load_stub (λ stub. IsStub AArch64 stub place word code)
-    → (s : State) → s.pc ≡ place → IsSomeAnd (run_landing code s) (GoesTo (load_64 s.memory word) s)
+    → (s : State) → s.pc ≡ place → IsSomeAnd (run_stub 4 code s) (GoesTo (load_64 s.memory word) s)
 
 abbrev pub Jumps : Type 0
 Jumps =
     (place target : ℕ) → place < 2 ^ 64 → target < 2 ^ 64 → (code : List ℕ)
     → IsSomeAnd aarch64_output.jump_stub (λ stub. IsStub AArch64 stub place target code)
-    → (s : State) → s.pc ≡ place → IsSomeAnd (run_stub code s) (GoesTo target s)
+    → (s : State) → s.pc ≡ place → IsSomeAnd (run_stub 3 code s) (GoesTo target s)
 
 -- To anywhere. The stub is memory too: it loads its last 8 bytes.
 abbrev pub Reaches : Type 0
@@ -106,7 +97,7 @@ Reaches =
     → IsSomeAnd aarch64_output.far_stub (λ stub. IsStub AArch64 stub place target code)
     → (s : State) → s.pc ≡ place
     → load_64 s.memory (sum_64 place 8) ≡ number_of_bytes 8 (drop 8 code)
-    → IsSomeAnd (run_far (word_of code ∷ word_of (drop 4 code) ∷ []) s) (GoesTo target s)
+    → IsSomeAnd (run_stub 2 code s) (GoesTo target s)
 
 -- the same wherever the code is loaded
 abbrev pub ReachesRelative : Type 0
@@ -115,7 +106,4 @@ ReachesRelative =
     → IsSomeAnd aarch64_output.far_relative_stub (λ stub. IsStub AArch64 stub place target code)
     → (s : State) → s.pc ≡ place
     → load_64 s.memory (sum_64 place 16) ≡ number_of_bytes 8 (drop 16 code)
-    → IsSomeAnd
-    (run_far
-    (word_of code ∷ word_of (drop 4 code) ∷ word_of (drop 8 code) ∷ word_of (drop 12 code) ∷ []) s)
-    (GoesTo target s)
+    → IsSomeAnd (run_stub 4 code s) (GoesTo target s)

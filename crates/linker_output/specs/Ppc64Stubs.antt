@@ -1,12 +1,12 @@
 -- PowerPC64: stubs go to their targets (Power ISA, version 3.1, book I, "Branch Facility" and "Move
 -- To/From System Register Instructions").
-use Rattle.std.specs.Prelude.{◌≡◌, ◌==◌, ◌&&◌, ◌||◌, ◌+◌, ◌-◌, ◌*◌, ◌%◌, ◌^◌, ◌<◌, ◌∷◌, [], ℕ, List}
+use Rattle.std.specs.Prelude.{◌≡◌, ◌==◌, ◌&&◌, ◌||◌, ◌+◌, ◌-◌, ◌*◌, ◌%◌, ◌^◌, ◌<◌, ℕ, List}
 use Rattle.std.specs.Prelude.{false, Bool, Option, Some, None, IsSomeAnd, if◌then◌else◌, drop, pos}
 use Rattle.std.specs.Prelude.{take}
 use Rattle.linker_output.specs.Imports.{Formats, Ppc64, State, base, go_on, go_to, loaded, moved}
-use Rattle.linker_output.specs.Imports.{opcode_of, prefixed_of, rt_of, step_prefixed, store, sum_64}
-use Rattle.linker_output.specs.Imports.{word_of, write}
-use Rattle.linker_laws.specs.Ppc64Machine.{step, next_pc}
+use Rattle.linker_output.specs.Imports.{next_pc, opcode_of, prefixed_of, rt_of, step, step_prefixed}
+use Rattle.linker_output.specs.Imports.{store, sum_64, word_of, write}
+use Rattle.linker_output.specs.LazyRuns.{words, continue_by, run_by}
 use Rattle.linker_output.specs.Ppc64Output.{ppc64_output}
 use Rattle.linker_output.specs.Stubs.{IsStub, StubCode}
 
@@ -63,28 +63,14 @@ stepped f opcode word c =
 abbrev pub step_counted : Formats → ℕ → Counted → Option Counted
 step_counted f word c = stepped f (opcode_of word) word c
 
-abbrev pub continue : ℕ → (Counted → Option Counted) → Option Counted → Option Counted
-continue next rest None = None
-continue next rest (Some c) = if c.state.pc == next then rest c else None
-
--- Words that stand one after the other are executed, each after the one before it, and then the
--- last.
 abbrev pub run : Formats → List ℕ → Counted → Option Counted
-run f [] c = Some c
-run f (word ∷ []) c = step_counted f word c
-run f (word ∷ words) c = continue (next_pc c.state) (run f words) (step_counted f word c)
+run f code c = run_by (λ c. c.state.pc) (step_counted f) code c
 
 -- ---- the laws
 
 -- the word at an offset of code
 abbrev pub at : ℕ → List ℕ → ℕ
 at offset code = word_of (drop offset code)
-
--- the instructions from where a call enters
-abbrev pub entered : List ℕ → List ℕ
-entered code =
-    at 4 code ∷ at 8 code ∷ at 12 code ∷ at 16 code ∷ at 20 code ∷ at 24 code ∷ at 28 code
-    ∷ at 32 code ∷ []
 
 -- It goes to the target, which r12 has, and changes only r0, r12 and the count register.
 pub record GoesTo (target : ℕ) (c d : Counted) : Type 0 where
@@ -103,7 +89,7 @@ Loads =
     → (code : List ℕ) → IsStub Ppc64 ppc64_output.load_stub place word code
     → (f : Formats) (c : Counted) → c.state.pc ≡ sum_64 place 4
     → loaded 8 c.state.memory word ≡ target
-    → IsSomeAnd (run f (entered code) c) (GoesTo target c)
+    → IsSomeAnd (run f (words 8 (drop 4 code)) c) (GoesTo target c)
 
 abbrev pub Jumps : Type 0
 Jumps =
@@ -111,7 +97,7 @@ Jumps =
     → (code : List ℕ)
     → IsSomeAnd ppc64_output.jump_stub (λ stub. IsStub Ppc64 stub place target code)
     → (f : Formats) (c : Counted) → c.state.pc ≡ sum_64 place 4
-    → IsSomeAnd (run f (entered code) c) (GoesTo target c)
+    → IsSomeAnd (run f (words 8 (drop 4 code)) c) (GoesTo target c)
 
 -- The first instruction, where calls enter whose `nop` became `ld 2,24(1)`, stores the TOC pointer
 -- there and goes on to the entry.
@@ -126,9 +112,6 @@ FirstStoresToc = StoresToc (Some ppc64_output.load_stub) × StoresToc ppc64_outp
 
 -- ---- stubs by the TOC pointer, which r2 has
 
-abbrev pub four_words : List ℕ → List ℕ
-four_words code = at 0 code ∷ at 4 code ∷ at 8 code ∷ at 12 code ∷ []
-
 -- the word has the address of a function, and a call enters at an offset
 abbrev pub GoesByToc : Option StubCode → ℕ → Type 0
 GoesByToc stub entry =
@@ -136,7 +119,7 @@ GoesByToc stub entry =
     → (code : List ℕ) → IsSomeAnd stub (λ s. IsStub Ppc64 s toc word code)
     → (f : Formats) (c : Counted) → c.state.registers 2 ≡ toc
     → loaded 8 c.state.memory word ≡ target
-    → IsSomeAnd (run f (four_words (drop entry code)) c) (GoesTo target c)
+    → IsSomeAnd (run f (words 4 (drop entry code)) c) (GoesTo target c)
 
 abbrev pub TocLoads : Type 0
 TocLoads = GoesByToc ppc64_output.toc_load_stub 4
@@ -149,7 +132,7 @@ TocReaches = GoesByToc ppc64_output.toc_far_stub 0
 -- it is executed, and then the two instructions after it
 abbrev pub run_prefixed : Formats → List ℕ → Counted → Option Counted
 run_prefixed f code c =
-    continue (sum_64 c.state.pc 8) (run f (at 8 code ∷ at 12 code ∷ []))
+    continue_by (λ c. c.state.pc) (sum_64 c.state.pc 8) (run f (words 2 (drop 8 code)))
     (lifted c (step_prefixed f (prefixed_of (take 8 code)) c.state))
 
 abbrev pub PrefixedLoads : Type 0
