@@ -440,8 +440,7 @@ RUNTIME = {r"(struct \w+ \{\n) +alloc: Global,\n": r"\1", r"(?m)^ {8}alloc,\n": 
            r"\bformat!\(in alloc; ": "try_format!(", r"\brt\.std(in|out)\(": r"std::io::std\1("}
 # Laws alone, which do nothing here; and of the program what is written by hand, and its tests.
 LEFT_OUT = {"linkfix/src/sections.rt", "linkfix/src/tests.rt", "linker_output/src/laws.rt",
-            "linker_output/src/lazy_laws.rt", "linker_rewriting/src/laws.rt",
-            "linker_runs/src/laws.rt"}
+            "linker_rewriting/src/laws.rt", "linker_runs/src/laws.rt"}
 ARCHITECTURES = ["aarch64", "loongarch64", "ppc64", "riscv64", "x86_64"]
 # The crates of the library that are a module here, and paths of crates here.
 MODULES = [f"linker_{name}" for name in ("base", "elf", "riscv64", "runs", "reading", "section", "rewriting", "output")]

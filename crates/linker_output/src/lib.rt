@@ -12,7 +12,6 @@ pub mod flags;
 pub mod got;
 pub mod laws;
 pub mod layout;
-pub mod lazy_laws;
 pub mod lazy_plt;
 mod lazy_plts;
 mod loongarch64;

@@ -1,3 +1,4 @@
+use Rattle.linker_output.proofs.Ppc64LazyLaws.{resolves}
 use Rattle.linker_output.proofs.Ppc64StubLaws.{loads_go, jumps_go, first_stores}
 use Rattle.linker_output.proofs.Ppc64TocLaws.{toc_loads_go, toc_reaches_go, prefixed_loads_go, prefixed_jumps_go}
 use Rattle.linker_output.proofs.laws.ppc64.Goals as goal
@@ -22,3 +23,6 @@ returns-clause-prefixed_loads c = prefixed_loads_go c.ppc64.ensures.prefixed
 
 pub returns-clause-prefixed_jumps : goal.returns-clause-prefixed_jumps
 returns-clause-prefixed_jumps c = prefixed_jumps_go c.ppc64.ensures.prefixed
+
+pub returns-clause-resolves : goal.returns-clause-resolves
+returns-clause-resolves c = resolves c.ppc64.ensures.branches c.ppc64.ensures.fields
