@@ -1,7 +1,7 @@
 -- `e_flags` that are joined: the order of objects doesn't matter.
-use Rattle.linker_output.proofs.Imports.{IfSome, None, Some, ap, arith, bit_and, bit_at, bit_at-zero, bit_at_and, bit_at_or, bit_or, cond-true, false, if◌then◌else◌, inl, inr, or_comm, refl, same_from_bits, subst, sym, true, ℕ, ◌∙◌, ◌≡◌, ◌⊎◌}
+use Rattle.linker_output.proofs.Imports.{IfSome, None, Some, ap, arith, bit_and, bit_at, bit_at-zero, bit_at_and, bit_at_or, bit_or, cond-true, false, if◌then◌else◌, inl, inr, option_and_then, or_comm, refl, same_from_bits, subst, sym, true, ℕ, ◌∙◌, ◌≡◌, ◌⊎◌}
 use Rattle.std.specs.Int.Bits.{or_self}
-use Rattle.linker_output.specs.Flags.{go_together, undefined, joined_flags, JoinsAlike, KeepsItself, joined_to, joined_with}
+use Rattle.linker_output.specs.Flags.{go_together, undefined, joined_flags, JoinsAlike, KeepsItself}
 use Rattle.linker_output.specs.declared.flags.FlagRules.{FlagRules}
 
 -- ---- bits
@@ -128,10 +128,10 @@ from_last rules a b c t u =
 all_three : (rules : FlagRules) (a b c : ℕ) → Together rules a b → Together rules b c
     → JoinsAlike rules a b c
 all_three rules a b c t u =
-    ap (λ o. joined_to rules o c) (joins rules a b t)
+    ap (option_and_then (λ ab. joined_flags rules ab c)) (joins rules a b t)
     ∙ joins rules (bit_or a b) c (with_both rules a b c t u)
     ∙ ap Some (or_assoc a b c)
-    ∙ sym (ap (λ o. joined_with rules a o) (joins rules b c u)
+    ∙ sym (ap (option_and_then (joined_flags rules a)) (joins rules b c u)
     ∙ joins rules a (bit_or b c)
     (subst (λ n. Together rules a n) (or_comm c b)
     (turned rules (bit_or c b) a
@@ -139,19 +139,19 @@ all_three rules a b c t u =
 
 first_alone : (rules : FlagRules) (a b c : ℕ) → ¬ Together rules a b → JoinsAlike rules a b c
 first_alone rules a b c not =
-    ap (λ o. joined_to rules o c) (apart rules a b not)
+    ap (option_and_then (λ ab. joined_flags rules ab c)) (apart rules a b not)
     ∙ (elim (are_together rules b c) [
-      | inl u ↦ sym (ap (λ o. joined_with rules a o) (joins rules b c u)
+      | inl u ↦ sym (ap (option_and_then (joined_flags rules a)) (joins rules b c u)
           ∙ apart rules a (bit_or b c) (λ v. not (from_last rules a b c u v)))
-      | inr n ↦ sym (ap (λ o. joined_with rules a o) (apart rules b c n))
+      | inr n ↦ sym (ap (option_and_then (joined_flags rules a)) (apart rules b c n))
     ])
 
 last_alone : (rules : FlagRules) (a b c : ℕ) → Together rules a b → ¬ Together rules b c
     → JoinsAlike rules a b c
 last_alone rules a b c t not =
-    ap (λ o. joined_to rules o c) (joins rules a b t)
+    ap (option_and_then (λ ab. joined_flags rules ab c)) (joins rules a b t)
     ∙ apart rules (bit_or a b) c (λ u. not (of_both rules a b c t u))
-    ∙ sym (ap (λ o. joined_with rules a o) (apart rules b c not))
+    ∙ sym (ap (option_and_then (joined_flags rules a)) (apart rules b c not))
 
 pub associates : (rules : FlagRules) (a b c : ℕ) → JoinsAlike rules a b c
 associates rules a b c =

@@ -126,20 +126,6 @@ size_small other = omega arith
 head_small : (k n : ℕ) → k < 2 ^ 32 → n ≤ 16 → k + 2 ^ 32 * n < 2 ^ 64
 head_small k n one two = omega arith
 
-room_for : (next end pad pre values rest all left : ℕ) → pad ≡ 8 * values → all ≡ pre + left → left ≡ suc values + rest
-    → next ≡ 8 * pre → end ≡ 8 * all → next + 8 + pad ≤ end
-room_for next end pad pre values rest all left a b c d e = omega arith
-
-next_is : (next pad pre values all : ℕ) → pad ≡ 8 * values → all ≡ pre + suc values → next ≡ 8 * pre
-    → next + 8 + pad ≡ 8 * all
-next_is next pad pre values all a b c = omega arith
-
-plus_eight : (next pre : ℕ) → next ≡ 8 * pre → next + 8 ≡ 8 * pre + 8
-plus_eight next pre e = omega arith
-
-plus_sixteen : (next pre : ℕ) → next ≡ 8 * pre → next + 8 + 8 ≡ 8 * pre + 16
-plus_sixteen next pre e = omega arith
-
 visited : (a : Architecture) (rule : PropertyRule) (p : Property) (pre rest : List ℕ) (v : Reading)
     → IsSlim p → rule_of a p.kind ≡ Some rule → fits rule p ≡ true → v.least ≤ p.kind
     → v.next ≡ 8 * length pre → v.end ≡ 8 * length (pre ++ (property_words rule p ++ rest))
@@ -153,37 +139,19 @@ visited a rule p pre rest v slim known fit least at end =
     let pad = padded_is rule p in
     let l1 = length-append pre (property_words rule p ++ rest) in
     let l2 = length-append (property_words rule p) rest in
-    let room : v.next + 8 + padded (size_of rule) ≤ v.end = room_for v.next v.end (padded (size_of rule)) (length pre) (length (value_words rule p)) (length rest) (length (pre ++ (property_words rule p ++ rest))) (length (property_words rule p ++ rest)) pad l1 l2 at end in
-    let next : v.next + 8 + padded (size_of rule) ≡ 8 * length (pre ++ property_words rule p) = next_is v.next (padded (size_of rule)) (length pre) (length (value_words rule p)) (length (pre ++ property_words rule p)) pad (length-append pre (property_words rule p)) at in
+    let room : v.next + 8 + padded (size_of rule) ≤ v.end = omega (arith, pad, l1, l2, at, end) in
+    let next : v.next + 8 + padded (size_of rule) ≡ 8 * length (pre ++ property_words rule p) = omega (arith, pad, length-append pre (property_words rule p), at) in
     let q : property_at rule s (v.next + 8) p.kind ≡ p =
     property_is rule s (v.next + 8) p fit
-    (λ some. value_at rule p pre rest head (v.next + 8) slim (plus_eight v.next (length pre) at) some)
-    (λ some. version_at rule p pre rest head (v.next + 8 + 8) slim (plus_sixteen v.next (length pre) at) some) in
+    (λ some. value_at rule p pre rest head (v.next + 8) slim (omega (arith, at)) some)
+    (λ some. version_at rule p pre rest head (v.next + 8 + 8) slim (omega (arith, at)) some) in
     (visit_is a s v p.kind (size_of rule) rule k (ap (λ n. n / 2 ^ 32) w ∙ high p.kind (size_of rule) slim.kind) room least known refl) ∙ ap (λ n. Ok (record { next = n; end = v.end; least = p.kind + 1; property = Some (property_at rule s (v.next + 8) p.kind) })) next
     ∙ ap (λ it. Ok (record { next = 8 * length (pre ++ property_words rule p); end = v.end; least = p.kind + 1; property = Some it })) q
 
 -- ---- all properties
 
-within_is : (pre all n : ℕ) → n ≡ 8 * all → (e : ℕ) → e ≡ 8 * all → e ≤ n
-within_is pre all n a e b = omega arith
-
-lt_is : (next n pre values rest all left : ℕ) → n ≡ 8 * all → all ≡ pre + left → left ≡ suc values + rest → next ≡ 8 * pre → next < n
-lt_is next n pre values rest all left a b c d = omega arith
-
-le_is : (next end n all : ℕ) → n ≡ 8 * all → end ≡ 8 * all → next < n → next ≤ end
-le_is next end n all a b c = omega arith
-
-end_is : (next n pre ws all : ℕ) → n ≡ 8 * all → all ≡ pre + ws → ws ≡ 0 → next ≡ 8 * pre → n ≤ next
-end_is next n pre ws all a b c d = omega arith
-
-le_of : (a b c : ℕ) → a ≡ b → b ≤ c → a ≤ c
-le_of a b c e l = omega arith
-
 sixteen : (n : ℕ) → 8 * suc (suc n) ≡ 16 + 8 * n
 sixteen n = omega arith
-
-some_is : (n m : ℕ) → n ≡ 16 + 8 * m → 0 < n
-some_is n m e = omega arith
 
 read_step : (a : Architecture) (rule : PropertyRule) (p : Property) (ps : List Property) (pre rest : List ℕ) (v : Reading)
     → IsSlim p → rule_of a p.kind ≡ Some rule → fits rule p ≡ true → v.least ≤ p.kind
@@ -199,12 +167,12 @@ read_step a rule p ps pre rest v slim known fit least at end others =
     let len = length_bytes (pre ++ (ws ++ rest)) in
     let l1 = length-append pre (ws ++ rest) in
     let l2 = length-append ws rest in
-    let lt : v.next < length s = lt_is v.next (length s) (length pre) (length (value_words rule p)) (length rest) (length (pre ++ (ws ++ rest))) (length (ws ++ rest)) len l1 l2 at in
-    let within : v.end ≤ length s = within_is 0 (length (pre ++ (ws ++ rest))) (length s) len v.end end in
+    let lt : v.next < length s = omega (arith, len, l1, l2, at) in
+    let within : v.end ≤ length s = omega (arith, len, end) in
     let same = append_assoc pre ws rest in
     let ih : read (length s) a s w ≡ Ok ps =
     subst (λ xs. read (length (bytes_of xs)) a (bytes_of xs) w ≡ Ok ps) same (others w refl refl (end ∙ ap (λ xs. 8 * length xs) (sym same))) in
-    (on_step a s v w (le_is v.next v.end (length s) (length (pre ++ (ws ++ rest))) len end lt) within lt (visited a rule p pre rest v slim known fit least at end)) ∙ ap (before (Some p)) ih
+    (on_step a s v w (omega (arith, len, end, lt)) within lt (visited a rule p pre rest v slim known fit least at end)) ∙ ap (before (Some p)) ih
 
 pub read_on : (a : Architecture) (ps : List Property) (pre ws : List ℕ) (least index : ℕ) (v : Reading)
     → AreSlim ps → words_from a least index ps ≡ Ok ws → v.least ≡ least
@@ -214,12 +182,12 @@ read_on a [] pre ws least index v slim e lv at end =
     let none : ws ≡ [] = cc in
     let len = length_bytes (pre ++ ws) in
     let l1 = length-append pre ws in
-    at_end (length (bytes_of (pre ++ ws))) a (bytes_of (pre ++ ws)) v (end_is v.next (length (bytes_of (pre ++ ws))) (length pre) (length ws) (length (pre ++ ws)) len l1 (ap length none) at)
+    at_end (length (bytes_of (pre ++ ws))) a (bytes_of (pre ++ ws)) v (omega (arith, len, l1, ap length none, at))
 read_on a (p ∷ ps) pre ws least index v slim e lv at end =
     let f = inv_from a least index p ps ws e in
     let g = inv_by (rule_of a p.kind) p (words_from a (p.kind + 1) (index + 1) ps) ws f.1 in
     subst (λ xs. read (length (bytes_of (pre ++ xs))) a (bytes_of (pre ++ xs)) v ≡ Ok (p ∷ ps)) (sym g.5)
-    (read_step a g.0 p ps pre g.1 v slim.0 g.2 g.3 (le_of v.least least p.kind lv f.0) at (end ∙ ap (λ xs. 8 * length (pre ++ xs)) g.5)
+    (read_step a g.0 p ps pre g.1 v slim.0 g.2 g.3 (omega (arith, lv, f.0)) at (end ∙ ap (λ xs. 8 * length (pre ++ xs)) g.5)
     (λ w l n m. read_on a ps (pre ++ property_words g.0 p) g.1 (p.kind + 1) (index + 1) w slim.1 g.4 l n m))
 
 pub few_words : (a : Architecture) (ps : List Property) (ws : List ℕ) (least index : ℕ)
@@ -252,7 +220,7 @@ read_header a ps ws slim e small =
     let len : length s ≡ 16 + 8 * length ws = length_bytes (h ∷ n ∷ ws) ∙ sixteen (length ws) in
     let w : Reading = record { next = 16; end = 16 + 8 * length ws; least = 0; property = None } in
     let vis : visit a s start ≡ Ok w = note_visited s (8 * length ws) len (word_after [] (n ∷ ws) h 0 (omega arith) refl) (word_after (h ∷ []) ws n 8 (omega arith) refl) in
-    (on_step a s start w (omega arith) (omega arith) (some_is (length s) (length ws) len) vis) ∙ read_on a ps (h ∷ n ∷ []) ws 0 0 w slim e refl refl (sym (sixteen (length ws)))
+    (on_step a s start w (omega arith) (omega arith) (omega (arith, len)) vis) ∙ read_on a ps (h ∷ n ∷ []) ws 0 0 w slim e refl refl (sym (sixteen (length ws)))
 
 pub read_back : (a : Architecture) (ps : List Property) (old new : List ℕ) (len : ℕ) → AreSlim ps → length ps < 2 ^ 27
     → WritesNote a ps old new len → properties_of a (take len new) ≡ Ok ps

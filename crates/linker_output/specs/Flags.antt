@@ -1,7 +1,7 @@
 -- `e_flags` of objects that are linked (the psABIs' sections on the file header).
-use Rattle.std.specs.Prelude.{◌≡◌, ℕ, ◌==◌, ◌&&◌, Bool, bit_and, bit_or, if◌then◌else◌, Option}
-use Rattle.std.specs.Prelude.{Some, None, IfSome, ◌^◌, ◌-◌}
-use Rattle.linker_output.specs.declared.flags.FlagRules.{FlagRules}
+use Rattle.linker_output.specs.Imports.{FlagRules}
+use Rattle.std.specs.Prelude.{option_and_then, ◌≡◌, ℕ, ◌==◌, ◌&&◌, Bool, bit_and, bit_or}
+use Rattle.std.specs.Prelude.{if◌then◌else◌, Option, Some, None, IfSome, ◌^◌, ◌-◌}
 
 -- the bits of 32 that a psABI doesn't define
 abbrev pub undefined : FlagRules → ℕ
@@ -18,18 +18,11 @@ joined_flags rules a b = if go_together rules a b then Some (bit_or a b) else No
 
 -- ---- the order of objects
 
-abbrev pub joined_to : FlagRules → Option ℕ → ℕ → Option ℕ
-joined_to rules None c = None
-joined_to rules (Some ab) c = joined_flags rules ab c
-
-abbrev pub joined_with : FlagRules → ℕ → Option ℕ → Option ℕ
-joined_with rules a None = None
-joined_with rules a (Some bc) = joined_flags rules a bc
-
 -- three objects, from the first on and from the last on
 abbrev pub JoinsAlike : FlagRules → ℕ → ℕ → ℕ → Type 0
 JoinsAlike rules a b c =
-    joined_to rules (joined_flags rules a b) c ≡ joined_with rules a (joined_flags rules b c)
+    option_and_then (λ ab. joined_flags rules ab c) (joined_flags rules a b)
+    ≡ option_and_then (joined_flags rules a) (joined_flags rules b c)
 
 -- an object with itself
 abbrev pub KeepsItself : FlagRules → ℕ → Type 0

@@ -31,6 +31,7 @@ impl Target {
     /// // lp64d and lp64
     /// assert_eq!(target.join_flags(5, 1), None);
     /// ```
+    #[tactic(auto, using(crate::proofs::JoinedFlags::commutes, crate::proofs::JoinedFlags::associates, crate::proofs::JoinedFlags::keeps_itself))]
     pub fn join_flags(&self, first: u32, second: u32) -> Option<u32>
         ensures joined { result ≡ joined_flags self.now.flags first second }
         ensures commutative { joined_flags self.now.flags first second

@@ -10,7 +10,7 @@
 
 ghost use Rattle.std.specs.Prelude.{◌≡◌, ◌≤◌, ◌<◌, ◌^◌, ◌+◌, ◌*◌, ◌∷◌, [], ℕ, IfOk, IfErr, None};
 ghost use Rattle.std.specs.Prelude.{Ok, Err, List, length, set, take};
-ghost use Rattle.linker_output.specs.Properties.{processor_rule, visit_property, property_words};
+ghost use Rattle.linker_output.specs.Properties.{visit_property, property_words};
 ghost use Rattle.linker_output.specs.Properties.{merged, WritesMerged, RejectsMerge, properties_of};
 ghost use Rattle.linker_output.specs.Properties.{unless_zero, MergesToOne, MergesAlike, visit_note};
 ghost use Rattle.linker_output.specs.Properties.{merged_kind, property_at, WritesRead, RejectsRead};
@@ -109,46 +109,18 @@ pub enum PropertyError {
 pub fn property_rule(architecture: Architecture, kind: u32) -> Option<PropertyRule>
     ensures { result ≡ rule_of architecture kind }
 {
-    if kind == 1 {
-        return Some(PropertyRule::Largest);
-    }
-    if kind == 2 {
-        return Some(PropertyRule::Present);
-    }
-    if 0xb000_0000 <= kind && kind <= 0xb000_7fff {
-        return Some(PropertyRule::All);
-    }
-    if 0xb000_8000 <= kind && kind <= 0xb000_ffff {
-        return Some(PropertyRule::Any);
-    }
-    processor_rule(architecture, kind)
-}
-
-/// The same of processor-specific types.
-fn processor_rule(architecture: Architecture, kind: u32) -> Option<PropertyRule>
-    ensures { result ≡ processor_rule architecture kind }
-{
-    match architecture {
-        Architecture::X86_64 => {
-            if kind == 0xc000_0000 || 0xc001_0000 <= kind && kind <= 0xc001_7fff {
-                Some(PropertyRule::AnyOfAll)
-            } else if kind == 0xc000_0001 || 0xc000_8000 <= kind && kind <= 0xc000_ffff {
-                Some(PropertyRule::Any)
-            } else if 0xc000_0002 <= kind && kind <= 0xc000_7fff {
-                Some(PropertyRule::All)
-            } else {
-                None
-            }
-        }
-        Architecture::AArch64 => match kind {
-            0xc000_0000 => Some(PropertyRule::All),
-            0xc000_0001 => Some(PropertyRule::Same),
-            _ => None,
-        },
-        Architecture::RiscV => match kind {
-            0xc000_0000 => Some(PropertyRule::All),
-            _ => None,
-        },
+    match (architecture, kind) {
+        (_, 1) => Some(PropertyRule::Largest),
+        (_, 2) => Some(PropertyRule::Present),
+        (_, 0xb000_0000..=0xb000_7fff) => Some(PropertyRule::All),
+        (_, 0xb000_8000..=0xb000_ffff) => Some(PropertyRule::Any),
+        (Architecture::X86_64, 0xc000_0000) => Some(PropertyRule::AnyOfAll),
+        (Architecture::X86_64, 0xc001_0000..=0xc001_7fff) => Some(PropertyRule::AnyOfAll),
+        (Architecture::X86_64, 0xc000_0001) => Some(PropertyRule::Any),
+        (Architecture::X86_64, 0xc000_8000..=0xc000_ffff) => Some(PropertyRule::Any),
+        (Architecture::X86_64, 0xc000_0002..=0xc000_7fff) => Some(PropertyRule::All),
+        (Architecture::AArch64 | Architecture::RiscV, 0xc000_0000) => Some(PropertyRule::All),
+        (Architecture::AArch64, 0xc000_0001) => Some(PropertyRule::Same),
         _ => None,
     }
 }
@@ -324,6 +296,7 @@ fn merge_into(
 /// assert_eq!((merged[0].kind, merged[0].value), (0xc000_8002, 1));
 /// # Ok::<(), linker_output::properties::PropertyError>(())
 /// ```
+#[tactic(auto, using(crate::proofs::MergingLaws::commutative, crate::proofs::MergingLaws::associative))]
 pub fn merge_properties(
     architecture: Architecture,
     first: &[Property],

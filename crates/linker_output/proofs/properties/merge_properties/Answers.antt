@@ -1,6 +1,5 @@
 use Rattle.linker_output.proofs.Imports.{IfOk-weaker, WritesMerged, ap, arith, length, sym, ◌∙◌, ◌≤◌}
 use Rattle.linker_output.proofs.MergedProperties.{put_within, one_merged}
-use Rattle.linker_output.proofs.MergingLaws.{commutative, associative}
 use Rattle.linker_output.proofs.properties.merge_properties.Goals as goal
 
 pub returns-clause-ok : goal.returns-clause-ok
@@ -22,21 +21,3 @@ returns-then-properties-needed-clause-one_list c = one_merged c.args.architectur
 
 pub returns-clause-one_list : goal.returns-clause-one_list
 returns-clause-one_list c = one_merged c.args.architecture c.args.first.now c.args.second.now
-
-pub returns-in_err-needed-clause-commutative : goal.returns-in_err-needed-clause-commutative
-returns-in_err-needed-clause-commutative c = commutative c.args.architecture c.args.first.now c.args.second.now
-
-pub returns-in_err-needed-clause-associative : goal.returns-in_err-needed-clause-associative
-returns-in_err-needed-clause-associative c = associative c.args.architecture c.args.first.now c.args.second.now
-
-pub returns-then-properties-needed-clause-commutative : goal.returns-then-properties-needed-clause-commutative
-returns-then-properties-needed-clause-commutative c = commutative c.args.architecture c.args.first.now c.args.second.now
-
-pub returns-then-properties-needed-clause-associative : goal.returns-then-properties-needed-clause-associative
-returns-then-properties-needed-clause-associative c = associative c.args.architecture c.args.first.now c.args.second.now
-
-pub returns-clause-commutative : goal.returns-clause-commutative
-returns-clause-commutative c = commutative c.args.architecture c.args.first.now c.args.second.now
-
-pub returns-clause-associative : goal.returns-clause-associative
-returns-clause-associative c = associative c.args.architecture c.args.first.now c.args.second.now
