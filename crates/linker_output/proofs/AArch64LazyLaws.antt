@@ -1,5 +1,5 @@
 -- AArch64's lazy PLT.
-use Rattle.linker_output.proofs.Imports.{AArch64, Bool, IsAddress, IsAdrOf, IsInstructionOf, IsSomeAnd, LazyEntry, LazyField, LazyPiece, List, Operands, RelativeAddresses, Some, Word, [], aarch64_entry, aarch64_header, aarch64_landing_entry, aarch64_landing_header, aarch64_loads, aarch64_name, aarch64_row, aarch64_wide_entry, add_after, adds_up, adrp_after, ap, arith, cast_unsigned, code_of_words, cond, cond-false, cond-true, difference_64, drop, eqb, false, field, field_of, from_le_bytes, header_places, if◌then◌else◌, ints, ldr_after, loads, nat_lt, negsuc, of_registers, operands_at, or_else, or_parts, padded, page_and_offset, pos, refl, stored, subst, sum_64, sum_zero, sym, take, true, w64, word_of, words, wrapped_is, ℕ, ◌*◌, ◌++◌, ◌+ℤ◌, ◌+◌, ◌-◌, ◌<◌, ◌==◌, ◌^◌, ◌||◌, ◌∙◌, ◌∷◌, ◌≡◌, ◌≤◌}
+use Rattle.linker_output.proofs.Imports.{AArch64, Bool, IsAddress, IsAdrOf, IsInstructionOf, IsSomeAnd, LazyEntry, LazyField, LazyPiece, List, Operands, RelativeAddresses, Some, Word, [], aarch64_entry, aarch64_header, aarch64_landing_entry, aarch64_landing_header, aarch64_loads, aarch64_name, aarch64_row, aarch64_wide_entry, add_after, adds_up, adrp_after, ap, arith, cast_unsigned, code_of_words, cond, cond-false, cond-true, difference_64, drop, eqb, false, field, field_of, from_le_bytes, header_places, if◌then◌else◌, ints, ldr_after, le-ltb, loads, nat_lt, negsuc, of_registers, operands_at, or_else, or_parts, padded, page_and_offset, pos, refl, stored, subst, sum_64, sum_zero, sym, take, true, w64, word_of, words, wrapped_is, ℕ, ◌*◌, ◌++◌, ◌+ℤ◌, ◌+◌, ◌-◌, ◌<◌, ◌==◌, ◌^◌, ◌||◌, ◌∙◌, ◌∷◌, ◌≡◌, ◌≤◌}
 use Rattle.linker_laws.specs.AArch64Machine.{adrp_address, added, load_64, add, ldr, go_to, in_64_bits, State, loaded, go_on}
 use Rattle.linker_laws.proofs.AArch64Steps.{step_add, set}
 use Rattle.linker_elf.specs.AArch64.{aarch64_form}
@@ -226,15 +226,9 @@ loads_stored number address memory small inside =
     let b5 : m (sum_64 address 5) ≡ field number 40 48 = stored_at number address memory 5 (sum_64 address 5) (omega arith) refl in
     let b6 : m (sum_64 address 6) ≡ field number 48 56 = stored_at number address memory 6 (sum_64 address 6) (omega arith) refl in
     let b7 : m (sum_64 address 7) ≡ field number 56 64 = stored_at number address memory 7 (sum_64 address 7) (omega arith) refl in
-    ap (λ v. from_le_bytes w64 (v ∷ m (sum_64 address 1) ∷ m (sum_64 address 2) ∷ m (sum_64 address 3) ∷ m (sum_64 address 4) ∷ m (sum_64 address 5) ∷ m (sum_64 address 6) ∷ m (sum_64 address 7) ∷ [])) b0
-    ∙ ap (λ v. from_le_bytes w64 (field number 0 8 ∷ v ∷ m (sum_64 address 2) ∷ m (sum_64 address 3) ∷ m (sum_64 address 4) ∷ m (sum_64 address 5) ∷ m (sum_64 address 6) ∷ m (sum_64 address 7) ∷ [])) b1
-    ∙ ap (λ v. from_le_bytes w64 (field number 0 8 ∷ field number 8 16 ∷ v ∷ m (sum_64 address 3) ∷ m (sum_64 address 4) ∷ m (sum_64 address 5) ∷ m (sum_64 address 6) ∷ m (sum_64 address 7) ∷ [])) b2
-    ∙ ap (λ v. from_le_bytes w64 (field number 0 8 ∷ field number 8 16 ∷ field number 16 24 ∷ v ∷ m (sum_64 address 4) ∷ m (sum_64 address 5) ∷ m (sum_64 address 6) ∷ m (sum_64 address 7) ∷ [])) b3
-    ∙ ap (λ v. from_le_bytes w64 (field number 0 8 ∷ field number 8 16 ∷ field number 16 24 ∷ field number 24 32 ∷ v ∷ m (sum_64 address 5) ∷ m (sum_64 address 6) ∷ m (sum_64 address 7) ∷ [])) b4
-    ∙ ap (λ v. from_le_bytes w64 (field number 0 8 ∷ field number 8 16 ∷ field number 16 24 ∷ field number 24 32 ∷ field number 32 40 ∷ v ∷ m (sum_64 address 6) ∷ m (sum_64 address 7) ∷ [])) b5
-    ∙ ap (λ v. from_le_bytes w64 (field number 0 8 ∷ field number 8 16 ∷ field number 16 24 ∷ field number 24 32 ∷ field number 32 40 ∷ field number 40 48 ∷ v ∷ m (sum_64 address 7) ∷ [])) b6
-    ∙ ap (λ v. from_le_bytes w64 (field number 0 8 ∷ field number 8 16 ∷ field number 16 24 ∷ field number 24 32 ∷ field number 32 40 ∷ field number 40 48 ∷ field number 48 56 ∷ v ∷ [])) b7
-    ∙ (whole number small)
+    let all : m address ∷ m (sum_64 address 1) ∷ m (sum_64 address 2) ∷ m (sum_64 address 3) ∷ m (sum_64 address 4) ∷ m (sum_64 address 5) ∷ m (sum_64 address 6) ∷ m (sum_64 address 7) ∷ []
+    ≡ field number 0 8 ∷ field number 8 16 ∷ field number 16 24 ∷ field number 24 32 ∷ field number 32 40 ∷ field number 40 48 ∷ field number 48 56 ∷ field number 56 64 ∷ [] = cc in
+    ap (from_le_bytes w64) all ∙ whole number small
 
 -- a word whose bytes are the same
 same_loaded : (m n : ℕ → ℕ) (word : ℕ) → word < 2 ^ 64 → ((i : ℕ) → i < 8 → m (sum_64 word i) ≡ n (sum_64 word i))
@@ -242,17 +236,16 @@ same_loaded : (m n : ℕ → ℕ) (word : ℕ) → word < 2 ^ 64 → ((i : ℕ) 
 same_loaded m n word inside same =
     let zero : sum_64 word 0 ≡ word = omega (arith, inside) in
     let b0 : m word ≡ n word = subst (λ a. m a ≡ n a) zero (same 0 (omega arith)) in
-    ap (λ v. from_le_bytes w64 (v ∷ m (sum_64 word 1) ∷ m (sum_64 word 2) ∷ m (sum_64 word 3) ∷ m (sum_64 word 4) ∷ m (sum_64 word 5) ∷ m (sum_64 word 6) ∷ m (sum_64 word 7) ∷ [])) b0
-    ∙ ap (λ v. from_le_bytes w64 (n word ∷ v ∷ m (sum_64 word 2) ∷ m (sum_64 word 3) ∷ m (sum_64 word 4) ∷ m (sum_64 word 5) ∷ m (sum_64 word 6) ∷ m (sum_64 word 7) ∷ [])) (same 1 (omega arith))
-    ∙ ap (λ v. from_le_bytes w64 (n word ∷ n (sum_64 word 1) ∷ v ∷ m (sum_64 word 3) ∷ m (sum_64 word 4) ∷ m (sum_64 word 5) ∷ m (sum_64 word 6) ∷ m (sum_64 word 7) ∷ [])) (same 2 (omega arith))
-    ∙ ap (λ v. from_le_bytes w64 (n word ∷ n (sum_64 word 1) ∷ n (sum_64 word 2) ∷ v ∷ m (sum_64 word 4) ∷ m (sum_64 word 5) ∷ m (sum_64 word 6) ∷ m (sum_64 word 7) ∷ [])) (same 3 (omega arith))
-    ∙ ap (λ v. from_le_bytes w64 (n word ∷ n (sum_64 word 1) ∷ n (sum_64 word 2) ∷ n (sum_64 word 3) ∷ v ∷ m (sum_64 word 5) ∷ m (sum_64 word 6) ∷ m (sum_64 word 7) ∷ [])) (same 4 (omega arith))
-    ∙ ap (λ v. from_le_bytes w64 (n word ∷ n (sum_64 word 1) ∷ n (sum_64 word 2) ∷ n (sum_64 word 3) ∷ n (sum_64 word 4) ∷ v ∷ m (sum_64 word 6) ∷ m (sum_64 word 7) ∷ [])) (same 5 (omega arith))
-    ∙ ap (λ v. from_le_bytes w64 (n word ∷ n (sum_64 word 1) ∷ n (sum_64 word 2) ∷ n (sum_64 word 3) ∷ n (sum_64 word 4) ∷ n (sum_64 word 5) ∷ v ∷ m (sum_64 word 7) ∷ [])) (same 6 (omega arith))
-    ∙ ap (λ v. from_le_bytes w64 (n word ∷ n (sum_64 word 1) ∷ n (sum_64 word 2) ∷ n (sum_64 word 3) ∷ n (sum_64 word 4) ∷ n (sum_64 word 5) ∷ n (sum_64 word 6) ∷ v ∷ [])) (same 7 (omega arith))
-
-far : (d : ℕ) → 8 ≤ d → nat_lt d 8 ≡ false
-far d most = grind (arith, most)
+    let b1 = same 1 (omega arith) in
+    let b2 = same 2 (omega arith) in
+    let b3 = same 3 (omega arith) in
+    let b4 = same 4 (omega arith) in
+    let b5 = same 5 (omega arith) in
+    let b6 = same 6 (omega arith) in
+    let b7 = same 7 (omega arith) in
+    let all : m word ∷ m (sum_64 word 1) ∷ m (sum_64 word 2) ∷ m (sum_64 word 3) ∷ m (sum_64 word 4) ∷ m (sum_64 word 5) ∷ m (sum_64 word 6) ∷ m (sum_64 word 7) ∷ []
+    ≡ n word ∷ n (sum_64 word 1) ∷ n (sum_64 word 2) ∷ n (sum_64 word 3) ∷ n (sum_64 word 4) ∷ n (sum_64 word 5) ∷ n (sum_64 word 6) ∷ n (sum_64 word 7) ∷ [] = cc in
+    ap (from_le_bytes w64) all
 
 -- two numbers, one after the other
 module _ (first second bottom : ℕ) (memory : ℕ → ℕ) (inside : bottom < 2 ^ 64) where
@@ -264,13 +257,13 @@ module _ (first second bottom : ℕ) (memory : ℕ → ℕ) (inside : bottom < 2
 
   pub off : (a : ℕ) → 16 ≤ difference_64 a bottom → both a ≡ memory a
   off a most =
-      not_stored second (sum_64 bottom 8) inner a (far _ (omega (arith, most, inside)))
-      ∙ not_stored first bottom memory a (far _ (omega (arith, most)))
+      not_stored second (sum_64 bottom 8) inner a (le-ltb _ 8 (omega (arith, most, inside)))
+      ∙ not_stored first bottom memory a (le-ltb _ 8 (omega (arith, most)))
 
   pub below : first < 2 ^ 64 → load_64 both bottom ≡ first
   below small =
       same_loaded both inner bottom inside
-      (λ i less. not_stored second (sum_64 bottom 8) inner (sum_64 bottom i) (far _ (omega (arith, inside, less))))
+      (λ i less. not_stored second (sum_64 bottom 8) inner (sum_64 bottom i) (le-ltb _ 8 (omega (arith, inside, less))))
       ∙ loads_stored first bottom memory small inside
 
   pub above : second < 2 ^ 64 → load_64 both (sum_64 bottom 8) ≡ second

@@ -1,7 +1,7 @@
 -- Stubs that are found by boundary, part and target.
-use Rattle.linker_output.proofs.Imports.{AreLists, Back, Branch, Code, Front, IsAt, IsCode, IsNear, IsNearIn, IsNew, IsNewNear, IsOutAfter, IsOutAhead, IsOutThere, IsState, List, Middle, Part, State, StubAt, ap, arith, at, cases_order, group_at, length, level_of, list_at, list_of, nat_le, new_stub, part_of, passed, prefix_len_passes, prefix_len_stops, refl, stub_at, subst, sym, ℕ, ⊎_elim, ◌+◌, ◌<◌, ◌∙◌, ◌≡◌, ◌⊎◌}
+use Rattle.linker_output.proofs.Imports.{AreLists, Back, Branch, Code, Front, IsAt, IsCode, IsNear, IsNearIn, IsNew, IsNewNear, IsOutAfter, IsOutAhead, IsOutThere, IsState, List, Middle, Part, State, StubAt, ap, arith, at, cases_order, group_at, length, level_of, list_at, list_of, new_stub, part_of, refl, stub_at, subst, sym, ℕ, ⊎_elim, ◌+◌, ◌<◌, ◌∙◌, ◌≡◌, ◌⊎◌}
 use Rattle.linker_output.proofs.Near.{nearer}
-use Rattle.linker_output.proofs.Passed.{true_le, false_lt}
+use Rattle.linker_output.proofs.Passed.{below_passed, above_passed}
 
 -- the list of a stub that is looked for
 in_list : (lists : ℕ) (stubs : List StubAt) (boundary : ℕ) (part : Part) (target s : ℕ) → IsAt stubs boundary part target s
@@ -45,13 +45,10 @@ out_there code state branch boundary part s is_code is inside here far =
           (cases_order t s);
       new = λ near. far (near_part part code branch stub here.there.in_part
           (nearer part code branch stub (new_stub code state branch boundary part) is_code.len here.there.at_boundary (omega arith)
-          (λ e. subst (λ b. branch.offset < at code.boundaries.now b) (sym e) (next_above (subst (λ b. b < length code.boundaries.now) e inside)))
-          (λ below. true_le _ _ (prefix_len_passes (λ b. nat_le b branch.offset) code.boundaries.now boundary 0 below))
+          (λ e. subst (λ b. branch.offset < at code.boundaries.now b) (sym e) (above_passed code.boundaries.now branch.offset (subst (λ b. b < length code.boundaries.now) e inside)))
+          (below_passed code.boundaries.now branch.offset boundary)
           near));
     }
-  where
-    next_above : passed code.boundaries.now branch.offset < length code.boundaries.now → branch.offset < at code.boundaries.now (passed code.boundaries.now branch.offset)
-    next_above h = false_lt _ _ (prefix_len_stops (λ b. nat_le b branch.offset) code.boundaries.now 0 h)
 
 -- A branch that is near none in the parts next to it is near none.
 module _ (code : Code) (state : State) (branch : Branch)

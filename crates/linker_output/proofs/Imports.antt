@@ -26,7 +26,7 @@ pub use Rattle.linker_laws.proofs.LoongArchWords.{IsHigh, IsLow, decodes_load, d
 pub use Rattle.linker_laws.proofs.Ppc64Addresses.{reads_ds, same_parts}
 pub use Rattle.linker_laws.proofs.RiscVDescriptors.{load_word, low_long, sum_word, upper_long, upper_word, whole_number}
 pub use Rattle.linker_laws.proofs.RiscVMachine.{address_is, at_second, at_start, fetched_word, moved_twice, other, steps, times_one, unwritten, wrapped_is}
-pub use Rattle.linker_laws.proofs.Sums.{eight, sum_zero, three_words}
+pub use Rattle.linker_laws.proofs.Sums.{sum_zero, three_words}
 pub use Rattle.linker_laws.proofs.X86Fields.{place_field, signed_field}
 pub use Rattle.linker_laws.specs.AArch64RelocationLaws.{Fields, RelativeAddresses, page_and_offset}
 pub use Rattle.linker_laws.specs.Machine.{AreBytes, Memory, Relocated, loaded, moved, stored, wrapped}
@@ -34,7 +34,6 @@ pub use Rattle.linker_laws.specs.Ppc64RelocationLaws.{Branches, Prefixes, TocAdd
 pub use Rattle.linker_laws.specs.Ppc64RewriteLaws.{prefixed_of, word_of}
 pub use Rattle.linker_laws.specs.Schemes.{AreAddresses, IsAddress, entry_and_addend, symbol_address}
 pub use Rattle.linker_output.specs.AArch64Output.{aarch64_output}
-pub use Rattle.linker_output.specs.AArch64Stubs.{GoesTo, jumped, literal, registers_added, run_far, run_landing, run_stub, then_jumped}
 pub use Rattle.linker_output.specs.Inner.Placement.{AreLists, ArePlaces, AreServed, AreStubsOf, HasNoneAt, HasOwner, IsAt, IsLostBy, IsNear, IsNearIn, IsNew, IsNewNear, IsOutAfter, IsOutAhead, IsOutThere, IsServedBy, IsState, IsStubAt, IsStubOf, IsStuckIn, IsWay, SameStubs, StaysUnshared, Visited, level, level_of, list_at, new_stub, new_way, way_at, with_one}
 unfoldable pub use Rattle.linker_output.specs.Inner.Placement.{bytes_before, list_of}
 pub use Rattle.linker_output.specs.Inner.Properties.{AreSlim, IsSlim, IsWritable, Puts, put_all}
@@ -45,7 +44,7 @@ pub use Rattle.linker_output.specs.LazyPlts.{aarch64_entry, aarch64_header, aarc
 pub use Rattle.linker_output.specs.LazyRuns.{continue_by, or_else, run_by, words}
 pub use Rattle.linker_output.specs.Placement.{AllGo, AreOfTwo, AreTwo, AreUsed, Goes, HasNoFar, HasPart, HasSpare, HasTarget, IsCode, IsFar, IsFarFrom, IsFirst, IsLaidOut, IsLayout, IsNextTo, IsShared, IsStuck, Reaches, ReachesAt, StubReaches, at, branch_at, end_of, group_at, most_bytes, part_of, passed, place_in, place_of, start_of, stub_at, stubs_in, target_place}
 pub use Rattle.linker_output.specs.Ppc64Output.{blr, by_prefixed, by_toc, jump_to_r12, load_link, mtlr_0, of_vectors, ppc64_output, save_link}
-pub use Rattle.linker_output.specs.Ppc64Stubs.{Counted, at_count, continue, entered, four_words, is_mflr, is_mtctr, is_mtlr, lifted, linked, moved_from_link, moved_to_link, run, run_prefixed, step_counted, stepped, with_state}
+pub use Rattle.linker_output.specs.Ppc64Stubs.{Counted, at_count, is_mflr, is_mtctr, is_mtlr, lifted, linked, moved_from_link, moved_to_link, run, run_prefixed, step_counted, stepped, with_state}
 pub use Rattle.linker_output.specs.Properties.{Merges, MergesAlike, WritesMerged, WritesNote, WritesRead, are_ascending, before, fits, followed, is_header, list_words, merged, merged_by, merged_kind, merged_to, merged_with, note_words, of_kind, of_value, properties_of, property_at, property_words, rule_of, same_value, size_of, start, unless_zero, value_words, visit, visit_by, visit_note, visit_property, with_words, word_at, words_by}
 unfoldable pub use Rattle.linker_output.specs.Properties.{bytes_of, read}
 pub use Rattle.linker_output.specs.Relr.{Packs, RejectsAddresses, RejectsWords, Unpacks, WritesPacked, address_fault, are_addresses, relocated, relr_fault, word_fault}
@@ -80,11 +79,11 @@ pub use Rattle.linker_output.specs.declared.relr.RelrError.TheVariants.{TooShort
 pub use Rattle.linker_output.specs.declared.stubs.StubField.{StubField}
 pub use Rattle.linker_utils.specs.LoongArchRewrites.{IsCall, rd_of, rj_of}
 pub use Rattle.linker_utils.specs.Ppc64Rewrites.{opcode_of, ra_of, rt_of}
-pub use Rattle.std.proofs.Common.{Bool, Err, IfErr, IfNone, IfOk, IfSome, IsSomeAnd, IsTrue, List, None, Ok, OnOk, Option, Result, Some, [], add-one, ap, append_assoc, arith, below_more, bit_and, bit_or, codes, cond, drop, eqb, false, get_or, get_or-set_other, get_or-set_same, if◌then◌else◌, inl, inr, length, max, min, nat_eq, nat_le, nat_lt, negsuc, not, pos, refl, replicate, rules, set, slice_get, slice_index_or, subst, suc, sym, take, tests, true, zero, ℕ, ℤ, ⊎_elim, ◌%◌, ◌&&◌, ◌*ℤ◌, ◌*◌, ◌++◌, ◌+ℤ◌, ◌+◌, ◌-◌, ◌/◌, ◌<◌, ◌==◌, ◌^◌, ◌||◌, ◌↔◌, ◌∙◌, ◌∷◌, ◌≡◌, ◌≢◌, ◌≤◌, ◌⊎◌}
+pub use Rattle.std.proofs.Common.{Bool, Err, IfErr, IfNone, IfOk, IfSome, IsSomeAnd, IsTrue, List, None, Ok, OnOk, Option, Result, Some, [], add-one, ap, append_assoc, arith, below_more, bit_and, bit_or, codes, cond, drop, eqb, false, get_or, get_or-set_other, get_or-set_same, if◌then◌else◌, inl, inr, length, max, min, nat_eq, nat_le, nat_lt, negsuc, not, pos, refl, replicate, rules, set, slice_get, slice_index_or, subst, suc, sym, take, true, zero, ℕ, ℤ, ⊎_elim, ◌%◌, ◌&&◌, ◌*ℤ◌, ◌*◌, ◌++◌, ◌+ℤ◌, ◌+◌, ◌-◌, ◌/◌, ◌<◌, ◌==◌, ◌^◌, ◌||◌, ◌↔◌, ◌∙◌, ◌∷◌, ◌≡◌, ◌≢◌, ◌≤◌, ◌⊎◌}
 pub use Rattle.std.proofs.Math.Facts.{Fits-lt-pow}
 pub use Rattle.std.proofs.Math.Nat.{mul-le-mul_left}
 pub use Rattle.std.proofs.Math.Seq.{drop-append-add, take-append_seam}
-pub use Rattle.std.proofs.lemmas.Bool.{both_ways, cases_Bool, cases_lt, cases_order, cond-false, cond-true, eq-eqb, eqb-true, false≢true, le-leb, le-ltb, lt-leb, lt-ltb, ne_eqb, or_parts}
+pub use Rattle.std.proofs.lemmas.Bool.{both_ways, cases_Bool, cases_lt, cases_order, cond-false, cond-true, eq-eqb, eqb-true, false≢true, le-leb, le-ltb, leb-false, leb-true, lt-leb, lt-ltb, ne_eqb, or_parts}
 pub use Rattle.std.proofs.lemmas.Bool.Decides.{nat_tests}
 pub use Rattle.std.proofs.lemmas.Int.{ints}
 pub use Rattle.std.proofs.lemmas.List.{append-nil, at_drop_all, at_drop_more, drop-drop, drop-set-lt, drop_all, drop_at, drop_more, get_or_append_left, get_or_past, get_or_push, get_or_read, length-append, length-drop, length-set, length-take, length-take-le, length_push, take-append-drop, take-append-le, take-take, take_all, take_at, take_more_set, take_rest, with_items_is}
@@ -95,3 +94,4 @@ pub use Rattle.std.proofs.lemmas.Result.{IfOk-weaker, err_from_is_err_and}
 pub use Rattle.std.specs.Global.{Vec}
 pub use Rattle.std.specs.Int.{bit_at, byte_at, cast_signed, cast_unsigned, from_le_bytes, to_le_bytes, w32, w64}
 pub use Rattle.std.specs.List.{list_all, sum_by}
+pub use Rattle.std.specs.Prelude.{option_and_then, ⊤}

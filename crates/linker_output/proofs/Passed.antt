@@ -1,14 +1,9 @@
 -- The boundaries at or below an offset.
-use Rattle.linker_output.proofs.Imports.{false, nat_le, rules, tests, true, ℕ, ◌<◌, ◌≡◌, ◌≤◌}
+use Rattle.linker_output.proofs.Imports.{List, at, leb-false, leb-true, length, nat_le, passed, prefix_len_passes, prefix_len_stops, ℕ, ◌<◌, ◌≤◌}
 
-pub le_true : (a b : ℕ) → a ≤ b → nat_le a b ≡ true
-le_true a b h = search (rules, tests)
+-- boundaries that are passed are at or below the offset, and the next one is above it
+pub below_passed : (boundaries : List ℕ) (offset k : ℕ) → k < passed boundaries offset → at boundaries k ≤ offset
+below_passed boundaries offset k h = leb-true _ _ (prefix_len_passes (λ b. nat_le b offset) boundaries k 0 h)
 
-pub le_false : (a b : ℕ) → b < a → nat_le a b ≡ false
-le_false a b h = search (rules, tests)
-
-pub true_le : (a b : ℕ) → nat_le a b ≡ true → a ≤ b
-true_le a b h = search (rules, tests)
-
-pub false_lt : (a b : ℕ) → nat_le a b ≡ false → b < a
-false_lt a b h = search (rules, tests)
+pub above_passed : (boundaries : List ℕ) (offset : ℕ) → passed boundaries offset < length boundaries → offset < at boundaries (passed boundaries offset)
+above_passed boundaries offset h = leb-false _ _ (prefix_len_stops (λ b. nat_le b offset) boundaries 0 h)

@@ -1,11 +1,11 @@
 -- PowerPC64's lazy PLT.
-use Rattle.linker_output.proofs.Imports.{Bool, Branch24, Branches, Counted, Header, InstructionWritten, IsSomeAnd, LazyField, List, Some, Word, [], address_is, ap, arith, at_count, bits_to, cast_unsigned, code_of_words, cond, cond-true, difference_64, drop, drop-drop, eqb, false, field, field_kept, field_of, from_le_bytes, header_places, ints, length, length-take, lifted, linked, loaded, moved, moved_from_link, moved_to_link, negsuc, number_of_bytes, opcode_of, operands_at, or_else, padded, place_sum, pos, ppc64_form, ppc64_name, ppc64_row, refl, replicate, step_counted, subst, sum_64, sum_zero, sym, take, take_at, times_one, true, w64, with_state, word_of, words, wrapped, wrapped_is, ℕ, ℤ, ◌%◌, ◌&&◌, ◌*ℤ◌, ◌*◌, ◌++◌, ◌+ℤ◌, ◌+◌, ◌-◌, ◌<◌, ◌==◌, ◌^◌, ◌||◌, ◌∙◌, ◌∷◌, ◌≡◌}
+use Rattle.linker_output.proofs.Imports.{Bool, Branch24, Branches, Counted, Header, InstructionWritten, IsSomeAnd, LazyField, List, Some, Word, [], address_is, ap, arith, at_count, bits_to, cast_unsigned, code_of_words, cond, cond-true, difference_64, drop, eqb, false, field, field_kept, field_of, from_le_bytes, header_places, ints, length, length-take, lifted, linked, loaded, moved, moved_from_link, moved_to_link, negsuc, number_of_bytes, opcode_of, operands_at, or_else, padded, place_sum, pos, ppc64_form, ppc64_name, ppc64_row, refl, replicate, step_counted, subst, sum_64, sum_zero, sym, take, take_at, times_one, true, w64, with_state, word_of, words, wrapped, wrapped_is, ℕ, ℤ, ◌%◌, ◌&&◌, ◌*ℤ◌, ◌*◌, ◌++◌, ◌+ℤ◌, ◌+◌, ◌-◌, ◌<◌, ◌==◌, ◌^◌, ◌||◌, ◌∙◌, ◌∷◌, ◌≡◌}
 use Rattle.linker_laws.specs.Ppc64Machine.{Formats, write, go_on, go_to}
 use Rattle.linker_base.specs.declared.bit_misc.BitRange.{BitRange}
 use Rattle.linker_elf.specs.declared.elf.AnyForm.TheVariants.{Ppc64}
 use Rattle.linker_elf.specs.declared.ppc64.relocations.Ppc64Relocation.TheVariants as r
 use Rattle.linker_laws.specs.Ppc64RelocationLaws.{Fields}
-use Rattle.linker_output.proofs.LazyRuns.{run_more, one_word, following, are_addresses_at, eight_on, no_move}
+use Rattle.linker_output.proofs.LazyRuns.{run_more, one_word, are_addresses_at, eight_on, no_move}
 use Rattle.linker_output.proofs.StubWords.{applies, no_addend}
 use Rattle.linker_output.specs.Ppc64LazyPlt.{step, run, is_b, rotated, Asks}
 use Rattle.linker_output.specs.Ppc64LazyPlt as laws
@@ -174,27 +174,18 @@ resolves single fields entry first inside bounded within aligned small placed co
     let entered : run f (words 1 code) c ≡ Some d =
     ap (λ ws. run f ws c) (one_word is.0 is.1 code is.2.0 0 x [] is.4 refl refl) ∙ branches f x c (branch_after _ _ b is.0 one.applied.written (record { opcode_is = refl; low = refl })) in
     let n = number_of_bytes 8 p8.0 in
+    let bytes : header ≡ code_of_words (0x7c0802a6 ∷ 0x429f0005 ∷ 0x7d6802a6 ∷ 0x7c0803a6 ∷ 0x7d8b6050 ∷ 0x380cffcc ∷ 0x7800f082 ∷ 0xe98b002c ∷ 0x7d6c5a14 ∷ 0xe98b0000 ∷ 0xe96b0008 ∷ 0x7d8903a6 ∷ 0x4e800420 ∷ []) ++ p7.1 =
+    is_header.4 ∙ ap (λ p. take 8 p ++ is_header.1) is_header.2.1 ∙ ap (λ l. code_of_words (0x7c0802a6 ∷ 0x429f0005 ∷ []) ++ l)
+    (p2.4 ∙ ap (λ p. take 8 p ++ p2.1) p2.2.1 ∙ ap (λ l. code_of_words (0x7d6802a6 ∷ 0x7c0803a6 ∷ []) ++ l)
+    (p3.4 ∙ ap (λ p. take 8 p ++ p3.1) p3.2.1 ∙ ap (λ l. code_of_words (0x7d8b6050 ∷ 0x380cffcc ∷ []) ++ l)
+    (p4.4 ∙ ap (λ p. take 8 p ++ p4.1) p4.2.1 ∙ ap (λ l. code_of_words (0x7800f082 ∷ 0xe98b002c ∷ []) ++ l)
+    (p5.4 ∙ ap (λ p. take 8 p ++ p5.1) p5.2.1 ∙ ap (λ l. code_of_words (0x7d6c5a14 ∷ 0xe98b0000 ∷ []) ++ l)
+    (p6.4 ∙ ap (λ p. take 8 p ++ p6.1) p6.2.1 ∙ ap (λ l. code_of_words (0xe96b0008 ∷ 0x7d8903a6 ∷ []) ++ l)
+    (p7.4 ∙ ap (λ p. take 4 p ++ p7.1) p7.2.1)))))) in
     let quad_at : number_of_bytes 8 (drop 52 header) ≡ n =
-    ap (number_of_bytes 8)
-    (sym (drop-drop 4 48 header) ∙ ap (drop 4) (sym (drop-drop 8 40 header) ∙ ap (drop 8) (sym (drop-drop 8 32 header)
-    ∙ ap (drop 8) (sym (drop-drop 8 24 header) ∙ ap (drop 8) (sym (drop-drop 8 16 header) ∙ ap (drop 8) (sym (drop-drop 8 8 header)
-    ∙ ap (drop 8) (following is_header.0 is_header.1 header is_header.2.0 8 (omega arith) is_header.4)
-    ∙ following p2.0 p2.1 is_header.1 p2.2.0 8 (omega arith) p2.4)
-    ∙ following p3.0 p3.1 p2.1 p3.2.0 8 (omega arith) p3.4)
-    ∙ following p4.0 p4.1 p3.1 p4.2.0 8 (omega arith) p4.4)
-    ∙ following p5.0 p5.1 p4.1 p5.2.0 8 (omega arith) p5.4)
-    ∙ following p6.0 p6.1 p5.1 p6.2.0 8 (omega arith) p6.4)
-    ∙ following p7.0 p7.1 p6.1 p7.2.0 4 (omega arith) p7.4 ∙ p8.4)
-    ∙ eight_bytes p8.0 p8.1 p8.2.0 in
+    ap (λ c. number_of_bytes 8 (drop 52 c)) bytes ∙ ap (number_of_bytes 8) p8.4 ∙ eight_bytes p8.0 p8.1 p8.2.0 in
     let far : (sum_64 entry.header 8 + n) % 2 ^ 64 ≡ sum_64 first (cast_unsigned w64 (pos 0)) % 2 ^ 64 =
     fields.3 o2 (are_addresses_at quad places bounded) zeros p8.0 two.applied in
-    let w1 : words 13 header ≡ 0x7c0802a6 ∷ 0x429f0005 ∷ 0x7d6802a6 ∷ 0x7c0803a6 ∷ 0x7d8b6050 ∷ 0x380cffcc ∷ 0x7800f082 ∷ 0xe98b002c ∷ 0x7d6c5a14 ∷ 0xe98b0000 ∷ 0xe96b0008 ∷ 0x7d8903a6 ∷ 0x4e800420 ∷ [] =
-    ap (words 13) (is_header.4 ∙ ap (λ p. take 8 p ++ is_header.1) is_header.2.1) ∙ ap (λ l. 0x7c0802a6 ∷ 0x429f0005 ∷ l)
-    (ap (words 11) (p2.4 ∙ ap (λ p. take 8 p ++ p2.1) p2.2.1) ∙ ap (λ l. 0x7d6802a6 ∷ 0x7c0803a6 ∷ l)
-    (ap (words 9) (p3.4 ∙ ap (λ p. take 8 p ++ p3.1) p3.2.1) ∙ ap (λ l. 0x7d8b6050 ∷ 0x380cffcc ∷ l)
-    (ap (words 7) (p4.4 ∙ ap (λ p. take 8 p ++ p4.1) p4.2.1) ∙ ap (λ l. 0x7800f082 ∷ 0xe98b002c ∷ l)
-    (ap (words 5) (p5.4 ∙ ap (λ p. take 8 p ++ p5.1) p5.2.1) ∙ ap (λ l. 0x7d6c5a14 ∷ 0xe98b0000 ∷ l)
-    (ap (words 3) (p6.4 ∙ ap (λ p. take 8 p ++ p6.1) p6.2.1) ∙ ap (λ l. 0xe96b0008 ∷ 0x7d8903a6 ∷ l) (ap (words 1) (p7.4 ∙ ap (λ p. take 4 p ++ p7.1) p7.2.1))))))) in
     let loads : loaded 8 c.state.memory (moved (sum_64 (sum_64 d.state.pc 4) 4) (pos 44)) ≡ n =
     ap (λ p. loaded 8 c.state.memory (moved (sum_64 (sum_64 p 4) 4) (pos 44))) to
     ∙ ap (loaded 8 c.state.memory) (at_44 (sum_64 (sum_64 entry.header 4) 4) (omega arith) ∙ on_52 entry.header)
@@ -223,4 +214,4 @@ resolves single fields entry first inside bounded within aligned small placed co
     } in
     subst (λ end. IsSomeAnd end (λ d. (d.state.pc ≡ entry.header)
     × IsSomeAnd (run f (words 13 header) d) (Asks entry.index resolver object c))) (sym entered)
-    (to, subst (λ end. IsSomeAnd end (Asks entry.index resolver object c)) (sym (ap (λ ws. run f ws d) w1 ∙ runs f d)) asked)
+    (to, subst (λ end. IsSomeAnd end (Asks entry.index resolver object c)) (sym (ap (λ h. run f (words 13 h) d) bytes ∙ runs f d)) asked)

@@ -1,8 +1,7 @@
 -- PowerPC64's functions that save and restore registers.
-use Rattle.linker_output.proofs.Imports.{Bool, Counted, IsSomeAnd, List, Memory, None, Option, Run, Some, [], ap, arith, blr, cases_lt, codes, cond-false, cond-true, difference_64, eq-eqb, eqb, eqb-true, false, false≢true, field, if◌then◌else◌, inl, inr, ints, le-leb, le-ltb, length, load_link, loaded, lt-leb, lt-ltb, moved, moved_to_link, mtlr_0, nat_le, nat_lt, ne_eqb, negsuc, own_word, place_sum, pos, refl, run_word, save_link, spacing_with, stored, subst, suc, sum_64, sym, true, with_state, wrapped_is, zero, ℕ, ◌%◌, ◌&&◌, ◌*◌, ◌+ℤ◌, ◌+◌, ◌-◌, ◌/◌, ◌<◌, ◌^◌, ◌∙◌, ◌∷◌, ◌≡◌, ◌≢◌, ◌≤◌}
+use Rattle.linker_output.proofs.Imports.{Bool, Counted, IsSomeAnd, List, Memory, None, Option, Run, Some, [], ap, arith, blr, cases_lt, codes, cond-false, cond-true, difference_64, eq-eqb, eqb, eqb-true, false, false≢true, field, if◌then◌else◌, inl, inr, ints, le-leb, le-ltb, length, load_link, loaded, lt-leb, lt-ltb, moved, moved_to_link, mtlr_0, nat_le, nat_lt, ne_eqb, negsuc, own_word, place_sum, pos, refl, run_word, save_link, spacing_with, stored, subst, suc, sum_64, sym, true, with_state, wrapped_is, zero, ℕ, ⊤, ◌%◌, ◌&&◌, ◌*◌, ◌+ℤ◌, ◌+◌, ◌-◌, ◌/◌, ◌<◌, ◌^◌, ◌∙◌, ◌∷◌, ◌≡◌, ◌≢◌, ◌≤◌}
 use Rattle.linker_laws.specs.Ppc64Machine.{Formats, write, store, go_on, with_number, write_float, State}
 use Rattle.linker_output.specs.Ppc64Saves.{returned, word_or_0, code_for, slot, is_from, saved, restored, Saves, Returns, Returned, Restores, RestoresIntegers, RestoresFloats, integers, floats, nothing_more, return_address, step, run, words_from}
-use Rattle.std.specs.Prelude.{⊤}
 use Rattle.linker_output.proofs.LazyRuns.{run_more}
 use Rattle.linker_output.specs.Ppc64Output.{of_registers}
 use Rattle.linker_output.specs.Ppc64Saves as laws
@@ -277,41 +276,33 @@ saves_address f e =
     (with_state (go_on (store 8 (e.state.registers 0) (moved (e.state.registers 1) (pos 16)) e.state)) e)
     (Some (with_state (returned (go_on (store 8 (e.state.registers 0) (moved (e.state.registers 1) (pos 16)) e.state))) e)) refl refl refl
 
-std_1 : (f : Formats) (i : ℕ) → i < 18 → (c : Counted) → step f ((0xf9c1ff70 + (2 ^ 21 + 8) * i) % 2 ^ 32) c ≡ Some (stores 1 integers i c)
-unfolding place_sum
-std_1 f i less =
-    below_at (λ i. (c : Counted) → step f ((0xf9c1ff70 + (2 ^ 21 + 8) * i) % 2 ^ 32) c ≡ Some (stores 1 integers i c)) 18
-    ((((((((((((((((((tt, λ c. refl), λ c. refl), λ c. refl), λ c. refl), λ c. refl), λ c. refl), λ c. refl), λ c. refl), λ c. refl), λ c. refl), λ c. refl), λ c. refl), λ c. refl), λ c. refl), λ c. refl), λ c. refl), λ c. refl), λ c. refl) i less
+-- what the instruction of each register does
+abbrev Does : ℕ → (ℕ → Counted → Counted) → Formats → ℕ → Type 0
+Does word one f i = (c : Counted) → step f ((word + (2 ^ 21 + 8) * i) % 2 ^ 32) c ≡ Some (one i c)
 
-std_12 : (f : Formats) (i : ℕ) → i < 18 → (c : Counted) → step f ((0xf9ccff70 + (2 ^ 21 + 8) * i) % 2 ^ 32) c ≡ Some (stores 12 integers i c)
+std_1 : (f : Formats) (i : ℕ) → i < 18 → Does 0xf9c1ff70 (stores 1 integers) f i
 unfolding place_sum
-std_12 f i less =
-    below_at (λ i. (c : Counted) → step f ((0xf9ccff70 + (2 ^ 21 + 8) * i) % 2 ^ 32) c ≡ Some (stores 12 integers i c)) 18
-    ((((((((((((((((((tt, λ c. refl), λ c. refl), λ c. refl), λ c. refl), λ c. refl), λ c. refl), λ c. refl), λ c. refl), λ c. refl), λ c. refl), λ c. refl), λ c. refl), λ c. refl), λ c. refl), λ c. refl), λ c. refl), λ c. refl), λ c. refl) i less
+std_1 f = below_at (Does 0xf9c1ff70 (stores 1 integers) f) 18 ((((((((((((((((((tt, λ c. refl), λ c. refl), λ c. refl), λ c. refl), λ c. refl), λ c. refl), λ c. refl), λ c. refl), λ c. refl), λ c. refl), λ c. refl), λ c. refl), λ c. refl), λ c. refl), λ c. refl), λ c. refl), λ c. refl), λ c. refl)
 
-stfd_1 : (f : Formats) (i : ℕ) → i < 18 → (c : Counted) → step f ((0xd9c1ff70 + (2 ^ 21 + 8) * i) % 2 ^ 32) c ≡ Some (stores 1 floats i c)
+std_12 : (f : Formats) (i : ℕ) → i < 18 → Does 0xf9ccff70 (stores 12 integers) f i
 unfolding place_sum
-stfd_1 f i less =
-    below_at (λ i. (c : Counted) → step f ((0xd9c1ff70 + (2 ^ 21 + 8) * i) % 2 ^ 32) c ≡ Some (stores 1 floats i c)) 18
-    ((((((((((((((((((tt, λ c. refl), λ c. refl), λ c. refl), λ c. refl), λ c. refl), λ c. refl), λ c. refl), λ c. refl), λ c. refl), λ c. refl), λ c. refl), λ c. refl), λ c. refl), λ c. refl), λ c. refl), λ c. refl), λ c. refl), λ c. refl) i less
+std_12 f = below_at (Does 0xf9ccff70 (stores 12 integers) f) 18 ((((((((((((((((((tt, λ c. refl), λ c. refl), λ c. refl), λ c. refl), λ c. refl), λ c. refl), λ c. refl), λ c. refl), λ c. refl), λ c. refl), λ c. refl), λ c. refl), λ c. refl), λ c. refl), λ c. refl), λ c. refl), λ c. refl), λ c. refl)
 
-ld_1 : (f : Formats) (i : ℕ) → i < 18 → (c : Counted) → step f ((0xe9c1ff70 + (2 ^ 21 + 8) * i) % 2 ^ 32) c ≡ Some (loads 1 i c)
+stfd_1 : (f : Formats) (i : ℕ) → i < 18 → Does 0xd9c1ff70 (stores 1 floats) f i
 unfolding place_sum
-ld_1 f i less =
-    below_at (λ i. (c : Counted) → step f ((0xe9c1ff70 + (2 ^ 21 + 8) * i) % 2 ^ 32) c ≡ Some (loads 1 i c)) 18
-    ((((((((((((((((((tt, λ c. refl), λ c. refl), λ c. refl), λ c. refl), λ c. refl), λ c. refl), λ c. refl), λ c. refl), λ c. refl), λ c. refl), λ c. refl), λ c. refl), λ c. refl), λ c. refl), λ c. refl), λ c. refl), λ c. refl), λ c. refl) i less
+stfd_1 f = below_at (Does 0xd9c1ff70 (stores 1 floats) f) 18 ((((((((((((((((((tt, λ c. refl), λ c. refl), λ c. refl), λ c. refl), λ c. refl), λ c. refl), λ c. refl), λ c. refl), λ c. refl), λ c. refl), λ c. refl), λ c. refl), λ c. refl), λ c. refl), λ c. refl), λ c. refl), λ c. refl), λ c. refl)
 
-ld_12 : (f : Formats) (i : ℕ) → i < 18 → (c : Counted) → step f ((0xe9ccff70 + (2 ^ 21 + 8) * i) % 2 ^ 32) c ≡ Some (loads 12 i c)
+ld_1 : (f : Formats) (i : ℕ) → i < 18 → Does 0xe9c1ff70 (loads 1) f i
 unfolding place_sum
-ld_12 f i less =
-    below_at (λ i. (c : Counted) → step f ((0xe9ccff70 + (2 ^ 21 + 8) * i) % 2 ^ 32) c ≡ Some (loads 12 i c)) 18
-    ((((((((((((((((((tt, λ c. refl), λ c. refl), λ c. refl), λ c. refl), λ c. refl), λ c. refl), λ c. refl), λ c. refl), λ c. refl), λ c. refl), λ c. refl), λ c. refl), λ c. refl), λ c. refl), λ c. refl), λ c. refl), λ c. refl), λ c. refl) i less
+ld_1 f = below_at (Does 0xe9c1ff70 (loads 1) f) 18 ((((((((((((((((((tt, λ c. refl), λ c. refl), λ c. refl), λ c. refl), λ c. refl), λ c. refl), λ c. refl), λ c. refl), λ c. refl), λ c. refl), λ c. refl), λ c. refl), λ c. refl), λ c. refl), λ c. refl), λ c. refl), λ c. refl), λ c. refl)
 
-lfd_1 : (f : Formats) (i : ℕ) → i < 18 → (c : Counted) → step f ((0xc9c1ff70 + (2 ^ 21 + 8) * i) % 2 ^ 32) c ≡ Some (loads_float 1 i c)
+ld_12 : (f : Formats) (i : ℕ) → i < 18 → Does 0xe9ccff70 (loads 12) f i
 unfolding place_sum
-lfd_1 f i less =
-    below_at (λ i. (c : Counted) → step f ((0xc9c1ff70 + (2 ^ 21 + 8) * i) % 2 ^ 32) c ≡ Some (loads_float 1 i c)) 18
-    ((((((((((((((((((tt, λ c. refl), λ c. refl), λ c. refl), λ c. refl), λ c. refl), λ c. refl), λ c. refl), λ c. refl), λ c. refl), λ c. refl), λ c. refl), λ c. refl), λ c. refl), λ c. refl), λ c. refl), λ c. refl), λ c. refl), λ c. refl) i less
+ld_12 f = below_at (Does 0xe9ccff70 (loads 12) f) 18 ((((((((((((((((((tt, λ c. refl), λ c. refl), λ c. refl), λ c. refl), λ c. refl), λ c. refl), λ c. refl), λ c. refl), λ c. refl), λ c. refl), λ c. refl), λ c. refl), λ c. refl), λ c. refl), λ c. refl), λ c. refl), λ c. refl), λ c. refl)
+
+lfd_1 : (f : Formats) (i : ℕ) → i < 18 → Does 0xc9c1ff70 (loads_float 1) f i
+unfolding place_sum
+lfd_1 f = below_at (Does 0xc9c1ff70 (loads_float 1) f) 18 ((((((((((((((((((tt, λ c. refl), λ c. refl), λ c. refl), λ c. refl), λ c. refl), λ c. refl), λ c. refl), λ c. refl), λ c. refl), λ c. refl), λ c. refl), λ c. refl), λ c. refl), λ c. refl), λ c. refl), λ c. refl), λ c. refl), λ c. refl)
 
 savegpr0 : (n : ℕ) → 14 ≤ n → n < 32 → (f : Formats) (c : Counted)
     → IsSomeAnd (run f (code_for (of_registers (codes "_savegpr0_") 0xf9c1ff70 (save_link ∷ blr ∷ [])) n) c) (Saves 1 integers return_address n c)

@@ -1,9 +1,9 @@
 -- A branch that reaches no boundary next to it reaches no boundary.
-use Rattle.linker_output.proofs.Imports.{Back, Branch, Code, Front, Group, HasPart, IsCode, IsLaidOut, IsLayout, IsNear, IsNearIn, IsState, IsStuck, IsStuckIn, Layout, List, Middle, Part, Reaches, ReachesAt, State, StubAt, ap, arith, at, branch_at, cases_lt, cases_order, end_of, group_at, length, mul-le-mul_left, nat_le, part_of, passed, place_in, place_of, prefix_len-le-length, prefix_len_passes, prefix_len_stops, refl, start_of, stub_at, stubs_in, subst, sym, ℕ, ⊎_elim, ◌*◌, ◌+◌, ◌-◌, ◌<◌, ◌≡◌, ◌≤◌, ◌⊎◌}
+use Rattle.linker_output.proofs.Imports.{Back, Branch, Code, Front, Group, HasPart, IsCode, IsLaidOut, IsLayout, IsNear, IsNearIn, IsState, IsStuck, IsStuckIn, Layout, List, Middle, Part, Reaches, ReachesAt, State, StubAt, ap, arith, at, branch_at, cases_lt, cases_order, end_of, group_at, length, mul-le-mul_left, nat_le, part_of, passed, place_in, place_of, prefix_len-le-length, refl, start_of, stub_at, stubs_in, subst, sym, ℕ, ⊎_elim, ◌*◌, ◌+◌, ◌-◌, ◌<◌, ◌≡◌, ◌≤◌, ◌⊎◌}
 use Rattle.linker_output.specs.Placement.{moved}
 use Rattle.linker_output.proofs.Apart.{fits_at, ends_before, inside_in}
 use Rattle.linker_output.proofs.Finding.{no_near}
-use Rattle.linker_output.proofs.Passed.{true_le, false_lt}
+use Rattle.linker_output.proofs.Passed.{below_passed, above_passed}
 
 -- what is out of reach ahead, and what is farther
 out_ahead : (back fwd from to : ℕ) → from ≤ to → ¬ Reaches back fwd from to → from + fwd ≤ to
@@ -27,20 +27,13 @@ IsOutBack code groups branch = (b : ℕ) → b + 1 ≡ passed code.boundaries.no
     (at code.boundaries.now b)
 
 module _ (code : Code) (groups : List Group) (before : List ℕ) (branch : Branch) (is_code : IsCode code) (laid : IsLaidOut code.shape groups before) (len : length groups ≡ length code.boundaries.now) where
-  -- boundaries that are passed are at or below the branch, and the others above it
-  pub below : (k : ℕ) → k < passed code.boundaries.now branch.offset → at code.boundaries.now k ≤ branch.offset
-  below k h = true_le _ _ (prefix_len_passes (λ b. nat_le b branch.offset) code.boundaries.now k 0 h)
-
-  pub next_above : passed code.boundaries.now branch.offset < length code.boundaries.now → branch.offset < at code.boundaries.now (passed code.boundaries.now branch.offset)
-  next_above h = false_lt _ _ (prefix_len_stops (λ b. nat_le b branch.offset) code.boundaries.now 0 h)
-
   passed_within : passed code.boundaries.now branch.offset ≤ length code.boundaries.now
   passed_within = prefix_len-le-length (λ b. nat_le b branch.offset) code.boundaries.now
 
   module _ (out : IsOutFront code groups branch) where
     pub edge_ahead : passed code.boundaries.now branch.offset < length code.boundaries.now → moved code.boundaries.now before branch.offset + branch.max_forward
         ≤ start_of code.boundaries.now before (passed code.boundaries.now branch.offset) + code.shape.len * (group_at groups (passed code.boundaries.now branch.offset)).front
-    edge_ahead h = let above = next_above h in let far = out_ahead _ _ _ _ (omega arith) (out h) in omega arith
+    edge_ahead h = let above = above_passed code.boundaries.now branch.offset h in let far = out_ahead _ _ _ _ (omega arith) (out h) in omega arith
 
     -- and so is all after it
     pub out_from : (to : ℕ) → passed code.boundaries.now branch.offset < length code.boundaries.now
@@ -66,7 +59,7 @@ module _ (code : Code) (groups : List Group) (before : List ℕ) (branch : Branc
     pub edge_after : (b : ℕ) → b + 1 ≡ passed code.boundaries.now branch.offset → end_of code.boundaries.now before b + branch.max_backward
         < moved code.boundaries.now before branch.offset + code.shape.len * ((group_at groups b).back + 1)
     edge_after b e =
-        let low = below b (omega arith) in
+        let low = below_passed code.boundaries.now branch.offset b (omega arith) in
         let l = is_code.len in
         let one = mul-le-mul_left code.shape.len (one_least (group_at groups b).back) in
         let far = out_after _ _ _ _ (omega arith) (out b e) in

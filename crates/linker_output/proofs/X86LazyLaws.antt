@@ -1,5 +1,5 @@
 -- x86-64's lazy PLT.
-use Rattle.linker_output.proofs.Imports.{Bool, Header, Index, IsSomeAnd, LazyEntry, LazyField, LazyPiece, List, Operands, Option, Some, Word, X86_64, [], ap, arith, byte_at, cast_unsigned, cond, cond-false, cond-true, difference_64, drop, drop-drop, eqb, false, field_of, fixed, header_places, if◌then◌else◌, length, nat_lt, negsuc, number_of_bytes, operands_at, padded, place_field, pos, refl, signed_field, subst, suc, sum_64, sym, take, true, w64, with_field, x86_64_entry, x86_64_landing_entry, x86_64_name, x86_64_row, zero, ℕ, ℤ, ◌%◌, ◌*◌, ◌++◌, ◌+◌, ◌<◌, ◌==◌, ◌^◌, ◌∙◌, ◌∷◌, ◌≡◌, ◌≤◌}
+use Rattle.linker_output.proofs.Imports.{Bool, Header, Index, IsSomeAnd, LazyEntry, LazyField, LazyPiece, List, Operands, Option, Some, Word, X86_64, [], ap, arith, byte_at, cast_unsigned, cond, cond-false, cond-true, difference_64, drop, drop-drop, eqb, false, field_of, fixed, header_places, if◌then◌else◌, le-ltb, length, nat_lt, negsuc, number_of_bytes, operands_at, padded, place_field, pos, refl, signed_field, subst, suc, sum_64, sym, take, true, w64, with_field, x86_64_entry, x86_64_landing_entry, x86_64_name, x86_64_row, zero, ℕ, ℤ, ◌%◌, ◌*◌, ◌++◌, ◌+◌, ◌<◌, ◌==◌, ◌^◌, ◌∙◌, ◌∷◌, ◌≡◌, ◌≤◌}
 use Rattle.linker_laws.specs.X86Machine.{load, extended, store_8, with_register, State}
 use Rattle.linker_elf.specs.declared.x86_64.relocations.X86_64Relocation.TheVariants as r
 use Rattle.linker_output.proofs.LazyRuns.{following, are_addresses_at}
@@ -129,10 +129,7 @@ stored_at number top memory i a is small =
 not_stored : (number top : ℕ) (memory : ℕ → ℕ) (a : ℕ) → 8 ≤ difference_64 a top
     → store_8 top number memory a ≡ memory a
 not_stored number top memory a most =
-    cond-false (nat_lt (difference_64 a top) 8) _ (memory a) (far (difference_64 a top) most)
-  where
-    far : (d : ℕ) → 8 ≤ d → nat_lt d 8 ≡ false
-    far d most = grind (arith, most)
+    cond-false (nat_lt (difference_64 a top) 8) _ (memory a) (le-ltb (difference_64 a top) 8 most)
 
 whole : (n : ℕ) → sum_of_8 (byte_at 0 n) (byte_at 1 n) (byte_at 2 n) (byte_at 3 n) (byte_at 4 n) (byte_at 5 n) (byte_at 6 n) (byte_at 7 n) ≡ n % 2 ^ 64
 whole n = omega arith

@@ -1,6 +1,7 @@
 -- Sections of objects in which compilers keep addresses, as the GOT does.
-use Rattle.std.specs.Prelude.{ℕ, ◌==◌, if◌then◌else◌, List, [], ◌∷◌, Option, Some, None}
 use Rattle.linker_output.specs.declared.addresses.WordLoad.{WordLoad}
+use Rattle.std.specs.Prelude.{option_and_then, option_map, ℕ, ◌==◌, if◌then◌else◌, List, [], ◌∷◌}
+use Rattle.std.specs.Prelude.{Option, Some, None}
 
 -- its name, and the types of the relocations that refer to its words
 pub record AddressWords : Type 0 where
@@ -14,9 +15,7 @@ entry_in (load ∷ loads) r_type =
     if load.word == r_type then Some load.entry else entry_in loads r_type
 
 abbrev pub entry_r_type_of : Option AddressWords → ℕ → Option ℕ
-entry_r_type_of None r_type = None
-entry_r_type_of (Some section) r_type = entry_in section.loads r_type
+entry_r_type_of section r_type = option_and_then (λ s. entry_in s.loads r_type) section
 
 abbrev pub section_name : Option AddressWords → Option (List ℕ)
-section_name None = None
-section_name (Some section) = Some section.name
+section_name = option_map (λ s. s.name)

@@ -1,8 +1,9 @@
 -- The dynamic relocations of a GOT entry's words (ELF Handling For Thread-Local Storage, and the
 -- psABIs' tables of relocations).
-use Rattle.std.specs.Prelude.{ℕ, Bool, ◌&&◌, ◌==◌, if◌then◌else◌, List, [], ◌∷◌, Option, Some, None}
-use Rattle.linker_section.specs.declared.needed.EntryClass.{EntryClass}
 use Rattle.linker_output.specs.Imports.{Address, Descriptor, Module, ModuleOffset, ThreadOffset}
+use Rattle.linker_section.specs.declared.needed.EntryClass.{EntryClass}
+use Rattle.std.specs.Prelude.{option_map, ℕ, Bool, ◌&&◌, ◌==◌, if◌then◌else◌, List, [], ◌∷◌, Option}
+use Rattle.std.specs.Prelude.{Some, None}
 
 -- a type of dynamic relocations: its `r_type` in ELF files, and its name
 pub record DynamicKind : Type 0 where
@@ -49,10 +50,6 @@ name_of types r_type = name_in (types_of types) r_type
 
 -- ---- the words of an entry
 
-abbrev pub r_type_of : Option DynamicKind → Option ℕ
-r_type_of None = None
-r_type_of (Some type) = Some type.r_type
-
 -- the relocations of two words, of which the second may not be there
 abbrev pub words : Option ℕ → Option ℕ → List (Option ℕ)
 words first second = first ∷ second ∷ []
@@ -74,4 +71,4 @@ dynamic_words types ModuleOffset is_bound is_executable =
     (unless is_bound types.module_offset)
 dynamic_words types Module is_bound is_executable =
     words (unless is_executable types.module_number) None
-dynamic_words types Descriptor is_bound is_executable = words (r_type_of types.descriptor) None
+dynamic_words types Descriptor is_bound is_executable = words (option_map (λ t. t.r_type) types.descriptor) None

@@ -4,11 +4,11 @@ use Rattle.std.specs.Prelude.{◌≡◌, ℕ, ◌-◌, ◌%◌, ◌==◌, slice_
 use Rattle.std.specs.Prelude.{Option, Some, None}
 use Rattle.linker_output.specs.Imports.{AboveImage, Address, Base, BelowImage, Descriptor, Dynamic}
 use Rattle.linker_output.specs.Imports.{Module, ModuleOffset, ThreadOffset, difference_64, sum_64}
-use Rattle.linker_output.specs.declared.got.GotHeader.{GotHeader}
-use Rattle.linker_output.specs.declared.got.GotLayout.{GotLayout}
-use Rattle.linker_output.specs.declared.got.Origins.{Origins}
-use Rattle.linker_output.specs.declared.got.ThreadPointer.{ThreadPointer}
 use Rattle.linker_section.specs.declared.needed.EntryClass.{EntryClass}
+use Rattle.linker_output.specs.declared.got.GotLayout.{GotLayout}
+use Rattle.linker_output.specs.declared.got.ThreadPointer.{ThreadPointer}
+use Rattle.linker_output.specs.declared.got.GotHeader.{GotHeader}
+use Rattle.linker_output.specs.declared.got.Origins.{Origins}
 
 -- ---- thread-local storage
 

@@ -1,12 +1,13 @@
 -- A lazy PLT: pieces of code, whose fields have the values of relocations, and what its words hold.
-use Rattle.std.specs.Prelude.{◌++◌, List, length, take, drop, Option, Some, None, slice_get, false}
-use Rattle.std.specs.Prelude.{◌≡◌, ◌≤◌, ◌<◌, ◌+◌, ◌-◌, ◌⊎◌, ◌^◌, ℕ, [], ◌∷◌, min, true}
 use Rattle.linker_output.specs.Imports.{Architecture, Header, Index, LazyEntry, LazyPiece, LazyWord}
 use Rattle.linker_output.specs.Imports.{Operands, RelocateError, StubError, Word, sum_64}
+use Rattle.linker_output.specs.declared.lazy_plt.LazyTarget.{LazyTarget}
+use Rattle.std.specs.Prelude.{option_map, ◌++◌, List, length, take, drop, Option, Some, None}
+use Rattle.std.specs.Prelude.{slice_get, false, ◌≡◌, ◌≤◌, ◌<◌, ◌+◌, ◌-◌, ◌⊎◌, ◌^◌, ℕ, [], ◌∷◌, min}
+use Rattle.std.specs.Prelude.{true}
 use Rattle.linker_output.specs.Stubs.{WritesField, RejectsField}
 use Rattle.linker_output.specs.declared.lazy_plt.LazyField.{LazyField}
 use Rattle.linker_output.specs.declared.lazy_plt.LazyPlt.{LazyPlt}
-use Rattle.linker_output.specs.declared.lazy_plt.LazyTarget.{LazyTarget}
 use Rattle.linker_output.specs.declared.lazy_plt.LazyWord.TheVariants as words
 use Rattle.linker_output.specs.declared.stubs.StubError.TheVariants as errors
 
@@ -138,9 +139,6 @@ word_by words.Dynamic entry header dynamic = dynamic
 word_by words.Header entry header dynamic = header
 word_by (words.Entry offset) entry header dynamic = sum_64 entry offset
 
-abbrev pub listed_word : Option LazyWord → ℕ → ℕ → Option ℕ
-listed_word None header dynamic = None
-listed_word (Some word) header dynamic = Some (word_by word header header dynamic)
-
 abbrev pub word_in : List LazyWord → ℕ → ℕ → ℕ → Option ℕ
-word_in all index dynamic header = listed_word (slice_get all index) header dynamic
+word_in all index dynamic header =
+    option_map (λ word. word_by word header header dynamic) (slice_get all index)

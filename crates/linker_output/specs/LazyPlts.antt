@@ -6,6 +6,7 @@ use Rattle.linker_elf.specs.AArch64Relocations.{aarch64_name}
 use Rattle.linker_output.specs.Imports.{AArch64, Architecture, Header, Index, LazyPiece, LazyWord}
 use Rattle.linker_output.specs.Imports.{LoongArch64, Ppc64, RiscV, StubField, Word, X86_64}
 use Rattle.linker_output.specs.Imports.{loongarch_name, ppc64_name, x86_64_name}
+use Rattle.linker_output.specs.declared.lazy_plt.LazyTarget.{LazyTarget}
 use Rattle.linker_elf.specs.RiscVRelocations.{riscv_name}
 use Rattle.linker_elf.specs.declared.aarch64.relocations.AArch64Relocation.TheVariants as aarch64
 use Rattle.linker_elf.specs.declared.loongarch64.relocations.LoongArch64Relocation.TheVariants as loongarch
@@ -16,7 +17,6 @@ use Rattle.linker_output.specs.LazyPlt.{PltCode}
 use Rattle.linker_output.specs.Tables.{field_of, field_of_32, code_of_words}
 use Rattle.linker_output.specs.declared.lazy_plt.LazyForm.{LazyForm}
 use Rattle.linker_output.specs.declared.lazy_plt.LazyForm.TheVariants as form
-use Rattle.linker_output.specs.declared.lazy_plt.LazyTarget.{LazyTarget}
 use Rattle.linker_output.specs.declared.lazy_plt.LazyWord.TheVariants as word
 
 -- at most 8 bytes, and zeros after them

@@ -1,6 +1,6 @@
 -- PowerPC64: what a linker adds to an output (64-bit ELF V2 ABI for Power, "Relocation Types";
 -- paths as glibc has them).
-use Rattle.std.specs.Prelude.{◌+◌, ◌^◌, codes, [], ◌∷◌, None, Some, ℕ, pos, List}
+use Rattle.std.specs.Prelude.{◌+◌, ◌^◌, codes, [], ◌∷◌, None, Some, ℕ, List}
 use Rattle.linker_output.specs.Imports.{Base, BelowImage, ElfName, Got, LazyPlt, Options, Ppc64}
 use Rattle.linker_output.specs.Imports.{ppc64_name}
 use Rattle.linker_elf.specs.declared.ppc64.relocations.Ppc64Relocation.TheVariants as r
@@ -37,15 +37,11 @@ by_prefixed prefix suffix =
 -- `addis 12, 12` and an instruction with the low half
 abbrev pub through_r12 : ℕ → ElfName → StubCode
 through_r12 word low =
-    record {
+    record (plain_stub 0x3d8c0000 word (field_of 0 (ppc64_name r.R_PPC64_TOC16_HA))
+    (Some (field_of 4 low)) jump_to_r12) {
       head = code_of_words address_to_r12;
-      pair = code_of_words (0x3d8c0000 ∷ word ∷ []);
-      first = field_of 0 (ppc64_name r.R_PPC64_TOC16_HA);
-      second = Some (field_of 4 low);
-      tail = code_of_words jump_to_r12;
       entry = 4;
       origin = 12;
-      addend = pos 0;
     }
 
 -- `std 0,16(1)` and `ld 0,16(1)`; `mtlr 0`; `blr`
@@ -79,14 +75,11 @@ of_registers prefix word tail =
 -- `addi 12,0` with the place, an instruction of each register, and `blr`
 abbrev pub of_vectors : List ℕ → ℕ → Run
 of_vectors prefix access =
-    record {
-      prefix = prefix;
+    record (of_registers prefix 0x3980ff40 (blr ∷ [])) {
       first = 20;
       count = 12;
-      word = 0x3980ff40;
       step = 16;
       second = Some (record { word = access; step = 2 ^ 21 });
-      tail = blr ∷ [];
     }
 
 abbrev pub ppc64_output : Description

@@ -1,14 +1,14 @@
 -- The vocabulary of the architectures' tables.
 use Rattle.std.specs.Prelude.{ℕ, ℤ, List, [], ◌∷◌, ◌++◌, Option, Some, None, pos}
-use Rattle.linker_output.specs.Imports.{CodeUnit, DynamicTag, ElfName, StubField, SymbolPlace}
+use Rattle.linker_output.specs.Imports.{CodeUnit, DynamicTag, ElfName, FlagRules, StubField}
 use Rattle.linker_output.specs.Imports.{TagRule, bit_bounds, r_type_of, text_of, to_le_bytes, w32}
+use Rattle.linker_output.specs.declared.layout.SymbolPlace.{SymbolPlace}
+use Rattle.linker_output.specs.declared.addresses.WordLoad.{WordLoad}
 use Rattle.linker_elf.specs.declared.elf.Sign.TheVariants.{Signed}
 use Rattle.linker_output.specs.Dynamic.{DynamicKind}
 use Rattle.linker_output.specs.Layout.{Path}
 use Rattle.linker_output.specs.Stubs.{StubCode}
 use Rattle.linker_output.specs.View.{Symbol}
-use Rattle.linker_output.specs.declared.addresses.WordLoad.{WordLoad}
-use Rattle.linker_output.specs.declared.flags.FlagRules.{FlagRules}
 
 abbrev pub kind : ℕ → List ℕ → DynamicKind
 kind r_type name = record { r_type = r_type; name = name }
@@ -58,11 +58,7 @@ field_of offset name =
 -- the same, of a value of 32 bits in two's complement
 abbrev pub field_of_32 : ℕ → ElfName → StubField
 field_of_32 offset name =
-    record {
-      offset = offset;
-      relocation = r_type_of name;
-      range = record { bounds = Some (bit_bounds 32 Signed) };
-    }
+    record (field_of offset name) { range = record { bounds = Some (bit_bounds 32 Signed) } }
 
 -- a stub of two instructions with the fields, and those after them
 abbrev pub plain_stub : ℕ → ℕ → StubField → Option StubField → List ℕ → StubCode
@@ -81,13 +77,8 @@ plain_stub one two first second tail =
 -- a stub of instructions, of so many bytes, and of 8 bytes with the field after them
 abbrev pub data_stub : List ℕ → ℕ → StubField → ℤ → StubCode
 data_stub words at field addend =
-    record {
+    record (plain_stub 0 0 field None []) {
       head = code_of_words words;
-      pair = 0 ∷ 0 ∷ 0 ∷ 0 ∷ 0 ∷ 0 ∷ 0 ∷ 0 ∷ [];
-      first = field;
-      second = None;
-      tail = [];
-      entry = 0;
       origin = at;
       addend = addend;
     }

@@ -1,5 +1,13 @@
 -- What the code's descriptions say, with texts and tables as lists.
-use Rattle.std.specs.Prelude.{ℕ, List, [], ◌∷◌, Option, Some, None}
+use Rattle.linker_output.specs.Imports.{Architecture, CodeUnit, DynamicTag, FlagRules, StubKind}
+use Rattle.linker_output.specs.declared.stubs.StubKind.TheVariants.{FarRelative, Jump, LandingLoad}
+use Rattle.linker_output.specs.declared.stubs.StubKind.TheVariants.{Load, PrefixedJump}
+use Rattle.linker_output.specs.declared.stubs.StubKind.TheVariants.{PrefixedLoad, TocFar, TocLoad}
+use Rattle.linker_output.specs.declared.stubs.StubKind.TheVariants.{Far}
+use Rattle.linker_output.specs.declared.got.GotLayout.{GotLayout}
+use Rattle.linker_output.specs.declared.layout.SymbolPlace.{SymbolPlace}
+use Rattle.linker_output.specs.declared.got.ThreadPointer.{ThreadPointer}
+use Rattle.std.specs.Prelude.{option_map, ℕ, List, Option, Some, map}
 use Rattle.linker_output.specs.Addresses.{AddressWords}
 use Rattle.linker_output.specs.Dynamic.{DynamicKind, DynamicKinds}
 use Rattle.linker_output.specs.Layout.{Path, Run}
@@ -7,18 +15,11 @@ use Rattle.linker_output.specs.Stubs.{StubCode}
 use Rattle.linker_output.specs.declared.addresses.AddressSection.{AddressSection}
 use Rattle.linker_output.specs.declared.dynamic.DynamicType.{DynamicType}
 use Rattle.linker_output.specs.declared.dynamic.DynamicTypes.{DynamicTypes}
-use Rattle.linker_output.specs.declared.flags.FlagRules.{FlagRules}
-use Rattle.linker_output.specs.declared.got.GotLayout.{GotLayout}
-use Rattle.linker_output.specs.declared.got.ThreadPointer.{ThreadPointer}
-use Rattle.linker_output.specs.Imports.{Architecture, CodeUnit, DynamicTag, StubKind, SymbolPlace}
 use Rattle.linker_output.specs.declared.layout.Interpreter.{Interpreter}
 use Rattle.linker_output.specs.declared.layout.SaveRestoreRoutines.{SaveRestoreRoutines}
 use Rattle.linker_output.specs.declared.layout.ProvidedSymbol.{ProvidedSymbol}
 use Rattle.linker_output.specs.declared.properties.LandingProperty.{LandingProperty}
 use Rattle.linker_output.specs.declared.stubs.Stub.{Stub}
-use Rattle.linker_output.specs.declared.stubs.StubKind.TheVariants.{Far, PrefixedLoad, PrefixedJump}
-use Rattle.linker_output.specs.declared.stubs.StubKind.TheVariants.{Load, FarRelative, LandingLoad}
-use Rattle.linker_output.specs.declared.stubs.StubKind.TheVariants.{Jump, TocLoad, TocFar}
 use Rattle.linker_output.specs.declared.description.Target.{Target}
 
 -- a symbol that a linker defines: its name, and how far it is above a place
@@ -63,12 +64,7 @@ abbrev pub view_type : DynamicType → DynamicKind
 view_type t = record { r_type = t.r_type; name = t.name.now }
 
 abbrev pub view_list : List DynamicType → List DynamicKind
-view_list [] = []
-view_list (t ∷ ts) = view_type t ∷ view_list ts
-
-abbrev pub view_optional : Option DynamicType → Option DynamicKind
-view_optional None = None
-view_optional (Some t) = Some (view_type t)
+view_list = map view_type
 
 abbrev pub view_types : DynamicTypes → DynamicKinds
 view_types t =
@@ -82,17 +78,14 @@ view_types t =
       module_number = view_type t.module_number;
       module_offset = view_type t.module_offset;
       thread_offset = view_type t.thread_offset;
-      descriptor = view_optional t.descriptor;
+      descriptor = option_map view_type t.descriptor;
     }
 
 abbrev pub view_addresses : Option AddressSection → Option AddressWords
-view_addresses None = None
-view_addresses (Some s) = Some (record { name = s.name.now; loads = s.loads.now })
+view_addresses = option_map (λ s. record { name = s.name.now; loads = s.loads.now })
 
 abbrev pub view_symbols : List ProvidedSymbol → List Symbol
-view_symbols [] = []
-view_symbols (s ∷ ss) =
-    record { name = s.name.now; place = s.place; offset = s.offset } ∷ view_symbols ss
+view_symbols = map (λ s. record { name = s.name.now; place = s.place; offset = s.offset })
 
 abbrev pub view_run : SaveRestoreRoutines → Run
 view_run r =
@@ -107,12 +100,10 @@ view_run r =
     }
 
 abbrev pub view_runs : List SaveRestoreRoutines → List Run
-view_runs [] = []
-view_runs (r ∷ rs) = view_run r ∷ view_runs rs
+view_runs = map view_run
 
 abbrev pub view_paths : List Interpreter → List Path
-view_paths [] = []
-view_paths (i ∷ is) = record { flags = i.flags; path = i.path.now } ∷ view_paths is
+view_paths = map (λ i. record { flags = i.flags; path = i.path.now })
 
 abbrev pub view_stub : Stub → StubCode
 view_stub s =
@@ -128,8 +119,7 @@ view_stub s =
     }
 
 abbrev pub view_some : Option Stub → Option StubCode
-view_some None = None
-view_some (Some s) = Some (view_stub s)
+view_some = option_map view_stub
 
 -- the stub of a kind
 abbrev pub stub_of : Target → StubKind → Option StubCode

@@ -2,7 +2,7 @@
 
 ghost use Rattle.std.specs.Prelude.{◌≡◌, IfSome};
 ghost use Rattle.linker_elf.specs.Value.{sum_64};
-ghost use Rattle.linker_output.specs.Got.{entry_words, static_words, got_header_of, at_or_below};
+ghost use Rattle.linker_output.specs.Got.{entry_words, static_words, got_header_of};
 ghost use Rattle.linker_output.specs.Got.{origins_of, LeadsTo, unit_of, at_or_above};
 
 use crate::description::Target;
@@ -107,14 +107,6 @@ fn unit_of(alignment: u64) -> u64
     if alignment == 0 { 1 } else { alignment }
 }
 
-/// The last multiple of an alignment at an address or below.
-#[inline]
-fn at_or_below(alignment: u64, address: u64) -> u64
-    ensures { result ≡ at_or_below alignment address }
-{
-    address - address % unit_of(alignment)
-}
-
 /// The first multiple of an alignment at an address or above, modulo 2^64.
 #[inline]
 fn at_or_above(alignment: u64, address: u64) -> u64
@@ -147,7 +139,8 @@ impl Target {
         let thread_pointer = match self.thread_pointer {
             ThreadPointer::AboveImage => at_or_above(alignment, image.wrapping_add(len)),
             ThreadPointer::BelowImage { reserved, bias } => {
-                at_or_below(alignment, image.wrapping_sub(reserved)).wrapping_add(bias)
+                let above = image.wrapping_sub(reserved);
+                (above - above % unit_of(alignment)).wrapping_add(bias)
             }
         };
         Origins {

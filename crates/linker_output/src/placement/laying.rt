@@ -5,7 +5,7 @@ ghost use Rattle.std.specs.Prelude.{false};
 ghost use Rattle.std.specs.List.{sum_by};
 ghost use Rattle.linker_output.specs.Placement.{Reaches, passed, size_of, stubs_in, IsLaidOut};
 ghost use Rattle.linker_output.specs.Placement.{place_of, at, IsAscending, HasPart, ReachesAt};
-ghost use Rattle.linker_output.specs.Placement.{moved, start_of, most_bytes, HasSpare, IsCode};
+ghost use Rattle.linker_output.specs.Placement.{moved, most_bytes, HasSpare, IsCode};
 ghost use Rattle.linker_output.specs.Inner.Placement.{IsNear, IsLostBy, IsServedBy};
 ghost use Rattle.linker_output.specs.declared.placement.Way.TheVariants.{Near, Far};
 
@@ -88,17 +88,6 @@ impl Code<'_> {
         ensures { result ≡ moved self.now.boundaries.now before.now offset }
     {
         offset + before[passed(self.boundaries, offset)]
-    }
-
-    /// Where the stubs at a boundary begin.
-    pub(super) fn start_of(&self, before: &[u64], boundary: usize) -> u64
-        requires code { IsCode self.now }
-        requires one_more { length before.now ≡ length self.now.boundaries.now + 1 }
-        requires fits { (k : ℕ) → at before.now k < 2 ^ 62 }
-        requires within { boundary < length self.now.boundaries.now }
-        ensures { result ≡ start_of self.now.boundaries.now before.now boundary }
-    {
-        self.boundaries[boundary] + before[boundary]
     }
 
     /// Where a stub is.
