@@ -1,4 +1,3 @@
 pub mod Placement
 pub mod Properties
 pub mod Relr
-pub mod Routes

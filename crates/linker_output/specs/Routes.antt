@@ -1,10 +1,12 @@
 -- How branches go to their targets: directly, or by a stub.
 use Rattle.std.specs.Prelude.{◌==◌, ℕ, false, nat_lt, length, if◌then◌else◌, IsTrue, Option, Result}
 use Rattle.std.specs.Prelude.{◌≡◌, ◌≢◌, ◌↔◌, ◌&&◌, ◌||◌, ◌/◌, ℤ, List, Bool, true, drop, Some, None}
-use Rattle.std.specs.Prelude.{◌%◌, ◌^◌, ◌≤◌, [], ◌∷◌, not, Ok, Err}
-use Rattle.linker_output.specs.Imports.{Architecture, Branch24, HasTwo, IsAccepted, IsRow, JumpCall}
-use Rattle.linker_output.specs.Imports.{OutOfReach, RelocateError, RowInfo, StubKind, cast_unsigned}
-use Rattle.linker_output.specs.Imports.{may_use_stub, ppc64_name, r_type_of, sum_64, w64}
+use Rattle.std.specs.Prelude.{◌%◌, ◌^◌, ◌≤◌, [], ◌∷◌, not, Ok, Err, ⊤, MatchOption}
+use Rattle.linker_output.specs.Imports.{Architecture, Branch24, HasTwo, IsAccepted, IsRow}
+use Rattle.linker_output.specs.Imports.{JumpCall, OutOfReach, RelocateError, RowInfo}
+use Rattle.linker_output.specs.Imports.{StubKind, cast_unsigned, ppc64_name, sum_64, w64}
+use Rattle.linker_elf.specs.ElfNames.{r_type_of}
+use Rattle.linker_section.specs.Needed.{may_use_stub}
 use Rattle.linker_elf.specs.declared.elf.AnyForm.TheVariants.{AArch64, LoongArch64, Ppc64}
 use Rattle.linker_elf.specs.declared.elf.RowSize.{RowSize}
 use Rattle.linker_elf.specs.declared.elf.RowSize.TheVariants.{BitMasking}
@@ -136,6 +138,18 @@ route_by target row symbol r has_room obstacle =
 
 -- ---- routes of relocations
 
+-- no stub may serve as the target of a row's relocations
+abbrev pub IsUnserved : Option RowInfo → Type 0
+IsUnserved None = ⊤
+IsUnserved (Some row) = may_use_stub row.size row.kind ≡ false
+
+-- the row of an `r_type`, if a stub may serve as its target
+abbrev pub IsServedRow : Architecture → ℕ → Option RowInfo → Type 0
+IsServedRow architecture r_type None =
+    (row : Option RowInfo) × IsRow architecture r_type row × IsUnserved row
+IsServedRow architecture r_type (Some row) =
+    IsRow architecture r_type (Some row) × (may_use_stub row.size row.kind ≡ true)
+
 -- the value of a relocation of a symbol
 abbrev pub IsValueOf : Architecture → Addresses → Symbol → Rela
     → Result (Option ℤ) ValueError → Type 0
@@ -151,26 +165,14 @@ IsRouteOf target symbol r section row (Ok (Some v)) result =
     × (obstacle : Option RelocateError) × IsObstacle row v r.offset section obstacle
     × (result ≡ route_by target row symbol r has_room obstacle)
 
--- of a relocation with a row, for whose target a stub may serve or not
-abbrev pub IsRouteBy : Bool → Description → Addresses → Symbol → Rela → List ℕ → RowInfo
-    → Result Route RouteError → Type 0
-IsRouteBy false target addresses symbol r section row result = result ≡ Err errors.NotABranch
-IsRouteBy true target addresses symbol r section row result =
-    (value : Result (Option ℤ) ValueError)
-    × IsValueOf target.instructions addresses symbol r value
-    × IsRouteOf target symbol r section row value result
-
-abbrev pub IsRouteIn : Description → Addresses → Symbol → Rela → List ℕ → Option RowInfo
-    → Result Route RouteError → Type 0
-IsRouteIn target addresses symbol r section None result = result ≡ Err errors.NotABranch
-IsRouteIn target addresses symbol r section (Some row) result =
-    IsRouteBy (may_use_stub row.size row.kind) target addresses symbol r section row result
-
 abbrev pub IsRoute : Description → Addresses → Symbol → Rela → List ℕ
     → Result Route RouteError → Type 0
 IsRoute target addresses symbol r section result =
-    (row : Option RowInfo) × IsRow target.instructions r.r_type row
-    × IsRouteIn target addresses symbol r section row result
+    (row : Option RowInfo) × IsServedRow target.instructions r.r_type row
+    × MatchOption row (result ≡ Err errors.NotABranch)
+    (λ row. (value : Result (Option ℤ) ValueError)
+    × IsValueOf target.instructions addresses symbol r value
+    × IsRouteOf target symbol r section row value result)
 
 -- ---- routes to the address in a word
 
@@ -179,22 +181,12 @@ abbrev pub by_word : Description → Rela → ℕ → Bool → Result Route Rout
 by_word target r word has_room =
     by_stub Load target.load_stub.entry (has_toc target.instructions r.r_type) has_room word
 
-abbrev pub IsWordRouteBy : Bool → Description → Rela → ℕ → List ℕ → Result Route RouteError → Type 0
-IsWordRouteBy false target r word section result = result ≡ Err errors.NotABranch
-IsWordRouteBy true target r word section result =
-    (has_room : Bool) × (IsTrue has_room ↔ HasRoom section r.offset)
-    × (result ≡ by_word target r word has_room)
-
-abbrev pub IsWordRouteIn : Description → Rela → ℕ → List ℕ → Option RowInfo
-    → Result Route RouteError → Type 0
-IsWordRouteIn target r word section None result = result ≡ Err errors.NotABranch
-IsWordRouteIn target r word section (Some row) result =
-    IsWordRouteBy (may_use_stub row.size row.kind) target r word section result
-
 abbrev pub IsWordRoute : Description → Rela → ℕ → List ℕ → Result Route RouteError → Type 0
 IsWordRoute target r word section result =
-    (row : Option RowInfo) × IsRow target.instructions r.r_type row
-    × IsWordRouteIn target r word section row result
+    (row : Option RowInfo) × IsServedRow target.instructions r.r_type row
+    × MatchOption row (result ≡ Err errors.NotABranch)
+    (λ row. (has_room : Bool) × (IsTrue has_room ↔ HasRoom section r.offset)
+    × (result ≡ by_word target r word has_room))
 
 -- ---- the law of stubs
 

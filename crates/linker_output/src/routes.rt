@@ -1,15 +1,14 @@
 //! How branches go to their targets: directly, or by a stub.
 
 ghost use Rattle.std.specs.Prelude.{◌≡◌, ◌↔◌, ◌≤◌, ◌+◌, IsTrue, IfNone, IfSome, length, drop};
-ghost use Rattle.std.specs.Prelude.{Ok, Some, ◌==◌, ◌&&◌, not};
+ghost use Rattle.std.specs.Prelude.{Ok, Some};
 ghost use Rattle.std.specs.Int.{w32, from_le_bytes};
 ghost use Rattle.linker_elf.specs.Relocate.{IsAccepted, IsCause};
-ghost use Rattle.linker_output.specs.Routes.{may_go_by_stub, has_call_form, has_toc, loses_toc};
+ghost use Rattle.linker_output.specs.Routes.{may_go_by_stub, has_toc, loses_toc};
 ghost use Rattle.linker_output.specs.Routes.{lacks_toc, after_global};
-ghost use Rattle.linker_output.specs.Routes.{stub_target, can_restore, HasRoom, by_stub, by_jump};
+ghost use Rattle.linker_output.specs.Routes.{stub_target, HasRoom, by_stub, by_jump};
 ghost use Rattle.linker_output.specs.Routes.{IsObstacle, by_reach, route_by, IsRouteOf};
-ghost use Rattle.linker_output.specs.Routes.{IsValueOf, IsRoute, IsWordRoute};
-ghost use Rattle.linker_output.specs.Inner.Routes.{IsServedRow};
+ghost use Rattle.linker_output.specs.Routes.{IsRoute, IsWordRoute, IsServedRow, IsValueOf};
 ghost use Rattle.linker_output.specs.View.{view, view_some};
 
 use crate::description::Target;
@@ -61,26 +60,19 @@ pub enum RouteError {
     Write(RelocateError),
 }
 
-/// Whether a branch may go by a stub to a target that it doesn't reach.
+/// Whether a branch may go by a stub to a target that it doesn't reach: by its kind, and a field
+/// that is that of `R_AARCH64_CALL26`, `R_LARCH_B26` or `R_PPC64_REL24`.
 #[inline(always)]
 fn may_go_by_stub(row: &Row) -> bool
     ensures { result ≡ may_go_by_stub row.now }
 {
-    matches!(
-        row.kind(),
-        RelocationKind::Relative | RelocationKind::PltRelative
-    ) && has_call_form(row.info().size)
-}
-
-/// Whether a field is that of `R_AARCH64_CALL26`, `R_LARCH_B26` or `R_PPC64_REL24`.
-#[inline(always)]
-fn has_call_form(size: RowSize) -> bool
-    ensures { result ≡ has_call_form size }
-{
-    let RowSize::BitMasking { insn, .. } = size else {
+    let RowSize::BitMasking { insn, .. } = row.info().size else {
         return false;
     };
     matches!(
+        row.kind(),
+        RelocationKind::Relative | RelocationKind::PltRelative
+    ) && matches!(
         insn,
         AnyForm::AArch64(AArch64Instruction::JumpCall)
             | AnyForm::LoongArch64(LoongArch64Instruction::Branch26)
@@ -102,20 +94,16 @@ fn has_toc(architecture: Architecture, r_type: u32) -> bool
     }
 }
 
-/// Whether a branch to a symbol enters a function of the output itself.
-#[inline(always)]
-fn is_entered(symbol: &Symbol) -> bool
-    ensures { result ≡ (symbol.now.stub == 0 && not symbol.now.is_undefined_weak) }
-{
-    symbol.stub == 0 && !symbol.is_undefined_weak
-}
-
-/// Whether the function may leave another TOC pointer, and the caller needs its own.
+/// Whether a branch enters a function of the output itself that may leave another TOC pointer, and
+/// the caller needs its own.
 #[inline(always)]
 fn loses_toc(architecture: Architecture, r_type: u32, symbol: &Symbol) -> bool
     ensures { result ≡ loses_toc architecture r_type symbol.now }
 {
-    has_toc(architecture, r_type) && is_entered(symbol) && symbol.other / 32 == 1
+    has_toc(architecture, r_type)
+        && symbol.stub == 0
+        && !symbol.is_undefined_weak
+        && symbol.other / 32 == 1
 }
 
 /// Whether the function takes a TOC pointer that the caller hasn't: one of code that has none.
@@ -125,7 +113,8 @@ fn lacks_toc(architecture: Architecture, r_type: u32, symbol: &Symbol) -> bool
 {
     matches!(architecture, Architecture::Ppc64)
         && r_type == Ppc64Relocation::R_PPC64_REL24_NOTOC.r_type()
-        && is_entered(symbol)
+        && symbol.stub == 0
+        && !symbol.is_undefined_weak
         && 1 < symbol.other / 32
 }
 
@@ -156,14 +145,6 @@ fn stub_target(architecture: Architecture, symbol: &Symbol, relocation: &Rela) -
     symbol.address.wrapping_add(offset).wrapping_add(addend)
 }
 
-/// Whether two words are `bl`, and `nop` or `ld 2,24(1)`.
-#[inline(always)]
-fn can_restore(call: u32, next: u32) -> bool
-    ensures { result ≡ can_restore call next }
-{
-    call / 0x400_0000 == 18 && call % 4 == 1 && (next == 0x6000_0000 || next == 0xe841_0018)
-}
-
 /// The word at an offset.
 #[inline(always)]
 fn word_at(section: &[u8], offset: u64) -> u32
@@ -173,13 +154,17 @@ fn word_at(section: &[u8], offset: u64) -> u32
     u32_from_slice(&section[offset as usize..])
 }
 
-/// Whether such words are at an offset.
+/// Whether `bl`, and after it `nop` or `ld 2,24(1)`, are at an offset.
 #[inline(always)]
 fn has_room(section: &[u8], offset: u64) -> bool
     ensures { IsTrue result ↔ HasRoom section.now offset }
 {
-    has_window(section, offset, 0, 8)
-        && can_restore(word_at(section, offset), word_at(section, offset + 4))
+    if !has_window(section, offset, 0, 8) {
+        return false;
+    }
+    let call = word_at(section, offset);
+    let next = word_at(section, offset + 4);
+    call / 0x400_0000 == 18 && call % 4 == 1 && (next == 0x6000_0000 || next == 0xe841_0018)
 }
 
 /// By a stub of a kind with an entry.
