@@ -166,38 +166,26 @@ fn merge_values(
 ) -> Result<Option<Property>, PropertyError>
     ensures { result ≡ merged rule kind first second }
 {
-    match rule {
-        PropertyRule::All => {
-            return Ok(unless_zero(kind, value_of(first) & value_of(second)));
+    Ok(match (rule, first, second) {
+        (PropertyRule::All, _, _) => unless_zero(kind, value_of(first) & value_of(second)),
+        (PropertyRule::Any, _, _) => unless_zero(kind, value_of(first) | value_of(second)),
+        (PropertyRule::AnyOfAll, Some(one), Some(other)) => {
+            Some(of_value(kind, one.value | other.value))
         }
-        PropertyRule::Any => {
-            return Ok(unless_zero(kind, value_of(first) | value_of(second)));
+        (PropertyRule::AnyOfAll, _, _) => None,
+        (_, None, _) => second,
+        (_, _, None) => first,
+        (PropertyRule::Largest, Some(one), Some(other)) => {
+            Some(of_value(kind, one.value.max(other.value)))
         }
-        PropertyRule::AnyOfAll => {
-            return Ok(match (first, second) {
-                (Some(first), Some(second)) => Some(of_value(kind, first.value | second.value)),
-                _ => None,
-            });
-        }
-        _ => {}
-    }
-    let Some(one) = first else {
-        return Ok(second);
-    };
-    let Some(other) = second else {
-        return Ok(first);
-    };
-    match rule {
-        PropertyRule::Largest => Ok(Some(of_value(kind, one.value.max(other.value)))),
-        PropertyRule::Present => Ok(Some(of_value(kind, 0))),
-        _ => {
-            if one.value == other.value && one.version == other.version {
-                Ok(Some(Property { kind, ..one }))
-            } else {
-                Err(PropertyError::Differs(kind))
+        (PropertyRule::Present, _, _) => Some(of_value(kind, 0)),
+        (PropertyRule::Same, Some(one), Some(other)) => {
+            if one.value != other.value || one.version != other.version {
+                return Err(PropertyError::Differs(kind));
             }
+            Some(Property { kind, ..one })
         }
-    }
+    })
 }
 
 /// The first property of a type.

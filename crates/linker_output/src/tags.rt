@@ -1,7 +1,7 @@
 //! The entries of the dynamic section that the psABI of one architecture has.
 
 ghost use Rattle.std.specs.Prelude.{◌≡◌, slice_get};
-ghost use Rattle.linker_output.specs.Tags.{has_tag, value_of, entries};
+ghost use Rattle.linker_output.specs.Tags.{has_tag, entries};
 
 use crate::description::Target;
 
@@ -86,17 +86,6 @@ impl TagRule {
             TagRule::Options => true,
         }
     }
-
-    /// The tag's value.
-    fn value(self, facts: &DynamicFacts) -> u64
-        ensures { result ≡ value_of self facts.now }
-    {
-        match self {
-            TagRule::LazyPlt => facts.first_entry.wrapping_sub(32),
-            TagRule::Options => facts.options,
-            _ => 0,
-        }
-    }
 }
 
 impl Target {
@@ -123,7 +112,11 @@ impl Target {
                 if before == 0 {
                     return Some(DynamicEntry {
                         tag: listed.tag,
-                        value: listed.rule.value(facts),
+                        value: match listed.rule {
+                            TagRule::LazyPlt => facts.first_entry.wrapping_sub(32),
+                            TagRule::Options => facts.options,
+                            _ => 0,
+                        },
                     });
                 }
                 before -= 1;

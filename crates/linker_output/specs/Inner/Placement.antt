@@ -12,7 +12,6 @@ use Rattle.linker_output.specs.declared.placement.StubAt.{StubAt}
 use Rattle.linker_output.specs.declared.placement.Sweep.{Sweep}
 use Rattle.linker_output.specs.declared.placement.Sweep.TheVariants.{Settled, Changed, Stuck}
 use Rattle.linker_output.specs.declared.placement.Visit.{Visit}
-use Rattle.linker_output.specs.declared.placement.Visit.TheVariants as visits
 use Rattle.linker_output.specs.declared.placement.Visit.TheVariants.{Served, Raised, Lost}
 use Rattle.linker_output.specs.declared.placement.Way.{Way}
 use Rattle.linker_output.specs.declared.placement.Way.TheVariants.{Direct, Far, Near}
@@ -258,9 +257,8 @@ pub record AreStubsOf (code : Code) (before : List ℕ) (ways : List Way) (stubs
 -- what a sweep does at a branch
 abbrev pub Visited : Code → List ℕ → List ℕ → State → State → ℕ → Visit → Type 0
 Visited code before places old new i Served = SameStubs old new
-    × IsServedBy code before places (branch_at code.branches.now i) (way_at old.ways.items i)
-Visited code before places old new i visits.Near = SameStubs old new
-    × ((s : ℕ) × (way_at old.ways.items i ≡ Near s))
+    × (IsServedBy code before places (branch_at code.branches.now i) (way_at old.ways.items i)
+    ⊎ ((s : ℕ) × (way_at old.ways.items i ≡ Near s)))
 Visited code before places old new i Raised =
     sum_by level old.ways.items < sum_by level new.ways.items
 Visited code before places old new i Lost =

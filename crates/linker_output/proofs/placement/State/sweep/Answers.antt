@@ -1,8 +1,8 @@
-use Rattle.linker_output.proofs.Imports.{Code, IsServedBy, List, SameStubs, State, Visited, ap, arith, below_more, branch_at, false≢true, length, level, subst, sum_by, sym, true, way_at, ℕ, ◌+◌, ◌<◌, ◌∙◌, ◌≡◌}
-use Rattle.linker_output.specs.declared.placement.Visit.TheVariants.{Served, Near}
+use Rattle.linker_output.proofs.Imports.{Code, IsServedBy, List, Near, SameStubs, State, Visited, ap, arith, below_more, branch_at, false≢true, length, level, subst, sum_by, sym, true, way_at, ℕ, ⊎_elim, ◌+◌, ◌<◌, ◌∙◌, ◌≡◌}
+use Rattle.linker_output.specs.declared.placement.Visit.TheVariants.{Served}
 use Rattle.linker_output.proofs.Near.{near_served, places_kept, laid_kept}
 use Rattle.linker_output.proofs.placement.State.sweep.Goals as goal
-use Rattle.linker_output.proofs.placement.State.sweep.Goals.{in-Served, in-Near, in-Raised, in-Lost+else-not-changed}
+use Rattle.linker_output.proofs.placement.State.sweep.Goals.{in-Served, in-Raised, in-Lost+else-not-changed}
 
 same_next : (a b d : State) → SameStubs a b → SameStubs b d → SameStubs a d
 same_next a b d p q = record { stubs = q.stubs ∙ p.stubs; groups = q.groups ∙ p.groups; ways = q.ways ∙ p.ways; may_share = q.may_share ∙ p.may_share }
@@ -31,19 +31,10 @@ loop-index-preserved c =
             state = c.in_ok-visit.ensures.state;
             share = c.in_ok-visit.ensures.may_share ∙ inv.share;
             same = λ h. same_next _ _ _ (inv.same (sym w.changed-is ∙ h)) (visited.0);
-            served = λ h. served_next code before places self new i (visited.0.ways) (inv.served (sym w.changed-is ∙ h)) (visited.1);
-            no_less = omega (arith, inv.no_less);
-            higher = λ h. (let more = inv.higher (sym w.changed-is ∙ h) in omega arith);
-          }
-      | in-Near w ↦
-          let visited : Visited code before places self new i Near = subst (Visited code before places self new i) w.in-Near.is c.in_ok-visit.ensures.visited in
-          let total = ap (λ v. sum_by level v.items) (visited.0.ways) in
-          record {
-            state = c.in_ok-visit.ensures.state;
-            share = c.in_ok-visit.ensures.may_share ∙ inv.share;
-            same = λ h. same_next _ _ _ (inv.same (sym w.changed-is ∙ h)) (visited.0);
             served = λ h. served_next code before places self new i (visited.0.ways) (inv.served (sym w.changed-is ∙ h))
-                (near_served code self before places i (visited.1.0) inv.state (laid_kept code c.args.self.now self before (inv.same (sym w.changed-is ∙ h)) c.requires.laid_out) (places_kept code c.args.self.now self before places (inv.same (sym w.changed-is ∙ h)) c.requires.places) within (visited.1.1));
+                (⊎_elim (λ here. here)
+                (λ (near : (s : ℕ) × (way_at self.ways.items i ≡ Near s)). near_served code self before places i near.0 inv.state (laid_kept code c.args.self.now self before (inv.same (sym w.changed-is ∙ h)) c.requires.laid_out) (places_kept code c.args.self.now self before places (inv.same (sym w.changed-is ∙ h)) c.requires.places) within near.1)
+                visited.1);
             no_less = omega (arith, inv.no_less);
             higher = λ h. (let more = inv.higher (sym w.changed-is ∙ h) in omega arith);
           }

@@ -1,4 +1,4 @@
-use Rattle.linker_output.proofs.Imports.{Direct, IsLostBy, IsServedBy, IsState, SameStubs, arith, branch_at, get_or_read, subst, sym, way_at, ◌∙◌, ◌≡◌}
+use Rattle.linker_output.proofs.Imports.{Direct, IsLostBy, IsServedBy, IsState, SameStubs, arith, branch_at, get_or_read, inl, subst, sym, way_at, ◌∙◌, ◌≡◌}
 use Rattle.linker_output.proofs.Going.{spare_reaches}
 use Rattle.linker_output.proofs.placement.State.visit.Goals as goal
 use Rattle.linker_output.proofs.placement.State.visit.Goals.{then-late+then-not-has_spare+in_ok-raise-2+else-branch-2, else-late}
@@ -45,5 +45,5 @@ returns c =
     record {
       state = c.note-2.ensures.state;
       may_share = kept.may_share;
-      visited = (kept, subst (IsServedBy a.code.now a.before.now a.places.now (branch_at a.code.now.branches.now a.index)) is (c.is_lost-lost.ensures.served c.if-lost.false));
+      visited = (kept, inl (subst (IsServedBy a.code.now a.before.now a.places.now (branch_at a.code.now.branches.now a.index)) is (c.is_lost-lost.ensures.served c.if-lost.false)));
     }
