@@ -40,10 +40,10 @@ pub use Rattle.linker_output.specs.declared.properties.PropertyRule.{PropertyRul
 pub use Rattle.linker_output.specs.declared.stubs.StubError.{StubError}
 pub use Rattle.linker_output.specs.declared.stubs.StubField.{StubField}
 pub use Rattle.linker_output.specs.declared.stubs.StubKind.{StubKind}
+pub use Rattle.linker_output.specs.declared.stubs.StubKind.TheVariants.{FarRelative, Jump, LandingLoad, Load, PrefixedJump, PrefixedLoad, TocFar, TocLoad}
 pub use Rattle.linker_output.specs.declared.tags.DynamicTag.{DynamicTag}
 pub use Rattle.linker_output.specs.declared.tags.TagRule.{TagRule}
 pub use Rattle.linker_output.specs.declared.tags.TagRule.TheVariants.{LandingPlt, LazyPlt, Options, SignedPlt, VariantCalls}
-pub use Rattle.linker_section.specs.Needed.{may_use_stub}
 pub use Rattle.linker_section.specs.declared.needed.EntryClass.TheVariants.{Address, Descriptor, Module, ModuleOffset, ThreadOffset}
 pub use Rattle.linker_utils.specs.AArch64Rewrites.{rd_of, rn_of}
 pub use Rattle.linker_utils.specs.Ppc64Rewrites.{HasTwo, opcode_of, ra_of, rb_of, rt_of}

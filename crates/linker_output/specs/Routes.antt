@@ -2,10 +2,9 @@
 use Rattle.std.specs.Prelude.{◌==◌, ℕ, false, nat_lt, length, if◌then◌else◌, IsTrue, Option, Result}
 use Rattle.std.specs.Prelude.{◌≡◌, ◌≢◌, ◌↔◌, ◌&&◌, ◌||◌, ◌/◌, ℤ, List, Bool, true, drop, Some, None}
 use Rattle.std.specs.Prelude.{◌%◌, ◌^◌, ◌≤◌, [], ◌∷◌, not, Ok, Err, ⊤, MatchOption}
-use Rattle.linker_output.specs.Imports.{Architecture, Branch24, HasTwo, IsAccepted, IsRow}
-use Rattle.linker_output.specs.Imports.{JumpCall, OutOfReach, RelocateError, RowInfo}
-use Rattle.linker_output.specs.Imports.{StubKind, cast_unsigned, ppc64_name, sum_64, w64}
-use Rattle.linker_elf.specs.ElfNames.{r_type_of}
+use Rattle.linker_output.specs.Imports.{Architecture, Branch24, HasTwo, IsAccepted, IsRow, Jump}
+use Rattle.linker_output.specs.Imports.{JumpCall, Load, OutOfReach, RelocateError, RowInfo}
+use Rattle.linker_output.specs.Imports.{StubKind, cast_unsigned, ppc64_name, r_type_of, sum_64, w64}
 use Rattle.linker_section.specs.Needed.{may_use_stub}
 use Rattle.linker_elf.specs.declared.elf.AnyForm.TheVariants.{AArch64, LoongArch64, Ppc64}
 use Rattle.linker_elf.specs.declared.elf.RowSize.{RowSize}
@@ -18,7 +17,6 @@ use Rattle.linker_output.specs.declared.routes.Route.{Route}
 use Rattle.linker_output.specs.declared.routes.Route.TheVariants.{Direct, Stub as ByStub}
 use Rattle.linker_output.specs.declared.routes.RouteError.{RouteError}
 use Rattle.linker_output.specs.declared.routes.RouteError.TheVariants as errors
-use Rattle.linker_output.specs.declared.stubs.StubKind.TheVariants.{Load, Jump}
 use Rattle.linker_section.specs.Conditions.{changes_toc}
 use Rattle.linker_section.specs.Sections.{IsRejected}
 use Rattle.linker_section.specs.Values.{IsValue, is_relative, local_entry}

@@ -1,8 +1,7 @@
 -- What the code's descriptions say, with texts and tables as lists.
-use Rattle.linker_output.specs.Imports.{Architecture, CodeUnit, DynamicTag, FlagRules, StubKind}
-use Rattle.linker_output.specs.declared.stubs.StubKind.TheVariants.{FarRelative, Jump, LandingLoad}
-use Rattle.linker_output.specs.declared.stubs.StubKind.TheVariants.{Load, PrefixedJump}
-use Rattle.linker_output.specs.declared.stubs.StubKind.TheVariants.{PrefixedLoad, TocFar, TocLoad}
+use Rattle.linker_output.specs.Imports.{Architecture, CodeUnit, DynamicTag, FarRelative, FlagRules}
+use Rattle.linker_output.specs.Imports.{Jump, LandingLoad, Load, PrefixedJump, PrefixedLoad}
+use Rattle.linker_output.specs.Imports.{StubKind, TocFar, TocLoad}
 use Rattle.linker_output.specs.declared.stubs.StubKind.TheVariants.{Far}
 use Rattle.linker_output.specs.declared.got.GotLayout.{GotLayout}
 use Rattle.linker_output.specs.declared.layout.SymbolPlace.{SymbolPlace}
