@@ -1,17 +1,5 @@
 -- RISC-V: calls in the final bytes of a packed section, and what is deleted of it.
-use Rattle.linker_final.proofs.Imports.{All-drop, All-take, AreAddresses, AreBytes}
-use Rattle.linker_final.proofs.Imports.{AreDeleted as IsGone, CallStays, DeletedLui, HasWord}
-use Rattle.linker_final.proofs.Imports.{IsApplied, IsBefore, IsCallPair, IsLow12, IsLowOffset}
-use Rattle.linker_final.proofs.Imports.{IsLui, IsSomeAnd, List, Operands, Packed, RiscV}
-use Rattle.linker_final.proofs.Imports.{RiscVRelocation, Site, SiteBecomes, Some, State, ap}
-use Rattle.linker_final.proofs.Imports.{architecture_of, arith, cj_goes, drop, drop-drop, eqb-true}
-use Rattle.linker_final.proofs.Imports.{even, false, field, from_le_bytes, if◌then◌else◌, inl, inr}
-use Rattle.linker_final.proofs.Imports.{jal_goes, jump_group, length, length-drop, link_register}
-use Rattle.linker_final.proofs.Imports.{offset_at, operands_with, place_of, plt_address, rd_of}
-use Rattle.linker_final.proofs.Imports.{refl, relocation_in, riscv_matches, riscv_relocation}
-use Rattle.linker_final.proofs.Imports.{site_bytes, site_len, site_offset, site_place, site_target}
-use Rattle.linker_final.proofs.Imports.{subst, sym, take, take_all, value_of, w16, w32, word_at, ℕ}
-use Rattle.linker_final.proofs.Imports.{◌%◌, ◌+◌, ◌-◌, ◌<◌, ◌^◌, ◌∙◌, ◌≡◌, ◌≢◌, ◌≤◌}
+use Rattle.linker_final.proofs.Imports.{All-drop, All-take, AreAddresses, AreBytes, AreDeleted as IsGone, CallStays, DeletedLui, HasWord, IsApplied, IsBefore, IsCallPair, IsLow12, IsLowOffset, IsLui, IsSomeAnd, List, Operands, Packed, RiscV, RiscVRelocation, Site, SiteBecomes, Some, State, ap, architecture_of, arith, cj_goes, drop, drop-drop, eqb-true, even, false, field, from_le_bytes, if◌then◌else◌, inl, inr, jal_goes, jump_group, length, length-drop, link_register, offset_at, operands_with, place_of, plt_address, rd_of, refl, relocation_in, riscv_matches, riscv_relocation, site_bytes, site_len, site_offset, site_place, site_target, subst, sym, take, take_all, value_of, w16, w32, word_at, ℕ, ◌%◌, ◌+◌, ◌-◌, ◌<◌, ◌^◌, ◌∙◌, ◌≡◌, ◌≢◌, ◌≤◌}
 use Rattle.linker_final.specs.RiscVSection.{CallIsAlike, HighPartsAreLeftOut, IsOfCall, LongCallsStay, LuiIsLeftOut, SitesCallTheSame, SumIsLeftOut, call_row, instructions_in, landing}
 use Rattle.linker_laws.specs.RiscVGroups.{Code, Groups, AreDeleted}
 use Rattle.linker_laws.proofs.RiscVMachine.{address_is}

@@ -1,14 +1,13 @@
 -- AArch64: what the rewrites of a section are, and where they begin in a run of old.
-use Rattle.linker_final.specs.Imports.{AArch64, Addresses, Agree, AreAddresses, Choice, IsNameOf}
-use Rattle.linker_final.specs.Imports.{Kinds, Operands, Relaxation, Rewritten, State, Symbol}
-use Rattle.linker_final.specs.Imports.{anything, decision_at, following, go_to, half, loaded}
-use Rattle.linker_final.specs.Imports.{operands_with, page, plt_address, put, relocation_in, same}
-use Rattle.linker_final.specs.Imports.{sum_64, symbol_address, thread_offset, with_register}
-use Rattle.linker_final.specs.Imports.{word_of}
+use Rattle.linker_final.specs.Imports.{AArch64, Addresses, Agree, Choice, IsAddressRewritten}
+use Rattle.linker_final.specs.Imports.{IsDescriptorRewritten, IsLoadRewritten, IsNameOf, Kinds}
+use Rattle.linker_final.specs.Imports.{Operands, Relaxation, Rewritten, State, Symbol, anything}
+use Rattle.linker_final.specs.Imports.{decision_at, go_to, half, loaded, operands_with, page, put}
+use Rattle.linker_final.specs.Imports.{relocation_in, same, sum_64, with_register, word_of}
+use Rattle.linker_laws.specs.Schemes.{AreAddresses, following, plt_address, symbol_address}
+use Rattle.linker_laws.specs.Schemes.{thread_offset}
 use Rattle.std.specs.Prelude.{IsSomeAnd, List, Some, false, length, slice_get, ℕ, ◌≡◌, ◌+◌, ◌<◌}
 use Rattle.std.specs.Prelude.{◌≤◌, ◌≢◌, ◌*◌, ◌^◌, ◌⊎◌}
-use Rattle.linker_rewriting.specs.Rewritten.{IsAddressRewritten, IsDescriptorRewritten}
-use Rattle.linker_rewriting.specs.Rewritten.{IsLoadRewritten}
 use Rattle.linker_utils.specs.AArch64Rewrites.{rd_of}
 use Rattle.linker_elf.specs.AArch64Relocations.{aarch64_name, aarch64_row}
 use Rattle.linker_elf.specs.declared.aarch64.relocations.AArch64Relocation.{AArch64Relocation}

@@ -7,10 +7,9 @@ use Rattle.linker_final.specs.Imports.{Addresses, Agree, All, Architecture, AreD
 use Rattle.linker_final.specs.Imports.{AreRelocationsAfter, AreWritten, Comparison, Covered}
 use Rattle.linker_final.specs.Imports.{Decision, Group, IsHeld, IsRejectedIn, IsRejectedPlaced}
 use Rattle.linker_final.specs.Imports.{Kept, Kinds, Link, Next, OthersStay, RelaxContext, RowInfo}
-use Rattle.linker_final.specs.Imports.{State, Stops, Symbol, decision_at, deletions_by, of_link}
-use Rattle.linker_final.specs.Imports.{offset_at, pairs_in, relocation_in, run, start_at, uncovered}
-use Rattle.linker_final.specs.Imports.{written_end_at}
-use Rattle.linker_rewriting.specs.declared.groups.UnrelaxableGroups.{UnrelaxableGroups}
+use Rattle.linker_final.specs.Imports.{State, Stops, Symbol, UnrelaxableGroups, decision_at}
+use Rattle.linker_final.specs.Imports.{deletions_by, of_link, offset_at, pairs_in, relocation_in}
+use Rattle.linker_final.specs.Imports.{run, start_at, uncovered, written_end_at}
 use Rattle.linker_final.specs.declared.sections.LinkError.{LinkError}
 use Rattle.linker_final.specs.declared.sections.PhaseError.{PhaseError}
 use Rattle.linker_rewriting.specs.Kept.{IsWritingCause}

@@ -1,17 +1,16 @@
 -- LoongArch: what the rewrites of a section are, and where they begin in a run of old (LoongArch
 -- ELF psABI, relaxation and the sequences of thread-local storage).
-use Rattle.linker_final.specs.Imports.{Addresses, AreAddresses, Choice, Group, IsNameOf, Kinds}
+use Rattle.linker_final.specs.Imports.{Addresses, Choice, Group, IsNameOf, Kinds, NotRelaxable}
 use Rattle.linker_final.specs.Imports.{Operands, Rela, Relaxation, Relocated, Rewritten, RowInfo}
-use Rattle.linker_final.specs.Imports.{Site as site, State, Symbol, decision_at, entry_and_addend}
-use Rattle.linker_final.specs.Imports.{following, is_there, loaded, loongarch_scope_in, of_link}
-use Rattle.linker_final.specs.Imports.{offset_at, operands_with, plt_address, r_type_of}
-use Rattle.linker_final.specs.Imports.{relocation_in, sum_64, symbol_address, word_of}
+use Rattle.linker_final.specs.Imports.{Site as site, State, Symbol, decision_at, is_there, loaded}
+use Rattle.linker_final.specs.Imports.{loongarch_scope_in, of_link, offset_at, operands_with}
+use Rattle.linker_final.specs.Imports.{pre_layout, r_type_of, relocation_in, sum_64, word_of}
+use Rattle.linker_laws.specs.Schemes.{AreAddresses, entry_and_addend, following, plt_address}
+use Rattle.linker_laws.specs.Schemes.{symbol_address}
 use Rattle.std.specs.Prelude.{IsSomeAnd, List, Some, [], drop, pos, slice_get, take, true, ℕ, ⊤}
 use Rattle.std.specs.Prelude.{◌≡◌, ◌≢◌, ◌+◌, ◌<◌, ◌==◌, ◌∷◌, if◌then◌else◌}
-use Rattle.linker_rewriting.specs.declared.groups.Scope.TheVariants.{NotRelaxable}
 use Rattle.linker_elf.specs.declared.loongarch64.relocations.LoongArch64Relocation.{LoongArch64Relocation}
 use Rattle.linker_elf.specs.LoongArchRelocations.{loongarch_name, loongarch_row}
-use Rattle.linker_rewriting.specs.Facts.{pre_layout}
 use Rattle.linker_runs.specs.declared.packing.Machine.TheVariants.{LoongArch64 as loongarch64}
 use Rattle.linker_elf.specs.declared.elf.architecture.Architecture.TheVariants.{LoongArch64}
 use Rattle.linker_final.specs.Final.{AreRewritten, IsBesideAll, IsLinked, IsRewrittenByNoOther}

@@ -3,15 +3,19 @@
 use Rattle.std.specs.Prelude.{◌≡◌, ◌≢◌, ℕ, ◌+◌, ◌-◌, ◌/◌, ◌^◌, ◌<◌, ◌≤◌, List, length, take, drop}
 use Rattle.std.specs.Prelude.{slice_index, IsTrue, Ok, Some, true, false, ℤ, ◌⊎◌, ◌%◌, MatchOption}
 use Rattle.std.specs.Prelude.{None, pos, ◌+ℤ◌, ◌*ℤ◌, slice_get, IsSomeAnd, Option}
-use Rattle.linker_final.specs.Imports.{Addresses, Architecture, AreAddresses, AreMoved, AreWritten}
-use Rattle.linker_final.specs.Imports.{BType, Branch21, Branch26, CbType, CjType, IsAddress}
-use Rattle.linker_final.specs.Imports.{IsApplied, IsFirstFault, IsMoved, IsRow, Item, JType}
-use Rattle.linker_final.specs.Imports.{LoongArch64Relocation, Operands, RiscVInstruction}
-use Rattle.linker_final.specs.Imports.{RiscVRelocation, RowInfo, Shift10, Shift5, Site as site}
-use Rattle.linker_final.specs.Imports.{Symbol, deletions_of_run, has_value, loongarch_form}
-use Rattle.linker_final.specs.Imports.{loongarch_row, names_label, number_at, offset_at}
-use Rattle.linker_final.specs.Imports.{operands_with, plt_address, relocation_in, riscv_form}
-use Rattle.linker_final.specs.Imports.{riscv_row, sum_64, symbol_address, value_of, window_len}
+use Rattle.linker_final.specs.Imports.{Addresses, Architecture, AreWritten, BType, Branch21}
+use Rattle.linker_final.specs.Imports.{Branch26, CbType, CjType, IsApplied, IsFirstFault, IsRow}
+use Rattle.linker_final.specs.Imports.{Item, JType, Operands, RiscVRelocation, RowInfo, Shift10}
+use Rattle.linker_final.specs.Imports.{Shift5, Site as site, Symbol, has_value, loongarch_form}
+use Rattle.linker_final.specs.Imports.{names_label, offset_at, operands_with, relocation_in}
+use Rattle.linker_final.specs.Imports.{riscv_form, riscv_row, sum_64, value_of, window_len}
+use Rattle.linker_laws.specs.Schemes.{AreAddresses, IsAddress, number_at, plt_address}
+use Rattle.linker_laws.specs.Schemes.{symbol_address}
+use Rattle.linker_runs.specs.Moved.{AreMoved, IsMoved}
+use Rattle.linker_elf.specs.declared.loongarch64.relocations.LoongArch64Relocation.{LoongArch64Relocation}
+use Rattle.linker_elf.specs.declared.riscv64.forms.RiscVInstruction.{RiscVInstruction}
+use Rattle.linker_runs.specs.Deleting.{deletions_of_run}
+use Rattle.linker_elf.specs.LoongArchRelocations.{loongarch_row}
 use Rattle.linker_runs.specs.Choosing.{AreItems, IsRelaxation}
 use Rattle.linker_runs.specs.Packing.{IsPackedRun, section_of, IsFirstRejected, IsInside, IsNotIn}
 use Rattle.linker_runs.specs.Packing.{Section, address_of, is_fixed, kept_len, nops, packed_offset}

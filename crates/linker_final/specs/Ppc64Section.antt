@@ -2,11 +2,10 @@
 -- V2 ABI for Power, "TOC Optimizations" and "TLS Linkage Optimizations").
 use Rattle.std.specs.Prelude.{◌≡◌, ◌⊎◌, ℕ, ◌+◌, ◌-◌, ◌*◌, ◌<◌, ◌≤◌, IsSomeAnd, List, take, drop}
 use Rattle.std.specs.Prelude.{get_or, slice_get, Some, ◌≢◌}
-use Rattle.linker_final.specs.Imports.{Choice, Decision, Group, IsNameOf, IsNamed, Kinds, Ppc64}
-use Rattle.linker_final.specs.Imports.{Relaxation, Rewritten, State, Symbol, decision_at, of_link}
-use Rattle.linker_final.specs.Imports.{operands_with, ppc64_scope_in, r_type_of, relocation_in}
-use Rattle.linker_final.specs.Imports.{sum_64}
-use Rattle.linker_rewriting.specs.declared.groups.Scope.TheVariants.{NotRelaxable}
+use Rattle.linker_final.specs.Imports.{Choice, Decision, Group, IsNameOf, IsNamed, Kinds}
+use Rattle.linker_final.specs.Imports.{NotRelaxable, Ppc64, Relaxation, Rewritten, State, Symbol}
+use Rattle.linker_final.specs.Imports.{decision_at, of_link, operands_with, ppc64_scope_in}
+use Rattle.linker_final.specs.Imports.{r_type_of, relocation_in, sum_64}
 use Rattle.linker_elf.specs.Ppc64Relocations.{ppc64_name, ppc64_row}
 use Rattle.linker_elf.specs.declared.ppc64.relocations.Ppc64Relocation.{Ppc64Relocation}
 use Rattle.linker_final.specs.Final.{AreRewritten, IsLinked, IsRewrittenByNoOther, Linked}

@@ -1,19 +1,19 @@
 -- RV32: relocations with wrapped addends, and what instructions with them compute, modulo 2^32
 -- (RISC-V unprivileged ISA, "RV32I Base Integer Instruction Set": registers have 32 bits).
-use Rattle.linker_final.specs.Imports.{Addresses, AreAddresses, BType, Call, CbType, CjType}
-use Rattle.linker_final.specs.Imports.{Computed, EntryAddresses, IsApplied, IsRow, IsValue, JType}
-use Rattle.linker_final.specs.Imports.{Jump, Operands, Pairs, PremiseHolds, Rela, Relocated, RiscV}
-use Rattle.linker_final.specs.Imports.{RiscVRelocation, RowInfo, Step, Symbol, UType, after_rewrite}
-use Rattle.linker_final.specs.Imports.{cast_unsigned, entry_and_addend, even, field, from_le_bytes}
-use Rattle.linker_final.specs.Imports.{here, int_rem_euclid, low_load, low_store, number_at}
-use Rattle.linker_final.specs.Imports.{number_of_bytes, place, plt_address, rd_of, relocation_in}
-use Rattle.linker_final.specs.Imports.{riscv_form, riscv_row, symbol_address, w16, w64, word_of}
+use Rattle.linker_final.specs.Imports.{Addresses, BType, Call, CbType, CjType, EntryAddresses, Hart}
+use Rattle.linker_final.specs.Imports.{Instruction, IsApplied, IsRow, IsValue, JType, Jump}
+use Rattle.linker_final.specs.Imports.{Operands, Pairs, Rela, Relocated, RiscV, RiscVRelocation}
+use Rattle.linker_final.specs.Imports.{RowInfo, Symbol, UType, adds, after_rewrite, cast_unsigned}
+use Rattle.linker_final.specs.Imports.{even, executed, fetched, field, from_le_bytes}
+use Rattle.linker_final.specs.Imports.{int_rem_euclid, jal, jumps, low_load, low_store}
+use Rattle.linker_final.specs.Imports.{number_of_bytes, register, relocation_in, riscv_form}
+use Rattle.linker_final.specs.Imports.{riscv_row, sums, w16, w64, word_of}
+use Rattle.linker_laws.specs.Schemes.{AreAddresses, Computed, PremiseHolds, Step, entry_and_addend}
+use Rattle.linker_laws.specs.Schemes.{here, number_at, place, plt_address, symbol_address, zero}
+use Rattle.linker_riscv64.specs.RiscVFields.{rd_of}
 use Rattle.std.specs.Prelude.{Bool, IsSomeAnd, List, None, Ok, Option, Result, Some, [], drop}
 use Rattle.std.specs.Prelude.{false, length, nat_le, pos, true, ℕ, ℤ, ⊤, ◌≡◌, ◌≢◌, ◌<◌, ◌+◌, ◌%◌}
 use Rattle.std.specs.Prelude.{◌^◌, ◌/◌, ◌∷◌, ◌==◌, ◌&&◌, if◌then◌else◌}
-use Rattle.linker_laws.specs.RiscVMachine.{Hart, Instruction, adds, executed, fetched, jal, jumps}
-use Rattle.linker_laws.specs.RiscVMachine.{register, sums}
-use Rattle.linker_laws.specs.Schemes.{zero}
 use Rattle.linker_elf.specs.Elf.{IsWithin}
 use Rattle.linker_elf.specs.Reach.{reach_of, riscv_pair_bounds}
 use Rattle.linker_elf.specs.Rows.{Bounds}

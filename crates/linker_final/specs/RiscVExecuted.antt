@@ -3,8 +3,7 @@
 -- bits in the emulator.
 use Rattle.std.specs.Prelude.{Bool, List, None, Option, Some, false, nat_lt, take, ℕ, ◌+◌, ◌-◌, ◌%◌}
 use Rattle.std.specs.Prelude.{◌^◌, ◌==◌, if◌then◌else◌, ◌*◌}
-use Rattle.linker_laws.specs.RiscVMachine.{Hart, register, step}
-use Rattle.linker_final.specs.Imports.{to_le_bytes, w32}
+use Rattle.linker_final.specs.Imports.{Hart, register, step, to_le_bytes, w32}
 use Rattle.linker_final.specs.RiscVSteps.{riscv_groups}
 use Rattle.linker_final.specs.Steps.{AllPass, Executed, Group, Numbers, at, bytes_from, is_left, m0}
 use Rattle.linker_final.specs.Steps.{made_high, memory_in, noise, pc}

@@ -2,23 +2,23 @@
 -- object's instructions, with the values of their relocations, and new what became of them (RISC-V
 -- ELF psABI, "PC-Relative Symbol Addresses", "Local-Exec TLS Relaxation", "TLS Descriptors -> Local
 -- Exec Relaxation").
-use Rattle.linker_final.specs.Imports.{Addresses, Agree, AreAddresses, AreBefore, AreDeleted}
-use Rattle.linker_final.specs.Imports.{CallBecomes, Choice, Decision, Group, IsLoadFromGot, IsLow12}
-use Rattle.linker_final.specs.Imports.{IsLowOffset, IsNameOf, Kept, Kinds, LoadBecomes, LowPartBy}
-use Rattle.linker_final.specs.Imports.{OffsetBecomes, Operands, Rela, Relaxation, Relocated}
-use Rattle.linker_final.specs.Imports.{Rewritten, RewrittenWithSymbol, RiscV, RiscV64}
-use Rattle.linker_final.specs.Imports.{RiscVRelocation, RowInfo, Site as site, State, Symbol}
-use Rattle.linker_final.specs.Imports.{UiType, ZeroLuiGoes, action_at, after_rewrite, decision_at}
-use Rattle.linker_final.specs.Imports.{deleted_of, difference_64, even, low_row, moved, of_link}
-use Rattle.linker_final.specs.Imports.{offset_at, offset_row, operands_with, pair_row, plt_address}
-use Rattle.linker_final.specs.Imports.{put, r_type_of, rd_of, relocation_in, riscv_name, riscv_row}
-use Rattle.linker_final.specs.Imports.{riscv_scope_in, rs1_of, same, seen, sum_64, symbol_address}
-use Rattle.linker_final.specs.Imports.{thread_offset, upper, upper_from, uses, value_of, word_of}
-use Rattle.linker_laws.specs.RiscVMachine.{Action, register, stores, stores_float}
-use Rattle.linker_rewriting.specs.declared.groups.Scope.TheVariants.{Grouped, NotRelaxable}
+use Rattle.linker_final.specs.Imports.{Action, Addresses, Agree, AreBefore, AreDeleted, CallBecomes}
+use Rattle.linker_final.specs.Imports.{Choice, Decision, Group, Grouped, IsLeftOut, IsLoadFromGot}
+use Rattle.linker_final.specs.Imports.{IsLow12, IsLowOffset, IsNameOf, Kept, Kinds, LoadBecomes}
+use Rattle.linker_final.specs.Imports.{LowPartBy, NotRelaxable, OffsetBecomes, Operands, Rela}
+use Rattle.linker_final.specs.Imports.{Relaxation, Relocated, Rewritten, RewrittenWithSymbol, RiscV}
+use Rattle.linker_final.specs.Imports.{RiscV64, RiscVRelocation, RowInfo, Site as site, State}
+use Rattle.linker_final.specs.Imports.{Symbol, UiType, ZeroLuiGoes, action_at, after_rewrite}
+use Rattle.linker_final.specs.Imports.{decision_at, deleted_of, difference_64, even, low_row, moved}
+use Rattle.linker_final.specs.Imports.{of_link, offset_at, offset_row, operands_with, pair_row, put}
+use Rattle.linker_final.specs.Imports.{r_type_of, register, relocation_in, riscv_name, riscv_row}
+use Rattle.linker_final.specs.Imports.{riscv_scope_in, same, seen, stores, stores_float, sum_64}
+use Rattle.linker_final.specs.Imports.{upper, upper_from, uses, value_of, word_of}
+use Rattle.linker_laws.specs.Schemes.{AreAddresses, plt_address, symbol_address, thread_offset}
+use Rattle.linker_riscv64.specs.RiscVFields.{rd_of, rs1_of}
 use Rattle.std.specs.Prelude.{IsSomeAnd, List, Option, Some, drop, length, slice_get, take, true, ℕ}
 use Rattle.std.specs.Prelude.{◌≡◌, ◌≢◌, ◌+◌, ◌*◌, ◌<◌, ◌^◌, ◌≤◌, ◌⊎◌, ◌-◌, ◌%◌, ◌==◌, if◌then◌else◌}
-use Rattle.linker_laws.specs.RiscVGroups.{Code, Has, IsLeftOut, Stands, SumGoes, link}
+use Rattle.linker_laws.specs.RiscVGroups.{Code, Has, Stands, SumGoes, link}
 use Rattle.linker_base.specs.Rewrite.{rewritten}
 use Rattle.linker_elf.specs.Originals.{HasWord}
 use Rattle.linker_elf.specs.declared.elf.RelocationKind.TheVariants.{PltRelative}

@@ -1,12 +1,12 @@
 -- Programs that the calls link: words of which every premise of the laws of runs holds.
 use Rattle.std.specs.Prelude.{◌≡◌, ℕ, zero, suc, ◌+◌, ◌/◌, List, [], ◌∷◌, length, false, replicate}
-use Rattle.linker_final.specs.Imports.{Addresses, Architecture, AreMoved, AreWritten, Decision}
-use Rattle.linker_final.specs.Imports.{Item, Kinds, RelaxContext, RiscV, State, Symbol}
-use Rattle.linker_final.specs.Imports.{deletions_of_run, half, put, same, with_register}
-use Rattle.linker_runs.specs.Machines.{RiscV64}
+use Rattle.linker_final.specs.Imports.{Addresses, Architecture, AreWritten, Decision, Item, Kinds}
+use Rattle.linker_final.specs.Imports.{RelaxContext, RiscV, RiscV64, State, Symbol}
+use Rattle.linker_final.specs.Imports.{UnrelaxableGroups, half, put, same, with_register}
+use Rattle.linker_runs.specs.Moved.{AreMoved}
+use Rattle.linker_runs.specs.Deleting.{deletions_of_run}
 use Rattle.linker_runs.specs.Packing.{IsPackedRun, section_of}
 use Rattle.linker_runs.specs.Choosing.{IsRelaxation}
-use Rattle.linker_rewriting.specs.declared.groups.UnrelaxableGroups.{UnrelaxableGroups}
 use Rattle.linker_final.specs.Final.{AreCalled, AreLinked, HasRewritten, IsPhase, Linked, Rewriting}
 use Rattle.linker_final.specs.Final.{RewritingPhase, Section, rewriting_phase}
 use Rattle.linker_rewriting.specs.GlobalPointer.{AreBased, AreRelocationsBy, section_based}

@@ -2,10 +2,11 @@
 -- "Optimize GOTPCRELX Relocations" and "ELF Handling For Thread-Local Storage").
 use Rattle.std.specs.Prelude.{◌≡◌, ℕ, ◌+◌, ◌-◌, ◌^◌, ◌<◌, ◌≤◌, false, ⊤, List, get_or, length, take}
 use Rattle.std.specs.Prelude.{drop, ◌++◌, Option, Some, None, IsSomeAnd, slice_get}
-use Rattle.linker_final.specs.Imports.{Addresses, AreAddresses, Choice, Group, IsNameOf, IsRow}
-use Rattle.linker_final.specs.Imports.{Kinds, Operands, Relaxation, Rewritten, RowInfo, State}
-use Rattle.linker_final.specs.Imports.{Symbol, X86_64, decision_at, difference_64, number_of_bytes}
-use Rattle.linker_final.specs.Imports.{of_link, operands_with, relocation_in, sum_64}
+use Rattle.linker_final.specs.Imports.{Addresses, Choice, Group, IsNameOf, IsRow, Kinds, Operands}
+use Rattle.linker_final.specs.Imports.{Relaxation, Rewritten, RowInfo, State, Symbol, X86_64}
+use Rattle.linker_final.specs.Imports.{decision_at, difference_64, number_of_bytes, of_link}
+use Rattle.linker_final.specs.Imports.{operands_with, relocation_in, sum_64}
+use Rattle.linker_laws.specs.Schemes.{AreAddresses}
 use Rattle.linker_elf.specs.X86Relocations.{x86_64_name, x86_64_row}
 use Rattle.linker_elf.specs.declared.x86_64.relocations.X86_64Relocation.{X86_64Relocation}
 use Rattle.linker_final.specs.Final.{IsLinked, Linked, Rewriting, Section, UntouchedByOthers}

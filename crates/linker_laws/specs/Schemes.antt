@@ -1,9 +1,9 @@
 -- What relocated instructions compute, in one scheme for an instruction, a pair and a sequence.
 use Rattle.std.specs.Prelude.{◌≡◌, ℕ, ◌^◌, ◌<◌, List, [], ◌∷◌, Option, Some, IsSomeAnd, ℤ, pos}
 use Rattle.std.specs.Prelude.{◌+ℤ◌, ◌*ℤ◌, ◌+◌, ◌*◌, ◌%◌, ⊤, Bool, IsTrue}
-use Rattle.linker_laws.specs.Imports.{IsApplied, IsWithin, Operands, RowInfo, bit_bounds}
-use Rattle.linker_laws.specs.Imports.{cast_unsigned, difference_64, int_rem_euclid, number_of_bytes}
-use Rattle.linker_laws.specs.Imports.{relocation_form, sum_64, w64}
+use Rattle.linker_laws.specs.Imports.{IsApplied, Operands, RowInfo, cast_unsigned, difference_64}
+use Rattle.linker_laws.specs.Imports.{int_rem_euclid, number_of_bytes, sum_64, w64}
+use Rattle.linker_elf.specs.Elf.{IsWithin, bit_bounds, relocation_form}
 use Rattle.linker_base.specs.Form.{window_of}
 use Rattle.linker_elf.specs.declared.elf.RowSize.{RowSize}
 use Rattle.linker_elf.specs.declared.elf.RowSize.TheVariants.{ByteSize, BitMasking}

@@ -3,9 +3,9 @@
 use Rattle.std.specs.Prelude.{◌≡◌, ℕ, zero, suc, ◌+◌, ◌-◌, ◌^◌, ◌<◌, ◌≤◌, ◌==◌, ◌&&◌, ◌⊎◌, Bool}
 use Rattle.std.specs.Prelude.{true, false, not, nat_le, nat_lt, if◌then◌else◌, List, [], ◌∷◌, take}
 use Rattle.std.specs.Prelude.{drop, Option, Some, None, IsSomeAnd, IsTrue, ⊤}
-use Rattle.linker_laws.specs.Imports.{IsApplied, Operands, difference_64, number_of_bytes}
-use Rattle.linker_laws.specs.Imports.{offset_after, operands_after, rewritten, sum_64, x86_64_row}
-use Rattle.linker_elf.specs.declared.x86_64.relocations.X86_64Relocation.{X86_64Relocation}
+use Rattle.linker_laws.specs.Imports.{IsApplied, Operands, X86_64Relocation, difference_64}
+use Rattle.linker_laws.specs.Imports.{number_of_bytes, offset_after, rewritten, sum_64, x86_64_row}
+use Rattle.linker_elf.specs.Choices.{operands_after}
 use Rattle.std.specs.List.{All}
 use Rattle.linker_elf.specs.declared.x86_64.relocations.X86_64Relocation.TheVariants as names
 use Rattle.linker_laws.specs.Changes.{ChangesOpen, OthersAgree, go_to, put, with_register}

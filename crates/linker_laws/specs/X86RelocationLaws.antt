@@ -3,8 +3,7 @@
 -- volume 2, "RIP-Relative Addressing"). A field relative to the next instruction's address has an
 -- addend that is less by the bytes from the field to there.
 use Rattle.std.specs.Prelude.{ℕ, pos}
-use Rattle.linker_laws.specs.Imports.{Operands, signed, x86_64_row}
-use Rattle.linker_elf.specs.declared.x86_64.relocations.X86_64Relocation.{X86_64Relocation}
+use Rattle.linker_laws.specs.Imports.{Operands, X86_64Relocation, signed, x86_64_row}
 use Rattle.linker_elf.specs.declared.elf.Sign.TheVariants as signs
 use Rattle.linker_elf.specs.declared.x86_64.relocations.X86_64Relocation.TheVariants as names
 use Rattle.linker_laws.specs.Schemes.{Step, here, of_bits, Adds, symbol_address, plt_address}

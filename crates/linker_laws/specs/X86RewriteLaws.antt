@@ -1,7 +1,7 @@
 -- x86-64: the bytes of code, as rewrites and relocations leave them.
 use Rattle.std.specs.Prelude.{◌≡◌, ℕ, ◌^◌, ◌<◌, ◌++◌, IsSomeAnd, List, take, drop, neg_ℤ, pos}
-use Rattle.linker_laws.specs.Imports.{IsApplied, Operands, RowInfo, difference_64, x86_64_row}
-use Rattle.linker_elf.specs.declared.x86_64.relocations.X86_64Relocation.{X86_64Relocation}
+use Rattle.linker_laws.specs.Imports.{IsApplied, Operands, RowInfo, X86_64Relocation, difference_64}
+use Rattle.linker_laws.specs.Imports.{x86_64_row}
 use Rattle.std.specs.List.{All}
 use Rattle.linker_laws.specs.Schemes.{AreAddresses}
 use Rattle.linker_laws.specs.X86Machine.{State}

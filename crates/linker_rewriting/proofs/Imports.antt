@@ -65,4 +65,4 @@ pub use Rattle.std.proofs.lemmas.Bool.{and_parts, cases_Bool, cases_eq, cases_lt
 pub use Rattle.std.proofs.lemmas.Grind.{common_steps, drop_more_same}
 pub use Rattle.std.proofs.lemmas.List.{drop-set-lt, get_or-drop, get_or-map, get_or-set_other, get_or-set_same, get_or-take, length-append, length-drop, length-map, length-set, length-take-le, map-set, set-get_or, take-take, take_more_set}
 pub use Rattle.std.proofs.lemmas.Result.{err_from_is_err_and}
-pub use Rattle.std.specs.Prelude.{All, IfNone, IfSome, cond, max, ⊤, ◌%◌}
+pub use Rattle.std.specs.Prelude.{All, IfNone, IfSome, cond, max, min, ⊤, ◌%◌}

@@ -2,8 +2,8 @@
 -- chosen by, and those that values are made of.
 use Rattle.std.specs.Prelude.{◌≡◌, ℕ, ◌<◌, ◌/◌, ◌==◌, ◌||◌, ◌&&◌, not, Bool, true, false, List}
 use Rattle.std.specs.Prelude.{length, Option, Some, None, slice_get}
-use Rattle.linker_rewriting.specs.Imports.{Rela, Symbol, SymbolFacts, relocation_in}
-use Rattle.linker_rewriting.specs.declared.facts.RelaxContext.{RelaxContext as Passed}
+use Rattle.linker_rewriting.specs.Imports.{Rela, RelaxContext as Passed, Symbol, SymbolFacts}
+use Rattle.linker_rewriting.specs.Imports.{relocation_in}
 
 -- Its address isn't that of a definition. A thread-local one that nothing defines is at the thread
 -- pointer (`address_in`), so that offsets may be computed as of a definition.

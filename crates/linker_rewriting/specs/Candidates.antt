@@ -2,10 +2,9 @@
 use Rattle.std.specs.Prelude.{◌≡◌, ℕ, ◌+◌, ◌⊎◌, Bool, true, false, ◌&&◌, ◌==◌, nat_le, List, length}
 use Rattle.std.specs.Prelude.{Option, Some, None, slice_get, is_some, pos}
 use Rattle.linker_rewriting.specs.Imports.{Architecture, Choice, IsArchitectureChoice, IsSkippable}
-use Rattle.linker_rewriting.specs.Imports.{IsUnchanged, Rela, Relaxation, SymbolFacts}
+use Rattle.linker_rewriting.specs.Imports.{IsUnchanged, LinkFacts, Rela, Relaxation, SymbolFacts}
 use Rattle.linker_rewriting.specs.Imports.{relaxation_deleted, relaxation_skipped, relocation_at}
 use Rattle.linker_base.specs.declared.rewrite.DeletedBytes.{DeletedBytes}
-use Rattle.linker_elf.specs.declared.elf.choice.LinkFacts.{LinkFacts}
 use Rattle.linker_rewriting.specs.Facts.{RelaxContext, link_facts}
 use Rattle.linker_rewriting.specs.Sequences.{IsWhole, is_marked_in}
 

@@ -3,8 +3,8 @@ use Rattle.std.specs.Prelude.{◌≡◌, ℕ, zero, suc, ◌+◌, ◌-◌, ◌*�
 use Rattle.std.specs.Prelude.{max, Bool, true, false, IsTrue, ◌↔◌, List, [], ◌∷◌, length, get_or}
 use Rattle.std.specs.Prelude.{map, Option, Some, None, is_some, ◌≢◌, ◌==◌, All, take, drop}
 use Rattle.linker_rewriting.specs.Imports.{Architecture, CanRewrite, Choice, Consumed}
-use Rattle.linker_rewriting.specs.Imports.{Contradiction, Decision, FirstOfPair, Group, Grouped}
-use Rattle.linker_rewriting.specs.Imports.{IfGroupMatches, Independent, Kept, Labelled}
+use Rattle.linker_rewriting.specs.Imports.{Contradiction, Decision, Deletion, FirstOfPair, Group}
+use Rattle.linker_rewriting.specs.Imports.{Grouped, IfGroupMatches, Independent, Kept, Labelled}
 use Rattle.linker_rewriting.specs.Imports.{NotRelaxable, NotSurveyed, OutputFacts, Overlaps, Phase}
 use Rattle.linker_rewriting.specs.Imports.{Rela, Relaxation, RewritingError, Rewritten}
 use Rattle.linker_rewriting.specs.Imports.{RewrittenWithSymbol, Scope, Symbol, SymbolFacts}
@@ -23,7 +23,6 @@ use Rattle.linker_rewriting.specs.Groups.{IsScopeIn, group_stays, stays_at}
 use Rattle.linker_rewriting.specs.RiscVPcrelGroups.{IsHighIn, IsLabelCandidate, LabelStays}
 use Rattle.linker_rewriting.specs.RiscVPcrelGroups.{LabelFits}
 use Rattle.linker_rewriting.specs.declared.decisions.DecisionError.{DecisionError}
-use Rattle.linker_rewriting.specs.declared.decisions.Deletion.{Deletion}
 use Rattle.linker_rewriting.specs.declared.decisions.DecisionError.TheVariants as errors
 use Rattle.linker_section.specs.Fields.{IsField, field_end}
 use Rattle.linker_elf.specs.declared.riscv64.relocations.RiscVRelocation.TheVariants as riscv64

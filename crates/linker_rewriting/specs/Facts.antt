@@ -2,10 +2,9 @@
 -- and of the output (the psABIs' sections on symbols and on thread-local storage).
 use Rattle.std.specs.Prelude.{ℕ, ℤ, ◌/◌, ◌==◌, ◌||◌, ◌&&◌, not, true, false, Bool, List, [], Option}
 use Rattle.std.specs.Prelude.{Some, None, if◌then◌else◌, slice_get}
-use Rattle.linker_rewriting.specs.Imports.{Addresses, Architecture, OutputFacts, Phase, PreLayout}
-use Rattle.linker_rewriting.specs.Imports.{Rela, Symbol, SymbolFacts, TlsLocalExec, sum_64}
-use Rattle.linker_elf.specs.declared.elf.choice.LinkFacts.{LinkFacts}
-use Rattle.linker_rewriting.specs.declared.facts.RelaxContext.{RelaxContext as Passed}
+use Rattle.linker_rewriting.specs.Imports.{Addresses, Architecture, LinkFacts, OutputFacts, Phase}
+use Rattle.linker_rewriting.specs.Imports.{PreLayout, Rela, RelaxContext as Passed, Symbol}
+use Rattle.linker_rewriting.specs.Imports.{SymbolFacts, TlsLocalExec, sum_64}
 
 -- ---- before addresses are known
 

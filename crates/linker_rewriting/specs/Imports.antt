@@ -8,12 +8,15 @@ pub use Rattle.linker_elf.specs.Value.{difference_64, sum_64}
 pub use Rattle.linker_elf.specs.declared.elf.architecture.Architecture.{Architecture}
 pub use Rattle.linker_elf.specs.declared.elf.architecture.Architecture.TheVariants.{AArch64, LoongArch64, Ppc64, RiscV, X86_64}
 pub use Rattle.linker_elf.specs.declared.elf.choice.Choice.{Choice}
+pub use Rattle.linker_elf.specs.declared.elf.choice.LinkFacts.{LinkFacts}
 pub use Rattle.linker_rewriting.specs.declared.decisions.Decision.{Decision}
 pub use Rattle.linker_rewriting.specs.declared.decisions.Decision.TheVariants.{Consumed, Kept, Rewritten, RewrittenWithSymbol}
+pub use Rattle.linker_rewriting.specs.declared.decisions.Deletion.{Deletion}
 pub use Rattle.linker_rewriting.specs.declared.decisions.RewritingError.{RewritingError}
 pub use Rattle.linker_rewriting.specs.declared.decisions.RewritingError.TheVariants.{Contradiction, NotSurveyed, Overlaps, TooShort}
 pub use Rattle.linker_rewriting.specs.declared.decisions.Subject.{Subject}
 pub use Rattle.linker_rewriting.specs.declared.facts.OutputFacts.{OutputFacts}
+pub use Rattle.linker_rewriting.specs.declared.facts.RelaxContext.{RelaxContext}
 pub use Rattle.linker_rewriting.specs.declared.facts.SymbolFacts.{SymbolFacts}
 pub use Rattle.linker_rewriting.specs.declared.groups.Group.{Group}
 pub use Rattle.linker_rewriting.specs.declared.groups.Group.TheVariants.{Descriptor, GeneralDynamic, GotLoad, InitialExec, LocalDynamic}

@@ -4,10 +4,10 @@ use Rattle.std.specs.Prelude.{◌≡◌, ℕ, ◌<◌, ◌/◌, ◌^◌, ◌⊎�
 use Rattle.std.specs.Prelude.{length, Option, Some, None, if◌then◌else◌, slice_get, nat_le, not}
 use Rattle.std.specs.Prelude.{◌-◌}
 use Rattle.linker_rewriting.specs.Imports.{Addresses, Architecture, Choice, GotToPcRel, IsAscending}
-use Rattle.linker_rewriting.specs.Imports.{Labelled, Phase, Rela, Relaxation, RiscV, Scope, Symbol}
-use Rattle.linker_rewriting.specs.Imports.{TlsLocalExec, cast_unsigned, difference_64, r_type_of}
-use Rattle.linker_rewriting.specs.Imports.{relocation_in, riscv_name, sum_64, w64}
-use Rattle.linker_elf.specs.declared.elf.choice.LinkFacts.{LinkFacts}
+use Rattle.linker_rewriting.specs.Imports.{Labelled, LinkFacts, Phase, Rela, Relaxation, RiscV}
+use Rattle.linker_rewriting.specs.Imports.{Scope, Symbol, TlsLocalExec, cast_unsigned}
+use Rattle.linker_rewriting.specs.Imports.{difference_64, r_type_of, relocation_in, riscv_name}
+use Rattle.linker_rewriting.specs.Imports.{sum_64, w64}
 use Rattle.linker_elf.specs.declared.elf.value.Operands.{Operands}
 use Rattle.linker_elf.specs.declared.riscv64.relocations.RiscVRelocation.TheVariants as riscv64
 use Rattle.linker_rewriting.specs.Candidates.{IsCandidateWith}

@@ -1,7 +1,7 @@
 -- The value of a relocation between two places of a run.
-use Rattle.linker_runs.proofs.Imports.{IsAccepted, IsInReach, IsInUnits, IsRejected, IsWithin, List, RowInfo, Some, ap, arith, cases_lt, cast_negative, cast_signed, difference_64, holds, ints, length, neg_ℤ, operands_of, pos, reach_of, sum_64, to_z_pos, value_of, w64, window_len, ℕ, ℤ, ⊎_elim, ◌-ℤ◌, ◌-◌, ◌<ℤ◌, ◌<◌, ◌^◌, ◌∙◌, ◌≡◌, ◌≤ℤ◌, ◌≤◌}
+use Rattle.linker_runs.proofs.Imports.{IsAccepted, IsInUnits, IsRejected, IsWithin, List, RowInfo, Some, ap, arith, cases_lt, cast_negative, cast_signed, difference_64, holds, ints, length, neg_ℤ, operands_of, pos, reach_of, sum_64, to_z_pos, value_of, w64, window_len, ℕ, ℤ, ⊎_elim, ◌-ℤ◌, ◌-◌, ◌<ℤ◌, ◌<◌, ◌^◌, ◌∙◌, ◌≡◌, ◌≤ℤ◌, ◌≤◌}
+use Rattle.linker_elf.specs.Relocate.{IsInReach, IsInWords}
 use Rattle.linker_elf.specs.Agrees.{RowFits}
-use Rattle.linker_elf.specs.Relocate.{IsInWords}
 
 module _ (start from to : ℕ) where
   abbrev number : ℕ

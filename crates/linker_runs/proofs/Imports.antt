@@ -17,7 +17,7 @@ pub use Rattle.linker_elf.specs.Applied.{IsApplied, IsRejected}
 pub use Rattle.linker_elf.specs.Elf.{IsWithin, bit_bounds}
 pub use Rattle.linker_elf.specs.LoongArch.{loongarch_form, page, reach}
 pub use Rattle.linker_elf.specs.Reach.{reach_of}
-pub use Rattle.linker_elf.specs.Relocate.{InstructionWritten, IsAccepted, IsAligned, IsEncoded, IsInReach, IsInUnits, bits_taken, is_jirl, is_supported, places_cleared, window_len}
+pub use Rattle.linker_elf.specs.Relocate.{InstructionWritten, IsAccepted, IsAligned, IsEncoded, IsInUnits, bits_taken, is_jirl, is_supported, places_cleared, window_len}
 pub use Rattle.linker_elf.specs.RiscVRelocations.{riscv_row}
 pub use Rattle.linker_elf.specs.Value.{difference_64, sum_64, value_of}
 pub use Rattle.linker_elf.specs.declared.elf.RowInfo.{RowInfo}
@@ -44,7 +44,7 @@ pub use Rattle.linker_runs.specs.Inner.Pieces.{IsPieceOf, IsWhole, code_bytes, p
 pub use Rattle.linker_runs.specs.Inner.Relaxing.{AreCautious, AreForced, IsAlwaysInReach, is_in_reach_cautiously}
 pub use Rattle.linker_runs.specs.Inner.Validity.{IsClearRun, ItemSuits, ShapesSuit}
 pub use Rattle.linker_runs.specs.LoongArchItems.{AreStated, IsCall36, IsPcala, LoongArchMakes}
-pub use Rattle.linker_runs.specs.LoongArchSites.{ArePagesNear, IsKindAt, IsLongInReach, IsLongOutOfReach, short_template, IsAddressInReach, IsAddressOutOfReach, IsBranch, IsCall36At, IsFarAddress, IsFarCall, IsPcaddi, IsPcalaAt, IsSiteAt, LoongArchAccepts, LoongArchBecomes, LoongArchCause, address, branch_template, call, call_template, destination, far_address, far_call, far_high, far_low, far_pages, high_template, jump, low_template, pcaddi_template}
+pub use Rattle.linker_runs.specs.LoongArchSites.{ArePagesNear, IsAddressInReach, IsAddressOutOfReach, IsBranch, IsCall36At, IsFarAddress, IsFarCall, IsKindAt, IsLongInReach, IsLongOutOfReach, IsPcaddi, IsPcalaAt, IsSiteAt, LoongArchAccepts, LoongArchBecomes, LoongArchCause, address, branch_template, call, call_template, destination, far_address, far_call, far_high, far_low, far_pages, high_template, jump, low_template, pcaddi_template, short_template}
 pub use Rattle.linker_runs.specs.Moved.{AreMoved, BecomesType, BeginsAt, IsMoved, gone, of_item, other, r_type_at_item}
 pub use Rattle.linker_runs.specs.Origins.{HasItsInstructions, HasLoongArchShapes, HasRiscVShapes, HasShapes}
 pub use Rattle.linker_runs.specs.Packing.{CanWrite, CodeCause, IsApart, IsCause, IsInside, IsNotIn, IsPackedRun, IsUnwritable, IsWritable, ItemAccepts, ItemBecomes, ItemCause, KeepsEnd, KeepsGap, LosesItems, Section, SiteAccepts, SiteBecomes, SiteCause, StayWhole, address_of, gap_start, is_fixed, kept_len, nop_len, nops, packed_offset, section_of, written_len}
@@ -58,14 +58,16 @@ pub use Rattle.linker_runs.specs.RewrittenItems.{AreListed, ArePlaced, IsDeleted
 pub use Rattle.linker_runs.specs.RiscVItems.{Aligns, AreEnoughAt, HasRiscVName, IsCallAt, IsNextAlignment, IsOfCall, IsRiscVFormed, MayBeShort, MayFree, RiscVMakes, has_short_jump, links_short}
 pub use Rattle.linker_runs.specs.RiscVSites.{IsJal, IsShortJump, RiscVAccepts, RiscVBecomes, RiscVCause, riscv_template, short_bytes, short_jump}
 pub use Rattle.linker_runs.specs.SectionItems.{Makes}
-pub use Rattle.linker_runs.specs.Sites.{IsOutOfReach, IsRelocated, Template, operands_of}
+pub use Rattle.linker_runs.specs.Sites.{IsInReach, IsOutOfReach, IsRelocated, Template, operands_of}
 pub use Rattle.linker_runs.specs.Writable.{HasShapesOf, IsNear, IsNearAddress, IsNearCall36, IsNearSite, IsShortened, MadeSitesHaveInstructions, MayBePacked, NearAddressesAreWritable, NearCalls36AreWritable, NearCallsAreWritable, NoneIsOutOfReach, ShortSitesAreWritable}
 pub use Rattle.linker_runs.specs.declared.items.Relocation.{Relocation}
+pub use Rattle.linker_runs.specs.declared.packing.Isa.{Isa}
 pub use Rattle.linker_runs.specs.declared.packing.ItemError.{ItemError}
 pub use Rattle.linker_runs.specs.declared.packing.ItemError.TheVariants.{DeletedOutside, NoShape, NotItsFirstBytes, NotItsInstructions, OutOfReach, OutOfSection, Overlaps}
-pub use Rattle.linker_runs.specs.declared.packing.Isa.{Isa}
 pub use Rattle.linker_runs.specs.declared.packing.Machine.{Machine}
 pub use Rattle.linker_runs.specs.declared.packing.Machine.TheVariants.{LoongArch64, RiscV}
+pub use Rattle.linker_runs.specs.declared.packing.loongarch64.Kind.{Kind}
+pub use Rattle.linker_runs.specs.declared.packing.loongarch64.Kind.TheVariants.{Address, Call}
 pub use Rattle.linker_runs.specs.declared.relaxation.Alignment.{Alignment}
 pub use Rattle.linker_runs.specs.declared.relaxation.Item.{Item}
 pub use Rattle.linker_runs.specs.declared.relaxation.Item.TheVariants.{Aligned, Site}

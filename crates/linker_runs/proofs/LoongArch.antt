@@ -1,11 +1,8 @@
 -- What calls and addresses of LoongArch become.
-use Rattle.linker_runs.proofs.Imports.{AreAddresses, AreRelocated, BitRange, Bool, Branch26, CALL36, HasLoongArchShapes, InstructionWritten, IsAddress, IsAddressInReach, IsAddressOutOfReach, IsBranch, IsCall36At, IsFarAddress, IsFarCall, IsKindAt, IsLongInReach, IsLongOf, IsLongOutOfReach, IsOutOfReach, IsPcaddi, IsPcalaAt, IsRelocated, IsSiteAt, IsSomeAnd, IsTrue, IsWithin, ItemError, List, LoongArchAccepts, LoongArchBecomes, LoongArchCause, NoShape, NotItsInstructions, OutOfReach, PCALA, Shapes, Shift5, Signed, Some, address, agree_below, ap, arith, bit_bounds, bits_taken, branch_template, call, call_template, destination, drop, eqb, false, far_address, far_call, far_high, far_low, far_pages, field, from_le_bytes, from_le_bytes-to_le_bytes_4, high_template, inl, inr, int_lt, is_jirl, is_placed, jump, length, loongarch_form, low_template, not, operands_of, pcaddi_template, places_cleared, pos, reach, refl, short_template, subst, sum_64, take, to_le_bytes, true, w32, w64, whole, window_of, ℕ, ℤ, ⊎_elim, ◌*ℤ◌, ◌*◌, ◌+ℤ◌, ◌+◌, ◌<◌, ◌^◌, ◌↔◌, ◌∙◌, ◌≡◌, ◌⊎◌}
+use Rattle.linker_runs.proofs.Imports.{Address, AreAddresses, AreRelocated, BitRange, Bool, Branch26, CALL36, Call, HasLoongArchShapes, InstructionWritten, IsAddress, IsAddressInReach, IsAddressOutOfReach, IsBranch, IsCall36At, IsFarAddress, IsFarCall, IsInReach, IsKindAt, IsLongInReach, IsLongOf, IsLongOutOfReach, IsOutOfReach, IsPcaddi, IsPcalaAt, IsRelocated, IsSiteAt, IsSomeAnd, IsTrue, IsWithin, ItemError, Kind, List, LoongArchAccepts, LoongArchBecomes, LoongArchCause, NoShape, NotItsInstructions, OutOfReach, PCALA, Shapes, Shift5, Signed, Some, address, agree_below, ap, arith, bit_bounds, bits_taken, branch_template, call, call_template, destination, drop, eqb, false, far_address, far_call, far_high, far_low, far_pages, field, from_le_bytes, from_le_bytes-to_le_bytes_4, high_template, inl, inr, int_lt, is_jirl, is_placed, jump, length, loongarch_form, low_template, not, operands_of, pcaddi_template, places_cleared, pos, reach, refl, short_template, subst, sum_64, take, to_le_bytes, true, w32, w64, whole, window_of, ℕ, ℤ, ⊎_elim, ◌*ℤ◌, ◌*◌, ◌+ℤ◌, ◌+◌, ◌<◌, ◌^◌, ◌↔◌, ◌∙◌, ◌≡◌, ◌⊎◌}
 use Rattle.linker_elf.specs.declared.elf.AnyForm.TheVariants.{LoongArch64}
 use Rattle.linker_elf.specs.declared.loongarch64.forms.LoongArch64Instruction.{LoongArch64Instruction}
 use Rattle.linker_laws.specs.LoongArchRelocationLaws.{Branches, Calls, RelativeAddresses, page_and_low}
-use Rattle.linker_runs.specs.declared.packing.loongarch64.Kind.{Kind}
-use Rattle.linker_runs.specs.declared.packing.loongarch64.Kind.TheVariants.{Call, Address}
-use Rattle.linker_runs.specs.Sites.{IsInReach}
 use Rattle.linker_runs.proofs.Sites.{kept_field, operands_small, unit_sum, in_reach}
 use Rattle.linker_base.proofs.Words.{word_of_front}
 

@@ -1,9 +1,8 @@
 -- An address of LoongArch that stays long can be written in a run of less than 2 GiB less 8 KiB.
-use Rattle.linker_runs.proofs.Imports.{Aligned, ArePagesNear, CALL36, HasItsInstructions, IsAddressOutOfReach, IsCall36At, IsNearAddress, IsOutOfReach, IsPcalaAt, IsWithin, Item, ItemError, List, LoongArch64, LoongArchCause, NearAddressesAreWritable, PCALA, R_LARCH_PCALA_HI20, R_LARCH_PCALA_LO12, Shift10, Shift5, Signed, Site, Some, ap, arith, bit_bounds, cases_lt, cast_negative, cast_signed, choice_of, difference_64, drop, false, false≢true, far_high, far_low, far_pages, freed_before, high_template, holds, inr, ints, item_at, length, length-drop, length-take, loongarch_fits, low_template, offset_of, page, place_of, pos, refl, subst, sum_64, sym, take, target_of, to_z_pos, w64, ℕ, ⊎_elim, ◌%◌, ◌+◌, ◌-ℤ◌, ◌-◌, ◌<◌, ◌^◌, ◌∙◌, ◌≡◌, ◌≤◌}
+use Rattle.linker_runs.proofs.Imports.{Address, Aligned, ArePagesNear, CALL36, HasItsInstructions, IsAddressOutOfReach, IsCall36At, IsNearAddress, IsOutOfReach, IsPcalaAt, IsWithin, Item, ItemError, List, LoongArch64, LoongArchCause, NearAddressesAreWritable, PCALA, R_LARCH_PCALA_HI20, R_LARCH_PCALA_LO12, Shift10, Shift5, Signed, Site, Some, ap, arith, bit_bounds, cases_lt, cast_negative, cast_signed, choice_of, difference_64, drop, false, false≢true, far_high, far_low, far_pages, freed_before, high_template, holds, inr, ints, item_at, length, length-drop, length-take, loongarch_fits, low_template, offset_of, page, place_of, pos, refl, subst, sum_64, sym, take, target_of, to_z_pos, w64, ℕ, ⊎_elim, ◌%◌, ◌+◌, ◌-ℤ◌, ◌-◌, ◌<◌, ◌^◌, ◌∙◌, ◌≡◌, ◌≤◌}
 use Rattle.linker_elf.specs.declared.elf.AnyForm.TheVariants.{LoongArch64 as OfLoongArch}
 use Rattle.linker_elf.specs.declared.elf.RowSize.TheVariants.{BitMasking}
 use Rattle.linker_runs.proofs.LoongArch.{code_not, no_jirl}
-use Rattle.linker_runs.specs.declared.packing.loongarch64.Kind.TheVariants.{Address}
 use Rattle.linker_runs.proofs.RiscVLongCalls.{whole}
 use Rattle.linker_runs.proofs.LoongArchCalls36.{shapes_differ}
 use Rattle.linker_runs.proofs.LongSites.{LongCause, is_long, long_sites}

@@ -1,5 +1,5 @@
 -- A call of LoongArch that stays long can be written in a run of less than 128 GiB less 128 KiB.
-use Rattle.linker_runs.proofs.Imports.{Aligned, CALL36, HasItsInstructions, IsAligned, IsCall36At, IsInWords, IsNearCall36, IsOutOfReach, IsPcalaAt, Item, ItemError, ItemSuits, List, LoongArch64, LoongArchCause, NearCalls36AreWritable, PCALA, R_LARCH_CALL36, Site, ap, arith, call_template, cases_lt, choice_of, drop, false, false≢true, freed_before, inl, inr, ints, item_at, length, length-drop, length-take, loongarch_fits, mul_assoc, nat_lt, offset_of, place_of, pos, refl, run_granularity, short_shape, subst, suc, sum_64, sym, take, target_of, zero, ℕ, ⊎_elim, if◌then◌else◌, ◌%◌, ◌*◌, ◌+◌, ◌-ℤ◌, ◌-◌, ◌<◌, ◌^◌, ◌∙◌, ◌≡◌, ◌≤◌}
+use Rattle.linker_runs.proofs.Imports.{Aligned, CALL36, Call, HasItsInstructions, IsAligned, IsCall36At, IsInWords, IsNearCall36, IsOutOfReach, IsPcalaAt, Item, ItemError, ItemSuits, List, LoongArch64, LoongArchCause, NearCalls36AreWritable, PCALA, R_LARCH_CALL36, Site, ap, arith, call_template, cases_lt, choice_of, drop, false, false≢true, freed_before, if◌then◌else◌, inl, inr, ints, item_at, length, length-drop, length-take, loongarch_fits, mul_assoc, nat_lt, offset_of, place_of, pos, refl, run_granularity, short_shape, subst, suc, sum_64, sym, take, target_of, zero, ℕ, ⊎_elim, ◌%◌, ◌*◌, ◌+◌, ◌-ℤ◌, ◌-◌, ◌<◌, ◌^◌, ◌∙◌, ◌≡◌, ◌≤◌}
 use Rattle.linker_runs.proofs.Choices.{place_is}
 use Rattle.linker_runs.proofs.Frees.{exact_frees}
 use Rattle.linker_runs.proofs.Multiples.{Multiple, multiple_of, no_rest}
@@ -7,7 +7,6 @@ use Rattle.linker_runs.proofs.Layouts.{freed_fits}
 use Rattle.linker_runs.proofs.Nearer.{Frees, place_fits}
 use Rattle.linker_runs.proofs.Units.{item_suits}
 use Rattle.linker_runs.proofs.LoongArch.{code_not}
-use Rattle.linker_runs.specs.declared.packing.loongarch64.Kind.TheVariants.{Call}
 use Rattle.linker_runs.proofs.LongSites.{LongCause, is_long, long_sites}
 use Rattle.linker_runs.proofs.Distances.{not_rejected}
 use Rattle.linker_runs.proofs.Reaches.{up, down, fours}

@@ -1,9 +1,7 @@
 -- Calls and addresses of LoongArch that a relaxation made shorter can be written.
-use Rattle.linker_runs.proofs.Imports.{CALL36, HasLoongArchShapes, IsCall36At, IsKindAt, IsOutOfReach, IsPcalaAt, ItemError, List, LoongArchCause, PCALA, R_LARCH_B26, R_LARCH_PCREL20_S2, Shapes, ap, arith, branch_template, destination, false, false≢true, inl, ints, is_reached, loongarch_fits, pcaddi_template, refl, short_shape, short_template, subst, sum_64, to_le_bytes, true, w32, ℕ, ⊎_elim, ◌*◌, ◌+◌, ◌<◌, ◌^◌, ◌∙◌, ◌≡◌}
+use Rattle.linker_runs.proofs.Imports.{Address, CALL36, Call, HasLoongArchShapes, IsCall36At, IsKindAt, IsOutOfReach, IsPcalaAt, ItemError, Kind, List, LoongArchCause, PCALA, R_LARCH_B26, R_LARCH_PCREL20_S2, Shapes, ap, arith, branch_template, destination, false, false≢true, inl, ints, is_reached, loongarch_fits, pcaddi_template, refl, short_shape, short_template, subst, sum_64, to_le_bytes, true, w32, ℕ, ⊎_elim, ◌*◌, ◌+◌, ◌<◌, ◌^◌, ◌∙◌, ◌≡◌}
 use Rattle.linker_runs.proofs.LoongArchReaches.{loongarch_shapes}
 use Rattle.linker_runs.proofs.LoongArch.{code_not}
-use Rattle.linker_runs.specs.declared.packing.loongarch64.Kind.{Kind}
-use Rattle.linker_runs.specs.declared.packing.loongarch64.Kind.TheVariants.{Call, Address}
 use Rattle.linker_runs.proofs.Distances.{not_rejected}
 
 module _ (section : List ℕ) (o start from to : ℕ) where

@@ -1,5 +1,5 @@
 -- Words that are repeated, and nops.
-use Rattle.linker_runs.proofs.Imports.{Isa, List, LoongArch64, Machine, RiscV, [], ap, append-nil, append_assoc, arith, cases_Bool, drop, drop-drop, drop_at, eqb-true, inl, inr, length, length-append, length-take, nat_tests, nop_len, nops, refl, repeated, suc, sym, take, take-append-drop, take_at, zero, ℕ, if◌then◌else◌, ◌%◌, ◌*◌, ◌++◌, ◌+◌, ◌/◌, ◌==◌, ◌∙◌, ◌∷◌, ◌≡◌, ◌≤◌}
+use Rattle.linker_runs.proofs.Imports.{Isa, List, LoongArch64, Machine, RiscV, [], ap, append-nil, append_assoc, arith, cases_Bool, drop, drop-drop, drop_at, eqb-true, if◌then◌else◌, inl, inr, length, length-append, length-take, nat_tests, nop_len, nops, refl, repeated, suc, sym, take, take-append-drop, take_at, zero, ℕ, ◌%◌, ◌*◌, ◌++◌, ◌+◌, ◌/◌, ◌==◌, ◌∙◌, ◌∷◌, ◌≡◌, ◌≤◌}
 
 pub repeated_none : (word : List ℕ) → repeated word 0 ≡ []
 unfolding repeated

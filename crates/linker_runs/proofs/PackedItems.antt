@@ -1,8 +1,7 @@
 -- What is written of each item.
-use Rattle.linker_runs.proofs.Imports.{Aligned, AreReady, DeletedOutside, IsApart, IsCause, IsFilledTo, IsInside, IsNotIn, IsPackedRun, IsPieceOf, IsSomeAnd, IsUnwritable, IsWhole, IsWritable, IsWrittenTo, Isa, Item, ItemAccepts, ItemBecomes, ItemCause, ItemError, KeepsGap, List, LoongArch64, LosesItems, Machine, NoShape, NotItsFirstBytes, NotItsInstructions, OutOfReach, OutOfSection, Overlaps, RiscV, RiscVAccepts, RiscVCause, Section, Site, ap, append_assoc, arith, cases_Bool, cases_lt, drop, drop_at, end_of, false, gap_start, get_or, get_or-append_right, get_or-drop, get_or-take, get_or_default, inl, inr, is_fixed, is_kept, item_at, kept_len, len_of, length, length-append, length-drop, length-take, offset_of, packed_offset, piece_bytes, put_below, rank, rank-mono, rank_kept, rank_steps, refl, riscv_template, same_lists, subst, suc, sym, take, take_at, true, written_len, zero, ℕ, if◌then◌else◌, ◌++◌, ◌+◌, ◌-◌, ◌<◌, ◌↔◌, ◌∙◌, ◌≡◌, ◌≤◌}
+use Rattle.linker_runs.proofs.Imports.{Aligned, AreReady, DeletedOutside, IsApart, IsCause, IsFilledTo, IsInReach, IsInside, IsNotIn, IsPackedRun, IsPieceOf, IsSomeAnd, IsUnwritable, IsWhole, IsWritable, IsWrittenTo, Isa, Item, ItemAccepts, ItemBecomes, ItemCause, ItemError, KeepsGap, List, LoongArch64, LosesItems, Machine, NoShape, NotItsFirstBytes, NotItsInstructions, OutOfReach, OutOfSection, Overlaps, RiscV, RiscVAccepts, RiscVCause, Section, Site, ap, append_assoc, arith, cases_Bool, cases_lt, drop, drop_at, end_of, false, gap_start, get_or, get_or-append_right, get_or-drop, get_or-take, get_or_default, if◌then◌else◌, inl, inr, is_fixed, is_kept, item_at, kept_len, len_of, length, length-append, length-drop, length-take, offset_of, packed_offset, piece_bytes, put_below, rank, rank-mono, rank_kept, rank_steps, refl, riscv_template, same_lists, subst, suc, sym, take, take_at, true, written_len, zero, ℕ, ◌++◌, ◌+◌, ◌-◌, ◌<◌, ◌↔◌, ◌∙◌, ◌≡◌, ◌≤◌}
 use Rattle.linker_runs.proofs.LoongArch.{loongarch_excludes}
 use Rattle.linker_runs.specs.declared.packing.Piece.{Piece}
-use Rattle.linker_runs.specs.Sites.{IsInReach}
 use Rattle.linker_runs.proofs.Sites.{both_some, in_reach}
 
 -- ---- what is accepted isn't rejected

@@ -1,5 +1,6 @@
 -- Shapes reach what the rows of jumps reach.
-use Rattle.linker_runs.proofs.Imports.{AreOfRows, IsAligned, IsEncoded, IsInReach, IsOfRow, IsSomeAnd, IsWithin, None, Option, RowInfo, Shape, Shapes, Some, [], ap, arith, cases_lt, inl, inr, ints, is_reached, is_supported, neg_ℤ, negsuc, pos, reach_of, short_shape, slice_index_or, subst, suc, sym, true, zero, ℕ, ℤ, ◌%◌, ◌*◌, ◌+◌, ◌-ℤ◌, ◌-◌, ◌<◌, ◌↔◌, ◌∷◌, ◌≡◌, ◌≤◌}
+use Rattle.linker_runs.proofs.Imports.{AreOfRows, IsAligned, IsEncoded, IsOfRow, IsSomeAnd, IsWithin, None, Option, RowInfo, Shape, Shapes, Some, [], ap, arith, cases_lt, inl, inr, ints, is_reached, is_supported, neg_ℤ, negsuc, pos, reach_of, short_shape, slice_index_or, subst, suc, sym, true, zero, ℕ, ℤ, ◌%◌, ◌*◌, ◌+◌, ◌-ℤ◌, ◌-◌, ◌<◌, ◌↔◌, ◌∷◌, ◌≡◌, ◌≤◌}
+use Rattle.linker_elf.specs.Relocate.{IsInReach}
 use Rattle.linker_runs.proofs.Nearer.{above_is, is_above, below_is, is_below}
 
 -- distances up and down are multiples of a unit by their sizes

@@ -1,5 +1,5 @@
 -- What calls of RISC-V become.
-use Rattle.linker_runs.proofs.Imports.{Isa, AreAddresses, BitRange, Bool, InstructionWritten, IsAddress, IsApplied, IsJal, IsShortJump, IsSomeAnd, List, None, OfJalr, Option, RiscVBecomes, Some, Template, agree_below, and_parts, ap, arith, bits_taken, cases_Bool, drop, eqb-true, false, field, from_le_bytes, from_le_bytes-to_le_bytes_4, if◌then◌else◌, inl, inr, int_lt, is_placed, length, has_short_jump, link_register, operands_of, pos, refl, riscv_row, riscv_template, short_bytes, short_jump, subst, take, to_le_bytes, true, w16, w32, w64, whole, window_of, ℕ, ℤ, ◌%◌, ◌&&◌, ◌*ℤ◌, ◌*◌, ◌+ℤ◌, ◌+◌, ◌-◌, ◌<◌, ◌==◌, ◌^◌, ◌∙◌, ◌≡◌}
+use Rattle.linker_runs.proofs.Imports.{AreAddresses, BitRange, Bool, InstructionWritten, IsAddress, IsApplied, IsJal, IsShortJump, IsSomeAnd, Isa, List, None, OfJalr, Option, RiscVBecomes, Some, Template, agree_below, and_parts, ap, arith, bits_taken, cases_Bool, drop, eqb-true, false, field, from_le_bytes, from_le_bytes-to_le_bytes_4, has_short_jump, if◌then◌else◌, inl, inr, int_lt, is_placed, length, link_register, operands_of, pos, refl, riscv_row, riscv_template, short_bytes, short_jump, subst, take, to_le_bytes, true, w16, w32, w64, whole, window_of, ℕ, ℤ, ◌%◌, ◌&&◌, ◌*ℤ◌, ◌*◌, ◌+ℤ◌, ◌+◌, ◌-◌, ◌<◌, ◌==◌, ◌^◌, ◌∙◌, ◌≡◌}
 use Rattle.linker_elf.specs.RiscV.{riscv_form}
 use Rattle.linker_elf.specs.declared.elf.AnyForm.TheVariants.{RiscV}
 use Rattle.linker_elf.specs.declared.riscv64.forms.RiscVInstruction.{RiscVInstruction}

@@ -1,7 +1,6 @@
 -- Relocations of instructions: what they keep, where their operands are, and which are in reach.
-use Rattle.linker_runs.proofs.Imports.{AreAddresses, Bool, Form, IsOutOfReach, IsSomeAnd, None, Option, Some, Template, Written, agree_below, agree_below_at, ap, arith, bit_at, false, field, ints, is_placed, operands_of, pos, true, ℕ, ℤ, ◌*ℤ◌, ◌+ℤ◌, ◌+◌, ◌-◌, ◌<◌, ◌^◌, ◌∙◌, ◌≡◌}
+use Rattle.linker_runs.proofs.Imports.{AreAddresses, Bool, Form, IsInReach, IsOutOfReach, IsSomeAnd, None, Option, Some, Template, Written, agree_below, agree_below_at, ap, arith, bit_at, false, field, ints, is_placed, operands_of, pos, true, ℕ, ℤ, ◌*ℤ◌, ◌+ℤ◌, ◌+◌, ◌-◌, ◌<◌, ◌^◌, ◌∙◌, ◌≡◌}
 use Rattle.linker_base.proofs.Fields.{same_fields}
-use Rattle.linker_runs.specs.Sites.{IsInReach}
 
 -- ---- what a write keeps
 

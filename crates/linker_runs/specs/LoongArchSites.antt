@@ -1,17 +1,15 @@
 -- What sites of LoongArch become (LoongArch ELF psABI, "Linker Relaxation"; the instructions by the
 -- LoongArch Reference Manual, volume 1).
-use Rattle.linker_runs.specs.Imports.{Branch26, IsAddress, IsSomeAnd, ItemError, List, NoShape}
-use Rattle.linker_runs.specs.Imports.{NotItsInstructions, OutOfReach, Shift5, Some, drop, field}
-use Rattle.linker_runs.specs.Imports.{from_le_bytes, length, loongarch_row, pos, signed, sum_64}
-use Rattle.linker_runs.specs.Imports.{take, to_le_bytes, value_of, w32, w64, ℕ}
+use Rattle.linker_runs.specs.Imports.{Address, Branch26, Call, IsAddress, IsSomeAnd, ItemError}
+use Rattle.linker_runs.specs.Imports.{Kind, List, NoShape, NotItsInstructions, OutOfReach, Shift5}
+use Rattle.linker_runs.specs.Imports.{Some, drop, field, from_le_bytes, length, loongarch_row, pos}
+use Rattle.linker_runs.specs.Imports.{signed, sum_64, take, to_le_bytes, value_of, w32, w64, ℕ}
 use Rattle.std.specs.Prelude.{◌≡◌, ◌≢◌, ◌⊎◌, ◌+◌, ◌*◌, ◌^◌, ◌+ℤ◌, ◌*ℤ◌}
 use Rattle.linker_elf.specs.Elf.{IsWithin, bit_bounds}
 use Rattle.linker_elf.specs.LoongArch.{loongarch_form, pcalau12i, reach}
 use Rattle.linker_elf.specs.declared.elf.Sign.TheVariants.{Signed}
 use Rattle.linker_elf.specs.declared.loongarch64.relocations.LoongArch64Relocation.TheVariants as r
 use Rattle.linker_utils.specs.LoongArchRewrites.{IsAddi, IsCall, IsPair, word_at, rd_of}
-use Rattle.linker_runs.specs.declared.packing.loongarch64.Kind.{Kind}
-use Rattle.linker_runs.specs.declared.packing.loongarch64.Kind.TheVariants.{Call, Address}
 use Rattle.linker_runs.specs.Sites.{Template, operands_of, IsRelocated, IsInReach, IsOutOfReach}
 
 -- ---- sites

@@ -1,6 +1,5 @@
 -- Architectures whose code can become shorter.
-use Rattle.linker_runs.specs.Imports.{Machine, None, Option, Some}
-use Rattle.linker_runs.specs.declared.packing.Isa.TheVariants.{Rv64}
+use Rattle.linker_runs.specs.Imports.{Machine, None, Option, Rv64, Some}
 use Rattle.linker_runs.specs.declared.packing.Machine.TheVariants as machines
 use Rattle.linker_elf.specs.declared.elf.architecture.Architecture.{Architecture}
 use Rattle.linker_elf.specs.declared.elf.architecture.Architecture.TheVariants as architectures

@@ -1,14 +1,13 @@
 -- The items that RISC-V's relocations make (RISC-V ELF psABI, "Linker Relaxation": "Alignment
 -- Relaxation", "Function Call Relaxation" and "Compressed Tail Call Relaxation").
-use Rattle.linker_runs.specs.Imports.{Aligned, Alignment, Bool, IsCallPair, IsNextPowerOfTwo, Isa, Item}
-use Rattle.linker_runs.specs.Imports.{List, None, OfJalr, Relocation, Shapes, Site, Some, field}
-use Rattle.linker_runs.specs.Imports.{length, link_register, pos, r_type_of, riscv_name, true}
-use Rattle.linker_runs.specs.Imports.{word_at, ℕ}
+use Rattle.linker_runs.specs.Imports.{Aligned, Alignment, Bool, IsNextPowerOfTwo, Isa, Item, List}
+use Rattle.linker_runs.specs.Imports.{None, OfJalr, Relocation, Rv32, Rv64, Shapes, Site, Some}
+use Rattle.linker_runs.specs.Imports.{field, length, pos, r_type_of, riscv_name, true, ℕ}
+use Rattle.linker_riscv64.specs.RiscVCalls.{IsCallPair, link_register, word_at}
 use Rattle.std.specs.Prelude.{◌≡◌, ◌≢◌, ◌+◌, ◌%◌, ◌^◌, ◌<◌, ◌≤◌, ◌⊎◌, ◌-◌, ◌==◌, ◌||◌}
 use Rattle.linker_elf.specs.declared.riscv64.relocations.RiscVRelocation.{RiscVRelocation}
 use Rattle.linker_elf.specs.declared.riscv64.relocations.RiscVRelocation.TheVariants as r
 use Rattle.linker_runs.specs.declared.shapes.riscv64.TheConstants.{CALL, TAIL_C}
-use Rattle.linker_runs.specs.declared.packing.Isa.TheVariants.{Rv32, Rv64}
 use Rattle.linker_runs.specs.declared.relaxation.Site.{Site as site}
 use Rattle.linker_runs.specs.Relocations.{relocation_at, IsMarked}
 

@@ -1,13 +1,13 @@
 -- What calls of RISC-V become (RISC-V ELF psABI, "Function Call Relaxation", "Compressed Tail Call
 -- Relaxation"; the instructions by the RISC-V unprivileged ISA).
-use Rattle.linker_runs.specs.Imports.{IsAddress, IsApplied, IsSomeAnd, Isa, ItemError, List}
+use Rattle.linker_runs.specs.Imports.{CjType, IsAddress, IsSomeAnd, Isa, ItemError, JType, List}
 use Rattle.linker_runs.specs.Imports.{NoShape, None, NotItsInstructions, OfJalr, Option, OutOfReach}
-use Rattle.linker_runs.specs.Imports.{Some, [], drop, field, from_le_bytes, length, link_register}
-use Rattle.linker_runs.specs.Imports.{pos, riscv_row, take, to_le_bytes, true, w16, w32, w64, ℕ}
+use Rattle.linker_runs.specs.Imports.{Some, UiType, [], drop, field, from_le_bytes, length, pos}
+use Rattle.linker_runs.specs.Imports.{riscv_row, take, to_le_bytes, true, w16, w32, w64, ℕ}
+use Rattle.linker_elf.specs.Applied.{IsApplied}
+use Rattle.linker_riscv64.specs.RiscVCalls.{link_register}
 use Rattle.std.specs.Prelude.{◌≡◌, ◌+◌, ◌-◌, ◌*◌, ◌%◌, ◌^◌, ◌==◌, ◌&&◌, if◌then◌else◌, ◌+ℤ◌, ◌∷◌}
 use Rattle.linker_elf.specs.RiscV.{riscv_form}
-use Rattle.linker_elf.specs.declared.riscv64.forms.RiscVInstruction.TheVariants.{JType, CjType}
-use Rattle.linker_elf.specs.declared.riscv64.forms.RiscVInstruction.TheVariants.{UiType}
 use Rattle.linker_elf.specs.declared.riscv64.relocations.RiscVRelocation.TheVariants as r
 use Rattle.linker_laws.specs.RiscVRelocationLaws.{without_bit_0}
 use Rattle.linker_runs.specs.RiscVItems.{IsCallAt, has_short_jump}

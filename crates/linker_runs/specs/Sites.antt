@@ -1,5 +1,6 @@
 -- Instructions, and the relocations that are applied to them.
-use Rattle.linker_runs.specs.Imports.{IsApplied, IsRejected, IsSomeAnd, List, Option, false, pos, ℕ}
+use Rattle.linker_runs.specs.Imports.{IsSomeAnd, List, Option, false, pos, ℕ}
+use Rattle.linker_elf.specs.Applied.{IsApplied, IsRejected}
 use Rattle.linker_elf.specs.declared.elf.RowInfo.{RowInfo}
 use Rattle.linker_elf.specs.declared.elf.value.Operands.{Operands}
 

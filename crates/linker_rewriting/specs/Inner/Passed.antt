@@ -1,16 +1,14 @@
 -- What contracts say of contexts, sites and decisions, as the code has them.
 use Rattle.std.specs.Prelude.{◌≡◌, ◌<◌, ◌/◌, ℕ, List, Bool, false, length, take, Option, IfSome}
-use Rattle.linker_rewriting.specs.Imports.{Addresses, Choice, Decision, Rela, Relaxation, Rewritten}
-use Rattle.linker_rewriting.specs.Imports.{Symbol}
+use Rattle.linker_rewriting.specs.Imports.{Addresses, Choice, Decision, Deletion, Rela}
+use Rattle.linker_rewriting.specs.Imports.{RelaxContext as Passed, Relaxation, Rewritten, Symbol}
 use Rattle.linker_rewriting.specs.Decisions.{AllCanBeMade, AreApart, IsThere, decision_at}
 use Rattle.linker_rewriting.specs.Decisions.{deletions_by, pairs_in}
 use Rattle.linker_rewriting.specs.Facts.{RelaxContext, context_of}
 use Rattle.linker_rewriting.specs.Inner.Left.{AreKept}
 use Rattle.linker_rewriting.specs.Notes.{AreHighsNoted, AreLabelsNoted}
 use Rattle.linker_rewriting.specs.Numbers.{decisions_in}
-use Rattle.linker_rewriting.specs.declared.decisions.Deletion.{Deletion}
 use Rattle.linker_rewriting.specs.declared.decisions.numbers.DecisionNumbers.{DecisionNumbers}
-use Rattle.linker_rewriting.specs.declared.facts.RelaxContext.{RelaxContext as Passed}
 use Rattle.linker_rewriting.specs.declared.global_pointer.Bases.{Bases}
 use Rattle.linker_rewriting.specs.declared.relocations.Site.{Site}
 

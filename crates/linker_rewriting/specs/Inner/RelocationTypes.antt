@@ -1,8 +1,8 @@
 -- Which relocations are rewritten in a phase, and for which a survey asks.
 use Rattle.std.specs.Prelude.{◌≡◌, ◌<◌, ◌≤◌, ◌/◌, ℕ, Bool, true, false, List, length, slice_get}
 use Rattle.linker_rewriting.specs.Imports.{Architecture, Grouped, IfGroupMatches, NotRelaxable}
-use Rattle.linker_rewriting.specs.Imports.{Phase, Rela, Scope, SymbolFacts, relocation_in}
-use Rattle.linker_rewriting.specs.declared.facts.RelaxContext.{RelaxContext as Passed}
+use Rattle.linker_rewriting.specs.Imports.{Phase, Rela, RelaxContext as Passed, Scope, SymbolFacts}
+use Rattle.linker_rewriting.specs.Imports.{relocation_in}
 use Rattle.linker_rewriting.specs.Groups.{IsScopeIn}
 use Rattle.linker_rewriting.specs.Surveys.{needs_mark}
 

@@ -1,10 +1,8 @@
 -- What sites of LoongArch become as they are, by their kinds.
-use Rattle.linker_runs.specs.Imports.{List, drop, sum_64, take, ℕ}
+use Rattle.linker_runs.specs.Imports.{Address, Call, Kind, List, drop, sum_64, take, ℕ}
 use Rattle.linker_runs.specs.Sites.{IsRelocated}
 use Rattle.linker_runs.specs.LoongArchSites.{call_template, high_template, low_template}
 use Rattle.linker_runs.specs.LoongArchSites.{ArePagesNear}
-use Rattle.linker_runs.specs.declared.packing.loongarch64.Kind.{Kind}
-use Rattle.linker_runs.specs.declared.packing.loongarch64.Kind.TheVariants.{Call, Address}
 
 -- The pair's relocations are applied, and it can compute the target.
 pub record AreRelocated (section : List ℕ) (o place target : ℕ) (written : List ℕ) : Type 0 where

@@ -1,5 +1,4 @@
-use Rattle.linker_rewriting.proofs.Imports.{arith, below_more, cases_lt, false, inl, inr, is_high, relocation_in, subst, ℕ, ◌<◌, ◌≡◌, ◌≤◌, ◌⊎◌}
-use Rattle.std.specs.Prelude.{min}
+use Rattle.linker_rewriting.proofs.Imports.{arith, below_more, cases_lt, false, inl, inr, is_high, min, relocation_in, subst, ℕ, ◌<◌, ◌≡◌, ◌≤◌, ◌⊎◌}
 use Rattle.linker_rewriting.proofs.LabelGroups.{isnt_r_type, found, none_at, none_searched}
 use Rattle.linker_rewriting.proofs.riscv_pcrel_groups.high_at.Goals as goal
 
