@@ -1,6 +1,6 @@
--- RISC-V: the instructions of `linker_laws`, those of lazy PLTs in `linker_output`, and those of RV32,
--- compared with an emulator. Registers 32 to 63 are those of floating-point numbers, which have 64
--- bits in the emulator.
+-- RISC-V: the instructions of `linker_laws`, those of lazy PLTs in `linker_output`, and those of
+-- RV32, compared with an emulator. Registers 32 to 63 are those of floating-point numbers, which
+-- have 64 bits in the emulator.
 use Rattle.std.specs.Prelude.{Bool, List, None, Option, Some, false, nat_lt, take, ℕ, ◌+◌, ◌-◌, ◌%◌}
 use Rattle.std.specs.Prelude.{◌^◌, ◌==◌, if◌then◌else◌, ◌*◌}
 use Rattle.linker_final.specs.Imports.{Hart, register, step, to_le_bytes, w32}

@@ -29,7 +29,7 @@ pub use Rattle.linker_elf.specs.Ppc64.{ppc64_form}
 pub use Rattle.linker_elf.specs.Reach.{clui_bounds, reach_of}
 pub use Rattle.linker_elf.specs.Relocate.{HoldsBits, InstructionWritten, IsAccepted, IsAligned, IsCompletedBy, IsEncoded, IsInUnits, IsMultiple, IsReached, IsWritten, MoveReads, RiscVHolds, SizeHolds, SizeNumber, SizeReads, bits_at, bits_taken, insn_at, is_32_bit_move, is_jirl, is_low_jump, is_movk, is_supported, low_bytes, number_of_bytes, number_placed, ored_cleared, places_cleared, ppc64_reads, stays_movk, value_at, whole_number, window_len, with_bit_31_if}
 pub use Rattle.linker_elf.specs.RiscV.{riscv_form, riscv_layout, riscv_places, ui_high, ui_low}
-pub use Rattle.linker_elf.specs.RiscVRelocations.{jump_row, pair_row, riscv_row}
+pub use Rattle.linker_elf.specs.RiscVRelocations.{jump_row, pair_row}
 pub use Rattle.linker_elf.specs.Value.{difference_64, sum_64, value_of}
 pub use Rattle.linker_elf.specs.declared.aarch64.forms.AArch64Instruction.{AArch64Instruction}
 pub use Rattle.linker_elf.specs.declared.aarch64.forms.AArch64Instruction.TheVariants.{Add, Adr, JumpCall, LdSt, LdrRegister, MachOLow12, Movkz, Movnz}

@@ -1,5 +1,5 @@
 -- RISC-V's groups.
-use Rattle.linker_laws.proofs.Imports.{Absolute, AbsoluteAddresses, Action, Agree, AreAddresses, AreBytes, AreOf, Bool, CjType, CluiType, DescriptorAddresses, EntryAddresses, GotRelative, GotTpOff, Group, Hart, IType, Instruction, IsApplied, IsCallPair, IsLoadFromGot, IsLow12, IsSomeAnd, IsTrue, IsWithin, JType, Kind, Kinds, Law, List, LoadFromGot, LowPartOf, Operands, Option, OthersAgree, PltRelative, Program, Relative, RelativeAddresses, RelativeRiscVLow12, RelocationKind, RowInfo, SType, Some, State, ThreadAddresses, TlsDesc, TpOff, UType, UiType, [], action_at, action_of, add-one, adds, adds_word, after_rewrite, anything, ap, ap₂, arith, auipc, cast_signed, continued, difference_64, drop, drop-take, entry_and_addend, even, false, field, from_le_bytes, go_to, goes_to, i_type, if◌then◌else◌, int_rem_euclid, ints, jal, jumps, le_refl, left, length, load_number, loaded, loads, loads_float, low_12_bounds, low_row, lui, moved, ne_eqb, of_entry, of_half, of_link, of_word, offset_row, option_map, pair_row, place_sum, plt_address, pos, put, refl, rewritten, riscv_form, riscv_places, riscv_row, rs1_of, rs2_of, run, s_type, same, signed, stores, stores_float, subst, suc, suc-add, sum, sum_64, sums, sym, symbol_address, t0, take, take-take, thread_offset, true, upper, upper_from, uses, w16, w32, w64, with_action, with_integer, with_register, word_of, word_of_front, wrapped, zero, ℕ, ℤ, ⊤, ◌%◌, ◌*◌, ◌+ℤ◌, ◌+◌, ◌-ℤ◌, ◌-◌, ◌<◌, ◌==◌, ◌^◌, ◌∙◌, ◌∷◌, ◌≡◌, ◌≢◌, ◌≤◌}
+use Rattle.linker_laws.proofs.Imports.{Absolute, AbsoluteAddresses, Action, Agree, AreAddresses, AreBytes, AreOf, Bool, CjType, CluiType, DescriptorAddresses, EntryAddresses, GotRelative, GotTpOff, Group, Hart, IType, Instruction, IsApplied, IsCallPair, IsLoadFromGot, IsLow12, IsSomeAnd, IsTrue, IsWithin, JType, Kind, Kinds, Law, List, LoadFromGot, LowPartOf, Operands, Option, OthersAgree, PltRelative, Program, Relative, RelativeAddresses, RelativeRiscVLow12, RelocationKind, RowInfo, SType, Some, State, ThreadAddresses, TlsDesc, TpOff, UType, UiType, [], action_at, action_of, add-one, adds, adds_word, after_rewrite, anything, ap, ap₂, arith, auipc, cast_signed, continued, difference_64, drop, drop-take, entry_and_addend, even, false, field, from_le_bytes, go_to, goes_to, i_type, if◌then◌else◌, int_rem_euclid, ints, jal, jumps, le_refl, left, length, load_number, loaded, loads, loads_float, low_12_bounds, low_row, lui, moved, ne_eqb, of_entry, of_half, of_link, of_word, offset_row, option_map, pair_row, place_sum, plt_address, pos, put, refl, rewritten, riscv_form, riscv_places, rs1_of, rs2_of, run, s_type, same, signed, stores, stores_float, subst, suc, suc-add, sum, sum_64, sums, sym, symbol_address, t0, take, take-take, thread_offset, true, upper, upper_from, uses, w16, w32, w64, with_action, with_integer, with_register, word_of, word_of_front, wrapped, zero, ℕ, ℤ, ⊤, ◌%◌, ◌*◌, ◌+ℤ◌, ◌+◌, ◌-ℤ◌, ◌-◌, ◌<◌, ◌==◌, ◌^◌, ◌∙◌, ◌∷◌, ◌≡◌, ◌≢◌, ◌≤◌}
 use Rattle.linker_riscv64.specs.RiscVFields.{funct3_of, opcode_of, rd_of}
 use Rattle.linker_utils.specs.RiscVRewrites.{rewrites_word, with_rs1, a0, adds_low12, call_to_jal, clui_to_cli, half_at, hi20_to_clui, IsLui, load_to_addi, of_destination, riscv_matches, tail_to_cj, tail_to_jal}
 use Rattle.linker_laws.specs.RiscVGroups.{AreBefore, AreDeleted, Code, Has, Stands, bytes_at, instruction_at, link, machine, seen}

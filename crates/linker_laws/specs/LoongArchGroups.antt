@@ -413,10 +413,10 @@ LoadOfDescriptorToNop = BecomesNop IsLoadOfDescriptor LoadGoes
 abbrev pub LoadOfDescriptorIsDeleted : Type 0
 LoadOfDescriptorIsDeleted = IsDeleted IsLoadOfDescriptor LoadGoes
 
--- `jirl ra, ra, 0` calls the function, which leaves an offset in `a0`. New has the offset there, and
--- a `nop`, or nothing. What else the function changes may be anything then, as is `ra`. By the psABI
--- ("TLS Descriptors") it changes no other register, and returns by `ra`. It saves others below the
--- stack pointer. Where the thread has no block yet, it makes one.
+-- `jirl ra, ra, 0` calls the function, which leaves an offset in `a0`. New has the offset there,
+-- and a `nop`, or nothing. What else the function changes may be anything then, as is `ra`. By the
+-- psABI ("TLS Descriptors") it changes no other register, and returns by `ra`. It saves others
+-- below the stack pointer. Where the thread has no block yet, it makes one.
 abbrev pub CallGoes : GoneLaw
 CallGoes n Goes jirl =
     (c : Code) (offset executes : ℕ) (k k' : Kinds) (s s' : State) → Goes c s

@@ -162,8 +162,8 @@ CluiBecomesCli =
     → Group (of_link (link c)) 1 k s (with_register (rd_of (word_of lui)) same k)
     (put (rd_of (word_of lui)) 0 (sum_64 x.place 4) s)
 
--- In old a `lui` of S + A, or of an offset, that is a number of 12 bits leaves 0. New has nothing of
--- it, where it is gone.
+-- In old a `lui` of S + A, or of an offset, that is a number of 12 bits leaves 0. New has nothing
+-- of it, where it is gone.
 abbrev pub ZeroLuiGoes : RiscVRelocation → (Operands → Type 0) → (Code → State → Type 0) → List ℕ
     → Type 0
 ZeroLuiGoes name IsLow IsGone lui =

@@ -20,8 +20,8 @@ abbrev pub upper_and_low : (Operands → ℕ) → RiscVInstruction → RiscVInst
 upper_and_low begin upper low o x y =
     pos (begin o) +ℤ ((riscv_form upper).machine x +ℤ (riscv_form low).machine y)
 
--- What is said of steps, of what instructions compute from their words, and of the target: `Law`, or
--- `Law32` of RV32.
+-- What is said of steps, of what instructions compute from their words, and of the target: `Law`,
+-- or `Law32` of RV32.
 abbrev pub Scheme : Type 1
 Scheme = (steps : List Step) → (Operands → Computed steps) → (Operands → ℕ) → Type 0
 

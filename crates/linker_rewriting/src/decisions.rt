@@ -1,6 +1,6 @@
 //! What becomes of each relocation of a section and of its instruction.
 
-ghost use Rattle.std.specs.Prelude.{◌≡◌, ◌<◌, ◌≤◌, ◌+◌, ◌-◌, ◌/◌, length, IfSome, IfErr};
+ghost use Rattle.std.specs.Prelude.{◌≡◌, ◌<◌, ◌≤◌, ◌+◌, ◌-◌, ◌/◌, length, IfErr};
 ghost use Rattle.std.specs.Prelude.{OnOk, IfOk, true, false};
 ghost use Rattle.linker_rewriting.specs.declared.decisions.Decision.{Decision as decisions};
 ghost use Rattle.linker_rewriting.specs.Numbers.{decisions_in, IsWrittenDecision};
