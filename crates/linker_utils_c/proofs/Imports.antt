@@ -22,7 +22,7 @@ pub use Rattle.linker_utils_c.specs.Placement.{AreWays, Arrays, HaveLengths, IsC
 pub use Rattle.linker_utils_c.specs.Recognising.{AreInNumbers, IsMadeInNumbers, present}
 pub use Rattle.linker_utils_c.specs.Relocate.{AreRelocated, IsApplied, IsOutcome, IsRelocated, IsRelocatedAs, IsRelocatedAt}
 pub use Rattle.linker_utils_c.specs.Relocations.{InNumbers, IsRange, IsSize}
-pub use Rattle.linker_utils_c.specs.Status.{code}
+pub use Rattle.linker_utils_c.specs.Status.{code, ok_or}
 pub use Rattle.linker_utils_c.specs.declared.recognising.RecognisedNumbers.{RecognisedNumbers}
 pub use Rattle.linker_utils_c.specs.declared.relocate.Relocation.{Relocation}
 pub use Rattle.linker_utils_c.specs.declared.status.Status.TheVariants.{DifferentLengths, ShortMemory, Success, UnknownArchitecture, UnknownRewrite}

@@ -1,10 +1,10 @@
 -- What is known of a rewrite by its number, and of the status of a call that may apply it.
-use Rattle.linker_utils_c.proofs.Imports.{Architecture, MatchOption, MatchResult, None, Option, Relaxation, Some, UnknownRewrite, code, rewrite_of_number, sym, ℕ, ◌≡◌}
+use Rattle.linker_utils_c.proofs.Imports.{Architecture, MatchOption, MatchResult, None, Option, Relaxation, Some, UnknownRewrite, code, ok_or, rewrite_of_number, sym, ℕ, ◌≡◌}
 use Rattle.linker_elf.specs.Machines.{architecture_of}
-use Rattle.linker_utils_c.specs.Rewrites.{named_rewrite, rewrite_or_unknown}
+use Rattle.linker_utils_c.specs.Rewrites.{named_rewrite}
 
 of_found : (P : Relaxation → Type 0) (found : Option Relaxation) (number : ℕ) → MatchOption found (number ≡ code UnknownRewrite) P
-    → MatchResult (rewrite_or_unknown found) P (λ why. number ≡ code why)
+    → MatchResult (ok_or found UnknownRewrite) P (λ why. number ≡ code why)
 of_found P None number unknown = unknown
 of_found P (Some rewrite) number known = known
 

@@ -1,9 +1,10 @@
 -- What a linker knows, and what it chooses, in the numbers that C sees.
 use Rattle.std.specs.Prelude.{◌≡◌, ℕ, ◌==◌, not, Option, None, Some, Bool, pos, Result, Ok, Err}
-use Rattle.linker_utils_c.specs.Imports.{Architecture, Choice, ChoiceNumbers, LinkFacts, Relaxation}
-use Rattle.linker_utils_c.specs.Imports.{Status, completed, relaxation_deleted, relaxation_modifier}
-use Rattle.linker_utils_c.specs.Imports.{relaxation_no_op, relaxation_other, relaxation_skipped}
-use Rattle.linker_utils_c.specs.Imports.{rewrite_of_number}
+use Rattle.linker_utils_c.specs.Imports.{Architecture, ChoiceNumbers, LinkFacts, Relaxation, Status}
+use Rattle.linker_utils_c.specs.Imports.{relaxation_deleted, relaxation_modifier, relaxation_no_op}
+use Rattle.linker_utils_c.specs.Imports.{relaxation_other, relaxation_skipped, rewrite_of_number}
+use Rattle.linker_elf.specs.declared.elf.choice.Choice.{Choice}
+use Rattle.linker_elf.specs.Value.{completed}
 use Rattle.linker_elf.specs.declared.elf.choice.OtherRelocation.{OtherRelocation}
 use Rattle.linker_base.specs.declared.rewrite.DeletedBytes.{DeletedBytes}
 use Rattle.linker_utils_c.specs.declared.choices.LinkFactNumbers.{LinkFactNumbers}

@@ -6,18 +6,13 @@ use Rattle.linker_utils_c.specs.Imports.{UnknownArchitecture, UnknownForm, X86_6
 use Rattle.linker_utils_c.specs.Imports.{byte_len, cast_unsigned, flag_number, form_of_number, w64}
 use Rattle.linker_base.specs.Form.{Form, window_of, Fits, Written, MachineReads, IsReadBack}
 use Rattle.linker_elf.specs.declared.elf.AnyForm.{AnyForm}
-use Rattle.linker_utils_c.specs.Status.{code, HasRoom}
-
--- a form, or that there is none
-abbrev pub form_or_unknown : Option AnyForm → Result AnyForm Status
-form_or_unknown None = Err UnknownForm
-form_or_unknown (Some form) = Ok form
+use Rattle.linker_utils_c.specs.Status.{code, HasRoom, ok_or}
 
 -- the form of a machine (e_machine) and a number, or which of the two is unknown
 abbrev pub form_among : Option Architecture → ℕ → Result AnyForm Status
 form_among None form = Err UnknownArchitecture
 form_among (Some X86_64) form = Err UnknownArchitecture
-form_among (Some architecture) form = form_or_unknown (form_of_number architecture form)
+form_among (Some architecture) form = ok_or (form_of_number architecture form) UnknownForm
 
 abbrev pub named_form : ℕ → ℕ → Result AnyForm Status
 named_form machine form = form_among (architecture_of machine) form

@@ -2,14 +2,12 @@
 use Rattle.std.specs.Prelude.{◌≡◌, ◌⊎◌, ◌==◌, ℕ, List, length, Result, Ok, Err, Option, Some, None}
 use Rattle.std.specs.Prelude.{if◌then◌else◌}
 use Rattle.linker_output.specs.LazyPlt.{PltCode, capped_len, WritesCode, RejectsCode}
-use Rattle.linker_output.specs.LazyPlt.{word_by, header_places}
 use Rattle.linker_output.specs.LazyPlts.{plt_of_form}
 use Rattle.linker_output.specs.declared.lazy_plt.LazyEntry.{LazyEntry}
 use Rattle.linker_output.specs.declared.lazy_plt.LazyForm.{LazyForm}
 use Rattle.linker_output.specs.declared.lazy_plt.LazyForm.TheVariants as form
 use Rattle.linker_output.specs.declared.lazy_plt.LazyPiece.{LazyPiece}
-use Rattle.linker_output.specs.declared.stubs.StubError.{StubError}
-use Rattle.linker_utils_c.specs.Imports.{Architecture, Status, Success, UnknownStub}
+use Rattle.linker_utils_c.specs.Imports.{Architecture, Status, StubError, Success}
 use Rattle.linker_utils_c.specs.Output.{stub_status}
 use Rattle.linker_utils_c.specs.Status.{code}
 use Rattle.linker_utils_c.specs.declared.lazy_plt.LazyPltNumbers.{LazyPltNumbers}
@@ -38,10 +36,6 @@ numbers_of plt =
       header_words = length plt.header_words;
     }
 
-abbrev pub IsPltReturned : Option PltCode → LazyPltNumbers → LazyPltNumbers → ℕ → Type 0
-IsPltReturned None old new status = (status ≡ code UnknownStub) × (new ≡ old)
-IsPltReturned (Some plt) old new status = (status ≡ code Success) × (new ≡ numbers_of plt)
-
 abbrev pub written_status : Result Unit StubError → Status
 written_status (Ok done) = Success
 written_status (Err error) = stub_status error
@@ -52,19 +46,3 @@ IsCodeWritten architecture pieces entry before after status =
     ((status ≡ code Success) × WritesCode architecture pieces entry before after)
     ⊎ ((error : StubError) × (status ≡ code (stub_status error)) × (after ≡ before)
     × RejectsCode architecture pieces entry before error)
-
-abbrev pub IsHeaderWritten : Option PltCode → ℕ → ℕ → List ℕ → List ℕ → ℕ → Type 0
-IsHeaderWritten None header words before after status =
-    (status ≡ code UnknownStub) × (after ≡ before)
-IsHeaderWritten (Some plt) header words before after status =
-    IsCodeWritten plt.instructions plt.header (header_places header words) before after status
-
-abbrev pub IsEntryWritten : Option PltCode → LazyEntry → List ℕ → List ℕ → ℕ → Type 0
-IsEntryWritten None entry before after status = (status ≡ code UnknownStub) × (after ≡ before)
-IsEntryWritten (Some plt) entry before after status =
-    IsCodeWritten plt.instructions plt.entry entry before after status
-
--- what an entry's word holds at first
-abbrev pub first_word : Option PltCode → ℕ → ℕ → ℕ → ℕ
-first_word None entry header dynamic = 0
-first_word (Some plt) entry header dynamic = word_by plt.word entry header dynamic

@@ -1,25 +1,21 @@
 -- What a linker adds to an output, in the numbers that C sees.
 use Rattle.std.specs.Prelude.{◌≡◌, ◌⊎◌, ℕ, ◌<◌, ◌≤◌, ◌==◌, if◌then◌else◌, List, [], ◌∷◌, length}
-use Rattle.std.specs.Prelude.{Bool, Option, Some, None, Err}
-use Rattle.linker_output.specs.Dynamic.{DynamicKind, DynamicKinds, dynamic_words}
-use Rattle.linker_output.specs.Got.{entry_words, static_words}
-use Rattle.linker_output.specs.Layout.{Run, run_len, run_spacing, run_word}
+use Rattle.std.specs.Prelude.{Option, Some, None, Err}
+use Rattle.linker_output.specs.Dynamic.{DynamicKind, DynamicKinds}
+use Rattle.linker_output.specs.Layout.{Run, run_len, run_spacing}
 use Rattle.linker_output.specs.Stubs.{StubCode, capped_len, WritesStub, RejectsStub}
 use Rattle.linker_output.specs.View.{Description, Symbol}
-use Rattle.linker_output.specs.declared.got.Origins.{Origins}
 use Rattle.linker_output.specs.declared.layout.SymbolPlace.{SymbolPlace}
 use Rattle.linker_output.specs.declared.layout.SymbolPlace.TheVariants.{ThreadLocal, Got, SmallData}
-use Rattle.linker_output.specs.declared.stubs.StubError.{StubError}
+use Rattle.linker_utils_c.specs.Imports.{Address, Architecture, Descriptor, EntryClass, Far}
+use Rattle.linker_utils_c.specs.Imports.{FarRelative, Jump, LandingLoad, Load, Module, ModuleOffset}
+use Rattle.linker_utils_c.specs.Imports.{NotProvided, PrefixedJump, PrefixedLoad, Status, StubError}
+use Rattle.linker_utils_c.specs.Imports.{StubKind, Success, ThreadOffset, TocFar, TocLoad, TooShort}
+use Rattle.linker_utils_c.specs.Imports.{UnknownEntryClass, UnknownStub}
 use Rattle.linker_output.specs.declared.stubs.StubError.TheVariants as errors
-use Rattle.linker_utils_c.specs.Imports.{Address, Architecture, Descriptor, DifferentFlags}
-use Rattle.linker_utils_c.specs.Imports.{EntryClass, Far, FarRelative, Jump, LandingLoad, Load}
-use Rattle.linker_utils_c.specs.Imports.{Module, ModuleOffset, NotProvided, PrefixedJump}
-use Rattle.linker_utils_c.specs.Imports.{PrefixedLoad, Status, StubKind, Success, ThreadOffset}
-use Rattle.linker_utils_c.specs.Imports.{TocFar, TocLoad, TooShort, UnknownEntryClass, UnknownStub}
-use Rattle.linker_output.specs.declared.tags.DynamicEntry.{DynamicEntry}
 use Rattle.linker_utils_c.specs.Relocate.{write_status}
 use Rattle.linker_utils_c.specs.Relocations.{IsCopied}
-use Rattle.linker_utils_c.specs.Status.{code}
+use Rattle.linker_utils_c.specs.Status.{code, IfFound}
 use Rattle.linker_utils_c.specs.declared.output.DynamicNumbers.{DynamicNumbers}
 use Rattle.linker_utils_c.specs.declared.output.EntryWords.{EntryWords}
 use Rattle.linker_utils_c.specs.declared.output.GotNumbers.{GotNumbers}
@@ -51,11 +47,10 @@ numbers_of_types types =
     }
 
 -- a text is copied, or the status says that there is none
-abbrev pub IsTextReturned : Option (List ℕ) → ℕ → List ℕ → List ℕ → ℕ → ℕ → ℕ → Type 0
-IsTextReturned (Some text) absent before after used_before used status =
-    IsCopied text before after used_before used status
-IsTextReturned None absent before after used_before used status =
-    (status ≡ absent) × (after ≡ before) × (used ≡ used_before)
+abbrev pub IsTextReturned : Option (List ℕ) → Status → List ℕ → List ℕ → ℕ → ℕ → ℕ → Type 0
+IsTextReturned found absent before after used_before used status =
+    IfFound found absent ((after ≡ before) × (used ≡ used_before)) status
+    (λ text. IsCopied text before after used_before used status)
 
 -- ---- entries of the GOT
 
@@ -79,47 +74,17 @@ AreNumbers (first ∷ second ∷ []) words =
     words ≡ record { first = number_or_none first; second = number_or_none second }
 AreNumbers others words = ⊥
 
-abbrev pub AreWordsReturned : DynamicKinds → Option EntryClass → Bool → Bool → WordNumbers
-    → WordNumbers → ℕ → Type 0
-AreWordsReturned types None is_bound is_executable old new status =
-    (status ≡ code UnknownEntryClass) × (new ≡ old)
-AreWordsReturned types (Some class) is_bound is_executable old new status =
-    (status ≡ code Success) × AreNumbers (dynamic_words types class is_bound is_executable) new
-
--- 0 of no class
-abbrev pub entry_words_of : Option EntryClass → ℕ
-entry_words_of None = 0
-entry_words_of (Some class) = entry_words class
-
 abbrev pub AreStaticWords : Option (List ℕ) → EntryWords → EntryWords → ℕ → Type 0
 AreStaticWords (Some (first ∷ second ∷ [])) old new status =
     (status ≡ code Success) × (new ≡ record { first = first; second = second })
 AreStaticWords others old new status = (status ≡ code UnknownEntryClass) × (new ≡ old)
-
-abbrev pub AreStaticReturned : Option EntryClass → ℕ → Origins → EntryWords → EntryWords → ℕ
-    → Type 0
-AreStaticReturned None address origins old new status =
-    (status ≡ code UnknownEntryClass) × (new ≡ old)
-AreStaticReturned (Some class) address origins old new status =
-    AreStaticWords (static_words class address origins) old new status
 
 -- the first word, if it isn't an entry
 abbrev pub IsHeader : Option ℕ → GotNumbers → Type 0
 IsHeader None got = (got.has_header ≡ 0) × (got.header ≡ 0)
 IsHeader (Some word) got = (got.has_header ≡ 1) × (got.header ≡ word)
 
--- ---- the file header
-
-abbrev pub AreFlagsReturned : Option ℕ → ℕ → ℕ → ℕ → Type 0
-AreFlagsReturned None old new status = (status ≡ code DifferentFlags) × (new ≡ old)
-AreFlagsReturned (Some flags) old new status = (status ≡ code Success) × (new ≡ flags)
-
 -- ---- what linkers provide
-
--- an entry of the dynamic section
-abbrev pub IsEntryReturned : Option DynamicEntry → DynamicEntry → DynamicEntry → ℕ → Type 0
-IsEntryReturned None old new status = (status ≡ code NotProvided) × (new ≡ old)
-IsEntryReturned (Some entry) old new status = (status ≡ code Success) × (new ≡ entry)
 
 abbrev pub place_number : SymbolPlace → ℕ
 place_number ThreadLocal = 0
@@ -135,28 +100,18 @@ pub record AreBothCopied {A : Type 0} (text before after : List ℕ) (used_befor
 
 abbrev pub IsSymbolReturned : Option Symbol → List ℕ → List ℕ → ℕ → ℕ → SymbolNumbers
     → SymbolNumbers → ℕ → Type 0
-IsSymbolReturned None before after used_before used old new status =
-    (status ≡ code NotProvided) × (after ≡ before) × (used ≡ used_before) × (new ≡ old)
-IsSymbolReturned (Some symbol) before after used_before used old new status =
-    AreBothCopied symbol.name before after used_before used
-    (record { offset = symbol.offset; place = place_number symbol.place }) old new status
+IsSymbolReturned found before after used_before used old new status =
+    IfFound found NotProvided ((after ≡ before) × (used ≡ used_before) × (new ≡ old)) status
+    (λ symbol. AreBothCopied symbol.name before after used_before used
+    (record { offset = symbol.offset; place = place_number symbol.place }) old new status)
 
 abbrev pub IsRunReturned : Option Run → List ℕ → List ℕ → ℕ → ℕ → RunNumbers → RunNumbers → ℕ
     → Type 0
-IsRunReturned None before after used_before used old new status =
-    (status ≡ code NotProvided) × (after ≡ before) × (used ≡ used_before) × (new ≡ old)
-IsRunReturned (Some run) before after used_before used old new status =
-    AreBothCopied run.prefix before after used_before used
+IsRunReturned found before after used_before used old new status =
+    IfFound found NotProvided ((after ≡ before) × (used ≡ used_before) × (new ≡ old)) status
+    (λ run. AreBothCopied run.prefix before after used_before used
     (record { len = run_len run; first = run.first; count = run.count; spacing = run_spacing run })
-    old new status
-
-abbrev pub IsFoundWord : Option ℕ → ℕ → ℕ → ℕ → Type 0
-IsFoundWord None old new status = (status ≡ code NotProvided) × (new ≡ old)
-IsFoundWord (Some word) old new status = (status ≡ code Success) × (new ≡ word)
-
-abbrev pub IsWordReturned : Option Run → ℕ → ℕ → ℕ → ℕ → Type 0
-IsWordReturned None index old new status = (status ≡ code NotProvided) × (new ≡ old)
-IsWordReturned (Some run) index old new status = IsFoundWord (run_word run index) old new status
+    old new status)
 
 -- ---- stubs
 

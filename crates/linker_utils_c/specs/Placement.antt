@@ -13,8 +13,9 @@ use Rattle.linker_output.specs.declared.placement.StubShape.{StubShape}
 use Rattle.linker_utils_c.specs.Status.{code}
 use Rattle.linker_utils_c.specs.declared.placement.PlacedStub.{PlacedStub}
 use Rattle.linker_utils_c.specs.Imports.{CodeTooLong, DifferentLengths, NoBoundary, NoTarget}
-use Rattle.linker_utils_c.specs.Imports.{NotAscending, OutOfMemory, ShortMemory, Status, StubTooFar}
+use Rattle.linker_utils_c.specs.Imports.{NotAscending, ShortMemory, Status, StubTooFar}
 use Rattle.linker_utils_c.specs.Imports.{StubWithoutLength, Success}
+use Rattle.linker_utils_c.specs.declared.status.Status.TheVariants.{OutOfMemory}
 
 -- arrays are those of code
 pub record IsCodeOf (code : Code) (branches : List Branch) (targets boundaries : List ℕ)

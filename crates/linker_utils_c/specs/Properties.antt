@@ -3,13 +3,12 @@ use Rattle.std.specs.Prelude.{◌≡◌, ◌⊎◌, ℕ, List, length, Result, O
 use Rattle.std.specs.Prelude.{Bool, false, is_some}
 use Rattle.linker_output.specs.Properties.{rule_of, WritesRead, RejectsRead, WritesMerged}
 use Rattle.linker_output.specs.Properties.{RejectsMerge, WritesNote, RejectsNote}
-use Rattle.linker_output.specs.declared.properties.LandingProperty.{LandingProperty}
 use Rattle.linker_output.specs.declared.properties.Property.{Property}
 use Rattle.linker_output.specs.declared.properties.PropertyError.{PropertyError}
 use Rattle.linker_output.specs.declared.properties.PropertyError.TheVariants as errors
 use Rattle.linker_utils_c.specs.Imports.{Architecture, CutOff, DifferentValues, DoesNotFit}
-use Rattle.linker_utils_c.specs.Imports.{NotAscending, NotProperties, NotProvided, Status, Success}
-use Rattle.linker_utils_c.specs.Imports.{TooLarge, TooShort, UnknownProperty, WrongSize}
+use Rattle.linker_utils_c.specs.Imports.{NotAscending, NotProperties, Status, Success, TooLarge}
+use Rattle.linker_utils_c.specs.Imports.{TooShort, UnknownProperty, WrongSize}
 use Rattle.linker_utils_c.specs.Status.{code}
 
 -- a property's type has a rule
@@ -69,10 +68,3 @@ abbrev pub IsNoteWritten : Architecture → List Property → List ℕ → List 
 IsNoteWritten architecture properties before =
     IsReturned (WritesNote architecture properties before)
     (RejectsNote architecture properties (length before)) before
-
--- what says that code is protected
-abbrev pub IsLandingReturned : Option LandingProperty → LandingProperty → LandingProperty → ℕ
-    → Type 0
-IsLandingReturned None old new status = (status ≡ code NotProvided) × (new ≡ old)
-IsLandingReturned (Some landing) old new status =
-    (status ≡ code Success) × (new ≡ landing)

@@ -1,10 +1,11 @@
 -- The number in the immediate of an instruction, what stands in the field of a relocation that is
 -- named by numbers, and the address that it leads to.
-use Rattle.std.specs.Prelude.{◌≡◌, ℕ, ℤ, List, length, nat_lt, Bool, true, false, Option, None}
+use Rattle.std.specs.Prelude.{◌≡◌, ℕ, ℤ, List, length, nat_lt, Option, None, if◌then◌else◌}
 use Rattle.std.specs.Prelude.{Some}
-use Rattle.linker_utils_c.specs.Imports.{BadFieldValue, DoesNotMatch, FieldValue, HoldsNoValue}
-use Rattle.linker_utils_c.specs.Imports.{NoAddress, NotHalves, Operands, RowInfo, Success, TooShort}
-use Rattle.linker_utils_c.specs.Imports.{UnknownRelocation, window_len}
+use Rattle.linker_utils_c.specs.Imports.{BadFieldValue, DoesNotMatch, HoldsNoValue, NoAddress}
+use Rattle.linker_utils_c.specs.Imports.{NotHalves, Operands, RowInfo, Success, TooShort}
+use Rattle.linker_utils_c.specs.Imports.{window_len}
+use Rattle.linker_reading.specs.declared.fields.FieldValue.{FieldValue}
 use Rattle.linker_elf.specs.declared.elf.AnyForm.{AnyForm}
 use Rattle.linker_reading.specs.Encodings.{IsOperand}
 use Rattle.linker_reading.specs.Fields.{IsProper}
@@ -13,21 +14,16 @@ use Rattle.linker_reading.specs.Solving.{terms_of, IsSolved, IsJoined}
 use Rattle.linker_reading.specs.declared.solving.Reference.{Reference}
 use Rattle.linker_reading.specs.declared.solving.Reference.TheVariants.{Symbol, GotEntry, PltEntry}
 use Rattle.linker_reading.specs.declared.solving.Terms.{Terms}
-use Rattle.linker_utils_c.specs.Status.{code}
+use Rattle.linker_utils_c.specs.Status.{code, IsGivenBy, IsGiven}
 use Rattle.linker_utils_c.specs.declared.reading.FieldValueNumbers.{FieldValueNumbers}
 
 -- ---- immediates
-
--- the number, or that the bytes are no instruction of the form
-abbrev pub IsNumber : Option ℤ → ℤ → ℤ → ℕ → Type 0
-IsNumber None old new status = (status ≡ code DoesNotMatch) × (new ≡ old)
-IsNumber (Some v) old new status = (status ≡ code Success) × (new ≡ v)
 
 pub record IsOperandReturned (form : AnyForm) (bytes : List ℕ) (old new : ℤ)
     (status : ℕ) : Type 0 where
   pub operand : Option ℤ
   pub is_operand : IsOperand form bytes operand
-  pub returned : IsNumber operand old new status
+  pub returned : IsGiven operand DoesNotMatch old new status
 
 -- ---- known bits
 
@@ -43,17 +39,10 @@ field_of numbers =
 -- ---- reading
 
 -- what is read; nothing where there are too few bytes, and else where they don't hold the value
-abbrev pub IsRead : Option FieldValue → Bool → FieldValueNumbers → FieldValueNumbers → ℕ → Type 0
-IsRead (Some f) is_short old new status = (status ≡ code Success) × (field_of new ≡ f)
-IsRead None true old new status = (status ≡ code TooShort) × (new ≡ old)
-IsRead None false old new status = (status ≡ code HoldsNoValue) × (new ≡ old)
-
--- by the relocation's row, if it has one
-abbrev pub IsValueRead : Option RowInfo → List ℕ → FieldValueNumbers
-    → FieldValueNumbers → ℕ → Type 0
-IsValueRead None bytes old new status = (status ≡ code UnknownRelocation) × (new ≡ old)
-IsValueRead (Some row) bytes old new status =
-    IsRead (value_read row bytes) (nat_lt (length bytes) (window_len row)) old new status
+abbrev pub IsRowRead : RowInfo → List ℕ → FieldValueNumbers → FieldValueNumbers → ℕ → Type 0
+IsRowRead row bytes old new status =
+    IsGivenBy (λ f given. field_of given ≡ f) (value_read row bytes)
+    (if nat_lt (length bytes) (window_len row) then TooShort else HoldsNoValue) old new status
 
 -- ---- solving
 
@@ -86,26 +75,13 @@ pub record IsRowSolved (row : RowInfo) (f : FieldValue) (o : Operands)
       → (status ≡ code BadFieldValue) × (reference ≡ before) × (new ≡ old)
   pub proper : IsProper f → IsSolvedBy row f o before reference old new status
 
--- by the relocation's row, if it has one
-abbrev pub IsValueSolved : Option RowInfo → FieldValue → Operands → ℕ → ℕ
-    → FieldValueNumbers → FieldValueNumbers → ℕ → Type 0
-IsValueSolved None f o before reference old new status =
-    (status ≡ code UnknownRelocation) × (reference ≡ before) × (new ≡ old)
-IsValueSolved (Some row) f o before reference old new status =
-    IsRowSolved row f o before reference old new status
-
 -- ---- halves
-
--- the whole, or that they aren't halves of one
-abbrev pub IsWhole : Option FieldValue → FieldValueNumbers → FieldValueNumbers → ℕ → Type 0
-IsWhole None old new status = (status ≡ code NotHalves) × (new ≡ old)
-IsWhole (Some f) old new status = (status ≡ code Success) × (field_of new ≡ f)
 
 pub record IsJoinedBy (high low : FieldValue) (old new : FieldValueNumbers) (status : ℕ)
     : Type 0 where
   pub whole : Option FieldValue
   pub joined : IsJoined high low whole
-  pub returned : IsWhole whole old new status
+  pub returned : IsGivenBy (λ f given. field_of given ≡ f) whole NotHalves old new status
 
 -- Both have to be proper.
 pub record AreHalvesJoined (high low : FieldValue) (old new : FieldValueNumbers) (status : ℕ)

@@ -1,11 +1,11 @@
 -- What a linker made of a relocation that is named by numbers, and the bits of its field.
 use Rattle.std.specs.Prelude.{◌≡◌, ◌≢◌, ◌<◌, ◌≤◌, ◌==◌, ◌↔◌, ℕ, List, [], ◌∷◌, length, take, ⊤}
 use Rattle.std.specs.Prelude.{slice_index_or, Bool, Option, None, Some, IsTrue}
-use Rattle.linker_utils_c.specs.Imports.{Architecture, DifferentLengths, FieldValue, IsRow}
-use Rattle.linker_utils_c.specs.Imports.{LeavesOtherBytes, LinkFacts, NoAddress, Operands}
-use Rattle.linker_utils_c.specs.Imports.{Relaxation, RowInfo, Success, TooShort, UnknownRelocation}
-use Rattle.linker_utils_c.specs.Imports.{UnknownRewrite, WindowTooLong, bit_at}
+use Rattle.linker_utils_c.specs.Imports.{Architecture, DifferentLengths, IsRow, LeavesOtherBytes}
+use Rattle.linker_utils_c.specs.Imports.{LinkFacts, NoAddress, Operands, Relaxation, RowInfo}
+use Rattle.linker_utils_c.specs.Imports.{Success, TooShort, UnknownRewrite, WindowTooLong, bit_at}
 use Rattle.linker_utils_c.specs.Imports.{relaxation_architecture, rewrite_of_number, window_len}
+use Rattle.linker_reading.specs.declared.fields.FieldValue.{FieldValue}
 use Rattle.linker_base.specs.declared.rewrite.RewriteWindow.{RewriteWindow}
 use Rattle.linker_reading.specs.FieldsOfBytes.{is_field_bit, AreSameButFor}
 use Rattle.linker_reading.specs.FoundByType.{AreFound, IsFoundChosen}
@@ -15,7 +15,7 @@ use Rattle.linker_reading.specs.declared.recognise.engine.Recognised.{Recognised
 use Rattle.linker_reading.specs.declared.recognise.fields.FieldBits.{FieldBits}
 use Rattle.linker_utils_c.specs.Choices.{IsChoiceInNumbers}
 use Rattle.linker_utils_c.specs.Reading.{field_of, reference_number}
-use Rattle.linker_utils_c.specs.Status.{code}
+use Rattle.linker_utils_c.specs.Status.{code, IsGivenBy}
 use Rattle.linker_utils_c.specs.declared.recognising.DestinationNumbers.{DestinationNumbers}
 use Rattle.linker_utils_c.specs.declared.recognising.RecognisedNumbers.{RecognisedNumbers}
 
@@ -27,10 +27,6 @@ pub record AreFieldBits (row : RowInfo) (bytes : List ℕ) (old bits status : �
   pub short : length bytes < window_len row → (status ≡ code TooShort) × (bits ≡ old)
   pub long : window_len row ≤ length bytes → (status ≡ code Success)
       × ((w : ℕ) → w < 64 → (bit_at bits w == 1) ≡ is_field_bit row bytes w)
-
-abbrev pub AreBitsOf : Option RowInfo → List ℕ → ℕ → ℕ → ℕ → Type 0
-AreBitsOf None bytes old bits status = (status ≡ code UnknownRelocation) × (bits ≡ old)
-AreBitsOf (Some row) bytes old bits status = AreFieldBits row bytes old bits status
 
 -- whether two windows differ in the field of a row only
 abbrev pub IsSameness : List ℕ → List ℕ → RowInfo → Bool → Type 0
@@ -91,19 +87,13 @@ pub record IsWindowGiven (architecture : Architecture) (r_type : ℕ) (original 
   pub given : length original ≤ 64
       → (status ≡ code Success) × IsWindowOf architecture r_type original o new
 
--- what was found of the choice, or that it leaves other bytes
-abbrev pub IsChosenInNumbers : Option (Recognised Relaxation ℕ) → RecognisedNumbers
-    → RecognisedNumbers → ℕ → Type 0
-IsChosenInNumbers None old new status = (status ≡ code LeavesOtherBytes) × (new ≡ old)
-IsChosenInNumbers (Some m) old new status = (status ≡ code Success) × IsMadeInNumbers m new
-
 pub record IsRecognised (architecture : Architecture) (r_type : ℕ) (original : List ℕ) (o : ℕ)
     (others : List FieldBits) (linked : List ℕ) (facts : LinkFacts) (old new : RecognisedNumbers)
     (status : ℕ) : Type 0 where
   pub long : 64 < length original → (status ≡ code WindowTooLong) × (new ≡ old)
   pub found : length original ≤ 64 → (made : Option (Recognised Relaxation ℕ))
       × IsFoundChosen architecture r_type original o others linked facts made
-      × IsChosenInNumbers made old new status
+      × IsGivenBy IsMadeInNumbers made LeavesOtherBytes old new status
 
 -- ---- where one leads
 
@@ -119,12 +109,6 @@ pub record IsDestinationInNumbers (d : Destination) (st_other : ℕ) (numbers : 
   pub reference : numbers.reference ≡ reference_number d.reference
   pub symbol : IsSymbol (symbol_of d st_other) numbers
 
-abbrev pub IsDestinationPut : Option Destination → ℕ → DestinationNumbers → DestinationNumbers → ℕ
-    → Type 0
-IsDestinationPut None st_other old new status = (status ≡ code NoAddress) × (new ≡ old)
-IsDestinationPut (Some d) st_other old new status =
-    (status ≡ code Success) × IsDestinationInNumbers d st_other new
-
 -- after a rewrite, or no rewrite has the numbers
 abbrev pub IsDestinationOf : Architecture → Option Relaxation → RecognisedNumbers → List ℕ → ℕ
     → Operands → ℕ → DestinationNumbers → DestinationNumbers → ℕ → Type 0
@@ -134,7 +118,7 @@ IsDestinationOf architecture (Some kind) made original o operands st_other old n
     (row : Option RowInfo) × IsRow architecture made.choice.relocation row
     × (d : Option Destination)
     × IsDestination row (Some (field_of made.value)) kind original o operands d
-    × IsDestinationPut d st_other old new status
+    × IsGivenBy (λ found. IsDestinationInNumbers found st_other) d NoAddress old new status
 
 -- of a relocation in at most 64 bytes
 pub record IsDestinationReturned (architecture : Architecture) (made : RecognisedNumbers)

@@ -8,7 +8,7 @@ use Rattle.linker_utils_c.specs.Imports.{Architecture, DoesNotFit, IsRow, Misali
 use Rattle.linker_utils_c.specs.Imports.{NoTlsBase, NoValue, Operands, OutOfReach, RejectsValue}
 use Rattle.linker_utils_c.specs.Imports.{RowInfo, Status, Success, TooShort, Uleb128Ended}
 use Rattle.linker_utils_c.specs.Imports.{Uleb128TooLarge, UnknownRelocation, Unsupported, WritesRow}
-use Rattle.linker_utils_c.specs.Imports.{reach_of, value_given}
+use Rattle.linker_elf.specs.Value.{value_given}
 use Rattle.linker_elf.specs.Uleb128.{IsPairOutcome}
 use Rattle.linker_elf.specs.declared.elf.architecture.Uleb128PairError.{Uleb128PairError}
 use Rattle.linker_elf.specs.declared.elf.architecture.Uleb128PairError.TheVariants as pair_errors
@@ -45,10 +45,6 @@ abbrev pub AreBounds : Option (ℤ × ℤ) → Reach → Type 0
 AreBounds None reach = (reach.has_range ≡ 0) × (reach.min ≡ pos 0) × (reach.max ≡ pos 0)
 AreBounds (Some bounds) reach =
     (reach.has_range ≡ 1) × (reach.min ≡ bounds.0) × (reach.max ≡ bounds.1)
-
-abbrev pub IsReachOf : Option RowInfo → ℕ → Reach → Reach → Type 0
-IsReachOf None status old new = (status ≡ code UnknownRelocation) × (new ≡ old)
-IsReachOf (Some row) status old new = (status ≡ code Success) × AreBounds (reach_of row) new
 
 -- ---- the write
 

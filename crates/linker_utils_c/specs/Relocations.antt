@@ -37,12 +37,6 @@ pub record InNumbers (info : RowInfo) (numbers : RelocationNumbers) : Type 0 whe
   pub thunkable : numbers.thunkable ≡ flag_number info.thunkable
   pub implicit_addend : numbers.implicit_addend ≡ flag_number info.implicit_addend
 
--- a meaning is returned in numbers with the status, and nothing is written where there is none
-abbrev pub IsReturned : Option RowInfo → ℕ → RelocationNumbers
-    → RelocationNumbers → Type 0
-IsReturned None status before after = (status ≡ code UnknownRelocation) × (after ≡ before)
-IsReturned (Some info) status before after = (status ≡ code Success) × InNumbers info after
-
 -- a text is written to the beginning of bytes, with its length, if they have room for it
 pub record IsCopied (text before after : List ℕ) (used_before used status : ℕ) : Type 0 where
   pub fits : length text ≤ length before

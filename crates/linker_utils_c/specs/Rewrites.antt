@@ -1,5 +1,5 @@
 -- The numbers by which C names rewrites of instructions.
-use Rattle.std.specs.Prelude.{◌≡◌, ℕ, List, Option, None, Some, Result, Ok, Err}
+use Rattle.std.specs.Prelude.{◌≡◌, ℕ, List, Option, None, Some, Result, Err}
 use Rattle.std.specs.Prelude.{ℤ}
 use Rattle.linker_base.specs.Rewrite.{Rewrite, CanRewrite, rewritten, offset_after, addend_after}
 use Rattle.linker_base.specs.declared.relaxation.RelocationModifier.{RelocationModifier}
@@ -8,19 +8,14 @@ use Rattle.linker_base.specs.declared.relaxation.RelocationModifier.TheVariants.
 use Rattle.linker_utils_c.specs.Imports.{Architecture, CannotApply, DoesNotMatch, Relaxation}
 use Rattle.linker_utils_c.specs.Imports.{Status, Success, UnknownArchitecture, UnknownRewrite}
 use Rattle.linker_utils_c.specs.Imports.{architecture_of, relaxation_matches, rewrite_of_number}
-use Rattle.linker_utils_c.specs.Status.{code}
-
--- a rewrite, or that there is none
-abbrev pub rewrite_or_unknown : Option Relaxation → Result Relaxation Status
-rewrite_or_unknown None = Err UnknownRewrite
-rewrite_or_unknown (Some rewrite) = Ok rewrite
+use Rattle.linker_utils_c.specs.Status.{code, ok_or}
 
 -- the rewrite of a machine (e_machine), a number and the bytes before the field, or which of the
 -- first two is unknown
 abbrev pub rewrite_among : Option Architecture → ℕ → ℕ → Result Relaxation Status
 rewrite_among None rewrite n = Err UnknownArchitecture
 rewrite_among (Some architecture) rewrite n =
-    rewrite_or_unknown (rewrite_of_number architecture rewrite n)
+    ok_or (rewrite_of_number architecture rewrite n) UnknownRewrite
 
 abbrev pub named_rewrite : ℕ → ℕ → ℕ → Result Relaxation Status
 named_rewrite machine rewrite n = rewrite_among (architecture_of machine) rewrite n

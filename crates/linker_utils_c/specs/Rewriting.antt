@@ -4,8 +4,9 @@ use Rattle.std.specs.Prelude.{take, drop}
 use Rattle.std.specs.Prelude.{All, Option, Some, None}
 use Rattle.linker_utils_c.specs.Imports.{Agree, DecisionNumbers, DoesNotMatch, FactsContradict}
 use Rattle.linker_utils_c.specs.Imports.{GotToPcRel, IsKeptDecision, IsWrittenDecision, NotSurveyed}
-use Rattle.linker_utils_c.specs.Imports.{Overlaps, PreLayout, RelaxContext, ShortMemory, ShortPcRel}
-use Rattle.linker_utils_c.specs.Imports.{Status, Success, TlsLocalExec, decisions_in, numbers_in}
+use Rattle.linker_utils_c.specs.Imports.{PreLayout, RelaxContext, ShortMemory, ShortPcRel, Status}
+use Rattle.linker_utils_c.specs.Imports.{Success, TlsLocalExec, decisions_in, numbers_in}
+use Rattle.linker_utils_c.specs.declared.status.Status.TheVariants.{Overlaps}
 use Rattle.linker_rewriting.specs.Decisions.{AllCanBeMade, IsUnmade, deletions_by}
 use Rattle.linker_rewriting.specs.Decisions.{IsRejectedIn, IsRejectedPlaced}
 use Rattle.linker_rewriting.specs.Rewritten.{IsRewrittenAs, AreDecidedAs, AreMadeAs}

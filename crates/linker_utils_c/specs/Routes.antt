@@ -1,5 +1,5 @@
 -- Routes of branches, in numbers.
-use Rattle.std.specs.Prelude.{◌≡◌, ℕ, List, Option, Some, None, Result, Ok, Err, slice_get}
+use Rattle.std.specs.Prelude.{◌≡◌, ℕ, List, Option, Result, Ok, Err, slice_get}
 use Rattle.linker_output.specs.Routes.{IsRoute, IsWordRoute}
 use Rattle.linker_output.specs.View.{Description}
 use Rattle.linker_output.specs.declared.routes.Route.{Route}
@@ -12,7 +12,7 @@ use Rattle.linker_utils_c.specs.Imports.{Rela, Status, StubKind, Success, Symbol
 use Rattle.linker_utils_c.specs.Imports.{TooShort, UnknownStub}
 use Rattle.linker_utils_c.specs.Relocate.{write_status}
 use Rattle.linker_utils_c.specs.Sections.{value_status}
-use Rattle.linker_utils_c.specs.Status.{code}
+use Rattle.linker_utils_c.specs.Status.{code, IfFound}
 use Rattle.linker_utils_c.specs.declared.routes.RouteNumbers.{RouteNumbers}
 
 -- the number of a kind of stubs
@@ -43,24 +43,18 @@ abbrev pub IsRouteReturned : Result Route RouteError → ℕ → RouteNumbers �
 IsRouteReturned (Ok route) status old new = (status ≡ code Success) × (new ≡ route_in route)
 IsRouteReturned (Err error) status old new = (status ≡ code (route_status error)) × (new ≡ old)
 
-abbrev pub IsRouteTo : Description → Addresses → Option Symbol → Rela → List ℕ → ℕ → RouteNumbers
-    → RouteNumbers → Type 0
-IsRouteTo target addresses None r section status old new = (status ≡ code NoSymbol) × (new ≡ old)
-IsRouteTo target addresses (Some symbol) r section status old new =
-    (route : Result Route RouteError) × IsRoute target addresses symbol r section route
-    × IsRouteReturned route status old new
-
 -- that of the relocation at an index, if there is one there, and its symbol in the table
 abbrev pub IsRouteAt : Description → Addresses → List Symbol → Option Rela → List ℕ → ℕ
     → RouteNumbers → RouteNumbers → Type 0
-IsRouteAt target addresses symbols None section status old new =
-    (status ≡ code TooShort) × (new ≡ old)
-IsRouteAt target addresses symbols (Some r) section status old new =
-    IsRouteTo target addresses (slice_get symbols r.symbol) r section status old new
+IsRouteAt target addresses symbols found section status old new =
+    IfFound found TooShort (new ≡ old) status (λ r.
+    IfFound (slice_get symbols r.symbol) NoSymbol (new ≡ old) status (λ symbol.
+    (route : Result Route RouteError) × IsRoute target addresses symbol r section route
+    × IsRouteReturned route status old new))
 
 abbrev pub IsWordRouteAt : Description → ℕ → Option Rela → List ℕ → ℕ → RouteNumbers → RouteNumbers
     → Type 0
-IsWordRouteAt target word None section status old new = (status ≡ code TooShort) × (new ≡ old)
-IsWordRouteAt target word (Some r) section status old new =
+IsWordRouteAt target word found section status old new =
+    IfFound found TooShort (new ≡ old) status (λ r.
     (route : Result Route RouteError) × IsWordRoute target r word section route
-    × IsRouteReturned route status old new
+    × IsRouteReturned route status old new)

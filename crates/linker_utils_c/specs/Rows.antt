@@ -5,11 +5,13 @@ use Rattle.std.specs.Prelude.{pos, ⊤}
 use Rattle.linker_elf.specs.AppliedRows.{IsAppliedIfKnown}
 use Rattle.linker_elf.specs.ElfNames.{ElfName, named, unnamed}
 use Rattle.linker_elf.specs.Entries.{IsPltAnswer}
-use Rattle.linker_utils_c.specs.Imports.{Architecture, Choice, ChoiceNumbers, IsArchitectureChoice}
+use Rattle.linker_utils_c.specs.Imports.{Architecture, ChoiceNumbers, IsArchitectureChoice}
 use Rattle.linker_utils_c.specs.Imports.{IsElfName, IsFit, IsRow, LinkFacts, Operands, Relaxation}
 use Rattle.linker_utils_c.specs.Imports.{RequirementNumbers, Requirements, RowInfo, RowSize, Status}
 use Rattle.linker_utils_c.specs.Imports.{Success, UnknownRelocation, flag_number, kind_number}
-use Rattle.linker_utils_c.specs.Imports.{machine_of, reach_of, window_len}
+use Rattle.linker_utils_c.specs.Imports.{machine_of, window_len}
+use Rattle.linker_elf.specs.declared.elf.choice.Choice.{Choice}
+use Rattle.linker_elf.specs.Reach.{reach_of}
 use Rattle.linker_elf.specs.declared.elf.RelocationKind.{RelocationKind}
 use Rattle.linker_elf.specs.declared.elf.RelocationKind.TheVariants as kinds
 use Rattle.linker_elf.specs.declared.elf.RowSize.TheVariants.{ByteSize}
@@ -20,7 +22,7 @@ use Rattle.linker_elf.specs.Handles.{architecture_in, handle_unit}
 use Rattle.linker_utils_c.specs.Choices.{IsChoiceInNumbers}
 use Rattle.linker_utils_c.specs.Relocate.{AreBounds, value_status, write_status}
 use Rattle.linker_utils_c.specs.Sections.{requirements_in}
-use Rattle.linker_utils_c.specs.Status.{code}
+use Rattle.linker_utils_c.specs.Status.{code, IfFound, IsGivenBy}
 use Rattle.linker_utils_c.specs.declared.rows.RowNumbers.{RowNumbers}
 
 -- ---- the value, written
@@ -46,14 +48,6 @@ IsChosenIn (Some architecture) r_type section o facts numbers =
     (chosen : Choice Relaxation ℕ)
     × IsArchitectureChoice architecture r_type section o facts chosen
     × IsChoiceInNumbers architecture chosen numbers
-
-abbrev pub IsChosenOf : Option RowInfo → ℕ → List ℕ → ℕ → LinkFacts → ℕ → ChoiceNumbers
-    → ChoiceNumbers → Type 0
-IsChosenOf None handle section o facts status old new =
-    (status ≡ code UnknownRelocation) × (new ≡ old)
-IsChosenOf (Some row) handle section o facts status old new =
-    (status ≡ code Success)
-    × IsChosenIn (architecture_in handle) (handle % handle_unit) section o facts new
 
 abbrev pub IsFitIn : Option Architecture → ℕ → List ℕ → ℕ → LinkFacts → Bool → Type 0
 IsFitIn None r_type section o facts fits = ⊥
@@ -112,9 +106,6 @@ pub record InRowNumbers (architecture : Architecture) (elf_type : ℕ) (row : Ro
 
 abbrev pub IsRowReturned : Option Architecture → ℕ → Option RowInfo → ℕ → RowNumbers
     → RowNumbers → Type 0
-IsRowReturned None r_type meaning status old new =
-    (status ≡ code UnknownRelocation) × (new ≡ old)
-IsRowReturned (Some architecture) r_type None status old new =
-    (status ≡ code UnknownRelocation) × (new ≡ old)
-IsRowReturned (Some architecture) r_type (Some row) status old new =
-    (status ≡ code Success) × InRowNumbers architecture r_type row new
+IsRowReturned found r_type meaning status old new =
+    IfFound found UnknownRelocation (new ≡ old) status (λ architecture.
+    IsGivenBy (InRowNumbers architecture r_type) meaning UnknownRelocation old new status)

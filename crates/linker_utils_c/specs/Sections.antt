@@ -1,22 +1,24 @@
 -- What relocations require, their values and all of them written, in the numbers that C sees.
-use Rattle.std.specs.Prelude.{◌≡◌, ℕ, ◌/◌, ◌<◌, ◌≤◌, List, length, ℤ, pos, Bool, true, false}
+use Rattle.std.specs.Prelude.{◌≡◌, ℕ, ◌/◌, ◌<◌, ◌≤◌, List, length, ℤ, pos}
 use Rattle.std.specs.Prelude.{Option, None, Some, Result, Ok, Err}
 use Rattle.linker_section.specs.Sections.{AreAllRelocatedBy, IsFirstRejectedBy, Values}
 use Rattle.linker_section.specs.WrittenFields.{AreWrittenBy, IsFirstFaultBy}
 use Rattle.linker_section.specs.Values.{IsValue}
 use Rattle.linker_utils_c.specs.Imports.{Address, Addresses, Architecture, Descriptor, EntryClass}
 use Rattle.linker_utils_c.specs.Imports.{Module, ModuleOffset, NoEntry, NoHighPart, NoSymbol}
-use Rattle.linker_utils_c.specs.Imports.{NoTlsBase, NoValue, OtherLength, Rela, RequirementNumbers}
-use Rattle.linker_utils_c.specs.Imports.{Requirements, ShortMemory, Status, Success, Symbol}
-use Rattle.linker_utils_c.specs.Imports.{ThreadOffset, TooShort, Uleb128, UnknownRelocation, Value}
+use Rattle.linker_utils_c.specs.Imports.{NoTlsBase, NoValue, Rela, RequirementNumbers, Requirements}
+use Rattle.linker_utils_c.specs.Imports.{ShortMemory, Status, Success, Symbol, ThreadOffset}
+use Rattle.linker_utils_c.specs.Imports.{TooShort, UnknownRelocation, flag_number}
+use Rattle.linker_section.specs.declared.sections.RelocationError.TheVariants.{OtherLength, Uleb128}
+use Rattle.linker_section.specs.declared.sections.RelocationError.TheVariants.{Value, Write}
+use Rattle.linker_section.specs.declared.sections.RelocationError.TheVariants.{Overlaps}
 use Rattle.linker_section.specs.declared.needed.Entry.{Entry}
 use Rattle.linker_section.specs.declared.sections.RelocationError.{RelocationError}
-use Rattle.linker_section.specs.declared.sections.RelocationError.TheVariants.{Write, Overlaps}
 use Rattle.linker_section.specs.declared.sections.SectionError.{SectionError}
 use Rattle.linker_section.specs.declared.values.ValueError.{ValueError}
 use Rattle.linker_section.specs.declared.values.ValueError.TheVariants as value_errors
 use Rattle.linker_utils_c.specs.Relocate.{write_status, uleb_status}
-use Rattle.linker_utils_c.specs.Status.{code}
+use Rattle.linker_utils_c.specs.Status.{code, IfFound}
 use Rattle.linker_utils_c.specs.declared.status.Status.TheVariants as statuses
 
 -- ---- what a relocation requires
@@ -37,26 +39,16 @@ abbrev pub entry_addend : Option Entry → ℤ
 entry_addend None = pos 0
 entry_addend (Some entry) = entry.addend
 
-abbrev pub flag : Bool → ℕ
-flag true = 1
-flag false = 0
-
 abbrev pub requirements_in : Requirements → RequirementNumbers
 requirements_in needs = record {
   entry_addend = entry_addend needs.entry;
   entry_class = entry_class needs.entry;
-  is_branch = flag needs.is_branch;
-  may_use_stub = flag needs.may_use_stub;
-  stub_only_if_undefined = flag needs.stub_only_if_undefined;
-  is_word = flag needs.is_word;
-  depends_on_load = flag needs.depends_on_load;
+  is_branch = flag_number needs.is_branch;
+  may_use_stub = flag_number needs.may_use_stub;
+  stub_only_if_undefined = flag_number needs.stub_only_if_undefined;
+  is_word = flag_number needs.is_word;
+  depends_on_load = flag_number needs.depends_on_load;
 }
-
-abbrev pub IsNeedsReturned : Option Requirements → ℕ → RequirementNumbers → RequirementNumbers
-    → Type 0
-IsNeedsReturned None status old new = (status ≡ code UnknownRelocation) × (new ≡ old)
-IsNeedsReturned (Some needs) status old new =
-    (status ≡ code Success) × (new ≡ requirements_in needs)
 
 -- ---- the value of one relocation
 
@@ -78,12 +70,10 @@ IsValueReturned (Err error) status old new = (status ≡ code (value_status erro
 -- the value of the relocation at an index, if there is one there
 abbrev pub IsValueAt : Architecture → Addresses → List ℕ → List Symbol → Option Rela → ℕ → ℤ → ℤ
     → Type 0
-IsValueAt architecture addresses bytes symbols None status old new =
-    (status ≡ code TooShort) × (new ≡ old)
-IsValueAt architecture addresses bytes symbols (Some r) status old new =
-    (outcome : Result (Option ℤ) ValueError)
+IsValueAt architecture addresses bytes symbols found status old new =
+    IfFound found TooShort (new ≡ old) status (λ r. (outcome : Result (Option ℤ) ValueError)
     × IsValue architecture addresses bytes symbols r outcome
-    × IsValueReturned outcome status old new
+    × IsValueReturned outcome status old new)
 
 -- ---- all of a section
 

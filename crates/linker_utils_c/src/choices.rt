@@ -7,11 +7,11 @@ ghost use Rattle.linker_elf.specs.Machines.{architecture_of};
 ghost use Rattle.linker_utils.specs.declared.architecture.Relaxation.{Relaxation};
 ghost use Rattle.linker_elf.specs.declared.elf.choice.Choice.{Choice};
 ghost use Rattle.linker_utils_c.specs.Choices.{facts_of, IsChoiceInNumbers, IsUnchanged};
-ghost use Rattle.linker_utils_c.specs.Status.{code};
+ghost use Rattle.linker_utils_c.specs.Status.{code, OfMachine};
 
 use crate::architectures::by_architecture;
 use crate::rewrites::number_of;
-use crate::status::Status;
+use crate::status::{Status, or_return};
 use linker_utils::architecture::{Relaxation, fits};
 use linker_utils::elf::{Architecture, Choice, InstructionRewrite, LinkFacts, Operands};
 
@@ -167,16 +167,12 @@ pub extern "C" fn linker_utils_choose_nonnull(
     facts: &LinkFactNumbers,
     choice: &mut ChoiceNumbers,
 ) -> u32
-    ensures { MatchOption (architecture_of machine)
-        ((result ≡ code Status.UnknownArchitecture) × (choice.new ≡ choice.old))
-        (λ architecture. (result ≡ code Status.Success)
-        × (chosen : Choice Relaxation ℕ)
+    ensures { OfMachine machine (choice.new ≡ choice.old) result (λ architecture.
+        (result ≡ code Status.Success) × (chosen : Choice Relaxation ℕ)
         × IsArchitectureChoice architecture r_type section.now offset (facts_of facts.now) chosen
         × IsChoiceInNumbers architecture chosen choice.new) }
 {
-    let Some(architecture) = Architecture::from_machine(machine) else {
-        return Status::UnknownArchitecture as u32;
-    };
+    let architecture = or_return!(Architecture::from_machine(machine), UnknownArchitecture);
     *choice = choose_in_numbers(architecture, r_type, section, offset, &facts.facts());
     Status::Success as u32
 }

@@ -12,7 +12,7 @@ ghost use Rattle.linker_base.specs.Listed.{AreValidDeltas, IsFirstInvalid};
 ghost use Rattle.linker_utils_c.specs.Status.{code};
 ghost use Rattle.linker_utils_c.specs.Deltas.{pairs_in, AreDeltasOf, IsFirstDecrease};
 
-use crate::status::Status;
+use crate::status::{Status, or_return};
 use linker_rewriting::decisions::Deletion;
 use linker_utils::relaxation::{DeltaSlice, RelaxDelta, first_invalid};
 
@@ -163,13 +163,11 @@ pub extern "C" fn linker_utils_deltas_output_to_input_nonnull(
         → ¬ HasInput (deletions_of deltas.now) output_offset → result ≡ code Status.TooLarge }
     ensures unchanged { result ≢ code Status.Success → input_offset.new ≡ input_offset.old }
 {
-    match DeltaSlice::new(deltas).output_to_input_offset(output_offset) {
-        None => Status::TooLarge as u32,
-        Some(offset) => {
-            *input_offset = offset;
-            Status::Success as u32
-        }
-    }
+    *input_offset = or_return!(
+        DeltaSlice::new(deltas).output_to_input_offset(output_offset),
+        TooLarge
+    );
+    Status::Success as u32
 }
 
 /// Whether the deltas are valid: they list deletions that `linker_utils_deltas_create` accepts,

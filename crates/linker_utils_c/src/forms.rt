@@ -8,7 +8,7 @@ ghost use Rattle.linker_utils_c.specs.Forms.{IsRead, IsWrite};
 ghost use Rattle.linker_utils_c.specs.Status.{code};
 
 use crate::architectures::{by_architecture, known};
-use crate::status::Status;
+use crate::status::{Status, or_return};
 use linker_utils::elf::{
     AArch64Instruction, AnyForm, Architecture, InstructionForm, LoongArch64Instruction, Ppc64Form,
     RiscVInstruction,
@@ -92,9 +92,7 @@ fn write_by<F: InstructionForm>(form: Option<F>, value: u64, negative: bool, des
         (λ named. IsWrite (F.form named) value negative dest.old dest.new result) }
     ensures unchanged { result ≢ code Status.Success → dest.new ≡ dest.old }
 {
-    let Some(named) = form else {
-        return Status::UnknownForm as u32;
-    };
+    let named = or_return!(form, UnknownForm);
     let status = fit(named, value, dest);
     if status == Status::Success as u32 {
         named.write(value, negative, dest);
@@ -118,9 +116,7 @@ pub extern "C" fn linker_utils_write_nonnull(
         (λ status. result ≡ code status) }
     ensures unchanged { result ≢ code Status.Success → dest.new ≡ dest.old }
 {
-    let Some(architecture) = Architecture::from_machine(machine) else {
-        return Status::UnknownArchitecture as u32;
-    };
+    let architecture = or_return!(Architecture::from_machine(machine), UnknownArchitecture);
     match architecture {
         Architecture::AArch64 => {
             write_by(AArch64Instruction::from_number(form), value, negative, dest)
@@ -181,9 +177,7 @@ pub extern "C" fn linker_utils_read_nonnull(
         (λ status. (result ≡ code status) × (value.new ≡ value.old)
         × (negative.new ≡ negative.old)) }
 {
-    let Some(architecture) = Architecture::from_machine(machine) else {
-        return Status::UnknownArchitecture as u32;
-    };
+    let architecture = or_return!(Architecture::from_machine(machine), UnknownArchitecture);
     by_architecture!(architecture, known(of => {
         read_by(form_in(of, form), bytes, value, negative)
     }))

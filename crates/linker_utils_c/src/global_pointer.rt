@@ -1,16 +1,15 @@
 //! RISC-V's addresses near the global pointer or 0, without their high part.
 
-ghost use Rattle.std.specs.Prelude.{◌≡◌, ◌/◌, ℕ, length, MatchOption};
+ghost use Rattle.std.specs.Prelude.{◌≡◌, ◌/◌, ℕ, length};
 ghost use Rattle.linker_rewriting.specs.Agreement.{Agree, IsContradiction};
 ghost use Rattle.linker_rewriting.specs.Facts.{context};
 ghost use Rattle.linker_rewriting.specs.GlobalPointer.{AreSymbolsSurveyed};
-ghost use Rattle.linker_elf.specs.Machines.{architecture_of};
 ghost use Rattle.linker_utils_c.specs.GlobalPointer.{ArePartsReturned, AreBasesReturned};
 ghost use Rattle.linker_utils_c.specs.Rewriting.{IsSurveyReturned};
-ghost use Rattle.linker_utils_c.specs.Status.{code};
+ghost use Rattle.linker_utils_c.specs.Status.{OfMachine};
 
 use crate::rewriting::{put_error, survey_status};
-use crate::status::Status;
+use crate::status::{Status, or_return};
 use linker_rewriting::decisions::{DecisionNumbers, Deletion};
 use linker_rewriting::facts::{OutputFacts, RelaxContext, SymbolFacts};
 use linker_rewriting::global_pointer::{
@@ -35,18 +34,14 @@ pub extern "C" fn linker_utils_survey_global_pointer_nonnull(
     section: &[u8],
     kept: &mut [bool],
 ) -> u32
-    ensures { MatchOption (architecture_of machine)
-        ((result ≡ code Status.UnknownArchitecture) × (kept.new ≡ kept.old))
-        (λ architecture.
+    ensures { OfMachine machine (kept.new ≡ kept.old) result (λ architecture.
         IsSurveyReturned (AreSymbolsSurveyed (context architecture Phase.ShortPcRel output.now
         symbols.now addresses.now values.now) global_pointer relocations.now section.now kept.old
         kept.new (length relocations.now / 24) × Agree symbols.now values.now relocations.now)
         ((symbol : ℕ) × IsContradiction symbols.now values.now relocations.now symbol)
         (kept.new ≡ kept.old) result) }
 {
-    let Some(architecture) = Architecture::from_machine(machine) else {
-        return Status::UnknownArchitecture as u32;
-    };
+    let architecture = or_return!(Architecture::from_machine(machine), UnknownArchitecture);
     let context = RelaxContext {
         architecture,
         phase: Phase::ShortPcRel,
@@ -83,19 +78,15 @@ pub extern "C" fn linker_utils_rewrite_global_pointer_nonnull(
     deleted_used: &mut usize,
     faulty: &mut usize,
 ) -> u32
-    ensures { MatchOption (architecture_of machine)
-        ((result ≡ code Status.UnknownArchitecture) × (relocations.new ≡ relocations.old)
+    ensures { OfMachine machine ((relocations.new ≡ relocations.old)
         × (decisions.new ≡ decisions.old) × (deleted.new ≡ deleted.old)
-        × (deleted_used.new ≡ deleted_used.old) × (faulty.new ≡ faulty.old))
-        (λ architecture.
+        × (deleted_used.new ≡ deleted_used.old) × (faulty.new ≡ faulty.old)) result (λ architecture.
         ArePartsReturned (context architecture Phase.ShortPcRel output.now symbols.now addresses.now
         values.now) global_pointer kept.now relocations.old relocations.new section.now
         decisions.old decisions.new deleted.old deleted.new deleted_used.old deleted_used.new
         faulty.old faulty.new result) }
 {
-    let Some(architecture) = Architecture::from_machine(machine) else {
-        return Status::UnknownArchitecture as u32;
-    };
+    let architecture = or_return!(Architecture::from_machine(machine), UnknownArchitecture);
     let context = RelaxContext {
         architecture,
         phase: Phase::ShortPcRel,

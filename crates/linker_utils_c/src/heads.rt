@@ -12,7 +12,7 @@ ghost use Rattle.linker_base.specs.Deltas.{deletions_of};
 ghost use Rattle.linker_base.specs.Listed.{AreValidDeltas};
 ghost use Rattle.linker_utils_c.specs.Status.{code};
 
-use crate::status::Status;
+use crate::status::{Status, or_return};
 use linker_utils::relaxation::{BlockHead, DeltaSlice, RelaxDelta};
 
 /// How many blocks of 64 the deltas have; the last may be shorter.
@@ -87,11 +87,9 @@ pub extern "C" fn linker_utils_deltas_output_to_input_by_heads_nonnull(
         → ¬ HasInput (deletions_of deltas.now) output_offset → result ≡ code Status.TooLarge }
     ensures unchanged { result ≢ code Status.Success → input_offset.new ≡ input_offset.old }
 {
-    match DeltaSlice::new(deltas).output_to_input_by_heads(heads, output_offset) {
-        None => Status::TooLarge as u32,
-        Some(offset) => {
-            *input_offset = offset;
-            Status::Success as u32
-        }
-    }
+    *input_offset = or_return!(
+        DeltaSlice::new(deltas).output_to_input_by_heads(heads, output_offset),
+        TooLarge
+    );
+    Status::Success as u32
 }

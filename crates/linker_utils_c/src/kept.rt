@@ -1,13 +1,12 @@
 //! What choices of rewrites read of symbols, kept until values are written.
 
-ghost use Rattle.std.specs.Prelude.{◌≡◌, ◌≢◌, length, MatchOption};
+ghost use Rattle.std.specs.Prelude.{◌≡◌, ◌≢◌, length};
 ghost use Rattle.linker_rewriting.specs.Kept.{AreKept};
-ghost use Rattle.linker_elf.specs.Machines.{architecture_of};
 ghost use Rattle.linker_utils_c.specs.Kept.{IsRewrittenReturned};
-ghost use Rattle.linker_utils_c.specs.Status.{code};
+ghost use Rattle.linker_utils_c.specs.Status.{code, OfMachine};
 
 use crate::sections::status_of_error;
-use crate::status::Status;
+use crate::status::{Status, or_return};
 use linker_rewriting::facts::{OutputFacts, RelaxContext, SymbolFacts};
 use linker_rewriting::kept::{
     FactsSnapshot, WritingError, relocate_rewritten_section, snapshot_facts,
@@ -56,16 +55,12 @@ pub extern "C" fn linker_utils_relocate_rewritten_section_nonnull(
     memory: &mut [u64],
     faulty: &mut usize,
 ) -> u32
-    ensures { MatchOption (architecture_of machine)
-        ((result ≡ code Status.UnknownArchitecture) × (section.new ≡ section.old)
-        × (faulty.new ≡ faulty.old))
+    ensures { OfMachine machine ((section.new ≡ section.old) × (faulty.new ≡ faulty.old)) result
         (λ architecture.
         IsRewrittenReturned architecture output.now facts.now kept.now addresses.now relocations.now
         symbols.now section.old section.new memory.old faulty.old faulty.new result) }
 {
-    let Some(architecture) = Architecture::from_machine(machine) else {
-        return Status::UnknownArchitecture as u32;
-    };
+    let architecture = or_return!(Architecture::from_machine(machine), UnknownArchitecture);
     if memory.len() < memory_len(relocations) {
         return Status::ShortMemory as u32;
     }

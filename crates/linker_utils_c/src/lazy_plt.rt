@@ -4,14 +4,12 @@ ghost use Rattle.std.specs.Prelude.{◌≡◌, Some, None, IfSome, IfNone, Match
 ghost use Rattle.linker_output.specs.LazyPlt.{view_plt, word_by, word_in, header_places};
 ghost use Rattle.linker_output.specs.LazyPlts.{lazy_plt_of};
 ghost use Rattle.linker_elf.specs.Machines.{architecture_of};
-ghost use Rattle.linker_utils_c.specs.LazyPlt.{form_of, plt_in, numbers_of, IsPltReturned};
-ghost use Rattle.linker_utils_c.specs.LazyPlt.{written_status, IsCodeWritten, IsHeaderWritten};
-ghost use Rattle.linker_utils_c.specs.LazyPlt.{IsEntryWritten, first_word};
-ghost use Rattle.linker_utils_c.specs.Output.{IsFoundWord};
-ghost use Rattle.linker_utils_c.specs.Status.{code};
+ghost use Rattle.linker_utils_c.specs.LazyPlt.{form_of, plt_in, numbers_of};
+ghost use Rattle.linker_utils_c.specs.LazyPlt.{written_status, IsCodeWritten};
+ghost use Rattle.linker_utils_c.specs.Status.{code, OfMachine, IfFound, IsGiven, IsGivenBy};
 
 use crate::relocate::status_of;
-use crate::status::Status;
+use crate::status::{Status, or_return};
 use linker_output::lazy_plt::{LazyEntry, LazyForm, LazyPlt};
 use linker_output::stubs::StubError;
 use linker_utils::elf::Architecture;
@@ -35,20 +33,14 @@ pub struct LazyPltNumbers {
 fn form_of(number: u32) -> Option<LazyForm>
     ensures { result ≡ form_of number }
 {
-    if number == 0 {
-        Some(LazyForm::Plain)
-    } else if number == 1 {
-        Some(LazyForm::Landing)
-    } else if number == 2 {
-        Some(LazyForm::LandingEntry)
-    } else if number == 3 {
-        Some(LazyForm::Authenticated)
-    } else if number == 4 {
-        Some(LazyForm::AuthenticatedLanding)
-    } else if number == 5 {
-        Some(LazyForm::AuthenticatedLandingEntry)
-    } else {
-        None
+    match number {
+        0 => Some(LazyForm::Plain),
+        1 => Some(LazyForm::Landing),
+        2 => Some(LazyForm::LandingEntry),
+        3 => Some(LazyForm::Authenticated),
+        4 => Some(LazyForm::AuthenticatedLanding),
+        5 => Some(LazyForm::AuthenticatedLandingEntry),
+        _ => None,
     }
 }
 
@@ -73,17 +65,12 @@ pub extern "C" fn linker_utils_get_lazy_plt(
     form: u32,
     plt: &mut LazyPltNumbers,
 ) -> u32
-    ensures { MatchOption (architecture_of machine)
-        ((result ≡ code Status.UnknownArchitecture) × (plt.new ≡ plt.old))
-        (λ architecture.
-        IsPltReturned (plt_in architecture (form_of form)) plt.old plt.new result) }
+    ensures { OfMachine machine (plt.new ≡ plt.old) result (λ architecture.
+        IsGivenBy (λ lazy new. new ≡ numbers_of lazy) (plt_in architecture (form_of form))
+        Status.UnknownStub plt.old plt.new result) }
 {
-    let Some(architecture) = Architecture::from_machine(machine) else {
-        return Status::UnknownArchitecture as u32;
-    };
-    let Some(found) = plt_in(architecture, form) else {
-        return Status::UnknownStub as u32;
-    };
+    let architecture = or_return!(Architecture::from_machine(machine), UnknownArchitecture);
+    let found = or_return!(plt_in(architecture, form), UnknownStub);
     *plt = numbers_in(found);
     Status::Success as u32
 }
@@ -101,7 +88,7 @@ fn numbers_in(plt: &LazyPlt) -> LazyPltNumbers
 }
 
 /// The status of code that is written or not.
-fn status_in(written: Result<(), StubError>) -> u32
+pub(crate) fn status_in(written: Result<(), StubError>) -> u32
     ensures { result ≡ code (written_status written) }
 {
     match written {
@@ -124,19 +111,15 @@ pub extern "C" fn linker_utils_write_lazy_header_nonnull(
     words: u64,
     bytes: &mut [u8],
 ) -> u32
-    ensures { MatchOption (architecture_of machine)
-        ((result ≡ code Status.UnknownArchitecture) × (bytes.new ≡ bytes.old))
-        (λ architecture.
-        IsHeaderWritten (plt_in architecture (form_of form)) header words bytes.old bytes.new
-        result) }
+    ensures { OfMachine machine (bytes.new ≡ bytes.old) result (λ architecture.
+        IfFound (plt_in architecture (form_of form)) Status.UnknownStub (bytes.new ≡ bytes.old)
+        result
+        (λ plt. IsCodeWritten plt.instructions plt.header (header_places header words) bytes.old
+        bytes.new result)) }
 {
-    let Some(architecture) = Architecture::from_machine(machine) else {
-        return Status::UnknownArchitecture as u32;
-    };
-    match plt_in(architecture, form) {
-        Some(plt) => put_header(plt, header, words, bytes),
-        None => Status::UnknownStub as u32,
-    }
+    let architecture = or_return!(Architecture::from_machine(machine), UnknownArchitecture);
+    let plt = or_return!(plt_in(architecture, form), UnknownStub);
+    put_header(plt, header, words, bytes)
 }
 
 fn put_header(plt: &LazyPlt, header: u64, words: u64, bytes: &mut [u8]) -> u32
@@ -156,18 +139,14 @@ pub extern "C" fn linker_utils_write_lazy_entry_nonnull(
     entry: &LazyEntry,
     bytes: &mut [u8],
 ) -> u32
-    ensures { MatchOption (architecture_of machine)
-        ((result ≡ code Status.UnknownArchitecture) × (bytes.new ≡ bytes.old))
-        (λ architecture.
-        IsEntryWritten (plt_in architecture (form_of form)) entry.now bytes.old bytes.new result) }
+    ensures { OfMachine machine (bytes.new ≡ bytes.old) result (λ architecture.
+        IfFound (plt_in architecture (form_of form)) Status.UnknownStub (bytes.new ≡ bytes.old)
+        result
+        (λ plt. IsCodeWritten plt.instructions plt.entry entry.now bytes.old bytes.new result)) }
 {
-    let Some(architecture) = Architecture::from_machine(machine) else {
-        return Status::UnknownArchitecture as u32;
-    };
-    match plt_in(architecture, form) {
-        Some(plt) => put_entry(plt, entry, bytes),
-        None => Status::UnknownStub as u32,
-    }
+    let architecture = or_return!(Architecture::from_machine(machine), UnknownArchitecture);
+    let plt = or_return!(plt_in(architecture, form), UnknownStub);
+    put_entry(plt, entry, bytes)
 }
 
 fn put_entry(plt: &LazyPlt, entry: &LazyEntry, bytes: &mut [u8]) -> u32
@@ -187,22 +166,16 @@ pub extern "C" fn linker_utils_lazy_header_word(
     header: u64,
     word: &mut u64,
 ) -> u32
-    ensures { MatchOption (architecture_of machine)
-        ((result ≡ code Status.UnknownArchitecture) × (word.new ≡ word.old))
-        (λ architecture.
-        IsFoundWord (word_in (lazy_plt_of architecture).header_words index dynamic header) word.old
-        word.new result) }
+    ensures { OfMachine machine (word.new ≡ word.old) result (λ architecture.
+        IsGiven (word_in (lazy_plt_of architecture).header_words index dynamic header)
+        Status.NotProvided word.old word.new result) }
 {
-    let Some(architecture) = Architecture::from_machine(machine) else {
-        return Status::UnknownArchitecture as u32;
-    };
-    match LazyPlt::of(architecture).header_word(index, dynamic, header) {
-        Some(found) => {
-            *word = found;
-            Status::Success as u32
-        }
-        None => Status::NotProvided as u32,
-    }
+    let architecture = or_return!(Architecture::from_machine(machine), UnknownArchitecture);
+    *word = or_return!(
+        LazyPlt::of(architecture).header_word(index, dynamic, header),
+        NotProvided
+    );
+    Status::Success as u32
 }
 
 /// What an entry's word holds at first, as `LazyPlt::entry_word`; 0 of a machine that isn't known,
@@ -218,7 +191,8 @@ pub extern "C" fn linker_utils_lazy_entry_word(
     ensures { MatchOption (architecture_of machine)
         (result ≡ 0)
         (λ architecture.
-        result ≡ first_word (plt_in architecture (form_of form)) entry header dynamic) }
+        MatchOption (plt_in architecture (form_of form)) (result ≡ 0)
+        (λ plt. result ≡ word_by plt.word entry header dynamic)) }
 {
     let Some(architecture) = Architecture::from_machine(machine) else {
         return 0;

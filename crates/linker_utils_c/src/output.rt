@@ -8,28 +8,26 @@ ghost use Rattle.linker_output.specs.Addresses.{entry_r_type_of, section_name};
 ghost use Rattle.linker_output.specs.Dynamic.{name_of, dynamic_words};
 ghost use Rattle.linker_output.specs.Flags.{joined_flags};
 ghost use Rattle.linker_output.specs.Got.{origins_of, entry_words, static_words, got_header_of};
-ghost use Rattle.linker_output.specs.Layout.{unit_by, path_of};
+ghost use Rattle.linker_output.specs.Layout.{unit_by, path_of, run_word};
 ghost use Rattle.linker_output.specs.Tags.{entries};
 ghost use Rattle.linker_output.specs.Targets.{target_of};
 ghost use Rattle.linker_output.specs.View.{view};
 ghost use Rattle.linker_elf.specs.Machines.{architecture_of};
 ghost use Rattle.linker_utils_c.specs.Output.{numbers_of_types, class_of, number_or_none};
-ghost use Rattle.linker_utils_c.specs.Output.{stub_kind_of};
-ghost use Rattle.linker_utils_c.specs.Output.{stub_in};
+ghost use Rattle.linker_utils_c.specs.Output.{stub_kind_of, stub_in};
+ghost use Rattle.linker_utils_c.specs.Output.{AreNumbers, AreStaticWords};
 ghost use Rattle.linker_utils_c.specs.Output.{place_number, IsTextReturned, IsHeader};
-ghost use Rattle.linker_utils_c.specs.Output.{AreWordsReturned, AreStaticReturned};
-ghost use Rattle.linker_utils_c.specs.Output.{AreFlagsReturned, IsSymbolReturned, IsRunReturned};
-ghost use Rattle.linker_utils_c.specs.Output.{IsWordReturned, IsStubReturned, IsStubWritten};
-ghost use Rattle.linker_utils_c.specs.Output.{entry_words_of, IsFoundWord, IsEntryReturned};
+ghost use Rattle.linker_utils_c.specs.Output.{IsSymbolReturned, IsRunReturned};
+ghost use Rattle.linker_utils_c.specs.Output.{IsStubReturned, IsStubWritten};
 ghost use Rattle.linker_utils_c.specs.Relocations.{IsCopied};
-ghost use Rattle.linker_utils_c.specs.Status.{code};
+ghost use Rattle.linker_utils_c.specs.Status.{code, OfMachine, IfFound, IsGiven, IsGivenBy};
 
-use crate::relocate::status_of;
-use crate::status::Status;
+use crate::lazy_plt::status_in;
+use crate::status::{Status, or_return};
 use linker_output::description::Target;
 use linker_output::got::{Origins, entry_words, static_words};
 use linker_output::layout::SymbolPlace;
-use linker_output::stubs::{StubError, StubKind};
+use linker_output::stubs::StubKind;
 use linker_output::tags::{DynamicEntry, DynamicFacts};
 use linker_section::needed::EntryClass;
 use linker_utils::elf::Architecture;
@@ -108,14 +106,11 @@ pub struct StubNumbers {
 /// Writes the types of the dynamic relocations of an architecture. `UnknownArchitecture`.
 #[unsafe(no_mangle)]
 pub extern "C" fn linker_utils_get_dynamic_types(machine: u16, types: &mut DynamicNumbers) -> u32
-    ensures { MatchOption (architecture_of machine)
-        ((result ≡ code Status.UnknownArchitecture) × (types.new ≡ types.old))
-        (λ architecture. (result ≡ code Status.Success)
+    ensures { OfMachine machine (types.new ≡ types.old) result (λ architecture.
+        (result ≡ code Status.Success)
         × (types.new ≡ numbers_of_types (target_of architecture).dynamic)) }
 {
-    let Some(architecture) = Architecture::from_machine(machine) else {
-        return Status::UnknownArchitecture as u32;
-    };
+    let architecture = or_return!(Architecture::from_machine(machine), UnknownArchitecture);
     *types = numbers_in(Target::of(architecture));
     Status::Success as u32
 }
@@ -165,20 +160,17 @@ pub extern "C" fn linker_utils_dynamic_name_nonnull(
     name: &mut [u8],
     name_used: &mut usize,
 ) -> u32
-    ensures { MatchOption (architecture_of machine)
-        ((result ≡ code Status.UnknownArchitecture) × (name.new ≡ name.old)
-        × (name_used.new ≡ name_used.old))
+    ensures { OfMachine machine ((name.new ≡ name.old) × (name_used.new ≡ name_used.old)) result
         (λ architecture.
         IsTextReturned (name_of (target_of architecture).dynamic r_type)
-        (code Status.UnknownRelocation) name.old name.new name_used.old name_used.new result) }
+        Status.UnknownRelocation name.old name.new name_used.old name_used.new result) }
 {
-    let Some(architecture) = Architecture::from_machine(machine) else {
-        return Status::UnknownArchitecture as u32;
-    };
-    match Target::of(architecture).dynamic_name(r_type) {
-        Some(text) => put_text(text, name, name_used),
-        None => Status::UnknownRelocation as u32,
-    }
+    let architecture = or_return!(Architecture::from_machine(machine), UnknownArchitecture);
+    let text = or_return!(
+        Target::of(architecture).dynamic_name(r_type),
+        UnknownRelocation
+    );
+    put_text(text, name, name_used)
 }
 
 /// The class with a number.
@@ -186,18 +178,13 @@ pub extern "C" fn linker_utils_dynamic_name_nonnull(
 fn class_of(number: u32) -> Option<EntryClass>
     ensures { result ≡ class_of number }
 {
-    if number == 1 {
-        Some(EntryClass::Address)
-    } else if number == 2 {
-        Some(EntryClass::ThreadOffset)
-    } else if number == 3 {
-        Some(EntryClass::ModuleOffset)
-    } else if number == 4 {
-        Some(EntryClass::Module)
-    } else if number == 5 {
-        Some(EntryClass::Descriptor)
-    } else {
-        None
+    match number {
+        1 => Some(EntryClass::Address),
+        2 => Some(EntryClass::ThreadOffset),
+        3 => Some(EntryClass::ModuleOffset),
+        4 => Some(EntryClass::Module),
+        5 => Some(EntryClass::Descriptor),
+        _ => None,
     }
 }
 
@@ -238,18 +225,13 @@ pub extern "C" fn linker_utils_dynamic_words(
     is_executable: bool,
     words: &mut WordNumbers,
 ) -> u32
-    ensures { MatchOption (architecture_of machine)
-        ((result ≡ code Status.UnknownArchitecture) × (words.new ≡ words.old))
-        (λ architecture.
-        AreWordsReturned (target_of architecture).dynamic (class_of entry_class) is_bound
-        is_executable words.old words.new result) }
+    ensures { OfMachine machine (words.new ≡ words.old) result (λ architecture.
+        IsGivenBy (λ class. AreNumbers
+        (dynamic_words (target_of architecture).dynamic class is_bound is_executable))
+        (class_of entry_class) Status.UnknownEntryClass words.old words.new result) }
 {
-    let Some(architecture) = Architecture::from_machine(machine) else {
-        return Status::UnknownArchitecture as u32;
-    };
-    let Some(class) = class_of(entry_class) else {
-        return Status::UnknownEntryClass as u32;
-    };
+    let architecture = or_return!(Architecture::from_machine(machine), UnknownArchitecture);
+    let class = or_return!(class_of(entry_class), UnknownEntryClass);
     let r_types = Target::of(architecture).dynamic_words(class, is_bound, is_executable);
     *words = WordNumbers {
         first: r_type_or_none(r_types[0]),
@@ -261,7 +243,8 @@ pub extern "C" fn linker_utils_dynamic_words(
 /// How many words of 8 bytes an entry of a class has; 0 of a number that is no class.
 #[unsafe(no_mangle)]
 pub extern "C" fn linker_utils_get_entry_words(entry_class: u32) -> u64
-    ensures { result ≡ entry_words_of (class_of entry_class) }
+    ensures { MatchOption (class_of entry_class) (result ≡ 0) (λ class.
+        result ≡ entry_words class) }
 {
     match class_of(entry_class) {
         Some(class) => entry_words(class),
@@ -278,22 +261,17 @@ pub extern "C" fn linker_utils_static_words(
     origins: &Origins,
     words: &mut EntryWords,
 ) -> u32
-    ensures { AreStaticReturned (class_of entry_class) address origins.now words.old words.new
-        result }
+    ensures { IfFound (class_of entry_class) Status.UnknownEntryClass (words.new ≡ words.old) result
+        (λ class. AreStaticWords (static_words class address origins.now) words.old words.new
+        result) }
 {
-    let Some(class) = class_of(entry_class) else {
-        return Status::UnknownEntryClass as u32;
+    let class = or_return!(class_of(entry_class), UnknownEntryClass);
+    let both = or_return!(static_words(class, address, *origins), UnknownEntryClass);
+    *words = EntryWords {
+        first: both[0],
+        second: both[1],
     };
-    match static_words(class, address, *origins) {
-        Some(both) => {
-            *words = EntryWords {
-                first: both[0],
-                second: both[1],
-            };
-            Status::Success as u32
-        }
-        None => Status::UnknownEntryClass as u32,
-    }
+    Status::Success as u32
 }
 
 /// Writes what offsets of thread-local storage count from, by the TLS image, as `Target::origins`.
@@ -306,15 +284,12 @@ pub extern "C" fn linker_utils_get_origins(
     alignment: u64,
     origins: &mut Origins,
 ) -> u32
-    ensures { MatchOption (architecture_of machine)
-        ((result ≡ code Status.UnknownArchitecture) × (origins.new ≡ origins.old))
-        (λ architecture. (result ≡ code Status.Success)
+    ensures { OfMachine machine (origins.new ≡ origins.old) result (λ architecture.
+        (result ≡ code Status.Success)
         × (origins.new ≡ origins_of (target_of architecture).thread_pointer
         (target_of architecture).module_bias image image_len alignment)) }
 {
-    let Some(architecture) = Architecture::from_machine(machine) else {
-        return Status::UnknownArchitecture as u32;
-    };
+    let architecture = or_return!(Architecture::from_machine(machine), UnknownArchitecture);
     *origins = Target::of(architecture).origins(image, image_len, alignment);
     Status::Success as u32
 }
@@ -328,15 +303,12 @@ pub extern "C" fn linker_utils_get_got(
     dynamic: u64,
     got: &mut GotNumbers,
 ) -> u32
-    ensures { MatchOption (architecture_of machine)
-        ((result ≡ code Status.UnknownArchitecture) × (got.new ≡ got.old))
-        (λ architecture. (result ≡ code Status.Success)
+    ensures { OfMachine machine (got.new ≡ got.old) result (λ architecture.
+        (result ≡ code Status.Success)
         × (got.new.base ≡ sum_64 address (target_of architecture).got.bias)
         × IsHeader (got_header_of (target_of architecture).got address dynamic) got.new) }
 {
-    let Some(architecture) = Architecture::from_machine(machine) else {
-        return Status::UnknownArchitecture as u32;
-    };
+    let architecture = or_return!(Architecture::from_machine(machine), UnknownArchitecture);
     let target = Target::of(architecture);
     let (has_header, header) = match target.got_header(address, dynamic) {
         Some(word) => (1, word),
@@ -359,22 +331,16 @@ pub extern "C" fn linker_utils_join_flags(
     second: u32,
     joined: &mut u32,
 ) -> u32
-    ensures { MatchOption (architecture_of machine)
-        ((result ≡ code Status.UnknownArchitecture) × (joined.new ≡ joined.old))
-        (λ architecture.
-        AreFlagsReturned (joined_flags (target_of architecture).flags first second) joined.old
-        joined.new result) }
+    ensures { OfMachine machine (joined.new ≡ joined.old) result (λ architecture.
+        IsGiven (joined_flags (target_of architecture).flags first second) Status.DifferentFlags
+        joined.old joined.new result) }
 {
-    let Some(architecture) = Architecture::from_machine(machine) else {
-        return Status::UnknownArchitecture as u32;
-    };
-    match Target::of(architecture).join_flags(first, second) {
-        Some(flags) => {
-            *joined = flags;
-            Status::Success as u32
-        }
-        None => Status::DifferentFlags as u32,
-    }
+    let architecture = or_return!(Architecture::from_machine(machine), UnknownArchitecture);
+    *joined = or_return!(
+        Target::of(architecture).join_flags(first, second),
+        DifferentFlags
+    );
+    Status::Success as u32
 }
 
 /// `e_flags` of an output, from those that `linker_utils_join_flags` made of its objects. They are
@@ -455,21 +421,15 @@ pub extern "C" fn linker_utils_interpreter_nonnull(
     path: &mut [u8],
     path_used: &mut usize,
 ) -> u32
-    ensures { MatchOption (architecture_of machine)
-        ((result ≡ code Status.UnknownArchitecture) × (path.new ≡ path.old)
-        × (path_used.new ≡ path_used.old))
+    ensures { OfMachine machine ((path.new ≡ path.old) × (path_used.new ≡ path_used.old)) result
         (λ architecture.
         IsTextReturned (path_of (target_of architecture).paths
-        (target_of architecture).interpreter_flags flags) (code Status.NotProvided) path.old
+        (target_of architecture).interpreter_flags flags) Status.NotProvided path.old
         path.new path_used.old path_used.new result) }
 {
-    let Some(architecture) = Architecture::from_machine(machine) else {
-        return Status::UnknownArchitecture as u32;
-    };
-    match Target::of(architecture).interpreter(flags) {
-        Some(text) => put_text(text, path, path_used),
-        None => Status::NotProvided as u32,
-    }
+    let architecture = or_return!(Architecture::from_machine(machine), UnknownArchitecture);
+    let text = or_return!(Target::of(architecture).interpreter(flags), NotProvided);
+    put_text(text, path, path_used)
 }
 
 /// Writes the name of the section of objects in which compilers keep addresses to the beginning of
@@ -481,27 +441,21 @@ pub extern "C" fn linker_utils_address_section_nonnull(
     name: &mut [u8],
     name_used: &mut usize,
 ) -> u32
-    ensures { MatchOption (architecture_of machine)
-        ((result ≡ code Status.UnknownArchitecture) × (name.new ≡ name.old)
-        × (name_used.new ≡ name_used.old))
+    ensures { OfMachine machine ((name.new ≡ name.old) × (name_used.new ≡ name_used.old)) result
         (λ architecture.
-        IsTextReturned (section_name (target_of architecture).addresses) (code Status.NotProvided)
+        IsTextReturned (section_name (target_of architecture).addresses) Status.NotProvided
         name.old name.new name_used.old name_used.new result) }
 {
-    let Some(architecture) = Architecture::from_machine(machine) else {
-        return Status::UnknownArchitecture as u32;
-    };
+    let architecture = or_return!(Architecture::from_machine(machine), UnknownArchitecture);
     put_section_name(Target::of(architecture), name, name_used)
 }
 
 fn put_section_name(target: &Target, name: &mut [u8], name_used: &mut usize) -> u32
-    ensures { IsTextReturned (section_name (view target.now).addresses) (code Status.NotProvided)
+    ensures { IsTextReturned (section_name (view target.now).addresses) Status.NotProvided
         name.old name.new name_used.old name_used.new result }
 {
-    match &target.address_section {
-        Some(section) => put_text(section.name, name, name_used),
-        None => Status::NotProvided as u32,
-    }
+    let section = or_return!(&target.address_section, NotProvided);
+    put_text(section.name, name, name_used)
 }
 
 /// Writes the type of the relocation that an instruction would have if the address were in an entry
@@ -513,22 +467,13 @@ pub extern "C" fn linker_utils_entry_relocation(
     r_type: u32,
     entry_type: &mut u32,
 ) -> u32
-    ensures { MatchOption (architecture_of machine)
-        ((result ≡ code Status.UnknownArchitecture) × (entry_type.new ≡ entry_type.old))
-        (λ architecture. IsFoundWord
-        (entry_r_type_of (target_of architecture).addresses r_type) entry_type.old entry_type.new
-        result) }
+    ensures { OfMachine machine (entry_type.new ≡ entry_type.old) result (λ architecture.
+        IsGiven (entry_r_type_of (target_of architecture).addresses r_type) Status.NotProvided
+        entry_type.old entry_type.new result) }
 {
-    let Some(architecture) = Architecture::from_machine(machine) else {
-        return Status::UnknownArchitecture as u32;
-    };
-    match Target::of(architecture).entry_r_type(r_type) {
-        Some(found) => {
-            *entry_type = found;
-            Status::Success as u32
-        }
-        None => Status::NotProvided as u32,
-    }
+    let architecture = or_return!(Architecture::from_machine(machine), UnknownArchitecture);
+    *entry_type = or_return!(Target::of(architecture).entry_r_type(r_type), NotProvided);
+    Status::Success as u32
 }
 
 /// Writes the entry with an index, of those that an output's dynamic section has by the
@@ -541,22 +486,16 @@ pub extern "C" fn linker_utils_get_dynamic_entry(
     index: usize,
     entry: &mut DynamicEntry,
 ) -> u32
-    ensures { MatchOption (architecture_of machine)
-        ((result ≡ code Status.UnknownArchitecture) × (entry.new ≡ entry.old))
-        (λ architecture. IsEntryReturned
-        (slice_get (entries (target_of architecture).dynamic_tags facts.now) index) entry.old
-        entry.new result) }
+    ensures { OfMachine machine (entry.new ≡ entry.old) result (λ architecture.
+        IsGiven (slice_get (entries (target_of architecture).dynamic_tags facts.now) index)
+        Status.NotProvided entry.old entry.new result) }
 {
-    let Some(architecture) = Architecture::from_machine(machine) else {
-        return Status::UnknownArchitecture as u32;
-    };
-    match Target::of(architecture).dynamic_entry(facts, index) {
-        Some(found) => {
-            *entry = found;
-            Status::Success as u32
-        }
-        None => Status::NotProvided as u32,
-    }
+    let architecture = or_return!(Architecture::from_machine(machine), UnknownArchitecture);
+    *entry = or_return!(
+        Target::of(architecture).dynamic_entry(facts, index),
+        NotProvided
+    );
+    Status::Success as u32
 }
 
 /// The number of a place.
@@ -582,16 +521,12 @@ pub extern "C" fn linker_utils_get_provided_symbol_nonnull(
     name_used: &mut usize,
     symbol: &mut SymbolNumbers,
 ) -> u32
-    ensures { MatchOption (architecture_of machine)
-        ((result ≡ code Status.UnknownArchitecture) × (name.new ≡ name.old)
-        × (name_used.new ≡ name_used.old) × (symbol.new ≡ symbol.old))
-        (λ architecture.
+    ensures { OfMachine machine ((name.new ≡ name.old) × (name_used.new ≡ name_used.old)
+        × (symbol.new ≡ symbol.old)) result (λ architecture.
         IsSymbolReturned (slice_get (target_of architecture).symbols index) name.old name.new
         name_used.old name_used.new symbol.old symbol.new result) }
 {
-    let Some(architecture) = Architecture::from_machine(machine) else {
-        return Status::UnknownArchitecture as u32;
-    };
+    let architecture = or_return!(Architecture::from_machine(machine), UnknownArchitecture);
     put_symbol(Target::of(architecture), index, name, name_used, symbol)
 }
 
@@ -605,9 +540,7 @@ fn put_symbol(
     ensures { IsSymbolReturned (slice_get (view target.now).symbols index) name.old name.new
         name_used.old name_used.new symbol.old symbol.new result }
 {
-    let Some(provided) = target.symbols.get(index) else {
-        return Status::NotProvided as u32;
-    };
+    let provided = or_return!(target.symbols.get(index), NotProvided);
     if name.len() < provided.name.len() {
         return Status::TooShort as u32;
     }
@@ -629,16 +562,12 @@ pub extern "C" fn linker_utils_get_save_restore_routines_nonnull(
     prefix_used: &mut usize,
     run: &mut RunNumbers,
 ) -> u32
-    ensures { MatchOption (architecture_of machine)
-        ((result ≡ code Status.UnknownArchitecture) × (prefix.new ≡ prefix.old)
-        × (prefix_used.new ≡ prefix_used.old) × (run.new ≡ run.old))
-        (λ architecture.
+    ensures { OfMachine machine ((prefix.new ≡ prefix.old) × (prefix_used.new ≡ prefix_used.old)
+        × (run.new ≡ run.old)) result (λ architecture.
         IsRunReturned (slice_get (target_of architecture).runs index) prefix.old prefix.new
         prefix_used.old prefix_used.new run.old run.new result) }
 {
-    let Some(architecture) = Architecture::from_machine(machine) else {
-        return Status::UnknownArchitecture as u32;
-    };
+    let architecture = or_return!(Architecture::from_machine(machine), UnknownArchitecture);
     put_run(Target::of(architecture), index, prefix, prefix_used, run)
 }
 
@@ -652,9 +581,7 @@ fn put_run(
     ensures { IsRunReturned (slice_get (view target.now).runs index) prefix.old prefix.new
         prefix_used.old prefix_used.new run.old run.new result }
 {
-    let Some(provided) = target.runs.get(index) else {
-        return Status::NotProvided as u32;
-    };
+    let provided = or_return!(target.runs.get(index), NotProvided);
     if prefix.len() < provided.prefix.len() {
         return Status::TooShort as u32;
     }
@@ -676,31 +603,23 @@ pub extern "C" fn linker_utils_provided_word(
     index: u64,
     word: &mut u32,
 ) -> u32
-    ensures { MatchOption (architecture_of machine)
-        ((result ≡ code Status.UnknownArchitecture) × (word.new ≡ word.old))
-        (λ architecture.
-        IsWordReturned (slice_get (target_of architecture).runs run) index word.old word.new
-        result) }
+    ensures { OfMachine machine (word.new ≡ word.old) result (λ architecture.
+        IfFound (slice_get (target_of architecture).runs run) Status.NotProvided
+        (word.new ≡ word.old) result (λ found.
+        IsGiven (run_word found index) Status.NotProvided word.old word.new result)) }
 {
-    let Some(architecture) = Architecture::from_machine(machine) else {
-        return Status::UnknownArchitecture as u32;
-    };
+    let architecture = or_return!(Architecture::from_machine(machine), UnknownArchitecture);
     put_word(Target::of(architecture), run, index, word)
 }
 
 fn put_word(target: &Target, run: usize, index: u64, word: &mut u32) -> u32
-    ensures { IsWordReturned (slice_get (view target.now).runs run) index word.old word.new result }
+    ensures { IfFound (slice_get (view target.now).runs run) Status.NotProvided
+        (word.new ≡ word.old) result (λ found.
+        IsGiven (run_word found index) Status.NotProvided word.old word.new result) }
 {
-    let Some(provided) = target.runs.get(run) else {
-        return Status::NotProvided as u32;
-    };
-    match provided.word_at(index) {
-        Some(found) => {
-            *word = found;
-            Status::Success as u32
-        }
-        None => Status::NotProvided as u32,
-    }
+    let provided = or_return!(target.runs.get(run), NotProvided);
+    *word = or_return!(provided.word_at(index), NotProvided);
+    Status::Success as u32
 }
 
 /// The kind with a number.
@@ -708,26 +627,17 @@ fn put_word(target: &Target, run: usize, index: u64, word: &mut u32) -> u32
 fn kind_of(number: u32) -> Option<StubKind>
     ensures { result ≡ stub_kind_of number }
 {
-    if number == 0 {
-        Some(StubKind::Load)
-    } else if number == 1 {
-        Some(StubKind::Jump)
-    } else if number == 2 {
-        Some(StubKind::Far)
-    } else if number == 3 {
-        Some(StubKind::FarRelative)
-    } else if number == 4 {
-        Some(StubKind::LandingLoad)
-    } else if number == 5 {
-        Some(StubKind::TocLoad)
-    } else if number == 6 {
-        Some(StubKind::TocFar)
-    } else if number == 7 {
-        Some(StubKind::PrefixedLoad)
-    } else if number == 8 {
-        Some(StubKind::PrefixedJump)
-    } else {
-        None
+    match number {
+        0 => Some(StubKind::Load),
+        1 => Some(StubKind::Jump),
+        2 => Some(StubKind::Far),
+        3 => Some(StubKind::FarRelative),
+        4 => Some(StubKind::LandingLoad),
+        5 => Some(StubKind::TocLoad),
+        6 => Some(StubKind::TocFar),
+        7 => Some(StubKind::PrefixedLoad),
+        8 => Some(StubKind::PrefixedJump),
+        _ => None,
     }
 }
 
@@ -739,15 +649,11 @@ fn kind_of(number: u32) -> Option<StubKind>
 /// kind.
 #[unsafe(no_mangle)]
 pub extern "C" fn linker_utils_get_stub(machine: u16, kind: u32, stub: &mut StubNumbers) -> u32
-    ensures { MatchOption (architecture_of machine)
-        ((result ≡ code Status.UnknownArchitecture) × (stub.new ≡ stub.old))
-        (λ architecture.
+    ensures { OfMachine machine (stub.new ≡ stub.old) result (λ architecture.
         IsStubReturned (stub_in (target_of architecture) (stub_kind_of kind)) stub.old stub.new
         result) }
 {
-    let Some(architecture) = Architecture::from_machine(machine) else {
-        return Status::UnknownArchitecture as u32;
-    };
+    let architecture = or_return!(Architecture::from_machine(machine), UnknownArchitecture);
     put_stub(Target::of(architecture), kind, stub)
 }
 
@@ -755,19 +661,13 @@ fn put_stub(target: &Target, kind: u32, numbers: &mut StubNumbers) -> u32
     ensures { IsStubReturned (stub_in (view target.now) (stub_kind_of kind)) numbers.old numbers.new
         result }
 {
-    let Some(kind) = kind_of(kind) else {
-        return Status::UnknownStub as u32;
+    let kind = or_return!(kind_of(kind), UnknownStub);
+    let stub = or_return!(target.stub(kind), UnknownStub);
+    *numbers = StubNumbers {
+        len: stub.len(),
+        entry: stub.entry,
     };
-    match target.stub(kind) {
-        Some(stub) => {
-            *numbers = StubNumbers {
-                len: stub.len(),
-                entry: stub.entry,
-            };
-            Status::Success as u32
-        }
-        None => Status::UnknownStub as u32,
-    }
+    Status::Success as u32
 }
 
 /// Writes the stub of a kind that stands at an address, as `Target::write_stub`, to the beginning
@@ -782,16 +682,12 @@ pub extern "C" fn linker_utils_write_stub_nonnull(
     target: u64,
     bytes: &mut [u8],
 ) -> u32
-    ensures { MatchOption (architecture_of machine)
-        ((result ≡ code Status.UnknownArchitecture) × (bytes.new ≡ bytes.old))
-        (λ architecture.
+    ensures { OfMachine machine (bytes.new ≡ bytes.old) result (λ architecture.
         IsStubWritten (target_of architecture).instructions
         (stub_in (target_of architecture) (stub_kind_of kind)) place target bytes.old bytes.new
         result) }
 {
-    let Some(architecture) = Architecture::from_machine(machine) else {
-        return Status::UnknownArchitecture as u32;
-    };
+    let architecture = or_return!(Architecture::from_machine(machine), UnknownArchitecture);
     write_by(Target::of(architecture), kind, place, target, bytes)
 }
 
@@ -800,13 +696,6 @@ fn write_by(description: &Target, kind: u32, place: u64, target: u64, bytes: &mu
         (stub_in (view description.now) (stub_kind_of kind)) place target bytes.old bytes.new
         result }
 {
-    let Some(kind) = kind_of(kind) else {
-        return Status::UnknownStub as u32;
-    };
-    match description.write_stub(kind, place, target, bytes) {
-        Ok(()) => Status::Success as u32,
-        Err(StubError::Missing) => Status::UnknownStub as u32,
-        Err(StubError::TooShort) => Status::TooShort as u32,
-        Err(StubError::Field(error)) => status_of(Err(error)),
-    }
+    let kind = or_return!(kind_of(kind), UnknownStub);
+    status_in(description.write_stub(kind, place, target, bytes))
 }

@@ -7,9 +7,9 @@ ghost use Rattle.linker_base.specs.Listed.{AreValidDeltas};
 ghost use Rattle.linker_runs.specs.Relaxing.{item_of, items_in};
 ghost use Rattle.linker_utils_c.specs.PackRuns.{packing_machine, item_status, IsRunReturned};
 ghost use Rattle.linker_utils_c.specs.PackRuns.{SaysOfInstructions};
-ghost use Rattle.linker_utils_c.specs.Status.{code};
+ghost use Rattle.linker_utils_c.specs.Status.{code, IfFound};
 
-use crate::status::Status;
+use crate::status::{Status, or_return};
 use linker_runs::items::ItemNumbers;
 use linker_runs::packing::{
     Isa, ItemError, Machine, has_its_instructions, pack_run, packed_run_len,
@@ -81,9 +81,7 @@ pub extern "C" fn linker_utils_has_its_instructions_nonnull(
     ensures { MatchOption (packing_machine machine) (result ≡ code Status.UnknownArchitecture)
         (λ known. SaysOfInstructions known section.now base (item_of item.now) result) }
 {
-    let Some(known) = packing_machine(machine) else {
-        return Status::UnknownArchitecture as u32;
-    };
+    let known = or_return!(packing_machine(machine), UnknownArchitecture);
     if has_its_instructions(known, section, base, &item.as_item()) {
         Status::Success as u32
     } else {
@@ -117,11 +115,11 @@ pub extern "C" fn linker_utils_pack_run_nonnull(
     packed: &mut [u8],
     faulty: &mut usize,
 ) -> u32
-    ensures { MatchOption (packing_machine machine)
-        ((result ≡ code Status.UnknownArchitecture) × (packed.new ≡ packed.old)
-        × (relocations.new ≡ relocations.old) × (faulty.new ≡ faulty.old))
-        (λ known. IsRunReturned known deltas.now section.now base start (items_in items.now)
-        relocations.old relocations.new packed.old packed.new faulty.old faulty.new result) }
+    ensures { IfFound (packing_machine machine) Status.UnknownArchitecture
+        ((packed.new ≡ packed.old) × (relocations.new ≡ relocations.old)
+        × (faulty.new ≡ faulty.old)) result (λ known.
+        IsRunReturned known deltas.now section.now base start (items_in items.now) relocations.old
+        relocations.new packed.old packed.new faulty.old faulty.new result) }
 {
     match packing_machine(machine) {
         Some(known) => pack(

@@ -1,14 +1,14 @@
 //! The kept bytes of a section, with its calls made jumps.
 
-ghost use Rattle.std.specs.Prelude.{◌≡◌, MatchOption, length};
+ghost use Rattle.std.specs.Prelude.{◌≡◌, length};
 ghost use Rattle.linker_base.specs.Deletions.{rank};
 ghost use Rattle.linker_base.specs.Deltas.{deletions_of};
 ghost use Rattle.linker_base.specs.Listed.{AreValidDeltas};
-ghost use Rattle.linker_utils_c.specs.Status.{code};
+ghost use Rattle.linker_utils_c.specs.Status.{IfFound};
 ghost use Rattle.linker_utils_c.specs.Packing.{calls_in, named_link, IsPackReturned};
 
 use crate::calls::{chosen_register, jump_status};
-use crate::status::Status;
+use crate::status::{Status, or_return};
 use linker_utils::relaxation::RelaxDelta;
 use linker_utils::riscv64::{Call, LinkRegister, first_not_apart, pack_into, packed_len};
 
@@ -39,16 +39,13 @@ pub extern "C" fn linker_utils_pack_nonnull(
     packed: &mut [u8],
     faulty: &mut usize,
 ) -> u32
-    ensures { MatchOption (named_link link)
-        ((result ≡ code Status.UnknownLinkRegister) × (packed.new ≡ packed.old)
-        × (faulty.new ≡ faulty.old))
-        (λ register. IsPackReturned register deltas.now section.now (calls_in calls.now) packed.old
-        packed.new faulty.old faulty.new result) }
+    ensures { IfFound (named_link link) Status.UnknownLinkRegister ((packed.new ≡ packed.old)
+        × (faulty.new ≡ faulty.old)) result (λ register.
+        IsPackReturned register deltas.now section.now (calls_in calls.now) packed.old packed.new
+        faulty.old faulty.new result) }
 {
-    match chosen_register(link) {
-        Some(register) => pack(section, deltas, calls, register, packed, faulty),
-        None => Status::UnknownLinkRegister as u32,
-    }
+    let register = or_return!(chosen_register(link), UnknownLinkRegister);
+    pack(section, deltas, calls, register, packed, faulty)
 }
 
 fn pack(

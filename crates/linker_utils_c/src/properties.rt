@@ -1,14 +1,14 @@
 //! Program properties.
 
-ghost use Rattle.std.specs.Prelude.{◌≡◌, MatchOption};
+ghost use Rattle.std.specs.Prelude.{◌≡◌};
 ghost use Rattle.linker_elf.specs.Machines.{architecture_of};
 ghost use Rattle.linker_output.specs.Targets.{target_of};
 ghost use Rattle.linker_utils_c.specs.Properties.{has_rule, property_status, number_by};
 ghost use Rattle.linker_utils_c.specs.Properties.{ArePropertiesRead, ArePropertiesMerged};
-ghost use Rattle.linker_utils_c.specs.Properties.{IsNoteWritten, IsLandingReturned};
-ghost use Rattle.linker_utils_c.specs.Status.{code};
+ghost use Rattle.linker_utils_c.specs.Properties.{IsNoteWritten};
+ghost use Rattle.linker_utils_c.specs.Status.{code, OfMachine, IsGiven};
 
-use crate::status::Status;
+use crate::status::{Status, or_return};
 use linker_output::description::Target;
 use linker_output::properties::{
     LandingProperty, Property, PropertyError, merge_properties, property_rule, read_properties,
@@ -60,15 +60,13 @@ pub extern "C" fn linker_utils_read_properties_nonnull(
     properties: &mut [Property],
     number: &mut usize,
 ) -> u32
-    ensures { MatchOption (architecture_of machine)
-        ((result ≡ code Status.UnknownArchitecture) × (properties.new ≡ properties.old)
-        × (number.new ≡ number.old))
-        (λ architecture. ArePropertiesRead architecture
-        notes.now properties.old properties.new number.old number.new result) }
+    ensures { OfMachine machine ((properties.new ≡ properties.old) × (number.new ≡ number.old))
+        result
+        (λ architecture.
+        ArePropertiesRead architecture notes.now properties.old properties.new number.old number.new
+        result) }
 {
-    let Some(architecture) = Architecture::from_machine(machine) else {
-        return Status::UnknownArchitecture as u32;
-    };
+    let architecture = or_return!(Architecture::from_machine(machine), UnknownArchitecture);
     status_of(read_properties(architecture, notes, properties), number)
 }
 
@@ -84,16 +82,13 @@ pub extern "C" fn linker_utils_merge_properties_nonnull(
     properties: &mut [Property],
     number: &mut usize,
 ) -> u32
-    ensures { MatchOption (architecture_of machine)
-        ((result ≡ code Status.UnknownArchitecture) × (properties.new ≡ properties.old)
-        × (number.new ≡ number.old))
+    ensures { OfMachine machine ((properties.new ≡ properties.old) × (number.new ≡ number.old))
+        result
         (λ architecture.
         ArePropertiesMerged architecture first.now second.now properties.old properties.new
         number.old number.new result) }
 {
-    let Some(architecture) = Architecture::from_machine(machine) else {
-        return Status::UnknownArchitecture as u32;
-    };
+    let architecture = or_return!(Architecture::from_machine(machine), UnknownArchitecture);
     let merged = merge_properties(architecture, first, second, properties);
     status_of(merged, number)
 }
@@ -110,15 +105,11 @@ pub extern "C" fn linker_utils_write_properties_nonnull(
     note: &mut [u8],
     number: &mut usize,
 ) -> u32
-    ensures { MatchOption (architecture_of machine)
-        ((result ≡ code Status.UnknownArchitecture) × (note.new ≡ note.old)
-        × (number.new ≡ number.old))
-        (λ architecture. IsNoteWritten architecture
-        properties.now note.old note.new number.old number.new result) }
+    ensures { OfMachine machine ((note.new ≡ note.old) × (number.new ≡ number.old)) result
+        (λ architecture.
+        IsNoteWritten architecture properties.now note.old note.new number.old number.new result) }
 {
-    let Some(architecture) = Architecture::from_machine(machine) else {
-        return Status::UnknownArchitecture as u32;
-    };
+    let architecture = or_return!(Architecture::from_machine(machine), UnknownArchitecture);
     status_of(write_properties(architecture, properties, note), number)
 }
 
@@ -129,17 +120,12 @@ pub extern "C" fn linker_utils_get_landing_property(
     machine: u16,
     landing: &mut LandingProperty,
 ) -> u32
-    ensures { MatchOption (architecture_of machine)
-        ((result ≡ code Status.UnknownArchitecture) × (landing.new ≡ landing.old))
-        (λ architecture. IsLandingReturned
-        (target_of architecture).landing_property landing.old landing.new result) }
+    ensures { OfMachine machine (landing.new ≡ landing.old) result (λ architecture.
+        IsGiven (target_of architecture).landing_property Status.NotProvided landing.old
+        landing.new result) }
 {
-    let Some(architecture) = Architecture::from_machine(machine) else {
-        return Status::UnknownArchitecture as u32;
-    };
-    let Some(property) = Target::of(architecture).landing_property else {
-        return Status::NotProvided as u32;
-    };
+    let architecture = or_return!(Architecture::from_machine(machine), UnknownArchitecture);
+    let property = or_return!(Target::of(architecture).landing_property, NotProvided);
     *landing = property;
     Status::Success as u32
 }

@@ -1,18 +1,17 @@
 //! The numbers in immediates; what stands in the fields of linked relocations, and the addresses
 //! after it.
 
-ghost use Rattle.std.specs.Prelude.{◌≡◌, Option, Some, MatchOption, MatchResult};
+ghost use Rattle.std.specs.Prelude.{◌≡◌, Option, Some, MatchResult};
 ghost use Rattle.linker_elf.specs.declared.elf.RowInfo.{RowInfo};
 ghost use Rattle.linker_elf.specs.Architectures.{IsRow};
-ghost use Rattle.linker_elf.specs.Machines.{architecture_of};
-ghost use Rattle.linker_utils_c.specs.Reading.{field_of, reference_number, IsValueRead};
-ghost use Rattle.linker_utils_c.specs.Reading.{IsAddress, IsRowSolved, IsValueSolved};
+ghost use Rattle.linker_utils_c.specs.Reading.{field_of, reference_number, IsRowRead};
+ghost use Rattle.linker_utils_c.specs.Reading.{IsAddress, IsRowSolved};
 ghost use Rattle.linker_utils_c.specs.Forms.{named_form};
-ghost use Rattle.linker_utils_c.specs.Reading.{IsWhole, AreHalvesJoined, IsOperandReturned};
-ghost use Rattle.linker_utils_c.specs.Status.{code};
+ghost use Rattle.linker_utils_c.specs.Reading.{AreHalvesJoined, IsOperandReturned};
+ghost use Rattle.linker_utils_c.specs.Status.{code, OfMachine, IfFound, IsGivenBy};
 
 use crate::forms::form_of;
-use crate::status::Status;
+use crate::status::{Status, or_return};
 use linker_reading::fields::FieldValue;
 use linker_reading::operands::operand;
 use linker_reading::reading::read;
@@ -44,13 +43,8 @@ pub extern "C" fn linker_utils_operand_nonnull(
 fn put_operand(form: AnyForm, bytes: &[u8], number: &mut i64) -> u32
     ensures { IsOperandReturned form bytes.now number.old number.new result }
 {
-    match operand(form, bytes) {
-        Some(found) => {
-            *number = found;
-            Status::Success as u32
-        }
-        None => Status::DoesNotMatch as u32,
-    }
+    *number = or_return!(operand(form, bytes), DoesNotMatch);
+    Status::Success as u32
 }
 
 /// What is known of a number of 64 bits, a relocation's value or an address.
@@ -106,23 +100,19 @@ pub extern "C" fn linker_utils_read_value_nonnull(
     bytes: &[u8],
     value: &mut FieldValueNumbers,
 ) -> u32
-    ensures { MatchOption (architecture_of machine)
-        ((result ≡ code Status.UnknownArchitecture) × (value.new ≡ value.old))
-        (λ architecture. (meaning : Option RowInfo) × IsRow architecture r_type meaning
-        × IsValueRead meaning bytes.now value.old value.new result) }
+    ensures { OfMachine machine (value.new ≡ value.old) result (λ architecture.
+        (meaning : Option RowInfo) × IsRow architecture r_type meaning
+        × IfFound meaning Status.UnknownRelocation (value.new ≡ value.old) result
+        (λ row. IsRowRead row bytes.now value.old value.new result)) }
 {
-    let Some(architecture) = Architecture::from_machine(machine) else {
-        return Status::UnknownArchitecture as u32;
-    };
-    match architecture.row(r_type) {
-        Some(meaning) => read_row(&meaning, bytes, value),
-        None => Status::UnknownRelocation as u32,
-    }
+    let architecture = or_return!(Architecture::from_machine(machine), UnknownArchitecture);
+    let meaning = or_return!(architecture.row(r_type), UnknownRelocation);
+    read_row(&meaning, bytes, value)
 }
 
 #[inline(always)]
 fn read_row(row: &Row, bytes: &[u8], value: &mut FieldValueNumbers) -> u32
-    ensures { IsValueRead (Some row.now) bytes.now value.old value.new result }
+    ensures { IsRowRead row.now bytes.now value.old value.new result }
 {
     match read(row, bytes) {
         Some(field) => {
@@ -207,33 +197,28 @@ pub extern "C" fn linker_utils_solve(
     reference: &mut u32,
     address: &mut FieldValueNumbers,
 ) -> u32
-    ensures { MatchOption (architecture_of machine)
-        ((result ≡ code Status.UnknownArchitecture) × (reference.new ≡ reference.old)
-        × (address.new ≡ address.old))
-        (λ architecture. (meaning : Option RowInfo) × IsRow architecture r_type meaning
-        × IsValueSolved meaning (field_of value.now) operands.now reference.old
-        reference.new address.old address.new result) }
+    ensures { OfMachine machine ((reference.new ≡ reference.old) × (address.new ≡ address.old))
+        result
+        (λ architecture.
+        (meaning : Option RowInfo) × IsRow architecture r_type meaning × IfFound meaning
+        Status.UnknownRelocation ((reference.new ≡ reference.old) × (address.new ≡ address.old))
+        result
+        (λ row. IsRowSolved row (field_of value.now) operands.now reference.old reference.new
+        address.old address.new result)) }
 {
-    let Some(architecture) = Architecture::from_machine(machine) else {
-        return Status::UnknownArchitecture as u32;
-    };
-    match architecture.row(r_type) {
-        Some(meaning) => solve_row(&meaning, value, operands, reference, address),
-        None => Status::UnknownRelocation as u32,
-    }
+    let architecture = or_return!(Architecture::from_machine(machine), UnknownArchitecture);
+    let meaning = or_return!(architecture.row(r_type), UnknownRelocation);
+    solve_row(&meaning, value, operands, reference, address)
 }
 
 #[inline(always)]
 fn put_whole(joined: Option<FieldValue>, whole: &mut FieldValueNumbers) -> u32
-    ensures { IsWhole joined whole.old whole.new result }
+    ensures { IsGivenBy (λ f given. field_of given ≡ f) joined Status.NotHalves whole.old whole.new
+        result }
 {
-    match joined {
-        None => Status::NotHalves as u32,
-        Some(joined) => {
-            *whole = FieldValueNumbers::of(joined);
-            Status::Success as u32
-        }
-    }
+    let joined = or_return!(joined, NotHalves);
+    *whole = FieldValueNumbers::of(joined);
+    Status::Success as u32
 }
 
 /// What is known of an address from both halves of a pair, as `join` of `linker_reading` returns

@@ -8,16 +8,16 @@ ghost use Rattle.linker_utils.specs.Relaxations.{rewrite_of_number};
 ghost use Rattle.linker_elf.specs.Machines.{architecture_of};
 ghost use Rattle.linker_utils_c.specs.Choices.{facts_of};
 ghost use Rattle.linker_utils_c.specs.Reading.{field_of, reference_number};
-ghost use Rattle.linker_utils_c.specs.Recognising.{AreBitsOf, IsSameness, field_or_none};
+ghost use Rattle.linker_utils_c.specs.Recognising.{IsSameness, field_or_none, AreFieldBits};
 ghost use Rattle.linker_utils_c.specs.Recognising.{IsMadeInNumbers, AreWritten, AreRecognised};
-ghost use Rattle.linker_utils_c.specs.Recognising.{IsChosenInNumbers, IsRecognised, IsWindowGiven};
-ghost use Rattle.linker_utils_c.specs.Recognising.{IsDestinationInNumbers, IsDestinationPut};
+ghost use Rattle.linker_utils_c.specs.Recognising.{IsRecognised, IsWindowGiven};
+ghost use Rattle.linker_utils_c.specs.Recognising.{IsDestinationInNumbers};
 ghost use Rattle.linker_utils_c.specs.Recognising.{IsDestinationOf, IsDestinationReturned};
-ghost use Rattle.linker_utils_c.specs.Status.{code};
+ghost use Rattle.linker_utils_c.specs.Status.{OfMachine, IfFound, IsGivenBy};
 
 use crate::choices::{ChoiceNumbers, LinkFactNumbers, in_numbers};
 use crate::reading::{FieldValueNumbers, reference_number};
-use crate::status::Status;
+use crate::status::{Status, or_return};
 use linker_reading::fields::FieldValue;
 use linker_reading::recognise::architecture::{
     Destination, destination_of, recognise, recognise_chosen, window_of,
@@ -37,23 +37,19 @@ pub extern "C" fn linker_utils_field_bits_nonnull(
     bytes: &[u8],
     bits: &mut u64,
 ) -> u32
-    ensures { MatchOption (architecture_of machine)
-        ((result ≡ code Status.UnknownArchitecture) × (bits.new ≡ bits.old))
-        (λ architecture. (meaning : Option RowInfo) × IsRow architecture r_type meaning
-        × AreBitsOf meaning bytes.now bits.old bits.new result) }
+    ensures { OfMachine machine (bits.new ≡ bits.old) result (λ architecture.
+        (meaning : Option RowInfo) × IsRow architecture r_type meaning
+        × IfFound meaning Status.UnknownRelocation (bits.new ≡ bits.old) result
+        (λ row. AreFieldBits row bytes.now bits.old bits.new result)) }
 {
-    let Some(architecture) = Architecture::from_machine(machine) else {
-        return Status::UnknownArchitecture as u32;
-    };
-    match architecture.row(r_type) {
-        Some(meaning) => put_bits(&meaning, bytes, bits),
-        None => Status::UnknownRelocation as u32,
-    }
+    let architecture = or_return!(Architecture::from_machine(machine), UnknownArchitecture);
+    let meaning = or_return!(architecture.row(r_type), UnknownRelocation);
+    put_bits(&meaning, bytes, bits)
 }
 
 #[inline(always)]
 fn put_bits(row: &Row, bytes: &[u8], bits: &mut u64) -> u32
-    ensures { AreBitsOf (Some row.now) bytes.now bits.old bits.new result }
+    ensures { AreFieldBits row.now bytes.now bits.old bits.new result }
 {
     if bytes.len() < row.window() {
         return Status::TooShort as u32;
@@ -153,15 +149,10 @@ pub extern "C" fn linker_utils_recognise_window_nonnull(
     offset: u64,
     window: &mut RewriteWindow,
 ) -> u32
-    ensures { MatchOption (architecture_of machine)
-        ((result ≡ code Status.UnknownArchitecture)
-        × (window.new ≡ window.old))
-        (λ architecture.
+    ensures { OfMachine machine (window.new ≡ window.old) result (λ architecture.
         IsWindowGiven architecture r_type original.now offset window.old window.new result) }
 {
-    let Some(architecture) = Architecture::from_machine(machine) else {
-        return Status::UnknownArchitecture as u32;
-    };
+    let architecture = or_return!(Architecture::from_machine(machine), UnknownArchitecture);
     if original.len() > MAX_WINDOW {
         return Status::WindowTooLong as u32;
     }
@@ -186,16 +177,12 @@ pub extern "C" fn linker_utils_recognise_nonnull(
     found: &mut [RecognisedNumbers],
     count: &mut usize,
 ) -> u32
-    ensures { MatchOption (architecture_of machine)
-        ((result ≡ code Status.UnknownArchitecture)
-        × (found.new ≡ found.old) × (count.new ≡ count.old))
+    ensures { OfMachine machine ((found.new ≡ found.old) × (count.new ≡ count.old)) result
         (λ architecture.
         AreRecognised architecture r_type original.now offset others.now linked.now found.old
         found.new count.old count.new result) }
 {
-    let Some(architecture) = Architecture::from_machine(machine) else {
-        return Status::UnknownArchitecture as u32;
-    };
+    let architecture = or_return!(Architecture::from_machine(machine), UnknownArchitecture);
     recognise_into(
         architecture,
         r_type,
@@ -246,16 +233,11 @@ pub extern "C" fn linker_utils_recognise_chosen_nonnull(
     facts: &LinkFactNumbers,
     found: &mut RecognisedNumbers,
 ) -> u32
-    ensures { MatchOption (architecture_of machine)
-        ((result ≡ code Status.UnknownArchitecture)
-        × (found.new ≡ found.old))
-        (λ architecture.
+    ensures { OfMachine machine (found.new ≡ found.old) result (λ architecture.
         IsRecognised architecture r_type original.now offset others.now linked.now
         (facts_of facts.now) found.old found.new result) }
 {
-    let Some(architecture) = Architecture::from_machine(machine) else {
-        return Status::UnknownArchitecture as u32;
-    };
+    let architecture = or_return!(Architecture::from_machine(machine), UnknownArchitecture);
     if original.len() > MAX_WINDOW {
         return Status::WindowTooLong as u32;
     }
@@ -275,15 +257,11 @@ pub extern "C" fn linker_utils_recognise_chosen_nonnull(
 
 #[inline(always)]
 fn put_chosen(made: Option<Recognised<Relaxation, u32>>, found: &mut RecognisedNumbers) -> u32
-    ensures { IsChosenInNumbers made found.old found.new result }
+    ensures { IsGivenBy IsMadeInNumbers made Status.LeavesOtherBytes found.old found.new result }
 {
-    match made {
-        Some(made) => {
-            *found = numbers_of(made);
-            Status::Success as u32
-        }
-        None => Status::LeavesOtherBytes as u32,
-    }
+    let made = or_return!(made, LeavesOtherBytes);
+    *found = numbers_of(made);
+    Status::Success as u32
 }
 
 /// Where a recognised relocation leads, in numbers.
@@ -328,15 +306,12 @@ fn put_destination(
     st_other: u8,
     destination: &mut DestinationNumbers,
 ) -> u32
-    ensures { IsDestinationPut found st_other destination.old destination.new result }
+    ensures { IsGivenBy (λ found. IsDestinationInNumbers found st_other) found Status.NoAddress
+        destination.old destination.new result }
 {
-    match found {
-        Some(found) => {
-            *destination = destination_in(&found, st_other);
-            Status::Success as u32
-        }
-        None => Status::NoAddress as u32,
-    }
+    let found = or_return!(found, NoAddress);
+    *destination = destination_in(&found, st_other);
+    Status::Success as u32
 }
 
 /// Where a relocation leads after a rewrite of the architecture that has these numbers.
@@ -355,9 +330,10 @@ fn put_destination_of(
         destination.old destination.new result }
 {
     let choice = &made.choice;
-    let Some(kind) = Relaxation::from_number(architecture, choice.rewrite, choice.opcode_len) else {
-        return Status::UnknownRewrite as u32;
-    };
+    let kind = or_return!(
+        Relaxation::from_number(architecture, choice.rewrite, choice.opcode_len),
+        UnknownRewrite
+    );
     let made = Recognised {
         choice: Choice {
             kind,
@@ -387,16 +363,11 @@ pub extern "C" fn linker_utils_get_destination_nonnull(
     st_other: u8,
     destination: &mut DestinationNumbers,
 ) -> u32
-    ensures { MatchOption (architecture_of machine)
-        ((result ≡ code Status.UnknownArchitecture)
-        × (destination.new ≡ destination.old))
-        (λ architecture.
-        IsDestinationReturned architecture made.now original.now offset
-        operands.now st_other destination.old destination.new result) }
+    ensures { OfMachine machine (destination.new ≡ destination.old) result (λ architecture.
+        IsDestinationReturned architecture made.now original.now offset operands.now st_other
+        destination.old destination.new result) }
 {
-    let Some(architecture) = Architecture::from_machine(machine) else {
-        return Status::UnknownArchitecture as u32;
-    };
+    let architecture = or_return!(Architecture::from_machine(machine), UnknownArchitecture);
     if original.len() > MAX_WINDOW {
         return Status::WindowTooLong as u32;
     }

@@ -1,16 +1,16 @@
 //! A run of items that is relaxed, in arrays of the caller's.
 
 ghost use Rattle.std.specs.Prelude.{◌≡◌, ◌≢◌, ◌+◌, ◌-◌, ◌^◌, ◌<◌, ◌≤◌, ◌↔◌, ◌⊎◌, ℕ, IsTrue};
-ghost use Rattle.std.specs.Prelude.{MatchOption, length, take, slice_index_or};
+ghost use Rattle.std.specs.Prelude.{length, take, slice_index_or};
 ghost use Rattle.linker_runs.specs.Relaxing.{items_in, AreInOrder};
 ghost use Rattle.linker_runs.specs.Choosing.{AreItems, IsRelaxation};
 ghost use Rattle.linker_runs.specs.Deleting.{deletions_of_run};
 ghost use Rattle.linker_utils_c.specs.Deltas.{AreDeltasOf};
 ghost use Rattle.linker_utils_c.specs.Relaxing.{standard_shapes, fault_status};
 ghost use Rattle.linker_utils_c.specs.Relaxing.{IsRunFault, HaveLengths};
-ghost use Rattle.linker_utils_c.specs.Status.{code};
+ghost use Rattle.linker_utils_c.specs.Status.{code, IsGiven};
 
-use crate::status::Status;
+use crate::status::{Status, or_return};
 use linker_runs::items::ItemNumbers;
 use linker_runs::relaxation::{Fault, Shapes, first_faulty, relax_into};
 use linker_runs::shapes::loongarch64::{CALL36, PCALA};
@@ -45,18 +45,13 @@ fn status_of(fault: Fault) -> u32
 fn shapes_named(number: u32) -> Option<Shapes>
     ensures { result ≡ standard_shapes number }
 {
-    if number == 0 {
-        Some(CALL)
-    } else if number == 1 {
-        Some(TAIL_C)
-    } else if number == 2 {
-        Some(CALL_WITHOUT_C)
-    } else if number == 3 {
-        Some(CALL36)
-    } else if number == 4 {
-        Some(PCALA)
-    } else {
-        None
+    match number {
+        0 => Some(CALL),
+        1 => Some(TAIL_C),
+        2 => Some(CALL_WITHOUT_C),
+        3 => Some(CALL36),
+        4 => Some(PCALA),
+        _ => None,
     }
 }
 
@@ -65,17 +60,10 @@ fn shapes_named(number: u32) -> Option<Shapes>
 /// and `_LO12`. The error is `UnknownShapes`, and `shapes` is unchanged then.
 #[unsafe(no_mangle)]
 pub extern "C" fn linker_utils_standard_shapes(number: u32, shapes: &mut Shapes) -> u32
-    ensures { MatchOption (standard_shapes number)
-        ((result ≡ code Status.UnknownShapes) × (shapes.new ≡ shapes.old))
-        (λ named. (result ≡ code Status.Success) × (shapes.new ≡ named)) }
+    ensures { IsGiven (standard_shapes number) Status.UnknownShapes shapes.old shapes.new result }
 {
-    match shapes_named(number) {
-        Some(named) => {
-            *shapes = named;
-            Status::Success as u32
-        }
-        None => Status::UnknownShapes as u32,
-    }
+    *shapes = or_return!(shapes_named(number), UnknownShapes);
+    Status::Success as u32
 }
 
 /// Whether `linker_utils_relax` accepts the items of a run that begins at the address `start`. The

@@ -6,14 +6,14 @@ ghost use Rattle.linker_elf.specs.declared.elf.RowInfo.{RowInfo};
 ghost use Rattle.linker_elf.specs.Reach.{reach_of};
 ghost use Rattle.linker_elf.specs.Architectures.{IsRow, IsRole};
 ghost use Rattle.linker_elf.specs.Machines.{architecture_of};
-ghost use Rattle.linker_utils_c.specs.Relocate.{AreRelocatedOrRejected, IsReachOf, IsRelocated};
+ghost use Rattle.linker_utils_c.specs.Relocate.{AreRelocatedOrRejected, IsRelocated};
 ghost use Rattle.linker_utils_c.specs.Relocate.{AreBounds, IsRelocatedAs, IsRelocatedAt};
 ghost use Rattle.linker_utils_c.specs.Relocate.{IsUlebReturned, IsValueOf};
 ghost use Rattle.linker_utils_c.specs.Relocate.{role_number, uleb_status, write_status};
 ghost use Rattle.linker_utils_c.specs.Relocate.{IsPairReturned, value_status};
-ghost use Rattle.linker_utils_c.specs.Status.{code};
+ghost use Rattle.linker_utils_c.specs.Status.{code, OfMachine, IsGivenBy};
 
-use crate::status::Status;
+use crate::status::{Status, or_return};
 use linker_utils::elf::{
     Architecture, FormulaError, Operands, RelocateError, Row, Uleb128PairError, Uleb128Role,
 };
@@ -56,15 +56,11 @@ pub extern "C" fn linker_utils_value(
     operands: &Operands,
     value: &mut i64,
 ) -> u32
-    ensures { MatchOption (architecture_of machine)
-        ((result ≡ code Status.UnknownArchitecture) × (value.new ≡ value.old))
-        (λ architecture. (meaning : Option RowInfo)
-        × IsRow architecture r_type meaning
-        × IsValueOf meaning operands.now result value.old value.new) }
+    ensures { OfMachine machine (value.new ≡ value.old) result (λ architecture.
+        (meaning : Option RowInfo) × IsRow architecture r_type meaning × IsValueOf meaning
+        operands.now result value.old value.new) }
 {
-    let Some(architecture) = Architecture::from_machine(machine) else {
-        return Status::UnknownArchitecture as u32;
-    };
+    let architecture = or_return!(Architecture::from_machine(machine), UnknownArchitecture);
     value_by(architecture.row(r_type), operands, value)
 }
 
@@ -102,29 +98,24 @@ pub(crate) fn reach_in(row: &Row) -> Reach
 /// The reach of a relocation's row, if it has one.
 #[inline(always)]
 pub(crate) fn reach_by(row: Option<Row>, reach: &mut Reach) -> u32
-    ensures { IsReachOf row result reach.old reach.new }
+    ensures { IsGivenBy (λ row. AreBounds (reach_of row)) row Status.UnknownRelocation reach.old
+        reach.new result }
 {
-    match row {
-        Some(row) => {
-            *reach = reach_in(&row);
-            Status::Success as u32
-        }
-        None => Status::UnknownRelocation as u32,
-    }
+    let row = or_return!(row, UnknownRelocation);
+    *reach = reach_in(&row);
+    Status::Success as u32
 }
 
 /// The values of a relocation that can be written. The first that applies of `UnknownArchitecture`;
 /// `UnknownRelocation`.
 #[unsafe(no_mangle)]
 pub extern "C" fn linker_utils_reach(machine: u16, r_type: u32, reach: &mut Reach) -> u32
-    ensures { MatchOption (architecture_of machine)
-        ((result ≡ code Status.UnknownArchitecture) × (reach.new ≡ reach.old))
-        (λ architecture. (meaning : Option RowInfo)
-        × IsRow architecture r_type meaning × IsReachOf meaning result reach.old reach.new) }
+    ensures { OfMachine machine (reach.new ≡ reach.old) result (λ architecture.
+        (meaning : Option RowInfo) × IsRow architecture r_type meaning
+        × IsGivenBy (λ row. AreBounds (reach_of row)) meaning Status.UnknownRelocation reach.old
+        reach.new result) }
 {
-    let Some(architecture) = Architecture::from_machine(machine) else {
-        return Status::UnknownArchitecture as u32;
-    };
+    let architecture = or_return!(Architecture::from_machine(machine), UnknownArchitecture);
     reach_by(architecture.row(r_type), reach)
 }
 
@@ -146,10 +137,8 @@ pub(crate) fn status_of(outcome: Result<(), RelocateError>) -> u32
 pub(crate) fn write_by(row: Option<Row>, value: i64, dest: &mut [u8]) -> u32
     ensures { IsRelocatedAs row value dest.old dest.new result }
 {
-    match row {
-        Some(row) => status_of(row.write(value, dest)),
-        None => Status::UnknownRelocation as u32,
-    }
+    let row = or_return!(row, UnknownRelocation);
+    status_of(row.write(value, dest))
 }
 
 #[inline(always)]
@@ -169,14 +158,10 @@ pub extern "C" fn linker_utils_relocate_nonnull(
     value: i64,
     dest: &mut [u8],
 ) -> u32
-    ensures { MatchOption (architecture_of machine)
-        ((result ≡ code Status.UnknownArchitecture) × (dest.new ≡ dest.old))
-        (λ architecture.
+    ensures { OfMachine machine (dest.new ≡ dest.old) result (λ architecture.
         IsRelocated architecture r_type value dest.old dest.new result) }
 {
-    let Some(architecture) = Architecture::from_machine(machine) else {
-        return Status::UnknownArchitecture as u32;
-    };
+    let architecture = or_return!(Architecture::from_machine(machine), UnknownArchitecture);
     relocate(architecture, r_type, value, dest)
 }
 
@@ -248,16 +233,12 @@ pub extern "C" fn linker_utils_relocate_all_nonnull(
     relocations: &[Relocation],
     faulty: &mut usize,
 ) -> u32
-    ensures { MatchOption (architecture_of machine)
-        ((result ≡ code Status.UnknownArchitecture) × (section.new ≡ section.old)
-        × (faulty.new ≡ faulty.old))
+    ensures { OfMachine machine ((section.new ≡ section.old) × (faulty.new ≡ faulty.old)) result
         (λ architecture.
-        AreRelocatedOrRejected architecture relocations.now section.old section.new
-        faulty.old faulty.new result) }
+        AreRelocatedOrRejected architecture relocations.now section.old section.new faulty.old
+        faulty.new result) }
 {
-    let Some(architecture) = Architecture::from_machine(machine) else {
-        return Status::UnknownArchitecture as u32;
-    };
+    let architecture = or_return!(Architecture::from_machine(machine), UnknownArchitecture);
     relocate_all(architecture, section, relocations, faulty)
 }
 
@@ -314,15 +295,11 @@ pub extern "C" fn linker_utils_write_uleb128_pair_nonnull(
     first: u64,
     second: u64,
 ) -> u32
-    ensures { MatchOption (architecture_of machine)
-        ((result ≡ code Status.UnknownArchitecture) × (dest.new ≡ dest.old))
-        (λ architecture. (role : Option Uleb128Role)
-        × IsRole architecture r_type role
-        × IsPairReturned role dest.old first second dest.new result) }
+    ensures { OfMachine machine (dest.new ≡ dest.old) result (λ architecture.
+        (role : Option Uleb128Role) × IsRole architecture r_type role × IsPairReturned role dest.old
+        first second dest.new result) }
 {
-    let Some(architecture) = Architecture::from_machine(machine) else {
-        return Status::UnknownArchitecture as u32;
-    };
+    let architecture = or_return!(Architecture::from_machine(machine), UnknownArchitecture);
     match architecture.write_uleb128_pair(r_type, dest, first, second) {
         Ok(()) => Status::Success as u32,
         Err(Uleb128PairError::NotFirst) => Status::UnknownRelocation as u32,

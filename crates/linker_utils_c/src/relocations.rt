@@ -8,10 +8,10 @@ ghost use Rattle.linker_utils.specs.Relaxations.{IsSkippable};
 ghost use Rattle.linker_elf.specs.Machines.{architecture_of};
 ghost use Rattle.linker_elf.specs.ElfNames.{ElfName};
 ghost use Rattle.linker_elf.specs.RiscVRelocations.{clui_row};
-ghost use Rattle.linker_utils_c.specs.Relocations.{InNumbers, IsReturned, IsNameCopied};
-ghost use Rattle.linker_utils_c.specs.Status.{code};
+ghost use Rattle.linker_utils_c.specs.Relocations.{InNumbers, IsNameCopied};
+ghost use Rattle.linker_utils_c.specs.Status.{code, OfMachine, IsGivenBy};
 
-use crate::status::Status;
+use crate::status::{Status, or_return};
 use linker_utils::architecture::may_be_skipped;
 use linker_utils::elf::{Architecture, RelocationNumbers};
 use linker_utils::riscv64;
@@ -24,21 +24,14 @@ pub extern "C" fn linker_utils_relocation(
     r_type: u32,
     info: &mut RelocationNumbers,
 ) -> u32
-    ensures { MatchOption (architecture_of machine)
-        ((result ≡ code Status.UnknownArchitecture) × (info.new ≡ info.old))
-        (λ architecture. (meaning : Option RowInfo)
-        × IsRow architecture r_type meaning × IsReturned meaning result info.old info.new) }
+    ensures { OfMachine machine (info.new ≡ info.old) result (λ architecture.
+        (meaning : Option RowInfo) × IsRow architecture r_type meaning × IsGivenBy InNumbers meaning
+        Status.UnknownRelocation info.old info.new result) }
 {
-    let Some(architecture) = Architecture::from_machine(machine) else {
-        return Status::UnknownArchitecture as u32;
-    };
-    match architecture.row(r_type) {
-        Some(row) => {
-            *info = *row.numbers();
-            Status::Success as u32
-        }
-        None => Status::UnknownRelocation as u32,
-    }
+    let architecture = or_return!(Architecture::from_machine(machine), UnknownArchitecture);
+    let row = or_return!(architecture.row(r_type), UnknownRelocation);
+    *info = *row.numbers();
+    Status::Success as u32
 }
 
 /// What a relocation of the high part of a value means once its `lui` has become a `c.lui`.
@@ -104,20 +97,15 @@ pub extern "C" fn linker_utils_relocation_name_nonnull(
     name: &mut [u8],
     name_used: &mut usize,
 ) -> u32
-    ensures outcome { MatchOption (architecture_of machine)
-        ((result ≡ code Status.UnknownArchitecture) × (name.new ≡ name.old)
-        × (name_used.new ≡ name_used.old))
-        (λ architecture. (elf : ElfName)
-        × IsElfName architecture r_type elf
-        × IsNameCopied elf name.old name.new name_used.old name_used.new result) }
+    ensures outcome { OfMachine machine ((name.new ≡ name.old) × (name_used.new ≡ name_used.old))
+        result
+        (λ architecture.
+        (elf : ElfName) × IsElfName architecture r_type elf × IsNameCopied elf name.old name.new
+        name_used.old name_used.new result) }
     ensures room { 64 ≤ length name.old → result ≢ code Status.TooShort }
 {
-    let Some(architecture) = Architecture::from_machine(machine) else {
-        return Status::UnknownArchitecture as u32;
-    };
-    let Some(text) = architecture.name(r_type) else {
-        return Status::UnknownRelocation as u32;
-    };
+    let architecture = or_return!(Architecture::from_machine(machine), UnknownArchitecture);
+    let text = or_return!(architecture.name(r_type), UnknownRelocation);
     let len = text.len();
     if name.len() < len {
         return Status::TooShort as u32;

@@ -10,7 +10,7 @@ ghost use Rattle.linker_base.specs.RewriteWindow.{window_of_rewrite};
 ghost use Rattle.linker_utils_c.specs.Status.{code};
 
 use crate::architectures::{by_architecture, known};
-use crate::status::Status;
+use crate::status::{Status, or_return};
 use linker_utils::architecture::Relaxation;
 use linker_utils::elf::{Architecture, EM_X86_64, InstructionRewrite, RewriteWindow};
 use linker_utils::relaxation::RelocationModifier;
@@ -22,9 +22,7 @@ fn test_by<R: InstructionRewrite>(rewrite: Option<R>, section: &[u8], offset: u6
     ensures { MatchOption rewrite (result ≡ code Status.UnknownRewrite)
         (λ named. TakesRewrite (R.rewrite named) section.now offset result) }
 {
-    let Some(named) = rewrite else {
-        return Status::UnknownRewrite as u32;
-    };
+    let named = or_return!(rewrite, UnknownRewrite);
     if !named.can_apply(section, offset) {
         return Status::CannotApply as u32;
     }
@@ -45,9 +43,7 @@ fn apply_by<R: InstructionRewrite>(
     ensures unchanged { result ≢ code Status.Success → (section.new ≡ section.old)
         × (offset.new ≡ offset.old) × (addend.new ≡ addend.old) }
 {
-    let Some(named) = rewrite else {
-        return Status::UnknownRewrite as u32;
-    };
+    let named = or_return!(rewrite, UnknownRewrite);
     if !named.can_apply(section, *offset) {
         return Status::CannotApply as u32;
     }
@@ -113,9 +109,7 @@ fn apply_of(
     ensures unchanged { result ≢ code Status.Success → (section.new ≡ section.old)
         × (offset.new ≡ offset.old) × (addend.new ≡ addend.old) }
 {
-    let Some(architecture) = Architecture::from_machine(machine) else {
-        return Status::UnknownArchitecture as u32;
-    };
+    let architecture = or_return!(Architecture::from_machine(machine), UnknownArchitecture);
     match architecture {
         Architecture::RiscV => apply_riscv(rewrite, section, offset, addend),
         Architecture::X86_64 => apply_x86_64(opcode_len, rewrite, section, addend, offset),
@@ -167,9 +161,7 @@ pub extern "C" fn linker_utils_can_apply_nonnull(
         (λ named. TakesRewrite (relaxation_rewrite named) section.now offset result)
         (λ status. result ≡ code status) }
 {
-    let Some(architecture) = Architecture::from_machine(machine) else {
-        return Status::UnknownArchitecture as u32;
-    };
+    let architecture = or_return!(Architecture::from_machine(machine), UnknownArchitecture);
     by_architecture!(architecture, known(of => {
         test_by(Relaxation::from_number(of, rewrite, opcode_len), section, offset)
     }))
@@ -192,12 +184,11 @@ pub extern "C" fn linker_utils_matches_nonnull(
         → CanRewrite (relaxation_rewrite named) section.now offset))
         (λ status. result ≡ code status) }
 {
-    let Some(architecture) = Architecture::from_machine(machine) else {
-        return Status::UnknownArchitecture as u32;
-    };
-    let Some(named) = Relaxation::from_number(architecture, rewrite, opcode_len) else {
-        return Status::UnknownRewrite as u32;
-    };
+    let architecture = or_return!(Architecture::from_machine(machine), UnknownArchitecture);
+    let named = or_return!(
+        Relaxation::from_number(architecture, rewrite, opcode_len),
+        UnknownRewrite
+    );
     if !named.matches(section, offset) {
         return Status::DoesNotMatch as u32;
     }
@@ -247,12 +238,11 @@ pub extern "C" fn linker_utils_rewrite_window(
         × (window.new ≡ window_of_rewrite (relaxation_rewrite named)))
         (λ status. (result ≡ code status) × (window.new ≡ window.old)) }
 {
-    let Some(architecture) = Architecture::from_machine(machine) else {
-        return Status::UnknownArchitecture as u32;
-    };
-    let Some(named) = Relaxation::from_number(architecture, rewrite, opcode_len) else {
-        return Status::UnknownRewrite as u32;
-    };
+    let architecture = or_return!(Architecture::from_machine(machine), UnknownArchitecture);
+    let named = or_return!(
+        Relaxation::from_number(architecture, rewrite, opcode_len),
+        UnknownRewrite
+    );
     *window = named.window();
     Status::Success as u32
 }
@@ -272,12 +262,11 @@ pub extern "C" fn linker_utils_next_modifier(
         × (modifier.new ≡ modifier_number (relaxation_modifier named)))
         (λ status. (result ≡ code status) × (modifier.new ≡ modifier.old)) }
 {
-    let Some(architecture) = Architecture::from_machine(machine) else {
-        return Status::UnknownArchitecture as u32;
-    };
-    let Some(named) = Relaxation::from_number(architecture, rewrite, opcode_len) else {
-        return Status::UnknownRewrite as u32;
-    };
+    let architecture = or_return!(Architecture::from_machine(machine), UnknownArchitecture);
+    let named = or_return!(
+        Relaxation::from_number(architecture, rewrite, opcode_len),
+        UnknownRewrite
+    );
     *modifier = number_of(named.next_modifier());
     Status::Success as u32
 }

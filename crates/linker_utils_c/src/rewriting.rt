@@ -14,9 +14,9 @@ ghost use Rattle.linker_utils_c.specs.Rewriting.{phase_of, IsRewriteReturned, Is
 ghost use Rattle.linker_utils_c.specs.Rewriting.{rewriting_status, faulty_after};
 ghost use Rattle.linker_utils_c.specs.Rewriting.{IsSurveyReturned, IsDecisionReturned};
 ghost use Rattle.linker_utils_c.specs.Rewriting.{IsMakingReturned, making_status, making_faulty};
-ghost use Rattle.linker_utils_c.specs.Status.{code};
+ghost use Rattle.linker_utils_c.specs.Status.{code, IfFound, OfMachine};
 
-use crate::status::Status;
+use crate::status::{Status, or_return};
 use linker_rewriting::decisions::{DecisionError, DecisionNumbers, Deletion, RewritingError};
 use linker_rewriting::facts::{OutputFacts, RelaxContext, SymbolFacts};
 use linker_rewriting::groups::{UnrelaxableGroups, has_rewrites};
@@ -71,15 +71,11 @@ pub extern "C" fn linker_utils_survey_nonnull(
     section: &[u8],
     kept: &mut [UnrelaxableGroups],
 ) -> u32
-    ensures { MatchOption (architecture_of machine)
-        ((result ≡ code Status.UnknownArchitecture) × (kept.new ≡ kept.old))
-        (λ architecture. (result ≡ code Status.Success)
-        × IsSurveyed architecture output.now symbols.now relocations.now section.now kept.old
-        kept.new (length relocations.now / 24)) }
+    ensures { OfMachine machine (kept.new ≡ kept.old) result (λ architecture.
+        (result ≡ code Status.Success) × IsSurveyed architecture output.now symbols.now
+        relocations.now section.now kept.old kept.new (length relocations.now / 24)) }
 {
-    let Some(architecture) = Architecture::from_machine(machine) else {
-        return Status::UnknownArchitecture as u32;
-    };
+    let architecture = or_return!(Architecture::from_machine(machine), UnknownArchitecture);
     survey(architecture, output, symbols, relocations, section, kept);
     Status::Success as u32
 }
@@ -99,22 +95,16 @@ pub extern "C" fn linker_utils_survey_placed_section_nonnull(
     section: &[u8],
     kept: &mut [UnrelaxableGroups],
 ) -> u32
-    ensures { MatchOption (architecture_of machine)
-        ((result ≡ code Status.UnknownArchitecture) × (kept.new ≡ kept.old))
-        (λ architecture. MatchOption (phase_of phase)
-        ((result ≡ code Status.UnknownPhase) × (kept.new ≡ kept.old))
+    ensures { OfMachine machine (kept.new ≡ kept.old) result (λ architecture.
+        IfFound (phase_of phase) Status.UnknownPhase (kept.new ≡ kept.old) result
         (λ when. IsSurveyReturned (IsSurveyedIn (context architecture when output.now symbols.now
         addresses.now values.now) relocations.now section.now kept.old kept.new
-        (length relocations.now / 24) × Agree symbols.now values.now relocations.now)
-        ((symbol : ℕ) × IsContradiction symbols.now values.now relocations.now symbol)
-        (kept.new ≡ kept.old) result)) }
+        (length relocations.now / 24) × Agree symbols.now values.now relocations.now) ((symbol : ℕ)
+        × IsContradiction symbols.now values.now relocations.now symbol) (kept.new ≡ kept.old)
+        result)) }
 {
-    let Some(architecture) = Architecture::from_machine(machine) else {
-        return Status::UnknownArchitecture as u32;
-    };
-    let Some(phase) = phase_of(phase) else {
-        return Status::UnknownPhase as u32;
-    };
+    let architecture = or_return!(Architecture::from_machine(machine), UnknownArchitecture);
+    let phase = or_return!(phase_of(phase), UnknownPhase);
     let context = RelaxContext {
         architecture,
         phase,
@@ -181,18 +171,13 @@ pub extern "C" fn linker_utils_rewrite_section_nonnull(
     decisions: &mut [DecisionNumbers],
     faulty: &mut usize,
 ) -> u32
-    ensures { MatchOption (architecture_of machine)
-        ((result ≡ code Status.UnknownArchitecture) × (relocations.new ≡ relocations.old)
-        × (section.new ≡ section.old) × (decisions.new ≡ decisions.old)
-        × (faulty.new ≡ faulty.old))
-        (λ architecture.
+    ensures { OfMachine machine ((relocations.new ≡ relocations.old) × (section.new ≡ section.old)
+        × (decisions.new ≡ decisions.old) × (faulty.new ≡ faulty.old)) result (λ architecture.
         IsRewriteReturned (pre_layout architecture output.now symbols.now) kept.now relocations.old
         relocations.new section.old section.new decisions.old decisions.new faulty.old faulty.new
         result) }
 {
-    let Some(architecture) = Architecture::from_machine(machine) else {
-        return Status::UnknownArchitecture as u32;
-    };
+    let architecture = or_return!(Architecture::from_machine(machine), UnknownArchitecture);
     match rewrite_section(
         architecture,
         output,
@@ -220,16 +205,12 @@ pub extern "C" fn linker_utils_decide_rewrites_nonnull(
     decisions: &mut [DecisionNumbers],
     faulty: &mut usize,
 ) -> u32
-    ensures { MatchOption (architecture_of machine)
-        ((result ≡ code Status.UnknownArchitecture) × (decisions.new ≡ decisions.old)
-        × (faulty.new ≡ faulty.old))
+    ensures { OfMachine machine ((decisions.new ≡ decisions.old) × (faulty.new ≡ faulty.old)) result
         (λ architecture.
         IsDecisionReturned (pre_layout architecture output.now symbols.now) kept.now relocations.now
         section.now decisions.old decisions.new faulty.old faulty.new result) }
 {
-    let Some(architecture) = Architecture::from_machine(machine) else {
-        return Status::UnknownArchitecture as u32;
-    };
+    let architecture = or_return!(Architecture::from_machine(machine), UnknownArchitecture);
     match decide_rewrites(
         architecture,
         output,
@@ -312,27 +293,20 @@ pub extern "C" fn linker_utils_rewrite_placed_section_nonnull(
     deleted_used: &mut usize,
     faulty: &mut usize,
 ) -> u32
-    ensures { MatchOption (architecture_of machine)
-        ((result ≡ code Status.UnknownArchitecture) × (relocations.new ≡ relocations.old)
+    ensures { OfMachine machine ((relocations.new ≡ relocations.old) × (section.new ≡ section.old)
+        × (decisions.new ≡ decisions.old) × (deleted.new ≡ deleted.old)
+        × (deleted_used.new ≡ deleted_used.old) × (faulty.new ≡ faulty.old)) result (λ architecture.
+        IfFound (phase_of phase) Status.UnknownPhase ((relocations.new ≡ relocations.old)
         × (section.new ≡ section.old) × (decisions.new ≡ decisions.old)
         × (deleted.new ≡ deleted.old) × (deleted_used.new ≡ deleted_used.old)
         × (faulty.new ≡ faulty.old))
-        (λ architecture. MatchOption (phase_of phase)
-        ((result ≡ code Status.UnknownPhase) × (relocations.new ≡ relocations.old)
-        × (section.new ≡ section.old) × (decisions.new ≡ decisions.old)
-        × (deleted.new ≡ deleted.old) × (deleted_used.new ≡ deleted_used.old)
-        × (faulty.new ≡ faulty.old))
-        (λ when. IsPlacedReturned (context architecture when output.now symbols.now addresses.now
-        values.now) kept.now relocations.old relocations.new section.old section.new decisions.old
-        decisions.new deleted.old deleted.new deleted_used.old deleted_used.new
-        faulty.old faulty.new result)) }
+        result (λ when.
+        IsPlacedReturned (context architecture when output.now symbols.now addresses.now values.now)
+        kept.now relocations.old relocations.new section.old section.new decisions.old decisions.new
+        deleted.old deleted.new deleted_used.old deleted_used.new faulty.old faulty.new result)) }
 {
-    let Some(architecture) = Architecture::from_machine(machine) else {
-        return Status::UnknownArchitecture as u32;
-    };
-    let Some(phase) = phase_of(phase) else {
-        return Status::UnknownPhase as u32;
-    };
+    let architecture = or_return!(Architecture::from_machine(machine), UnknownArchitecture);
+    let phase = or_return!(phase_of(phase), UnknownPhase);
     let context = RelaxContext {
         architecture,
         phase,
@@ -365,18 +339,14 @@ pub extern "C" fn linker_utils_survey_toc_loads_nonnull(
     section: &[u8],
     kept: &mut [bool],
 ) -> u32
-    ensures { MatchOption (architecture_of machine)
-        ((result ≡ code Status.UnknownArchitecture) × (kept.new ≡ kept.old))
-        (λ architecture.
+    ensures { OfMachine machine (kept.new ≡ kept.old) result (λ architecture.
         IsSurveyReturned (AreLoadsSurveyed (context architecture Phase.ShortPcRel output.now
         symbols.now addresses.now values.now) words_start words.now relocations.now section.now
-        kept.old kept.new (length relocations.now / 24)
-        × Agree symbols.now values.now relocations.now)
-        ((symbol : ℕ) × IsContradiction symbols.now values.now relocations.now symbol) (kept.new ≡ kept.old) result) }
+        kept.old kept.new (length relocations.now / 24) × Agree symbols.now values.now
+        relocations.now) ((symbol : ℕ) × IsContradiction symbols.now values.now relocations.now
+        symbol) (kept.new ≡ kept.old) result) }
 {
-    let Some(architecture) = Architecture::from_machine(machine) else {
-        return Status::UnknownArchitecture as u32;
-    };
+    let architecture = or_return!(Architecture::from_machine(machine), UnknownArchitecture);
     let context = RelaxContext {
         architecture,
         phase: Phase::ShortPcRel,
@@ -413,20 +383,16 @@ pub extern "C" fn linker_utils_rewrite_toc_loads_nonnull(
     decisions: &mut [DecisionNumbers],
     faulty: &mut usize,
 ) -> u32
-    ensures rewritten { MatchOption (architecture_of machine)
-        ((result ≡ code Status.UnknownArchitecture) × (relocations.new ≡ relocations.old)
-        × (section.new ≡ section.old) × (decisions.new ≡ decisions.old)
-        × (faulty.new ≡ faulty.old))
-        (λ architecture. AreLoadsReturned (context architecture Phase.ShortPcRel output.now
-        symbols.now addresses.now values.now) words_start words.now kept.now relocations.old
-        relocations.new section.old section.new decisions.old decisions.new faulty.old faulty.new
-        result) }
+    ensures rewritten { OfMachine machine ((relocations.new ≡ relocations.old)
+        × (section.new ≡ section.old) × (decisions.new ≡ decisions.old) × (faulty.new ≡ faulty.old))
+        result (λ architecture.
+        AreLoadsReturned (context architecture Phase.ShortPcRel output.now symbols.now addresses.now
+        values.now) words_start words.now kept.now relocations.old relocations.new section.old
+        section.new decisions.old decisions.new faulty.old faulty.new result) }
     ensures loads { (architecture : Architecture) (r_type : ℕ)
         → entry_r_type_of (target_of architecture).addresses r_type ≡ entry_r_type architecture r_type }
 {
-    let Some(architecture) = Architecture::from_machine(machine) else {
-        return Status::UnknownArchitecture as u32;
-    };
+    let architecture = or_return!(Architecture::from_machine(machine), UnknownArchitecture);
     let context = RelaxContext {
         architecture,
         phase: Phase::ShortPcRel,

@@ -1,17 +1,16 @@
 //! How branches go to their targets.
 
-ghost use Rattle.std.specs.Prelude.{◌≡◌, MatchOption};
+ghost use Rattle.std.specs.Prelude.{◌≡◌};
 ghost use Rattle.linker_output.specs.Targets.{target_of};
 ghost use Rattle.linker_output.specs.View.{view};
 ghost use Rattle.linker_section.specs.Relocations.{relocation_at};
-ghost use Rattle.linker_elf.specs.Machines.{architecture_of};
 ghost use Rattle.linker_utils_c.specs.Routes.{kind_number, route_in, route_status, IsRouteReturned};
 ghost use Rattle.linker_utils_c.specs.Routes.{IsRouteAt, IsWordRouteAt};
-ghost use Rattle.linker_utils_c.specs.Status.{code};
+ghost use Rattle.linker_utils_c.specs.Status.{code, OfMachine};
 
 use crate::relocate::status_of;
 use crate::sections::value_status_of;
-use crate::status::Status;
+use crate::status::{Status, or_return};
 use linker_output::description::Target;
 use linker_output::routes::{Route, RouteError};
 use linker_output::stubs::StubKind;
@@ -116,15 +115,11 @@ pub extern "C" fn linker_utils_route_at_nonnull(
     section: &[u8],
     route: &mut RouteNumbers,
 ) -> u32
-    ensures { MatchOption (architecture_of machine)
-        ((result ≡ code Status.UnknownArchitecture) × (route.new ≡ route.old))
-        (λ architecture.
+    ensures { OfMachine machine (route.new ≡ route.old) result (λ architecture.
         IsRouteAt (target_of architecture) addresses.now symbols.now
         (relocation_at relocations.now index) section.now result route.old route.new) }
 {
-    let Some(architecture) = Architecture::from_machine(machine) else {
-        return Status::UnknownArchitecture as u32;
-    };
+    let architecture = or_return!(Architecture::from_machine(machine), UnknownArchitecture);
     let target = Target::of(architecture);
     route_at(
         target,
@@ -149,12 +144,8 @@ fn route_at(
     ensures { IsRouteAt (view target.now) addresses.now symbols.now
         (relocation_at relocations.now index) section.now result route.old route.new }
 {
-    let Some(relocation) = relocation_at(relocations, index) else {
-        return Status::TooShort as u32;
-    };
-    let Some(symbol) = symbols.get(relocation.symbol as usize) else {
-        return Status::NoSymbol as u32;
-    };
+    let relocation = or_return!(relocation_at(relocations, index), TooShort);
+    let symbol = or_return!(symbols.get(relocation.symbol as usize), NoSymbol);
     put_route(target.route(addresses, symbol, &relocation, section), route)
 }
 
@@ -170,15 +161,11 @@ pub extern "C" fn linker_utils_route_by_word_nonnull(
     section: &[u8],
     route: &mut RouteNumbers,
 ) -> u32
-    ensures { MatchOption (architecture_of machine)
-        ((result ≡ code Status.UnknownArchitecture) × (route.new ≡ route.old))
-        (λ architecture.
+    ensures { OfMachine machine (route.new ≡ route.old) result (λ architecture.
         IsWordRouteAt (target_of architecture) word (relocation_at relocations.now index)
         section.now result route.old route.new) }
 {
-    let Some(architecture) = Architecture::from_machine(machine) else {
-        return Status::UnknownArchitecture as u32;
-    };
+    let architecture = or_return!(Architecture::from_machine(machine), UnknownArchitecture);
     route_by_word(
         Target::of(architecture),
         word,
@@ -200,8 +187,6 @@ fn route_by_word(
     ensures { IsWordRouteAt (view target.now) word (relocation_at relocations.now index) section.now
         result route.old route.new }
 {
-    match relocation_at(relocations, index) {
-        Some(relocation) => put_route(target.route_by_word(word, &relocation, section), route),
-        None => Status::TooShort as u32,
-    }
+    let relocation = or_return!(relocation_at(relocations, index), TooShort);
+    put_route(target.route_by_word(word, &relocation, section), route)
 }

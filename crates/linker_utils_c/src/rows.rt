@@ -9,17 +9,18 @@ ghost use Rattle.linker_elf.specs.Architectures.{IsElfName, IsRow};
 ghost use Rattle.linker_elf.specs.Handles.{IsFound, IsRowOf, architecture_in, handle_unit};
 ghost use Rattle.linker_elf.specs.Machines.{architecture_of};
 ghost use Rattle.linker_utils_c.specs.Choices.{facts_of};
-ghost use Rattle.linker_utils_c.specs.Relocate.{IsReachOf, IsRelocatedAs, IsValueOf};
-ghost use Rattle.linker_utils_c.specs.Rows.{AreNeeded, InRowNumbers, IsAppliedAs, IsChosenOf};
+ghost use Rattle.linker_utils_c.specs.Relocate.{IsRelocatedAs, IsValueOf, AreBounds};
+ghost use Rattle.linker_utils_c.specs.Rows.{AreNeeded, InRowNumbers, IsAppliedAs, IsChosenIn};
 ghost use Rattle.linker_utils_c.specs.Rows.{IsFitOf, IsPaddedName, IsRowReturned, apply_status};
 ghost use Rattle.linker_utils_c.specs.Rows.{is_relative};
-ghost use Rattle.linker_utils_c.specs.Sections.{IsNeedsReturned};
-ghost use Rattle.linker_utils_c.specs.Status.{code};
+ghost use Rattle.linker_utils_c.specs.Sections.{requirements_in};
+ghost use Rattle.linker_utils_c.specs.Status.{code, IsGivenBy};
+ghost use Rattle.linker_elf.specs.Reach.{reach_of};
 
 use crate::choices::{ChoiceNumbers, LinkFactNumbers, choose_in_numbers};
 use crate::relocate::{Reach, reach_by, reach_in, status_of, value_by, value_status, write_by};
 use crate::sections::{RequirementNumbers, in_numbers, needs_by};
-use crate::status::Status;
+use crate::status::{Status, or_return};
 use linker_section::needed::needs;
 use linker_utils::architecture::fits;
 use linker_utils::elf::{
@@ -117,7 +118,8 @@ pub extern "C" fn linker_utils_row_apply_nonnull(
 #[unsafe(no_mangle)]
 pub extern "C" fn linker_utils_row_reach(handle: u32, reach: &mut Reach) -> u32
     ensures { (meaning : Option RowInfo) × IsRowOf handle meaning
-        × IsReachOf meaning result reach.old reach.new }
+        × IsGivenBy (λ row. AreBounds (reach_of row)) meaning Status.UnknownRelocation reach.old
+        reach.new result }
 {
     reach_by(row_of(handle), reach)
 }
@@ -131,8 +133,9 @@ pub extern "C" fn linker_utils_row_needs(
     required: &mut RequirementNumbers,
 ) -> u32
     ensures { (meaning : Option RowInfo) × IsRowOf handle meaning
-        × IsNeedsReturned (needs_in meaning addend is_thread_local) result required.old
-        required.new }
+        × IsGivenBy (λ needs given. given ≡ requirements_in needs)
+        (needs_in meaning addend is_thread_local)
+        Status.UnknownRelocation required.old required.new result }
 {
     match Architecture::of_handle(handle) {
         Some(architecture) => {
@@ -154,20 +157,14 @@ pub extern "C" fn linker_utils_row_choose_nonnull(
     choice: &mut ChoiceNumbers,
 ) -> u32
     ensures { (meaning : Option RowInfo) × IsRowOf handle meaning
-        × IsChosenOf meaning handle section.now offset (facts_of facts.now) result choice.old
-        choice.new }
+        × IsGivenBy (λ row. IsChosenIn (architecture_in handle) (handle % handle_unit) section.now
+        offset (facts_of facts.now)) meaning Status.UnknownRelocation choice.old choice.new result }
 {
-    let Some(architecture) = Architecture::of_handle(handle) else {
-        return Status::UnknownRelocation as u32;
-    };
+    let architecture = or_return!(Architecture::of_handle(handle), UnknownRelocation);
     let r_type = handle % HANDLE_UNIT;
-    match architecture.row(r_type) {
-        Some(_) => {
-            *choice = choose_in_numbers(architecture, r_type, section, offset, &facts.facts());
-            Status::Success as u32
-        }
-        None => Status::UnknownRelocation as u32,
-    }
+    let _ = or_return!(architecture.row(r_type), UnknownRelocation);
+    *choice = choose_in_numbers(architecture, r_type, section, offset, &facts.facts());
+    Status::Success as u32
 }
 
 /// Whether a relocation can be rewritten if each other one of its sequence can, by its handle, as
@@ -296,15 +293,9 @@ pub extern "C" fn linker_utils_row_of(handle: u32, row: &mut RowNumbers) -> u32
         × IsRowReturned (architecture_in handle) (handle % handle_unit) meaning result row.old
         row.new }
 {
-    let Some(architecture) = Architecture::of_handle(handle) else {
-        return Status::UnknownRelocation as u32;
-    };
+    let architecture = or_return!(Architecture::of_handle(handle), UnknownRelocation);
     let r_type = handle % HANDLE_UNIT;
-    match architecture.row(r_type) {
-        Some(found) => {
-            *row = row_numbers(architecture, r_type, &found);
-            Status::Success as u32
-        }
-        None => Status::UnknownRelocation as u32,
-    }
+    let found = or_return!(architecture.row(r_type), UnknownRelocation);
+    *row = row_numbers(architecture, r_type, &found);
+    Status::Success as u32
 }

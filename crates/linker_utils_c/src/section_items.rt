@@ -9,7 +9,7 @@ ghost use Rattle.linker_utils_c.specs.SectionItems.{AreItemsOrMalformed, AreRewr
 ghost use Rattle.linker_utils_c.specs.Status.{code};
 
 use crate::pack_runs::packing_machine;
-use crate::status::Status;
+use crate::status::{Status, or_return};
 use linker_rewriting::decisions::Deletion;
 use linker_runs::items::{
     AsRelocation, ItemNumbers, Relocation, RewrittenItemsError, rewritten_items_into,
@@ -94,9 +94,7 @@ pub extern "C" fn linker_utils_section_items_nonnull(
         × (makers.new ≡ makers.old) × (len.new ≡ len.old) }
     ensures faulty_stays { result ≢ code Status.MalformedRelocation → faulty.new ≡ faulty.old }
 {
-    let Some(of) = packing_machine(machine) else {
-        return Status::UnknownArchitecture as u32;
-    };
+    let of = or_return!(packing_machine(machine), UnknownArchitecture);
     if items.len() != relocations.len() || makers.len() != relocations.len() {
         return Status::DifferentLengths as u32;
     }
@@ -162,9 +160,7 @@ pub extern "C" fn linker_utils_rewritten_items_nonnull(
         → result ≢ code Status.InvalidDeletions → result ≢ code Status.ItemsOverlap
         → faulty.new ≡ faulty.old }
 {
-    let Some(of) = packing_machine(machine) else {
-        return Status::UnknownArchitecture as u32;
-    };
+    let of = or_return!(packing_machine(machine), UnknownArchitecture);
     if !has_both(items.len(), relocations.len(), deleted.len())
         || !has_both(makers.len(), relocations.len(), deleted.len())
     {

@@ -1,6 +1,6 @@
 //! What a section's relocations require, their values, and writing all of them.
 
-ghost use Rattle.std.specs.Prelude.{◌≡◌, Option, MatchOption};
+ghost use Rattle.std.specs.Prelude.{◌≡◌, Option};
 ghost use Rattle.linker_elf.specs.declared.elf.RowInfo.{RowInfo};
 ghost use Rattle.linker_section.specs.Needed.{needs_in};
 ghost use Rattle.linker_section.specs.Relocations.{relocation_at};
@@ -8,16 +8,15 @@ ghost use Rattle.linker_section.specs.declared.needed.EntryClass.{EntryClass};
 ghost use Rattle.linker_section.specs.declared.needed.Requirements.{Requirements};
 ghost use Rattle.linker_section.specs.declared.values.ValueError.{ValueError};
 ghost use Rattle.linker_elf.specs.Architectures.{IsRow};
-ghost use Rattle.linker_elf.specs.Machines.{architecture_of};
-ghost use Rattle.linker_utils_c.specs.Sections.{class_number, IsNeedsReturned, IsValueAt};
+ghost use Rattle.linker_utils_c.specs.Sections.{class_number, IsValueAt};
 ghost use Rattle.linker_utils_c.specs.Sections.{value_status, relocation_status, room_of};
 ghost use Rattle.linker_utils_c.specs.Sections.{requirements_in, IsSectionReturned};
-ghost use Rattle.linker_utils_c.specs.Status.{code};
+ghost use Rattle.linker_utils_c.specs.Status.{code, OfMachine, IsGivenBy};
 ghost use Rattle.linker_section.specs.Resolved.{by_lookup, by_relocation};
 ghost use Rattle.linker_section.specs.Sections.{by_index};
 
 use crate::relocate::{status_of, uleb_status_of};
-use crate::status::Status;
+use crate::status::{Status, or_return};
 use linker_section::facts::{Addresses, Symbol};
 use linker_section::needed::{EntryClass, Requirements, needs};
 use linker_section::relocations::relocation_at;
@@ -85,15 +84,12 @@ pub(crate) fn in_numbers(needs: &Requirements) -> RequirementNumbers
 /// What a relocation requires, if it has a row, in numbers.
 #[inline(always)]
 pub(crate) fn needs_by(needs: Option<Requirements>, required: &mut RequirementNumbers) -> u32
-    ensures { IsNeedsReturned needs result required.old required.new }
+    ensures { IsGivenBy (λ needs given. given ≡ requirements_in needs) needs
+        Status.UnknownRelocation required.old required.new result }
 {
-    match needs {
-        Some(needs) => {
-            *required = in_numbers(&needs);
-            Status::Success as u32
-        }
-        None => Status::UnknownRelocation as u32,
-    }
+    let needs = or_return!(needs, UnknownRelocation);
+    *required = in_numbers(&needs);
+    Status::Success as u32
 }
 
 /// What a relocation with `r_type` and an addend requires in files with `e_machine` `machine`, by
@@ -107,15 +103,13 @@ pub extern "C" fn linker_utils_needs(
     is_thread_local: bool,
     required: &mut RequirementNumbers,
 ) -> u32
-    ensures { MatchOption (architecture_of machine)
-        ((result ≡ code Status.UnknownArchitecture) × (required.new ≡ required.old))
-        (λ architecture.
+    ensures { OfMachine machine (required.new ≡ required.old) result (λ architecture.
         (row : Option RowInfo) × IsRow architecture r_type row
-        × IsNeedsReturned (needs_in row addend is_thread_local) result required.old required.new) }
+        × IsGivenBy (λ needs given. given ≡ requirements_in needs)
+        (needs_in row addend is_thread_local)
+        Status.UnknownRelocation required.old required.new result) }
 {
-    let Some(architecture) = Architecture::from_machine(machine) else {
-        return Status::UnknownArchitecture as u32;
-    };
+    let architecture = or_return!(Architecture::from_machine(machine), UnknownArchitecture);
     needs_by(
         needs(architecture, r_type, addend, is_thread_local),
         required,
@@ -151,18 +145,12 @@ pub extern "C" fn linker_utils_value_at_nonnull(
     index: usize,
     value: &mut i64,
 ) -> u32
-    ensures { MatchOption (architecture_of machine)
-        ((result ≡ code Status.UnknownArchitecture) × (value.new ≡ value.old))
-        (λ architecture.
+    ensures { OfMachine machine (value.new ≡ value.old) result (λ architecture.
         IsValueAt architecture addresses.now relocations.now symbols.now
         (relocation_at relocations.now index) result value.old value.new) }
 {
-    let Some(architecture) = Architecture::from_machine(machine) else {
-        return Status::UnknownArchitecture as u32;
-    };
-    let Some(relocation) = relocation_at(relocations, index) else {
-        return Status::TooShort as u32;
-    };
+    let architecture = or_return!(Architecture::from_machine(machine), UnknownArchitecture);
+    let relocation = or_return!(relocation_at(relocations, index), TooShort);
     match value_of(architecture, addresses, relocations, symbols, &relocation) {
         Ok(Some(number)) => {
             *value = number;
@@ -208,16 +196,12 @@ pub extern "C" fn linker_utils_relocate_section_nonnull(
     memory: &mut [u64],
     faulty: &mut usize,
 ) -> u32
-    ensures { MatchOption (architecture_of machine)
-        ((result ≡ code Status.UnknownArchitecture) × (section.new ≡ section.old)
-        × (faulty.new ≡ faulty.old))
+    ensures { OfMachine machine ((section.new ≡ section.old) × (faulty.new ≡ faulty.old)) result
         (λ architecture.
         IsSectionReturned architecture addresses.now relocations.now (by_index symbols.now)
         section.old section.new memory.old faulty.old faulty.new result) }
 {
-    let Some(architecture) = Architecture::from_machine(machine) else {
-        return Status::UnknownArchitecture as u32;
-    };
+    let architecture = or_return!(Architecture::from_machine(machine), UnknownArchitecture);
     if memory.len() < memory_len(relocations) {
         return Status::ShortMemory as u32;
     }
@@ -251,17 +235,13 @@ pub extern "C" fn linker_utils_relocate_resolved_nonnull(
     memory: &mut [u64],
     faulty: &mut usize,
 ) -> u32
-    ensures { MatchOption (architecture_of machine)
-        ((result ≡ code Status.UnknownArchitecture) × (section.new ≡ section.old)
-        × (faulty.new ≡ faulty.old))
+    ensures { OfMachine machine ((section.new ≡ section.old) × (faulty.new ≡ faulty.old)) result
         (λ architecture.
         IsSectionReturned architecture addresses.now relocations.now
         (by_lookup (by_relocation resolved.now)) section.old section.new memory.old faulty.old
         faulty.new result) }
 {
-    let Some(architecture) = Architecture::from_machine(machine) else {
-        return Status::UnknownArchitecture as u32;
-    };
+    let architecture = or_return!(Architecture::from_machine(machine), UnknownArchitecture);
     if memory.len() < memory_len(relocations) {
         return Status::ShortMemory as u32;
     }

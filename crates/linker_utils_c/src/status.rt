@@ -195,3 +195,15 @@ pub enum Status {
     /// The type of the property has no rule.
     UnknownProperty,
 }
+
+/// What is found, or the call returns the status that says that there is none.
+macro_rules! or_return {
+    ($found:expr, $absent:ident) => {{
+        let Some(found) = $found else {
+            return crate::status::Status::$absent as u32;
+        };
+        found
+    }};
+}
+
+pub(crate) use or_return;

@@ -8,22 +8,22 @@ returns-in_default c =
     let none : slice_get all c.args.run ≡ None = slice_get_past all c.args.run (omega (arith, c.in_default.ensures.lookup)) in
     rw (runs_at all c.args.run ∙ ap (option_map view_run) none) (refl, refl)
 
-pub returns-in-Some-word_at : goal.returns-in-Some-word_at
-returns-in-Some-word_at c =
+pub returns : goal.returns
+returns c =
     let all = c.args.target.now.runs.now in
     let lookup = c.in-Some.ensures.lookup in
-    let here : slice_get all c.args.run ≡ Some c.in-Some.provided.now =
-    slice_get_read all (length all) c.args.run c.in-Some.provided.now refl lookup.3.0 lookup.1 in
+    let here : slice_get all c.args.run ≡ Some c.in-Some.found.now =
+    slice_get_read all (length all) c.args.run c.in-Some.found.now refl lookup.3.0 lookup.1 in
     rw (runs_at all c.args.run ∙ ap (option_map view_run) here) (
     rw (sym c.word_at.ensures ∙ c.in-Some-word_at.is) (refl, refl)
     )
 
-pub returns-in-None : goal.returns-in-None
-returns-in-None c =
+pub returns-in_default-word_at : goal.returns-in_default-word_at
+returns-in_default-word_at c =
     let all = c.args.target.now.runs.now in
     let lookup = c.in-Some.ensures.lookup in
-    let here : slice_get all c.args.run ≡ Some c.in-Some.provided.now =
-    slice_get_read all (length all) c.args.run c.in-Some.provided.now refl lookup.3.0 lookup.1 in
+    let here : slice_get all c.args.run ≡ Some c.in-Some.found.now =
+    slice_get_read all (length all) c.args.run c.in-Some.found.now refl lookup.3.0 lookup.1 in
     rw (runs_at all c.args.run ∙ ap (option_map view_run) here) (
-    rw (sym c.word_at.ensures ∙ c.in-None.is) (refl, refl)
+    rw (sym c.word_at.ensures ∙ c.in_default-word_at.is) (refl, refl)
     )

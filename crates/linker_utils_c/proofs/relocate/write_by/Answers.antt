@@ -2,9 +2,9 @@ use Rattle.linker_utils_c.proofs.Imports.{IsOutcome, subst, to_z-of_z, w64}
 use Rattle.linker_utils_c.proofs.Relocating.{outcome_of}
 use Rattle.linker_utils_c.proofs.relocate.write_by.Goals as goal
 
-pub returns-in-Some : goal.returns-in-Some
-returns-in-Some c =
-    let row = c.in-Some.row in
+pub returns : goal.returns
+returns c =
+    let row = c.in-Some.found in
     let before = c.args.dest.now in
     let after = c.write.new.dest in
     rw c.in-Some.is (record {

@@ -3,11 +3,11 @@ use Rattle.linker_elf.specs.Architectures.{IsRow}
 use Rattle.linker_utils_c.proofs.RelocationNumbers.{are_numbers}
 use Rattle.linker_utils_c.proofs.relocations.linker_utils_relocation.Goals as goal
 
-pub returns-in-Some-row : goal.returns-in-Some-row
-returns-in-Some-row c =
-    let row = c.in-Some-row.row in
+pub returns : goal.returns
+returns c =
+    let row = c.in-Some-row.found in
     rw (sym c.from_machine.ensures ∙ c.in-Some.is) (
       Some row,
-      subst (IsRow c.in-Some.architecture c.args.r_type) c.in-Some-row.is c.row.ensures,
+      subst (IsRow c.in-Some.found c.args.r_type) c.in-Some-row.is c.row.ensures,
       (refl, subst (InNumbers row) (sym c.numbers.ensures) (are_numbers row)),
     )
