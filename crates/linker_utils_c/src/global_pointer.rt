@@ -9,7 +9,7 @@ ghost use Rattle.linker_utils_c.specs.Rewriting.{IsSurveyReturned};
 ghost use Rattle.linker_utils_c.specs.Status.{OfMachine};
 
 use crate::rewriting::{put_error, survey_status};
-use crate::status::{Status, or_return};
+use crate::status::{Status, at_fault, or_return};
 use linker_rewriting::decisions::{DecisionNumbers, Deletion};
 use linker_rewriting::facts::{OutputFacts, RelaxContext, SymbolFacts};
 use linker_rewriting::global_pointer::{
@@ -132,9 +132,6 @@ pub extern "C" fn linker_utils_finish_gp_relaxation_nonnull(
 {
     match finish_gp_relaxation(addresses, values, global_pointer, relocations, section) {
         Ok(()) => Status::Success as u32,
-        Err(index) => {
-            *faulty = index;
-            Status::OutOfReach as u32
-        }
+        Err(index) => at_fault(Status::OutOfReach as u32, index, faulty),
     }
 }

@@ -6,7 +6,7 @@ ghost use Rattle.linker_utils_c.specs.Kept.{IsRewrittenReturned};
 ghost use Rattle.linker_utils_c.specs.Status.{code, OfMachine};
 
 use crate::sections::status_of_error;
-use crate::status::{Status, or_return};
+use crate::status::{Status, at_fault, or_return};
 use linker_rewriting::facts::{OutputFacts, RelaxContext, SymbolFacts};
 use linker_rewriting::kept::{
     FactsSnapshot, WritingError, relocate_rewritten_section, snapshot_facts,
@@ -74,21 +74,17 @@ pub extern "C" fn linker_utils_relocate_rewritten_section_nonnull(
     };
     match relocate_rewritten_section(&context, kept, relocations, section, memory) {
         Ok(()) => Status::Success as u32,
-        Err(WritingError::Contradiction(symbol)) => {
-            *faulty = symbol;
-            Status::FactsContradict as u32
-        }
-        Err(WritingError::Changed(index)) => {
-            *faulty = index;
-            Status::FactsChanged as u32
-        }
-        Err(WritingError::NeedsStub(index)) => {
-            *faulty = index;
-            Status::NeedsStub as u32
-        }
-        Err(WritingError::Section(error)) => {
-            *faulty = error.index;
-            status_of_error(error.error)
-        }
+        Err(WritingError::Contradiction(symbol)) => at_fault(
+            Status::FactsContradict as u32,
+            symbol,
+            faulty,
+        ),
+        Err(WritingError::Changed(index)) => at_fault(Status::FactsChanged as u32, index, faulty),
+        Err(WritingError::NeedsStub(index)) => at_fault(Status::NeedsStub as u32, index, faulty),
+        Err(WritingError::Section(error)) => at_fault(
+            status_of_error(error.error),
+            error.index,
+            faulty,
+        ),
     }
 }

@@ -10,7 +10,7 @@ ghost use Rattle.linker_utils_c.specs.Relaxing.{standard_shapes, fault_status};
 ghost use Rattle.linker_utils_c.specs.Relaxing.{IsRunFault, HaveLengths};
 ghost use Rattle.linker_utils_c.specs.Status.{code, IsGiven};
 
-use crate::status::{Status, or_return};
+use crate::status::{Status, at_fault, or_return};
 use linker_runs::items::ItemNumbers;
 use linker_runs::relaxation::{Fault, Shapes, first_faulty, relax_into};
 use linker_runs::shapes::loongarch64::{CALL36, PCALA};
@@ -83,10 +83,7 @@ pub extern "C" fn linker_utils_items_relaxable_nonnull(
 {
     match first_faulty(items, start) {
         None => Status::Success as u32,
-        Some(found) => {
-            *faulty = found.index;
-            status_of(found.fault)
-        }
+        Some(found) => at_fault(status_of(found.fault), found.index, faulty),
     }
 }
 
@@ -136,10 +133,7 @@ pub extern "C" fn linker_utils_relax_nonnull(
             relax_into(items, start, shapes, kept, places, freed);
             Status::Success as u32
         }
-        Some(found) => {
-            *faulty = found.index;
-            status_of(found.fault)
-        }
+        Some(found) => at_fault(status_of(found.fault), found.index, faulty),
     }
 }
 

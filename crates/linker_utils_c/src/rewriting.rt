@@ -16,7 +16,7 @@ ghost use Rattle.linker_utils_c.specs.Rewriting.{IsSurveyReturned, IsDecisionRet
 ghost use Rattle.linker_utils_c.specs.Rewriting.{IsMakingReturned, making_status, making_faulty};
 ghost use Rattle.linker_utils_c.specs.Status.{code, IfFound, OfMachine};
 
-use crate::status::{Status, or_return};
+use crate::status::{Status, at_fault, or_return};
 use linker_rewriting::decisions::{DecisionError, DecisionNumbers, Deletion, RewritingError};
 use linker_rewriting::facts::{OutputFacts, RelaxContext, SymbolFacts};
 use linker_rewriting::groups::{UnrelaxableGroups, has_rewrites};
@@ -137,18 +137,13 @@ pub(crate) fn put_error(error: RewritingError, faulty: &mut usize) -> u32
 {
     match error {
         RewritingError::TooShort => Status::ShortMemory as u32,
-        RewritingError::NotSurveyed(index) => {
-            *faulty = index;
-            Status::NotSurveyed as u32
-        }
-        RewritingError::Overlaps(index) => {
-            *faulty = index;
-            Status::Overlaps as u32
-        }
-        RewritingError::Contradiction(symbol) => {
-            *faulty = symbol;
-            Status::FactsContradict as u32
-        }
+        RewritingError::NotSurveyed(index) => at_fault(Status::NotSurveyed as u32, index, faulty),
+        RewritingError::Overlaps(index) => at_fault(Status::Overlaps as u32, index, faulty),
+        RewritingError::Contradiction(symbol) => at_fault(
+            Status::FactsContradict as u32,
+            symbol,
+            faulty,
+        ),
     }
 }
 
@@ -234,14 +229,8 @@ fn put_making_error(error: DecisionError, faulty: &mut usize) -> u32
 {
     match error {
         DecisionError::TooShort => Status::ShortMemory as u32,
-        DecisionError::Changed(index) => {
-            *faulty = index;
-            Status::DoesNotMatch as u32
-        }
-        DecisionError::Overlaps(index) => {
-            *faulty = index;
-            Status::Overlaps as u32
-        }
+        DecisionError::Changed(index) => at_fault(Status::DoesNotMatch as u32, index, faulty),
+        DecisionError::Overlaps(index) => at_fault(Status::Overlaps as u32, index, faulty),
     }
 }
 

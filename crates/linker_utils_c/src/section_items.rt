@@ -9,7 +9,7 @@ ghost use Rattle.linker_utils_c.specs.SectionItems.{AreItemsOrMalformed, AreRewr
 ghost use Rattle.linker_utils_c.specs.Status.{code};
 
 use crate::pack_runs::packing_machine;
-use crate::status::{Status, or_return};
+use crate::status::{Status, at_fault, or_return};
 use linker_rewriting::decisions::Deletion;
 use linker_runs::items::{
     AsRelocation, ItemNumbers, Relocation, RewrittenItemsError, rewritten_items_into,
@@ -106,10 +106,7 @@ pub extern "C" fn linker_utils_section_items_nonnull(
             *len = count;
             Status::Success as u32
         }
-        Err(index) => {
-            *faulty = index;
-            Status::MalformedRelocation as u32
-        }
+        Err(index) => at_fault(Status::MalformedRelocation as u32, index, faulty),
     }
 }
 
@@ -174,17 +171,20 @@ pub extern "C" fn linker_utils_rewritten_items_nonnull(
             *len = count;
             Status::Success as u32
         }
-        Err(RewrittenItemsError::Malformed(index)) => {
-            *faulty = index;
-            Status::MalformedRelocation as u32
-        }
-        Err(RewrittenItemsError::Misplaced(index)) => {
-            *faulty = index;
-            Status::InvalidDeletions as u32
-        }
-        Err(RewrittenItemsError::Overlaps(index)) => {
-            *faulty = index;
-            Status::ItemsOverlap as u32
-        }
+        Err(RewrittenItemsError::Malformed(index)) => at_fault(
+            Status::MalformedRelocation as u32,
+            index,
+            faulty,
+        ),
+        Err(RewrittenItemsError::Misplaced(index)) => at_fault(
+            Status::InvalidDeletions as u32,
+            index,
+            faulty,
+        ),
+        Err(RewrittenItemsError::Overlaps(index)) => at_fault(
+            Status::ItemsOverlap as u32,
+            index,
+            faulty,
+        ),
     }
 }

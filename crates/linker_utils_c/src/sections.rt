@@ -16,7 +16,7 @@ ghost use Rattle.linker_section.specs.Resolved.{by_lookup, by_relocation};
 ghost use Rattle.linker_section.specs.Sections.{by_index};
 
 use crate::relocate::{status_of, uleb_status_of};
-use crate::status::{Status, or_return};
+use crate::status::{Status, at_fault, or_return};
 use linker_section::facts::{Addresses, Symbol};
 use linker_section::needed::{EntryClass, Requirements, needs};
 use linker_section::relocations::relocation_at;
@@ -214,10 +214,7 @@ pub extern "C" fn linker_utils_relocate_section_nonnull(
         memory,
     ) {
         Ok(()) => Status::Success as u32,
-        Err(error) => {
-            *faulty = error.index;
-            status_of_error(error.error)
-        }
+        Err(error) => at_fault(status_of_error(error.error), error.index, faulty),
     }
 }
 
@@ -254,9 +251,6 @@ pub extern "C" fn linker_utils_relocate_resolved_nonnull(
         memory,
     ) {
         Ok(()) => Status::Success as u32,
-        Err(error) => {
-            *faulty = error.index;
-            status_of_error(error.error)
-        }
+        Err(error) => at_fault(status_of_error(error.error), error.index, faulty),
     }
 }

@@ -1,5 +1,7 @@
 //! What a call returns.
 
+ghost use Rattle.std.specs.Prelude.{◌≡◌};
+
 /// What a call returns: the sentences of `include/linker_utils.h`. 11 and 16 are unused.
 #[derive(Clone, Copy)]
 pub enum Status {
@@ -194,6 +196,16 @@ pub enum Status {
     DifferentValues,
     /// The type of the property has no rule.
     UnknownProperty,
+}
+
+/// A status that is about what has an index, and the index.
+#[inline(always)]
+pub(crate) fn at_fault(status: u32, index: usize, faulty: &mut usize) -> u32
+    ensures status { result ≡ status }
+    ensures faulty { faulty.new ≡ index }
+{
+    *faulty = index;
+    status
 }
 
 /// What is found, or the call returns the status that says that there is none.

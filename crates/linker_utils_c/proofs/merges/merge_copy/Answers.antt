@@ -1,4 +1,4 @@
-use Rattle.linker_utils_c.proofs.Imports.{AreValidTogether, IsSortedUnion, IsValid, arith, deletions_of, disjoint_back, length-map, length_permutation, map, pair_of, pairs_in, ◌++◌, ◌+◌}
+use Rattle.linker_utils_c.proofs.Imports.{AreValidTogether, IsSortedUnion, IsValid, arith, deletions_of, disjoint_back, length-map, length_permutation, map, pair_of, pairs_in, ◌++◌}
 use Rattle.linker_base.proofs.Unions.{disjoint_moved, union_moved, valid_from_disjoint}
 use Rattle.linker_utils_c.proofs.merges.merge_copy.Goals as goal
 use Rattle.linker_utils_c.proofs.merges.merge_copy.Goals.{then-not-can_merge_ascending+in_default, else-not-can_merge_ascending}
