@@ -111,9 +111,7 @@ impl Relaxation {
     pub fn matches(self, section: &[u8], offset: u64) -> bool {
         of_kind!(self, kind => kind.matches(section, offset))
     }
-}
 
-impl Relaxation {
     /// The bytes to be deleted after the rewrite, as `deleted` of the `RewriteKind` of `riscv64`
     /// and `loongarch64` says. `None` where there are none, and for all other architectures.
     #[must_use]
@@ -154,9 +152,7 @@ impl Relaxation {
         }
         }
     }
-}
 
-impl Relaxation {
     /// Where the relocation is that `next_modifier` skips, in bytes from the offset of the
     /// rewrite's own relocation on, as `skipped_offset` of the `RewriteKind` of `riscv64`,
     /// `ppc64` and `x86_64` says. `None` where none is skipped, and for all other architectures.

@@ -129,7 +129,7 @@ pub mod runs {
         first_malformed,
     };
     pub use crate::linker_runs::packing::{
-        ItemError, Machine, RejectedItem, has_its_instructions, packed_run_len,
+        Isa, ItemError, Machine, RejectedItem, has_its_instructions, packed_run_len,
     };
     pub use crate::linker_runs::relaxation::{
         Alignment, Fault, Item, ItemFault, Plan, Shape, Shapes, Site, are_items, deletions,

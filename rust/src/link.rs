@@ -1388,7 +1388,7 @@ impl Run<'_> {
     /// - what [`pack_run`] requires
     ///
     /// ```
-    /// use linker_utils::runs::{Item, ItemNumbers, Machine, Run, Site, relax, shapes};
+    /// use linker_utils::runs::{Isa, Item, ItemNumbers, Machine, Run, Site, relax, shapes};
     /// use linker_utils::section::Section;
     ///
     /// // a section with auipc ra, 0 and jalr ra, 0(ra), a call of the ret in the section after it
@@ -1397,7 +1397,7 @@ impl Run<'_> {
     /// let plan = relax(&items, 0x1000).unwrap();
     /// let run = Run { start: 0x1000, items: &items[1..], deltas: plan.deletions.deltas() };
     /// let ret = Section { base: 8, ..Section::new([0x67, 0x80, 0, 0], []) };
-    /// let packed = run.pack(Machine::RiscV { is_32: false }, ret, [0; 4]).unwrap();
+    /// let packed = run.pack(Machine::RiscV(Isa::Rv64), ret, [0; 4]).unwrap();
     /// assert_eq!((packed.address, packed.bytes), (0x1004, [0x67, 0x80, 0, 0]));
     /// ```
     #[inline]

@@ -90,7 +90,7 @@ pub(crate) struct Original {
     pub tests: &'static [WordTest],
 }
 
-/// What a rewrite writes.
+/// What a rewrite writes, and what becomes of other bytes and relocations.
 #[derive(Clone, Copy)]
 pub(crate) struct Replacement {
     /// How many bytes before the relocation's offset the first instruction is.
@@ -101,6 +101,14 @@ pub(crate) struct Replacement {
     pub edits: &'static [WordEdit],
     /// Whether it writes one of 2 bytes.
     pub half: bool,
+    /// The bytes that are deleted after it.
+    pub deleted: Option<DeletedBytes>,
+    /// How many bytes after the relocation's offset the relocation is that it skips.
+    pub skipped: Option<u64>,
+    /// How far it moves the relocation's offset on.
+    pub moved: u64,
+    /// The addend after it, if that is another.
+    pub addend: Option<i64>,
 }
 
 /// One of four sets.
@@ -329,7 +337,7 @@ impl Original {
 impl Replacement {
     /// The bytes that the rewrite writes.
     #[inline(always)]
-    fn window(&self) -> RewriteWindow {
+    pub(crate) fn window(&self) -> RewriteWindow {
         let (back, len) = match self.edits {
             [] => (0, 0),
             [_] => (self.back, if self.half { 2 } else { 4 }),
@@ -403,7 +411,7 @@ macro_rules! original {
     };
 }
 
-/// What the row of a rewrite writes.
+/// What the row of a rewrite writes, deletes and skips.
 macro_rules! replacement {
     (
         $tests:ident $len:literal $(back $back:literal)? $(aligned $aligned:literal)?
@@ -430,48 +438,19 @@ macro_rules! replacement {
                 },)?
             ],
             half: $crate::rewrite_rows::or!(false; $($half)?),
+            deleted: $crate::rewrite_rows::or!(None; $(Some(crate::linker_base::rewrite::DeletedBytes {
+                start: $start,
+                count: $crate::rewrite_rows::or!(4; $($count)?),
+            }))?),
+            skipped: $crate::rewrite_rows::or!(None; $(Some($skip))?),
+            moved: $crate::rewrite_rows::or!(0; $($moved)?),
+            addend: $crate::rewrite_rows::or!(None; $(Some($addend))?),
         }
     };
 }
 
-/// Where a row has a relocation skipped.
-macro_rules! skipped {
-    () => { None };
-    (skip $skip:literal $($row:tt)*) => { Some($skip) };
-    ($other:tt $($row:tt)*) => { $crate::rewrite_rows::skipped!($($row)*) };
-}
-
-/// The bytes that a row has deleted.
-macro_rules! deleted {
-    () => { None };
-    (delete $start:literal count $count:literal $($row:tt)*) => {
-        Some(crate::linker_base::rewrite::DeletedBytes { start: $start, count: $count })
-    };
-    (delete $start:literal $($row:tt)*) => {
-        Some(crate::linker_base::rewrite::DeletedBytes { start: $start, count: 4 })
-    };
-    ($other:tt $($row:tt)*) => { $crate::rewrite_rows::deleted!($($row)*) };
-}
-
-/// The bytes that a row has written: with how far before the offset they begin, and how many they
-/// are by what was read of the row so far.
-macro_rules! window {
-    ($back:tt, 0;) => { crate::linker_base::rewrite::RewriteWindow { back: 0, len: 0 } };
-    ($back:tt, $len:tt;) => { crate::linker_base::rewrite::RewriteWindow { back: $back, len: $len } };
-    ($back:tt, 0; keep $($row:tt)*) => { $crate::rewrite_rows::window!($back, 4; $($row)*) };
-    ($back:tt, 4; keep $($row:tt)*) => { $crate::rewrite_rows::window!($back, 8; $($row)*) };
-    ($back:tt, 0; special $($row:tt)*) => { $crate::rewrite_rows::window!($back, 4; $($row)*) };
-    ($back:tt, 4; half $($row:tt)*) => { $crate::rewrite_rows::window!($back, 2; $($row)*) };
-    ($back:tt, $len:tt; $other:tt $($row:tt)*) => {
-        $crate::rewrite_rows::window!($back, $len; $($row)*)
-    };
-    ($len:tt back $back:tt $($row:tt)*) => { $crate::rewrite_rows::window!($back, 0; $($row)*) };
-    ($len:tt $($row:tt)*) => { $crate::rewrite_rows::window!(0, 0; $($row)*) };
-}
-
-/// A part of a row, by the macro of its name, or what such a part is used for, in an arm for each
-/// rewrite, and there of constants, and what the macro `$after` then makes of the row; or the
-/// rewrite with a number.
+/// What a part of a row, by the macro of its name, is used for, in an arm for each rewrite, and
+/// there of constants; or the rewrite with a number.
 macro_rules! by_row {
     ($tests:ident, numbered $number:expr; $($kind:ident { $($row:tt)* })*) => {
         match $number {
@@ -479,28 +458,11 @@ macro_rules! by_row {
             _ => None,
         }
     };
-    ($tests:ident, $value:expr => $part:ident; $($kind:ident { $($row:tt)* })*) => {
-        match $value {
-            $(RewriteKind::$kind => $crate::rewrite_rows::$part!($($row)*),)*
-        }
-    };
     ($tests:ident, $value:expr, $part:ident $row:ident => $use:expr; $($kind:ident { $($of:tt)* })*) => {
         match $value {
             $(RewriteKind::$kind => {
                 let $row = &$crate::rewrite_rows::$part!($tests $($of)*);
                 $use
-            })*
-        }
-    };
-    (
-        $tests:ident, $value:expr, $part:ident $row:ident => $use:expr, $after:ident $places:tt;
-        $($kind:ident { $($of:tt)* })*
-    ) => {
-        match $value {
-            $(RewriteKind::$kind => {
-                let $row = &$crate::rewrite_rows::$part!($tests $($of)*);
-                $use;
-                $after!($places $($of)*);
             })*
         }
     };
@@ -547,11 +509,8 @@ macro_rules! same_name {
 
 pub(crate) use bits;
 pub(crate) use by_row;
-pub(crate) use deleted;
 pub(crate) use or;
 pub(crate) use original;
 pub(crate) use replacement;
 pub(crate) use same_name;
-pub(crate) use skipped;
 pub(crate) use top;
-pub(crate) use window;

@@ -4,7 +4,7 @@
 
 use crate::architectures::by_architecture;
 use crate::rewrites::number_of;
-use crate::status::Status;
+use crate::status::{Status, or_return};
 use linker_utils::architecture::{Relaxation, fits};
 use linker_utils::elf::{Architecture, Choice, InstructionRewrite, LinkFacts, Operands};
 
@@ -151,9 +151,7 @@ pub fn linker_utils_choose_nonnull(
     facts: &LinkFactNumbers,
     choice: &mut ChoiceNumbers,
 ) -> u32 {
-    let Some(architecture) = Architecture::from_machine(machine) else {
-        return Status::UnknownArchitecture as u32;
-    };
+    let architecture = or_return!(Architecture::from_machine(machine), UnknownArchitecture);
     *choice = choose_in_numbers(architecture, r_type, section, offset, &facts.facts());
     Status::Success as u32
 }

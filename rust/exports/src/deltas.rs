@@ -6,7 +6,7 @@
 //! list deletions. Each call is safe for any deltas, and returns one of the statuses that it names.
 //! The contract of what else it returns requires valid ones.
 
-use crate::status::Status;
+use crate::status::{Status, or_return};
 use linker_utils::source::rewriting::Deletion;
 use linker_utils::relaxation::{DeltaSlice, RelaxDelta, first_invalid};
 
@@ -108,13 +108,11 @@ pub fn linker_utils_deltas_output_to_input_nonnull(
     output_offset: u64,
     input_offset: &mut u64,
 ) -> u32 {
-    match DeltaSlice::new(deltas).output_to_input_offset(output_offset) {
-        None => Status::TooLarge as u32,
-        Some(offset) => {
-            *input_offset = offset;
-            Status::Success as u32
-        }
-    }
+    *input_offset = or_return!(
+        DeltaSlice::new(deltas).output_to_input_offset(output_offset),
+        TooLarge
+    );
+    Status::Success as u32
 }
 
 /// Whether the deltas are valid: they list deletions that `linker_utils_deltas_create` accepts,

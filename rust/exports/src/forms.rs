@@ -3,7 +3,7 @@
 //! Values in the immediates of instructions, by `e_machine` and a form's number.
 
 use crate::architectures::{by_architecture, known};
-use crate::status::Status;
+use crate::status::{Status, or_return};
 use linker_utils::elf::{
     AArch64Instruction, AnyForm, Architecture, InstructionForm, LoongArch64Instruction, Ppc64Form,
     RiscVInstruction,
@@ -67,9 +67,7 @@ fn fit<F: InstructionForm>(form: F, value: u64, bytes: &[u8]) -> u32 {
 // Writes a value by a form, if there is one: `AnyForm` would require its architecture again.
 #[inline(always)]
 fn write_by<F: InstructionForm>(form: Option<F>, value: u64, negative: bool, dest: &mut [u8]) -> u32 {
-    let Some(named) = form else {
-        return Status::UnknownForm as u32;
-    };
+    let named = or_return!(form, UnknownForm);
     let status = fit(named, value, dest);
     if status == Status::Success as u32 {
         named.write(value, negative, dest);
@@ -87,9 +85,7 @@ pub fn linker_utils_write_nonnull(
     negative: bool,
     dest: &mut [u8],
 ) -> u32 {
-    let Some(architecture) = Architecture::from_machine(machine) else {
-        return Status::UnknownArchitecture as u32;
-    };
+    let architecture = or_return!(Architecture::from_machine(machine), UnknownArchitecture);
     match architecture {
         Architecture::AArch64 => {
             write_by(AArch64Instruction::from_number(form), value, negative, dest)
@@ -140,9 +136,7 @@ pub fn linker_utils_read_nonnull(
     value: &mut u64,
     negative: &mut u8,
 ) -> u32 {
-    let Some(architecture) = Architecture::from_machine(machine) else {
-        return Status::UnknownArchitecture as u32;
-    };
+    let architecture = or_return!(Architecture::from_machine(machine), UnknownArchitecture);
     by_architecture!(architecture, known(of => {
         read_by(form_in(of, form), bytes, value, negative)
     }))

@@ -3,7 +3,7 @@
 //! RISC-V's addresses near the global pointer or 0, without their high part.
 
 use crate::rewriting::{put_error, survey_status};
-use crate::status::Status;
+use crate::status::{Status, at_fault, or_return};
 use linker_utils::source::rewriting::{DecisionNumbers, Deletion};
 use linker_utils::source::rewriting::{OutputFacts, RelaxContext, SymbolFacts};
 use linker_utils::source::rewriting::{
@@ -27,9 +27,7 @@ pub fn linker_utils_survey_global_pointer_nonnull(
     section: &[u8],
     kept: &mut [bool],
 ) -> u32 {
-    let Some(architecture) = Architecture::from_machine(machine) else {
-        return Status::UnknownArchitecture as u32;
-    };
+    let architecture = or_return!(Architecture::from_machine(machine), UnknownArchitecture);
     let context = RelaxContext {
         architecture,
         phase: Phase::ShortPcRel,
@@ -65,9 +63,7 @@ pub fn linker_utils_rewrite_global_pointer_nonnull(
     deleted_used: &mut usize,
     faulty: &mut usize,
 ) -> u32 {
-    let Some(architecture) = Architecture::from_machine(machine) else {
-        return Status::UnknownArchitecture as u32;
-    };
+    let architecture = or_return!(Architecture::from_machine(machine), UnknownArchitecture);
     let context = RelaxContext {
         architecture,
         phase: Phase::ShortPcRel,
@@ -109,9 +105,6 @@ pub fn linker_utils_finish_gp_relaxation_nonnull(
 ) -> u32 {
     match finish_gp_relaxation(addresses, values, global_pointer, relocations, section) {
         Ok(()) => Status::Success as u32,
-        Err(index) => {
-            *faulty = index;
-            Status::OutOfReach as u32
-        }
+        Err(index) => at_fault(Status::OutOfReach as u32, index, faulty),
     }
 }

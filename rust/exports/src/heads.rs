@@ -7,7 +7,7 @@
 //! `linker_utils_deltas_heads` wrote of the same deltas, or a number of them that isn't that of the
 //! blocks.
 
-use crate::status::Status;
+use crate::status::{Status, or_return};
 use linker_utils::relaxation::{BlockHead, DeltaSlice, RelaxDelta};
 
 /// How many blocks of 64 the deltas have; the last may be shorter.
@@ -47,11 +47,9 @@ pub fn linker_utils_deltas_output_to_input_by_heads_nonnull(
     output_offset: u64,
     input_offset: &mut u64,
 ) -> u32 {
-    match DeltaSlice::new(deltas).output_to_input_by_heads(heads, output_offset) {
-        None => Status::TooLarge as u32,
-        Some(offset) => {
-            *input_offset = offset;
-            Status::Success as u32
-        }
-    }
+    *input_offset = or_return!(
+        DeltaSlice::new(deltas).output_to_input_by_heads(heads, output_offset),
+        TooLarge
+    );
+    Status::Success as u32
 }

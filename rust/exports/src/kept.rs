@@ -3,7 +3,7 @@
 //! What choices of rewrites read of symbols, kept until values are written.
 
 use crate::sections::status_of_error;
-use crate::status::Status;
+use crate::status::{Status, at_fault, or_return};
 use linker_utils::source::rewriting::{OutputFacts, RelaxContext, SymbolFacts};
 use linker_utils::source::rewriting::{
     FactsSnapshot, WritingError, relocate_rewritten_section, snapshot_facts,
@@ -45,9 +45,7 @@ pub fn linker_utils_relocate_rewritten_section_nonnull(
     memory: &mut [u64],
     faulty: &mut usize,
 ) -> u32 {
-    let Some(architecture) = Architecture::from_machine(machine) else {
-        return Status::UnknownArchitecture as u32;
-    };
+    let architecture = or_return!(Architecture::from_machine(machine), UnknownArchitecture);
     if memory.len() < memory_len(relocations) {
         return Status::ShortMemory as u32;
     }
@@ -61,21 +59,17 @@ pub fn linker_utils_relocate_rewritten_section_nonnull(
     };
     match relocate_rewritten_section(&context, kept, relocations, section, memory) {
         Ok(()) => Status::Success as u32,
-        Err(WritingError::Contradiction(symbol)) => {
-            *faulty = symbol;
-            Status::FactsContradict as u32
-        }
-        Err(WritingError::Changed(index)) => {
-            *faulty = index;
-            Status::FactsChanged as u32
-        }
-        Err(WritingError::NeedsStub(index)) => {
-            *faulty = index;
-            Status::NeedsStub as u32
-        }
-        Err(WritingError::Section(error)) => {
-            *faulty = error.index;
-            status_of_error(error.error)
-        }
+        Err(WritingError::Contradiction(symbol)) => at_fault(
+            Status::FactsContradict as u32,
+            symbol,
+            faulty,
+        ),
+        Err(WritingError::Changed(index)) => at_fault(Status::FactsChanged as u32, index, faulty),
+        Err(WritingError::NeedsStub(index)) => at_fault(Status::NeedsStub as u32, index, faulty),
+        Err(WritingError::Section(error)) => at_fault(
+            status_of_error(error.error),
+            error.index,
+            faulty,
+        ),
     }
 }

@@ -3,7 +3,7 @@
 //! Lazy PLTs: the code of headers and entries, and what their words hold at first.
 
 use crate::relocate::status_of;
-use crate::status::Status;
+use crate::status::{Status, or_return};
 use linker_utils::source::output::{LazyEntry, LazyForm, LazyPlt};
 use linker_utils::source::output::StubError;
 use linker_utils::elf::Architecture;
@@ -25,20 +25,14 @@ pub struct LazyPltNumbers {
 /// The form with a number.
 #[inline]
 fn form_of(number: u32) -> Option<LazyForm> {
-    if number == 0 {
-        Some(LazyForm::Plain)
-    } else if number == 1 {
-        Some(LazyForm::Landing)
-    } else if number == 2 {
-        Some(LazyForm::LandingEntry)
-    } else if number == 3 {
-        Some(LazyForm::Authenticated)
-    } else if number == 4 {
-        Some(LazyForm::AuthenticatedLanding)
-    } else if number == 5 {
-        Some(LazyForm::AuthenticatedLandingEntry)
-    } else {
-        None
+    match number {
+        0 => Some(LazyForm::Plain),
+        1 => Some(LazyForm::Landing),
+        2 => Some(LazyForm::LandingEntry),
+        3 => Some(LazyForm::Authenticated),
+        4 => Some(LazyForm::AuthenticatedLanding),
+        5 => Some(LazyForm::AuthenticatedLandingEntry),
+        _ => None,
     }
 }
 
@@ -58,12 +52,8 @@ pub fn linker_utils_get_lazy_plt(
     form: u32,
     plt: &mut LazyPltNumbers,
 ) -> u32 {
-    let Some(architecture) = Architecture::from_machine(machine) else {
-        return Status::UnknownArchitecture as u32;
-    };
-    let Some(found) = plt_in(architecture, form) else {
-        return Status::UnknownStub as u32;
-    };
+    let architecture = or_return!(Architecture::from_machine(machine), UnknownArchitecture);
+    let found = or_return!(plt_in(architecture, form), UnknownStub);
     *plt = numbers_in(found);
     Status::Success as u32
 }
@@ -79,7 +69,7 @@ fn numbers_in(plt: &LazyPlt) -> LazyPltNumbers {
 }
 
 /// The status of code that is written or not.
-fn status_in(written: Result<(), StubError>) -> u32 {
+pub(crate) fn status_in(written: Result<(), StubError>) -> u32 {
     match written {
         Ok(()) => Status::Success as u32,
         Err(StubError::Missing) => Status::UnknownStub as u32,
@@ -99,13 +89,9 @@ pub fn linker_utils_write_lazy_header_nonnull(
     words: u64,
     bytes: &mut [u8],
 ) -> u32 {
-    let Some(architecture) = Architecture::from_machine(machine) else {
-        return Status::UnknownArchitecture as u32;
-    };
-    match plt_in(architecture, form) {
-        Some(plt) => put_header(plt, header, words, bytes),
-        None => Status::UnknownStub as u32,
-    }
+    let architecture = or_return!(Architecture::from_machine(machine), UnknownArchitecture);
+    let plt = or_return!(plt_in(architecture, form), UnknownStub);
+    put_header(plt, header, words, bytes)
 }
 
 fn put_header(plt: &LazyPlt, header: u64, words: u64, bytes: &mut [u8]) -> u32 {
@@ -121,13 +107,9 @@ pub fn linker_utils_write_lazy_entry_nonnull(
     entry: &LazyEntry,
     bytes: &mut [u8],
 ) -> u32 {
-    let Some(architecture) = Architecture::from_machine(machine) else {
-        return Status::UnknownArchitecture as u32;
-    };
-    match plt_in(architecture, form) {
-        Some(plt) => put_entry(plt, entry, bytes),
-        None => Status::UnknownStub as u32,
-    }
+    let architecture = or_return!(Architecture::from_machine(machine), UnknownArchitecture);
+    let plt = or_return!(plt_in(architecture, form), UnknownStub);
+    put_entry(plt, entry, bytes)
 }
 
 fn put_entry(plt: &LazyPlt, entry: &LazyEntry, bytes: &mut [u8]) -> u32 {
@@ -143,16 +125,12 @@ pub fn linker_utils_lazy_header_word(
     header: u64,
     word: &mut u64,
 ) -> u32 {
-    let Some(architecture) = Architecture::from_machine(machine) else {
-        return Status::UnknownArchitecture as u32;
-    };
-    match LazyPlt::of(architecture).header_word(index, dynamic, header) {
-        Some(found) => {
-            *word = found;
-            Status::Success as u32
-        }
-        None => Status::NotProvided as u32,
-    }
+    let architecture = or_return!(Architecture::from_machine(machine), UnknownArchitecture);
+    *word = or_return!(
+        LazyPlt::of(architecture).header_word(index, dynamic, header),
+        NotProvided
+    );
+    Status::Success as u32
 }
 
 /// What an entry's word holds at first, as `LazyPlt::entry_word`; 0 of a machine that isn't known,

@@ -3,12 +3,12 @@
 //! What a linker adds to an output: dynamic relocations, words of the GOT, `e_flags`, the symbols
 //! and functions that linkers provide, and the code of stubs.
 
-use crate::relocate::status_of;
-use crate::status::Status;
+use crate::lazy_plt::status_in;
+use crate::status::{Status, or_return};
 use linker_utils::source::output::Target;
 use linker_utils::source::output::{Origins, entry_words, static_words};
 use linker_utils::source::output::SymbolPlace;
-use linker_utils::source::output::{StubError, StubKind};
+use linker_utils::source::output::StubKind;
 use linker_utils::source::output::{DynamicEntry, DynamicFacts};
 use linker_utils::source::section::EntryClass;
 use linker_utils::elf::Architecture;
@@ -86,9 +86,7 @@ pub struct StubNumbers {
 
 /// Writes the types of the dynamic relocations of an architecture. `UnknownArchitecture`.
 pub fn linker_utils_get_dynamic_types(machine: u16, types: &mut DynamicNumbers) -> u32 {
-    let Some(architecture) = Architecture::from_machine(machine) else {
-        return Status::UnknownArchitecture as u32;
-    };
+    let architecture = or_return!(Architecture::from_machine(machine), UnknownArchitecture);
     *types = numbers_in(Target::of(architecture));
     Status::Success as u32
 }
@@ -133,30 +131,24 @@ pub fn linker_utils_dynamic_name_nonnull(
     name: &mut [u8],
     name_used: &mut usize,
 ) -> u32 {
-    let Some(architecture) = Architecture::from_machine(machine) else {
-        return Status::UnknownArchitecture as u32;
-    };
-    match Target::of(architecture).dynamic_name(r_type) {
-        Some(text) => put_text(text, name, name_used),
-        None => Status::UnknownRelocation as u32,
-    }
+    let architecture = or_return!(Architecture::from_machine(machine), UnknownArchitecture);
+    let text = or_return!(
+        Target::of(architecture).dynamic_name(r_type),
+        UnknownRelocation
+    );
+    put_text(text, name, name_used)
 }
 
 /// The class with a number.
 #[inline]
 fn class_of(number: u32) -> Option<EntryClass> {
-    if number == 1 {
-        Some(EntryClass::Address)
-    } else if number == 2 {
-        Some(EntryClass::ThreadOffset)
-    } else if number == 3 {
-        Some(EntryClass::ModuleOffset)
-    } else if number == 4 {
-        Some(EntryClass::Module)
-    } else if number == 5 {
-        Some(EntryClass::Descriptor)
-    } else {
-        None
+    match number {
+        1 => Some(EntryClass::Address),
+        2 => Some(EntryClass::ThreadOffset),
+        3 => Some(EntryClass::ModuleOffset),
+        4 => Some(EntryClass::Module),
+        5 => Some(EntryClass::Descriptor),
+        _ => None,
     }
 }
 
@@ -194,12 +186,8 @@ pub fn linker_utils_dynamic_words(
     is_executable: bool,
     words: &mut WordNumbers,
 ) -> u32 {
-    let Some(architecture) = Architecture::from_machine(machine) else {
-        return Status::UnknownArchitecture as u32;
-    };
-    let Some(class) = class_of(entry_class) else {
-        return Status::UnknownEntryClass as u32;
-    };
+    let architecture = or_return!(Architecture::from_machine(machine), UnknownArchitecture);
+    let class = or_return!(class_of(entry_class), UnknownEntryClass);
     let r_types = Target::of(architecture).dynamic_words(class, is_bound, is_executable);
     *words = WordNumbers {
         first: r_type_or_none(r_types[0]),
@@ -224,19 +212,13 @@ pub fn linker_utils_static_words(
     origins: &Origins,
     words: &mut EntryWords,
 ) -> u32 {
-    let Some(class) = class_of(entry_class) else {
-        return Status::UnknownEntryClass as u32;
+    let class = or_return!(class_of(entry_class), UnknownEntryClass);
+    let both = or_return!(static_words(class, address, *origins), UnknownEntryClass);
+    *words = EntryWords {
+        first: both[0],
+        second: both[1],
     };
-    match static_words(class, address, *origins) {
-        Some(both) => {
-            *words = EntryWords {
-                first: both[0],
-                second: both[1],
-            };
-            Status::Success as u32
-        }
-        None => Status::UnknownEntryClass as u32,
-    }
+    Status::Success as u32
 }
 
 /// Writes what offsets of thread-local storage count from, by the TLS image, as `Target::origins`.
@@ -248,9 +230,7 @@ pub fn linker_utils_get_origins(
     alignment: u64,
     origins: &mut Origins,
 ) -> u32 {
-    let Some(architecture) = Architecture::from_machine(machine) else {
-        return Status::UnknownArchitecture as u32;
-    };
+    let architecture = or_return!(Architecture::from_machine(machine), UnknownArchitecture);
     *origins = Target::of(architecture).origins(image, image_len, alignment);
     Status::Success as u32
 }
@@ -263,9 +243,7 @@ pub fn linker_utils_get_got(
     dynamic: u64,
     got: &mut GotNumbers,
 ) -> u32 {
-    let Some(architecture) = Architecture::from_machine(machine) else {
-        return Status::UnknownArchitecture as u32;
-    };
+    let architecture = or_return!(Architecture::from_machine(machine), UnknownArchitecture);
     let target = Target::of(architecture);
     let (has_header, header) = match target.got_header(address, dynamic) {
         Some(word) => (1, word),
@@ -287,16 +265,12 @@ pub fn linker_utils_join_flags(
     second: u32,
     joined: &mut u32,
 ) -> u32 {
-    let Some(architecture) = Architecture::from_machine(machine) else {
-        return Status::UnknownArchitecture as u32;
-    };
-    match Target::of(architecture).join_flags(first, second) {
-        Some(flags) => {
-            *joined = flags;
-            Status::Success as u32
-        }
-        None => Status::DifferentFlags as u32,
-    }
+    let architecture = or_return!(Architecture::from_machine(machine), UnknownArchitecture);
+    *joined = or_return!(
+        Target::of(architecture).join_flags(first, second),
+        DifferentFlags
+    );
+    Status::Success as u32
 }
 
 /// `e_flags` of an output, from those that `linker_utils_join_flags` made of its objects. They are
@@ -350,13 +324,9 @@ pub fn linker_utils_interpreter_nonnull(
     path: &mut [u8],
     path_used: &mut usize,
 ) -> u32 {
-    let Some(architecture) = Architecture::from_machine(machine) else {
-        return Status::UnknownArchitecture as u32;
-    };
-    match Target::of(architecture).interpreter(flags) {
-        Some(text) => put_text(text, path, path_used),
-        None => Status::NotProvided as u32,
-    }
+    let architecture = or_return!(Architecture::from_machine(machine), UnknownArchitecture);
+    let text = or_return!(Target::of(architecture).interpreter(flags), NotProvided);
+    put_text(text, path, path_used)
 }
 
 /// Writes the name of the section of objects in which compilers keep addresses to the beginning of
@@ -367,17 +337,13 @@ pub fn linker_utils_address_section_nonnull(
     name: &mut [u8],
     name_used: &mut usize,
 ) -> u32 {
-    let Some(architecture) = Architecture::from_machine(machine) else {
-        return Status::UnknownArchitecture as u32;
-    };
+    let architecture = or_return!(Architecture::from_machine(machine), UnknownArchitecture);
     put_section_name(Target::of(architecture), name, name_used)
 }
 
 fn put_section_name(target: &Target, name: &mut [u8], name_used: &mut usize) -> u32 {
-    match &target.address_section {
-        Some(section) => put_text(section.name, name, name_used),
-        None => Status::NotProvided as u32,
-    }
+    let section = or_return!(&target.address_section, NotProvided);
+    put_text(section.name, name, name_used)
 }
 
 /// Writes the type of the relocation that an instruction would have if the address were in an entry
@@ -388,16 +354,9 @@ pub fn linker_utils_entry_relocation(
     r_type: u32,
     entry_type: &mut u32,
 ) -> u32 {
-    let Some(architecture) = Architecture::from_machine(machine) else {
-        return Status::UnknownArchitecture as u32;
-    };
-    match Target::of(architecture).entry_r_type(r_type) {
-        Some(found) => {
-            *entry_type = found;
-            Status::Success as u32
-        }
-        None => Status::NotProvided as u32,
-    }
+    let architecture = or_return!(Architecture::from_machine(machine), UnknownArchitecture);
+    *entry_type = or_return!(Target::of(architecture).entry_r_type(r_type), NotProvided);
+    Status::Success as u32
 }
 
 /// Writes the entry with an index, of those that an output's dynamic section has by the
@@ -409,16 +368,12 @@ pub fn linker_utils_get_dynamic_entry(
     index: usize,
     entry: &mut DynamicEntry,
 ) -> u32 {
-    let Some(architecture) = Architecture::from_machine(machine) else {
-        return Status::UnknownArchitecture as u32;
-    };
-    match Target::of(architecture).dynamic_entry(facts, index) {
-        Some(found) => {
-            *entry = found;
-            Status::Success as u32
-        }
-        None => Status::NotProvided as u32,
-    }
+    let architecture = or_return!(Architecture::from_machine(machine), UnknownArchitecture);
+    *entry = or_return!(
+        Target::of(architecture).dynamic_entry(facts, index),
+        NotProvided
+    );
+    Status::Success as u32
 }
 
 /// The number of a place.
@@ -441,9 +396,7 @@ pub fn linker_utils_get_provided_symbol_nonnull(
     name_used: &mut usize,
     symbol: &mut SymbolNumbers,
 ) -> u32 {
-    let Some(architecture) = Architecture::from_machine(machine) else {
-        return Status::UnknownArchitecture as u32;
-    };
+    let architecture = or_return!(Architecture::from_machine(machine), UnknownArchitecture);
     put_symbol(Target::of(architecture), index, name, name_used, symbol)
 }
 
@@ -454,9 +407,7 @@ fn put_symbol(
     name_used: &mut usize,
     symbol: &mut SymbolNumbers,
 ) -> u32 {
-    let Some(provided) = target.symbols.get(index) else {
-        return Status::NotProvided as u32;
-    };
+    let provided = or_return!(target.symbols.get(index), NotProvided);
     if name.len() < provided.name.len() {
         return Status::TooShort as u32;
     }
@@ -477,9 +428,7 @@ pub fn linker_utils_get_save_restore_routines_nonnull(
     prefix_used: &mut usize,
     run: &mut RunNumbers,
 ) -> u32 {
-    let Some(architecture) = Architecture::from_machine(machine) else {
-        return Status::UnknownArchitecture as u32;
-    };
+    let architecture = or_return!(Architecture::from_machine(machine), UnknownArchitecture);
     put_run(Target::of(architecture), index, prefix, prefix_used, run)
 }
 
@@ -490,9 +439,7 @@ fn put_run(
     prefix_used: &mut usize,
     run: &mut RunNumbers,
 ) -> u32 {
-    let Some(provided) = target.runs.get(index) else {
-        return Status::NotProvided as u32;
-    };
+    let provided = or_return!(target.runs.get(index), NotProvided);
     if prefix.len() < provided.prefix.len() {
         return Status::TooShort as u32;
     }
@@ -513,48 +460,30 @@ pub fn linker_utils_provided_word(
     index: u64,
     word: &mut u32,
 ) -> u32 {
-    let Some(architecture) = Architecture::from_machine(machine) else {
-        return Status::UnknownArchitecture as u32;
-    };
+    let architecture = or_return!(Architecture::from_machine(machine), UnknownArchitecture);
     put_word(Target::of(architecture), run, index, word)
 }
 
 fn put_word(target: &Target, run: usize, index: u64, word: &mut u32) -> u32 {
-    let Some(provided) = target.runs.get(run) else {
-        return Status::NotProvided as u32;
-    };
-    match provided.word_at(index) {
-        Some(found) => {
-            *word = found;
-            Status::Success as u32
-        }
-        None => Status::NotProvided as u32,
-    }
+    let provided = or_return!(target.runs.get(run), NotProvided);
+    *word = or_return!(provided.word_at(index), NotProvided);
+    Status::Success as u32
 }
 
 /// The kind with a number.
 #[inline]
 fn kind_of(number: u32) -> Option<StubKind> {
-    if number == 0 {
-        Some(StubKind::Load)
-    } else if number == 1 {
-        Some(StubKind::Jump)
-    } else if number == 2 {
-        Some(StubKind::Far)
-    } else if number == 3 {
-        Some(StubKind::FarRelative)
-    } else if number == 4 {
-        Some(StubKind::LandingLoad)
-    } else if number == 5 {
-        Some(StubKind::TocLoad)
-    } else if number == 6 {
-        Some(StubKind::TocFar)
-    } else if number == 7 {
-        Some(StubKind::PrefixedLoad)
-    } else if number == 8 {
-        Some(StubKind::PrefixedJump)
-    } else {
-        None
+    match number {
+        0 => Some(StubKind::Load),
+        1 => Some(StubKind::Jump),
+        2 => Some(StubKind::Far),
+        3 => Some(StubKind::FarRelative),
+        4 => Some(StubKind::LandingLoad),
+        5 => Some(StubKind::TocLoad),
+        6 => Some(StubKind::TocFar),
+        7 => Some(StubKind::PrefixedLoad),
+        8 => Some(StubKind::PrefixedJump),
+        _ => None,
     }
 }
 
@@ -565,26 +494,18 @@ fn kind_of(number: u32) -> Option<StubKind> {
 /// that applies of `UnknownArchitecture`; `UnknownStub`, where the architecture has none of the
 /// kind.
 pub fn linker_utils_get_stub(machine: u16, kind: u32, stub: &mut StubNumbers) -> u32 {
-    let Some(architecture) = Architecture::from_machine(machine) else {
-        return Status::UnknownArchitecture as u32;
-    };
+    let architecture = or_return!(Architecture::from_machine(machine), UnknownArchitecture);
     put_stub(Target::of(architecture), kind, stub)
 }
 
 fn put_stub(target: &Target, kind: u32, numbers: &mut StubNumbers) -> u32 {
-    let Some(kind) = kind_of(kind) else {
-        return Status::UnknownStub as u32;
+    let kind = or_return!(kind_of(kind), UnknownStub);
+    let stub = or_return!(target.stub(kind), UnknownStub);
+    *numbers = StubNumbers {
+        len: stub.len(),
+        entry: stub.entry,
     };
-    match target.stub(kind) {
-        Some(stub) => {
-            *numbers = StubNumbers {
-                len: stub.len(),
-                entry: stub.entry,
-            };
-            Status::Success as u32
-        }
-        None => Status::UnknownStub as u32,
-    }
+    Status::Success as u32
 }
 
 /// Writes the stub of a kind that stands at an address, as `Target::write_stub`, to the beginning
@@ -598,20 +519,11 @@ pub fn linker_utils_write_stub_nonnull(
     target: u64,
     bytes: &mut [u8],
 ) -> u32 {
-    let Some(architecture) = Architecture::from_machine(machine) else {
-        return Status::UnknownArchitecture as u32;
-    };
+    let architecture = or_return!(Architecture::from_machine(machine), UnknownArchitecture);
     write_by(Target::of(architecture), kind, place, target, bytes)
 }
 
 fn write_by(description: &Target, kind: u32, place: u64, target: u64, bytes: &mut [u8]) -> u32 {
-    let Some(kind) = kind_of(kind) else {
-        return Status::UnknownStub as u32;
-    };
-    match description.write_stub(kind, place, target, bytes) {
-        Ok(()) => Status::Success as u32,
-        Err(StubError::Missing) => Status::UnknownStub as u32,
-        Err(StubError::TooShort) => Status::TooShort as u32,
-        Err(StubError::Field(error)) => status_of(Err(error)),
-    }
+    let kind = or_return!(kind_of(kind), UnknownStub);
+    status_in(description.write_stub(kind, place, target, bytes))
 }

@@ -2,9 +2,11 @@
 // Made by tools/generate of crates/linker_utils_c/src/pack_runs.rt.
 //! The sections of a relaxed run, packed.
 
-use crate::status::Status;
+use crate::status::{Status, or_return};
 use linker_utils::source::runs::ItemNumbers;
-use linker_utils::source::runs::{ItemError, Machine, has_its_instructions, pack_run, packed_run_len};
+use linker_utils::source::runs::{
+    Isa, ItemError, Machine, has_its_instructions, pack_run, packed_run_len,
+};
 use linker_utils::elf::Architecture;
 use linker_utils::relaxation::RelaxDelta;
 
@@ -15,7 +17,7 @@ const RISCV32: u16 = 0x80f3;
 #[inline]
 pub(crate) fn packing_machine(machine: u16) -> Option<Machine> {
     if machine == RISCV32 {
-        return Some(Machine::RiscV { is_32: true });
+        return Some(Machine::RiscV(Isa::Rv32));
     }
     Machine::of(Architecture::from_machine(machine)?)
 }
@@ -58,9 +60,7 @@ pub fn linker_utils_has_its_instructions_nonnull(
     base: u64,
     item: &ItemNumbers,
 ) -> u32 {
-    let Some(known) = packing_machine(machine) else {
-        return Status::UnknownArchitecture as u32;
-    };
+    let known = or_return!(packing_machine(machine), UnknownArchitecture);
     if has_its_instructions(known, section, base, &item.as_item()) {
         Status::Success as u32
     } else {

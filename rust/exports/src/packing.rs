@@ -3,7 +3,7 @@
 //! The kept bytes of a section, with its calls made jumps.
 
 use crate::calls::{chosen_register, jump_status};
-use crate::status::Status;
+use crate::status::{Status, or_return};
 use linker_utils::relaxation::RelaxDelta;
 use linker_utils::riscv64::{Call, LinkRegister, first_not_apart, pack_into, packed_len};
 
@@ -29,10 +29,8 @@ pub fn linker_utils_pack_nonnull(
     packed: &mut [u8],
     faulty: &mut usize,
 ) -> u32 {
-    match chosen_register(link) {
-        Some(register) => pack(section, deltas, calls, register, packed, faulty),
-        None => Status::UnknownLinkRegister as u32,
-    }
+    let register = or_return!(chosen_register(link), UnknownLinkRegister);
+    pack(section, deltas, calls, register, packed, faulty)
 }
 
 fn pack(

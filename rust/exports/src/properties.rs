@@ -2,7 +2,7 @@
 // Made by tools/generate of crates/linker_utils_c/src/properties.rt.
 //! Program properties.
 
-use crate::status::Status;
+use crate::status::{Status, or_return};
 use linker_utils::source::output::Target;
 use linker_utils::source::output::{
     LandingProperty, Property, PropertyError, merge_properties, property_rule, read_properties,
@@ -47,9 +47,7 @@ pub fn linker_utils_read_properties_nonnull(
     properties: &mut [Property],
     number: &mut usize,
 ) -> u32 {
-    let Some(architecture) = Architecture::from_machine(machine) else {
-        return Status::UnknownArchitecture as u32;
-    };
+    let architecture = or_return!(Architecture::from_machine(machine), UnknownArchitecture);
     status_of(read_properties(architecture, notes, properties), number)
 }
 
@@ -64,9 +62,7 @@ pub fn linker_utils_merge_properties_nonnull(
     properties: &mut [Property],
     number: &mut usize,
 ) -> u32 {
-    let Some(architecture) = Architecture::from_machine(machine) else {
-        return Status::UnknownArchitecture as u32;
-    };
+    let architecture = or_return!(Architecture::from_machine(machine), UnknownArchitecture);
     let merged = merge_properties(architecture, first, second, properties);
     status_of(merged, number)
 }
@@ -82,9 +78,7 @@ pub fn linker_utils_write_properties_nonnull(
     note: &mut [u8],
     number: &mut usize,
 ) -> u32 {
-    let Some(architecture) = Architecture::from_machine(machine) else {
-        return Status::UnknownArchitecture as u32;
-    };
+    let architecture = or_return!(Architecture::from_machine(machine), UnknownArchitecture);
     status_of(write_properties(architecture, properties, note), number)
 }
 
@@ -94,12 +88,8 @@ pub fn linker_utils_get_landing_property(
     machine: u16,
     landing: &mut LandingProperty,
 ) -> u32 {
-    let Some(architecture) = Architecture::from_machine(machine) else {
-        return Status::UnknownArchitecture as u32;
-    };
-    let Some(property) = Target::of(architecture).landing_property else {
-        return Status::NotProvided as u32;
-    };
+    let architecture = or_return!(Architecture::from_machine(machine), UnknownArchitecture);
+    let property = or_return!(Target::of(architecture).landing_property, NotProvided);
     *landing = property;
     Status::Success as u32
 }

@@ -4,7 +4,7 @@
 //! after it.
 
 use crate::forms::form_of;
-use crate::status::Status;
+use crate::status::{Status, or_return};
 use linker_utils::source::reading::FieldValue;
 use linker_utils::source::reading::operand;
 use linker_utils::source::reading::read;
@@ -29,13 +29,8 @@ pub fn linker_utils_operand_nonnull(
 
 #[inline(always)]
 fn put_operand(form: AnyForm, bytes: &[u8], number: &mut i64) -> u32 {
-    match operand(form, bytes) {
-        Some(found) => {
-            *number = found;
-            Status::Success as u32
-        }
-        None => Status::DoesNotMatch as u32,
-    }
+    *number = or_return!(operand(form, bytes), DoesNotMatch);
+    Status::Success as u32
 }
 
 /// What is known of a number of 64 bits, a relocation's value or an address.
@@ -86,13 +81,9 @@ pub fn linker_utils_read_value_nonnull(
     bytes: &[u8],
     value: &mut FieldValueNumbers,
 ) -> u32 {
-    let Some(architecture) = Architecture::from_machine(machine) else {
-        return Status::UnknownArchitecture as u32;
-    };
-    match architecture.row(r_type) {
-        Some(meaning) => read_row(&meaning, bytes, value),
-        None => Status::UnknownRelocation as u32,
-    }
+    let architecture = or_return!(Architecture::from_machine(machine), UnknownArchitecture);
+    let meaning = or_return!(architecture.row(r_type), UnknownRelocation);
+    read_row(&meaning, bytes, value)
 }
 
 #[inline(always)]
@@ -172,24 +163,16 @@ pub fn linker_utils_solve(
     reference: &mut u32,
     address: &mut FieldValueNumbers,
 ) -> u32 {
-    let Some(architecture) = Architecture::from_machine(machine) else {
-        return Status::UnknownArchitecture as u32;
-    };
-    match architecture.row(r_type) {
-        Some(meaning) => solve_row(&meaning, value, operands, reference, address),
-        None => Status::UnknownRelocation as u32,
-    }
+    let architecture = or_return!(Architecture::from_machine(machine), UnknownArchitecture);
+    let meaning = or_return!(architecture.row(r_type), UnknownRelocation);
+    solve_row(&meaning, value, operands, reference, address)
 }
 
 #[inline(always)]
 fn put_whole(joined: Option<FieldValue>, whole: &mut FieldValueNumbers) -> u32 {
-    match joined {
-        None => Status::NotHalves as u32,
-        Some(joined) => {
-            *whole = FieldValueNumbers::of(joined);
-            Status::Success as u32
-        }
-    }
+    let joined = or_return!(joined, NotHalves);
+    *whole = FieldValueNumbers::of(joined);
+    Status::Success as u32
 }
 
 /// What is known of an address from both halves of a pair, as `join` of `reading` returns

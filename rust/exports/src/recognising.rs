@@ -4,7 +4,7 @@
 
 use crate::choices::{ChoiceNumbers, LinkFactNumbers, in_numbers};
 use crate::reading::{FieldValueNumbers, reference_number};
-use crate::status::Status;
+use crate::status::{Status, or_return};
 use linker_utils::source::reading::FieldValue;
 use linker_utils::source::recognise::architecture::{
     Destination, destination_of, recognise, recognise_chosen, window_of,
@@ -23,13 +23,9 @@ pub fn linker_utils_field_bits_nonnull(
     bytes: &[u8],
     bits: &mut u64,
 ) -> u32 {
-    let Some(architecture) = Architecture::from_machine(machine) else {
-        return Status::UnknownArchitecture as u32;
-    };
-    match architecture.row(r_type) {
-        Some(meaning) => put_bits(&meaning, bytes, bits),
-        None => Status::UnknownRelocation as u32,
-    }
+    let architecture = or_return!(Architecture::from_machine(machine), UnknownArchitecture);
+    let meaning = or_return!(architecture.row(r_type), UnknownRelocation);
+    put_bits(&meaning, bytes, bits)
 }
 
 #[inline(always)]
@@ -118,9 +114,7 @@ pub fn linker_utils_recognise_window_nonnull(
     offset: u64,
     window: &mut RewriteWindow,
 ) -> u32 {
-    let Some(architecture) = Architecture::from_machine(machine) else {
-        return Status::UnknownArchitecture as u32;
-    };
+    let architecture = or_return!(Architecture::from_machine(machine), UnknownArchitecture);
     if original.len() > MAX_WINDOW {
         return Status::WindowTooLong as u32;
     }
@@ -144,9 +138,7 @@ pub fn linker_utils_recognise_nonnull(
     found: &mut [RecognisedNumbers],
     count: &mut usize,
 ) -> u32 {
-    let Some(architecture) = Architecture::from_machine(machine) else {
-        return Status::UnknownArchitecture as u32;
-    };
+    let architecture = or_return!(Architecture::from_machine(machine), UnknownArchitecture);
     recognise_into(
         architecture,
         r_type,
@@ -193,9 +185,7 @@ pub fn linker_utils_recognise_chosen_nonnull(
     facts: &LinkFactNumbers,
     found: &mut RecognisedNumbers,
 ) -> u32 {
-    let Some(architecture) = Architecture::from_machine(machine) else {
-        return Status::UnknownArchitecture as u32;
-    };
+    let architecture = or_return!(Architecture::from_machine(machine), UnknownArchitecture);
     if original.len() > MAX_WINDOW {
         return Status::WindowTooLong as u32;
     }
@@ -215,13 +205,9 @@ pub fn linker_utils_recognise_chosen_nonnull(
 
 #[inline(always)]
 fn put_chosen(made: Option<Recognised<Relaxation, u32>>, found: &mut RecognisedNumbers) -> u32 {
-    match made {
-        Some(made) => {
-            *found = numbers_of(made);
-            Status::Success as u32
-        }
-        None => Status::LeavesOtherBytes as u32,
-    }
+    let made = or_return!(made, LeavesOtherBytes);
+    *found = numbers_of(made);
+    Status::Success as u32
 }
 
 /// Where a recognised relocation leads, in numbers.
@@ -264,13 +250,9 @@ fn put_destination(
     st_other: u8,
     destination: &mut DestinationNumbers,
 ) -> u32 {
-    match found {
-        Some(found) => {
-            *destination = destination_in(&found, st_other);
-            Status::Success as u32
-        }
-        None => Status::NoAddress as u32,
-    }
+    let found = or_return!(found, NoAddress);
+    *destination = destination_in(&found, st_other);
+    Status::Success as u32
 }
 
 /// Where a relocation leads after a rewrite of the architecture that has these numbers.
@@ -284,9 +266,10 @@ fn put_destination_of(
     destination: &mut DestinationNumbers,
 ) -> u32 {
     let choice = &made.choice;
-    let Some(kind) = Relaxation::from_number(architecture, choice.rewrite, choice.opcode_len) else {
-        return Status::UnknownRewrite as u32;
-    };
+    let kind = or_return!(
+        Relaxation::from_number(architecture, choice.rewrite, choice.opcode_len),
+        UnknownRewrite
+    );
     let made = Recognised {
         choice: Choice {
             kind,
@@ -315,9 +298,7 @@ pub fn linker_utils_get_destination_nonnull(
     st_other: u8,
     destination: &mut DestinationNumbers,
 ) -> u32 {
-    let Some(architecture) = Architecture::from_machine(machine) else {
-        return Status::UnknownArchitecture as u32;
-    };
+    let architecture = or_return!(Architecture::from_machine(machine), UnknownArchitecture);
     if original.len() > MAX_WINDOW {
         return Status::WindowTooLong as u32;
     }

@@ -2,7 +2,7 @@
 // Made by tools/generate of crates/linker_utils_c/src/relaxing.rt.
 //! A run of items that is relaxed, in arrays of the caller's.
 
-use crate::status::Status;
+use crate::status::{Status, at_fault, or_return};
 use linker_utils::source::runs::ItemNumbers;
 use linker_utils::source::runs::{Fault, Shapes, first_faulty, relax_into};
 use linker_utils::source::runs::shapes::loongarch64::{CALL36, PCALA};
@@ -33,18 +33,13 @@ fn status_of(fault: Fault) -> u32 {
 
 #[inline]
 fn shapes_named(number: u32) -> Option<Shapes> {
-    if number == 0 {
-        Some(CALL)
-    } else if number == 1 {
-        Some(TAIL_C)
-    } else if number == 2 {
-        Some(CALL_WITHOUT_C)
-    } else if number == 3 {
-        Some(CALL36)
-    } else if number == 4 {
-        Some(PCALA)
-    } else {
-        None
+    match number {
+        0 => Some(CALL),
+        1 => Some(TAIL_C),
+        2 => Some(CALL_WITHOUT_C),
+        3 => Some(CALL36),
+        4 => Some(PCALA),
+        _ => None,
     }
 }
 
@@ -52,13 +47,8 @@ fn shapes_named(number: u32) -> Option<Shapes> {
 /// may be used, 2 a call or tail call where it isn't; 3 `R_LARCH_CALL36`, 4 `R_LARCH_PCALA_HI20`
 /// and `_LO12`. The error is `UnknownShapes`, and `shapes` is unchanged then.
 pub fn linker_utils_standard_shapes(number: u32, shapes: &mut Shapes) -> u32 {
-    match shapes_named(number) {
-        Some(named) => {
-            *shapes = named;
-            Status::Success as u32
-        }
-        None => Status::UnknownShapes as u32,
-    }
+    *shapes = or_return!(shapes_named(number), UnknownShapes);
+    Status::Success as u32
 }
 
 /// Whether `linker_utils_relax` accepts the items of a run that begins at the address `start`. The
@@ -73,10 +63,7 @@ pub fn linker_utils_items_relaxable_nonnull(
 ) -> u32 {
     match first_faulty(items, start) {
         None => Status::Success as u32,
-        Some(found) => {
-            *faulty = found.index;
-            status_of(found.fault)
-        }
+        Some(found) => at_fault(status_of(found.fault), found.index, faulty),
     }
 }
 
@@ -113,10 +100,7 @@ pub fn linker_utils_relax_nonnull(
             relax_into(items, start, shapes, kept, places, freed);
             Status::Success as u32
         }
-        Some(found) => {
-            *faulty = found.index;
-            status_of(found.fault)
-        }
+        Some(found) => at_fault(status_of(found.fault), found.index, faulty),
     }
 }
 

@@ -2,7 +2,7 @@
 // Made by tools/generate of crates/linker_utils_c/src/relocate.rt.
 //! Relocations: their values, their reach, and writing them.
 
-use crate::status::Status;
+use crate::status::{Status, or_return};
 use linker_utils::elf::{
     Architecture, FormulaError, Operands, RelocateError, Row, Uleb128PairError, Uleb128Role,
 };
@@ -40,9 +40,7 @@ pub fn linker_utils_value(
     operands: &Operands,
     value: &mut i64,
 ) -> u32 {
-    let Some(architecture) = Architecture::from_machine(machine) else {
-        return Status::UnknownArchitecture as u32;
-    };
+    let architecture = or_return!(Architecture::from_machine(machine), UnknownArchitecture);
     value_by(architecture.row(r_type), operands, value)
 }
 
@@ -78,21 +76,15 @@ pub(crate) fn reach_in(row: &Row) -> Reach {
 /// The reach of a relocation's row, if it has one.
 #[inline(always)]
 pub(crate) fn reach_by(row: Option<Row>, reach: &mut Reach) -> u32 {
-    match row {
-        Some(row) => {
-            *reach = reach_in(&row);
-            Status::Success as u32
-        }
-        None => Status::UnknownRelocation as u32,
-    }
+    let row = or_return!(row, UnknownRelocation);
+    *reach = reach_in(&row);
+    Status::Success as u32
 }
 
 /// The values of a relocation that can be written. The first that applies of `UnknownArchitecture`;
 /// `UnknownRelocation`.
 pub fn linker_utils_reach(machine: u16, r_type: u32, reach: &mut Reach) -> u32 {
-    let Some(architecture) = Architecture::from_machine(machine) else {
-        return Status::UnknownArchitecture as u32;
-    };
+    let architecture = or_return!(Architecture::from_machine(machine), UnknownArchitecture);
     reach_by(architecture.row(r_type), reach)
 }
 
@@ -110,10 +102,8 @@ pub(crate) fn status_of(outcome: Result<(), RelocateError>) -> u32 {
 /// Writes a value by a relocation's row, if it has one.
 #[inline(always)]
 pub(crate) fn write_by(row: Option<Row>, value: i64, dest: &mut [u8]) -> u32 {
-    match row {
-        Some(row) => status_of(row.write(value, dest)),
-        None => Status::UnknownRelocation as u32,
-    }
+    let row = or_return!(row, UnknownRelocation);
+    status_of(row.write(value, dest))
 }
 
 #[inline(always)]
@@ -130,9 +120,7 @@ pub fn linker_utils_relocate_nonnull(
     value: i64,
     dest: &mut [u8],
 ) -> u32 {
-    let Some(architecture) = Architecture::from_machine(machine) else {
-        return Status::UnknownArchitecture as u32;
-    };
+    let architecture = or_return!(Architecture::from_machine(machine), UnknownArchitecture);
     relocate(architecture, r_type, value, dest)
 }
 
@@ -198,9 +186,7 @@ pub fn linker_utils_relocate_all_nonnull(
     relocations: &[Relocation],
     faulty: &mut usize,
 ) -> u32 {
-    let Some(architecture) = Architecture::from_machine(machine) else {
-        return Status::UnknownArchitecture as u32;
-    };
+    let architecture = or_return!(Architecture::from_machine(machine), UnknownArchitecture);
     relocate_all(architecture, section, relocations, faulty)
 }
 
@@ -245,9 +231,7 @@ pub fn linker_utils_write_uleb128_pair_nonnull(
     first: u64,
     second: u64,
 ) -> u32 {
-    let Some(architecture) = Architecture::from_machine(machine) else {
-        return Status::UnknownArchitecture as u32;
-    };
+    let architecture = or_return!(Architecture::from_machine(machine), UnknownArchitecture);
     match architecture.write_uleb128_pair(r_type, dest, first, second) {
         Ok(()) => Status::Success as u32,
         Err(Uleb128PairError::NotFirst) => Status::UnknownRelocation as u32,

@@ -2,7 +2,7 @@
 // Made by tools/generate of crates/linker_utils_c/src/relocations.rt.
 //! What relocations mean, and their names, by `e_machine` and `r_type` of ELF files.
 
-use crate::status::Status;
+use crate::status::{Status, or_return};
 use linker_utils::architecture::may_be_skipped;
 use linker_utils::elf::{Architecture, RelocationNumbers};
 use linker_utils::riscv64;
@@ -14,16 +14,10 @@ pub fn linker_utils_relocation(
     r_type: u32,
     info: &mut RelocationNumbers,
 ) -> u32 {
-    let Some(architecture) = Architecture::from_machine(machine) else {
-        return Status::UnknownArchitecture as u32;
-    };
-    match architecture.row(r_type) {
-        Some(row) => {
-            *info = *row.numbers();
-            Status::Success as u32
-        }
-        None => Status::UnknownRelocation as u32,
-    }
+    let architecture = or_return!(Architecture::from_machine(machine), UnknownArchitecture);
+    let row = or_return!(architecture.row(r_type), UnknownRelocation);
+    *info = *row.numbers();
+    Status::Success as u32
 }
 
 /// What a relocation of the high part of a value means once its `lui` has become a `c.lui`.
@@ -68,12 +62,8 @@ pub fn linker_utils_relocation_name_nonnull(
     name: &mut [u8],
     name_used: &mut usize,
 ) -> u32 {
-    let Some(architecture) = Architecture::from_machine(machine) else {
-        return Status::UnknownArchitecture as u32;
-    };
-    let Some(text) = architecture.name(r_type) else {
-        return Status::UnknownRelocation as u32;
-    };
+    let architecture = or_return!(Architecture::from_machine(machine), UnknownArchitecture);
+    let text = or_return!(architecture.name(r_type), UnknownRelocation);
     let len = text.len();
     if name.len() < len {
         return Status::TooShort as u32;

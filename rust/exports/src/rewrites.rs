@@ -3,7 +3,7 @@
 //! Rewrites of instructions, by `e_machine` and a rewrite's number.
 
 use crate::architectures::{by_architecture, known};
-use crate::status::Status;
+use crate::status::{Status, or_return};
 use linker_utils::architecture::Relaxation;
 use linker_utils::elf::{Architecture, EM_X86_64, InstructionRewrite, RewriteWindow};
 use linker_utils::relaxation::RelocationModifier;
@@ -12,9 +12,7 @@ use linker_utils::{riscv64, x86_64};
 // Whether a rewrite, if there is one, can be applied.
 #[inline(always)]
 fn test_by<R: InstructionRewrite>(rewrite: Option<R>, section: &[u8], offset: u64) -> u32 {
-    let Some(named) = rewrite else {
-        return Status::UnknownRewrite as u32;
-    };
+    let named = or_return!(rewrite, UnknownRewrite);
     if !named.can_apply(section, offset) {
         return Status::CannotApply as u32;
     }
@@ -29,9 +27,7 @@ fn apply_by<R: InstructionRewrite>(
     offset: &mut u64,
     addend: &mut i64,
 ) -> u32 {
-    let Some(named) = rewrite else {
-        return Status::UnknownRewrite as u32;
-    };
+    let named = or_return!(rewrite, UnknownRewrite);
     if !named.can_apply(section, *offset) {
         return Status::CannotApply as u32;
     }
@@ -79,9 +75,7 @@ fn apply_of(
     offset: &mut u64,
     addend: &mut i64,
 ) -> u32 {
-    let Some(architecture) = Architecture::from_machine(machine) else {
-        return Status::UnknownArchitecture as u32;
-    };
+    let architecture = or_return!(Architecture::from_machine(machine), UnknownArchitecture);
     match architecture {
         Architecture::RiscV => apply_riscv(rewrite, section, offset, addend),
         Architecture::X86_64 => apply_x86_64(opcode_len, rewrite, section, addend, offset),
@@ -120,9 +114,7 @@ pub fn linker_utils_can_apply_nonnull(
     section: &[u8],
     offset: u64,
 ) -> u32 {
-    let Some(architecture) = Architecture::from_machine(machine) else {
-        return Status::UnknownArchitecture as u32;
-    };
+    let architecture = or_return!(Architecture::from_machine(machine), UnknownArchitecture);
     by_architecture!(architecture, known(of => {
         test_by(Relaxation::from_number(of, rewrite, opcode_len), section, offset)
     }))
@@ -138,12 +130,11 @@ pub fn linker_utils_matches_nonnull(
     section: &[u8],
     offset: u64,
 ) -> u32 {
-    let Some(architecture) = Architecture::from_machine(machine) else {
-        return Status::UnknownArchitecture as u32;
-    };
-    let Some(named) = Relaxation::from_number(architecture, rewrite, opcode_len) else {
-        return Status::UnknownRewrite as u32;
-    };
+    let architecture = or_return!(Architecture::from_machine(machine), UnknownArchitecture);
+    let named = or_return!(
+        Relaxation::from_number(architecture, rewrite, opcode_len),
+        UnknownRewrite
+    );
     if !named.matches(section, offset) {
         return Status::DoesNotMatch as u32;
     }
@@ -180,12 +171,11 @@ pub fn linker_utils_rewrite_window(
     opcode_len: u8,
     window: &mut RewriteWindow,
 ) -> u32 {
-    let Some(architecture) = Architecture::from_machine(machine) else {
-        return Status::UnknownArchitecture as u32;
-    };
-    let Some(named) = Relaxation::from_number(architecture, rewrite, opcode_len) else {
-        return Status::UnknownRewrite as u32;
-    };
+    let architecture = or_return!(Architecture::from_machine(machine), UnknownArchitecture);
+    let named = or_return!(
+        Relaxation::from_number(architecture, rewrite, opcode_len),
+        UnknownRewrite
+    );
     *window = named.window();
     Status::Success as u32
 }
@@ -199,12 +189,11 @@ pub fn linker_utils_next_modifier(
     opcode_len: u8,
     modifier: &mut u32,
 ) -> u32 {
-    let Some(architecture) = Architecture::from_machine(machine) else {
-        return Status::UnknownArchitecture as u32;
-    };
-    let Some(named) = Relaxation::from_number(architecture, rewrite, opcode_len) else {
-        return Status::UnknownRewrite as u32;
-    };
+    let architecture = or_return!(Architecture::from_machine(machine), UnknownArchitecture);
+    let named = or_return!(
+        Relaxation::from_number(architecture, rewrite, opcode_len),
+        UnknownRewrite
+    );
     *modifier = number_of(named.next_modifier());
     Status::Success as u32
 }

@@ -2,7 +2,7 @@
 // Made by tools/generate of crates/linker_utils_c/src/rewriting.rt.
 //! The rewrites of a section in one call, before addresses are known and once they are.
 
-use crate::status::Status;
+use crate::status::{Status, at_fault, or_return};
 use linker_utils::source::rewriting::{DecisionError, DecisionNumbers, Deletion, RewritingError};
 use linker_utils::source::rewriting::{OutputFacts, RelaxContext, SymbolFacts};
 use linker_utils::source::rewriting::{UnrelaxableGroups, has_rewrites};
@@ -49,9 +49,7 @@ pub fn linker_utils_survey_nonnull(
     section: &[u8],
     kept: &mut [UnrelaxableGroups],
 ) -> u32 {
-    let Some(architecture) = Architecture::from_machine(machine) else {
-        return Status::UnknownArchitecture as u32;
-    };
+    let architecture = or_return!(Architecture::from_machine(machine), UnknownArchitecture);
     survey(architecture, output, symbols, relocations, section, kept);
     Status::Success as u32
 }
@@ -70,12 +68,8 @@ pub fn linker_utils_survey_placed_section_nonnull(
     section: &[u8],
     kept: &mut [UnrelaxableGroups],
 ) -> u32 {
-    let Some(architecture) = Architecture::from_machine(machine) else {
-        return Status::UnknownArchitecture as u32;
-    };
-    let Some(phase) = phase_of(phase) else {
-        return Status::UnknownPhase as u32;
-    };
+    let architecture = or_return!(Architecture::from_machine(machine), UnknownArchitecture);
+    let phase = or_return!(phase_of(phase), UnknownPhase);
     let context = RelaxContext {
         architecture,
         phase,
@@ -102,18 +96,13 @@ pub(crate) fn survey_status(surveyed: Result<(), usize>) -> u32 {
 pub(crate) fn put_error(error: RewritingError, faulty: &mut usize) -> u32 {
     match error {
         RewritingError::TooShort => Status::ShortMemory as u32,
-        RewritingError::NotSurveyed(index) => {
-            *faulty = index;
-            Status::NotSurveyed as u32
-        }
-        RewritingError::Overlaps(index) => {
-            *faulty = index;
-            Status::Overlaps as u32
-        }
-        RewritingError::Contradiction(symbol) => {
-            *faulty = symbol;
-            Status::FactsContradict as u32
-        }
+        RewritingError::NotSurveyed(index) => at_fault(Status::NotSurveyed as u32, index, faulty),
+        RewritingError::Overlaps(index) => at_fault(Status::Overlaps as u32, index, faulty),
+        RewritingError::Contradiction(symbol) => at_fault(
+            Status::FactsContradict as u32,
+            symbol,
+            faulty,
+        ),
     }
 }
 
@@ -135,9 +124,7 @@ pub fn linker_utils_rewrite_section_nonnull(
     decisions: &mut [DecisionNumbers],
     faulty: &mut usize,
 ) -> u32 {
-    let Some(architecture) = Architecture::from_machine(machine) else {
-        return Status::UnknownArchitecture as u32;
-    };
+    let architecture = or_return!(Architecture::from_machine(machine), UnknownArchitecture);
     match rewrite_section(
         architecture,
         output,
@@ -164,9 +151,7 @@ pub fn linker_utils_decide_rewrites_nonnull(
     decisions: &mut [DecisionNumbers],
     faulty: &mut usize,
 ) -> u32 {
-    let Some(architecture) = Architecture::from_machine(machine) else {
-        return Status::UnknownArchitecture as u32;
-    };
+    let architecture = or_return!(Architecture::from_machine(machine), UnknownArchitecture);
     match decide_rewrites(
         architecture,
         output,
@@ -187,14 +172,8 @@ pub fn linker_utils_decide_rewrites_nonnull(
 fn put_making_error(error: DecisionError, faulty: &mut usize) -> u32 {
     match error {
         DecisionError::TooShort => Status::ShortMemory as u32,
-        DecisionError::Changed(index) => {
-            *faulty = index;
-            Status::DoesNotMatch as u32
-        }
-        DecisionError::Overlaps(index) => {
-            *faulty = index;
-            Status::Overlaps as u32
-        }
+        DecisionError::Changed(index) => at_fault(Status::DoesNotMatch as u32, index, faulty),
+        DecisionError::Overlaps(index) => at_fault(Status::Overlaps as u32, index, faulty),
     }
 }
 
@@ -241,12 +220,8 @@ pub fn linker_utils_rewrite_placed_section_nonnull(
     deleted_used: &mut usize,
     faulty: &mut usize,
 ) -> u32 {
-    let Some(architecture) = Architecture::from_machine(machine) else {
-        return Status::UnknownArchitecture as u32;
-    };
-    let Some(phase) = phase_of(phase) else {
-        return Status::UnknownPhase as u32;
-    };
+    let architecture = or_return!(Architecture::from_machine(machine), UnknownArchitecture);
+    let phase = or_return!(phase_of(phase), UnknownPhase);
     let context = RelaxContext {
         architecture,
         phase,
@@ -278,9 +253,7 @@ pub fn linker_utils_survey_toc_loads_nonnull(
     section: &[u8],
     kept: &mut [bool],
 ) -> u32 {
-    let Some(architecture) = Architecture::from_machine(machine) else {
-        return Status::UnknownArchitecture as u32;
-    };
+    let architecture = or_return!(Architecture::from_machine(machine), UnknownArchitecture);
     let context = RelaxContext {
         architecture,
         phase: Phase::ShortPcRel,
@@ -316,9 +289,7 @@ pub fn linker_utils_rewrite_toc_loads_nonnull(
     decisions: &mut [DecisionNumbers],
     faulty: &mut usize,
 ) -> u32 {
-    let Some(architecture) = Architecture::from_machine(machine) else {
-        return Status::UnknownArchitecture as u32;
-    };
+    let architecture = or_return!(Architecture::from_machine(machine), UnknownArchitecture);
     let context = RelaxContext {
         architecture,
         phase: Phase::ShortPcRel,

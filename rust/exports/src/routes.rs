@@ -4,7 +4,7 @@
 
 use crate::relocate::status_of;
 use crate::sections::value_status_of;
-use crate::status::Status;
+use crate::status::{Status, or_return};
 use linker_utils::source::output::Target;
 use linker_utils::source::output::{Route, RouteError};
 use linker_utils::source::output::StubKind;
@@ -100,9 +100,7 @@ pub fn linker_utils_route_at_nonnull(
     section: &[u8],
     route: &mut RouteNumbers,
 ) -> u32 {
-    let Some(architecture) = Architecture::from_machine(machine) else {
-        return Status::UnknownArchitecture as u32;
-    };
+    let architecture = or_return!(Architecture::from_machine(machine), UnknownArchitecture);
     let target = Target::of(architecture);
     route_at(
         target,
@@ -124,12 +122,8 @@ fn route_at(
     section: &[u8],
     route: &mut RouteNumbers,
 ) -> u32 {
-    let Some(relocation) = relocation_at(relocations, index) else {
-        return Status::TooShort as u32;
-    };
-    let Some(symbol) = symbols.get(relocation.symbol as usize) else {
-        return Status::NoSymbol as u32;
-    };
+    let relocation = or_return!(relocation_at(relocations, index), TooShort);
+    let symbol = or_return!(symbols.get(relocation.symbol as usize), NoSymbol);
     put_route(target.route(addresses, symbol, &relocation, section), route)
 }
 
@@ -144,9 +138,7 @@ pub fn linker_utils_route_by_word_nonnull(
     section: &[u8],
     route: &mut RouteNumbers,
 ) -> u32 {
-    let Some(architecture) = Architecture::from_machine(machine) else {
-        return Status::UnknownArchitecture as u32;
-    };
+    let architecture = or_return!(Architecture::from_machine(machine), UnknownArchitecture);
     route_by_word(
         Target::of(architecture),
         word,
@@ -165,8 +157,6 @@ fn route_by_word(
     section: &[u8],
     route: &mut RouteNumbers,
 ) -> u32 {
-    match relocation_at(relocations, index) {
-        Some(relocation) => put_route(target.route_by_word(word, &relocation, section), route),
-        None => Status::TooShort as u32,
-    }
+    let relocation = or_return!(relocation_at(relocations, index), TooShort);
+    put_route(target.route_by_word(word, &relocation, section), route)
 }

@@ -5,7 +5,7 @@
 use crate::choices::{ChoiceNumbers, LinkFactNumbers, choose_in_numbers};
 use crate::relocate::{Reach, reach_by, reach_in, status_of, value_by, value_status, write_by};
 use crate::sections::{RequirementNumbers, in_numbers, needs_by};
-use crate::status::Status;
+use crate::status::{Status, or_return};
 use linker_utils::source::section::needs;
 use linker_utils::architecture::fits;
 use linker_utils::elf::{
@@ -104,17 +104,11 @@ pub fn linker_utils_row_choose_nonnull(
     facts: &LinkFactNumbers,
     choice: &mut ChoiceNumbers,
 ) -> u32 {
-    let Some(architecture) = Architecture::of_handle(handle) else {
-        return Status::UnknownRelocation as u32;
-    };
+    let architecture = or_return!(Architecture::of_handle(handle), UnknownRelocation);
     let r_type = handle % HANDLE_UNIT;
-    match architecture.row(r_type) {
-        Some(_) => {
-            *choice = choose_in_numbers(architecture, r_type, section, offset, &facts.facts());
-            Status::Success as u32
-        }
-        None => Status::UnknownRelocation as u32,
-    }
+    let _ = or_return!(architecture.row(r_type), UnknownRelocation);
+    *choice = choose_in_numbers(architecture, r_type, section, offset, &facts.facts());
+    Status::Success as u32
 }
 
 /// Whether a relocation can be rewritten if each other one of its sequence can, by its handle, as
@@ -225,15 +219,9 @@ fn row_numbers(architecture: Architecture, r_type: u32, row: &Row) -> RowNumbers
 
 /// What a relocation means and requires, by its handle. `UnknownRelocation`.
 pub fn linker_utils_row_of(handle: u32, row: &mut RowNumbers) -> u32 {
-    let Some(architecture) = Architecture::of_handle(handle) else {
-        return Status::UnknownRelocation as u32;
-    };
+    let architecture = or_return!(Architecture::of_handle(handle), UnknownRelocation);
     let r_type = handle % HANDLE_UNIT;
-    match architecture.row(r_type) {
-        Some(found) => {
-            *row = row_numbers(architecture, r_type, &found);
-            Status::Success as u32
-        }
-        None => Status::UnknownRelocation as u32,
-    }
+    let found = or_return!(architecture.row(r_type), UnknownRelocation);
+    *row = row_numbers(architecture, r_type, &found);
+    Status::Success as u32
 }

@@ -3,7 +3,7 @@
 //! The items that a section's relocations make, in arrays of the caller's.
 
 use crate::pack_runs::packing_machine;
-use crate::status::Status;
+use crate::status::{Status, at_fault, or_return};
 use linker_utils::source::rewriting::Deletion;
 use linker_utils::source::runs::{
     AsRelocation, ItemNumbers, Relocation, RewrittenItemsError, rewritten_items_into,
@@ -69,9 +69,7 @@ pub fn linker_utils_section_items_nonnull(
     len: &mut usize,
     faulty: &mut usize,
 ) -> u32 {
-    let Some(of) = packing_machine(machine) else {
-        return Status::UnknownArchitecture as u32;
-    };
+    let of = or_return!(packing_machine(machine), UnknownArchitecture);
     if items.len() != relocations.len() || makers.len() != relocations.len() {
         return Status::DifferentLengths as u32;
     }
@@ -83,10 +81,7 @@ pub fn linker_utils_section_items_nonnull(
             *len = count;
             Status::Success as u32
         }
-        Err(index) => {
-            *faulty = index;
-            Status::MalformedRelocation as u32
-        }
+        Err(index) => at_fault(Status::MalformedRelocation as u32, index, faulty),
     }
 }
 
@@ -117,9 +112,7 @@ pub fn linker_utils_rewritten_items_nonnull(
     len: &mut usize,
     faulty: &mut usize,
 ) -> u32 {
-    let Some(of) = packing_machine(machine) else {
-        return Status::UnknownArchitecture as u32;
-    };
+    let of = or_return!(packing_machine(machine), UnknownArchitecture);
     if !has_both(items.len(), relocations.len(), deleted.len())
         || !has_both(makers.len(), relocations.len(), deleted.len())
     {
@@ -133,17 +126,20 @@ pub fn linker_utils_rewritten_items_nonnull(
             *len = count;
             Status::Success as u32
         }
-        Err(RewrittenItemsError::Malformed(index)) => {
-            *faulty = index;
-            Status::MalformedRelocation as u32
-        }
-        Err(RewrittenItemsError::Misplaced(index)) => {
-            *faulty = index;
-            Status::InvalidDeletions as u32
-        }
-        Err(RewrittenItemsError::Overlaps(index)) => {
-            *faulty = index;
-            Status::ItemsOverlap as u32
-        }
+        Err(RewrittenItemsError::Malformed(index)) => at_fault(
+            Status::MalformedRelocation as u32,
+            index,
+            faulty,
+        ),
+        Err(RewrittenItemsError::Misplaced(index)) => at_fault(
+            Status::InvalidDeletions as u32,
+            index,
+            faulty,
+        ),
+        Err(RewrittenItemsError::Overlaps(index)) => at_fault(
+            Status::ItemsOverlap as u32,
+            index,
+            faulty,
+        ),
     }
 }

@@ -3,7 +3,7 @@
 //! What a section's relocations require, their values, and writing all of them.
 
 use crate::relocate::{status_of, uleb_status_of};
-use crate::status::Status;
+use crate::status::{Status, at_fault, or_return};
 use linker_utils::source::section::{Addresses, Symbol};
 use linker_utils::source::section::{EntryClass, Requirements, needs};
 use linker_utils::source::section::relocation_at;
@@ -67,13 +67,9 @@ pub(crate) fn in_numbers(needs: &Requirements) -> RequirementNumbers {
 /// What a relocation requires, if it has a row, in numbers.
 #[inline(always)]
 pub(crate) fn needs_by(needs: Option<Requirements>, required: &mut RequirementNumbers) -> u32 {
-    match needs {
-        Some(needs) => {
-            *required = in_numbers(&needs);
-            Status::Success as u32
-        }
-        None => Status::UnknownRelocation as u32,
-    }
+    let needs = or_return!(needs, UnknownRelocation);
+    *required = in_numbers(&needs);
+    Status::Success as u32
 }
 
 /// What a relocation with `r_type` and an addend requires in files with `e_machine` `machine`, by
@@ -86,9 +82,7 @@ pub fn linker_utils_needs(
     is_thread_local: bool,
     required: &mut RequirementNumbers,
 ) -> u32 {
-    let Some(architecture) = Architecture::from_machine(machine) else {
-        return Status::UnknownArchitecture as u32;
-    };
+    let architecture = or_return!(Architecture::from_machine(machine), UnknownArchitecture);
     needs_by(
         needs(architecture, r_type, addend, is_thread_local),
         required,
@@ -121,12 +115,8 @@ pub fn linker_utils_value_at_nonnull(
     index: usize,
     value: &mut i64,
 ) -> u32 {
-    let Some(architecture) = Architecture::from_machine(machine) else {
-        return Status::UnknownArchitecture as u32;
-    };
-    let Some(relocation) = relocation_at(relocations, index) else {
-        return Status::TooShort as u32;
-    };
+    let architecture = or_return!(Architecture::from_machine(machine), UnknownArchitecture);
+    let relocation = or_return!(relocation_at(relocations, index), TooShort);
     match value_of(architecture, addresses, relocations, symbols, &relocation) {
         Ok(Some(number)) => {
             *value = number;
@@ -166,9 +156,7 @@ pub fn linker_utils_relocate_section_nonnull(
     memory: &mut [u64],
     faulty: &mut usize,
 ) -> u32 {
-    let Some(architecture) = Architecture::from_machine(machine) else {
-        return Status::UnknownArchitecture as u32;
-    };
+    let architecture = or_return!(Architecture::from_machine(machine), UnknownArchitecture);
     if memory.len() < memory_len(relocations) {
         return Status::ShortMemory as u32;
     }
@@ -181,10 +169,7 @@ pub fn linker_utils_relocate_section_nonnull(
         memory,
     ) {
         Ok(()) => Status::Success as u32,
-        Err(error) => {
-            *faulty = error.index;
-            status_of_error(error.error)
-        }
+        Err(error) => at_fault(status_of_error(error.error), error.index, faulty),
     }
 }
 
@@ -201,9 +186,7 @@ pub fn linker_utils_relocate_resolved_nonnull(
     memory: &mut [u64],
     faulty: &mut usize,
 ) -> u32 {
-    let Some(architecture) = Architecture::from_machine(machine) else {
-        return Status::UnknownArchitecture as u32;
-    };
+    let architecture = or_return!(Architecture::from_machine(machine), UnknownArchitecture);
     if memory.len() < memory_len(relocations) {
         return Status::ShortMemory as u32;
     }
@@ -216,9 +199,6 @@ pub fn linker_utils_relocate_resolved_nonnull(
         memory,
     ) {
         Ok(()) => Status::Success as u32,
-        Err(error) => {
-            *faulty = error.index;
-            status_of_error(error.error)
-        }
+        Err(error) => at_fault(status_of_error(error.error), error.index, faulty),
     }
 }

@@ -197,3 +197,22 @@ pub enum Status {
     /// The type of the property has no rule.
     UnknownProperty,
 }
+
+/// A status that is about what has an index, and the index.
+#[inline(always)]
+pub(crate) fn at_fault(status: u32, index: usize, faulty: &mut usize) -> u32 {
+    *faulty = index;
+    status
+}
+
+/// What is found, or the call returns the status that says that there is none.
+macro_rules! or_return {
+    ($found:expr, $absent:ident) => {{
+        let Some(found) = $found else {
+            return crate::status::Status::$absent as u32;
+        };
+        found
+    }};
+}
+
+pub(crate) use or_return;

@@ -38,9 +38,8 @@ pub enum RewriteKind {
     /// [`AArch64Instruction::Adr`](crate::aarch64::AArch64Instruction::Adr) only ORs a value into them: the caller clears bits 5 to 23, 29 and
     /// 30 before that write.
     AddToAdr,
-    /// Turns `ldr` with an unsigned offset into `adr`: clears bits 24, 27 and 31. The immediate's
-    /// old bits are unchanged, as are bits 22, 29 and 30 of the opcode, which are immediate bits of
-    /// `adr`: the caller clears bits 5 to 23, 29 and 30 before it writes [`AArch64Instruction::Adr`](crate::aarch64::AArch64Instruction::Adr).
+    /// Turns `ldr` with an unsigned offset into `adr` alike. Bits 22, 29 and 30 of the opcode are
+    /// immediate bits of `adr`, and unchanged too.
     LdrToAdr,
     /// Turns LDR (immediate), 64 bits with an unsigned offset, into ADD (immediate). Bits 0 to 20
     /// are unchanged. Requires such an instruction.
@@ -158,14 +157,6 @@ impl RewriteKind {
         rewrites!(self, replacement row => row.can_apply(section, offset))
     }
 
-    /// The bytes that `apply` writes: the instruction's 4. For `AdrpAddToNopAdr` they are the
-    /// pair's 8, which begin 4 bytes before the offset, and for `NoOp` none.
-    #[must_use]
-    #[inline]
-    pub fn window(self) -> RewriteWindow {
-        rewrites!(self => window)
-    }
-
     /// Whether the instruction at an offset of a section, or the pair that ends there, is one that
     /// the rewrite is meant for: `can_apply`, and the opcodes and registers. `NoOp` is meant for
     /// any offset and `ReplaceWithNop` for any instruction in the section.
@@ -218,9 +209,9 @@ impl InstructionRewrite for RewriteKind {
         RewriteKind::can_apply(self, section, offset)
     }
 
-    #[inline(always)]
+    #[inline]
     fn window(self) -> RewriteWindow {
-        RewriteKind::window(self)
+        rewrites!(self, replacement row => row.window())
     }
 
     #[inline(always)]

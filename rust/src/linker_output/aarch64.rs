@@ -6,30 +6,25 @@ use crate::linker_output::description::Target;
 use crate::linker_output::dynamic::{DynamicType, DynamicTypes, named};
 use crate::linker_output::flags::FlagRules;
 use crate::linker_output::got::{GotLayout, ThreadPointer};
-use crate::linker_output::layout::{Interpreter, WORDS};
+use crate::linker_output::layout::{Interpreter, WORDS, interpreter};
 use crate::linker_output::properties::LandingProperty;
-use crate::linker_output::stubs::{Stub, StubField, field};
+use crate::linker_output::stubs::{Stub, StubField, field, stub, words};
 use crate::linker_output::tags::{DynamicTag, TagRule, tag};
 use crate::elf::{AllowedRange, Architecture};
 
 /// The stub to the address that a word has, after other code of a length.
 macro_rules! load_stub {
     ($head:expr, $len:literal) => {
-        Stub {
-            head: $head,
-            pair: [
-                0x10, 0, 0, 0x90, // adrp x16, 0
-                0x11, 2, 0x40, 0xf9, // ldr x17, [x16]
-            ],
-            first: field!(0, R_AARCH64_ADR_PREL_PG_HI21),
-            second: Some(field!(4, R_AARCH64_LDST64_ABS_LO12_NC)),
-            tail: &[
-                0x20, 2, 0x1f, 0xd6, // br x17
-            ],
-            entry: 0,
-            origin: $len,
-            addend: 0,
-        }
+        stub!(
+            $head,
+            words!(0x9000_0010, 0xf940_0211), // adrp x16, 0; ldr x17, [x16]
+            field!(0, R_AARCH64_ADR_PREL_PG_HI21),
+            Some(field!(4, R_AARCH64_LDST64_ABS_LO12_NC)),
+            &words!(0xd61f_0220), // br x17
+            0,
+            $len,
+            0
+        )
     };
 }
 
@@ -73,10 +68,7 @@ pub(crate) static TARGET: Target = Target {
     symbols: &[],
     runs: &[],
     interpreter_flags: 0,
-    interpreters: &[Interpreter {
-        flags: 0,
-        path: "/lib/ld-linux-aarch64.so.1",
-    }],
+    interpreters: &[interpreter!(0, "/lib/ld-linux-aarch64.so.1")],
     // GNU_PROPERTY_AARCH64_FEATURE_1_AND, and its bit BTI
     landing_property: Some(LandingProperty {
         kind: 0xc000_0000,
@@ -84,51 +76,35 @@ pub(crate) static TARGET: Target = Target {
     }),
     instructions: Architecture::AArch64,
     load_stub: load_stub!(&[], 0),
-    landing_load_stub: Some(load_stub!(&[0x5f, 0x24, 3, 0xd5], 4)), // bti c
-    jump_stub: Some(Stub {
-        head: &[],
-        pair: [
-            0x10, 0, 0, 0x90, // adrp x16, 0
-            0x10, 2, 0, 0x91, // add x16, x16, 0
-        ],
-        first: field!(0, R_AARCH64_ADR_PREL_PG_HI21),
-        second: Some(field!(4, R_AARCH64_ADD_ABS_LO12_NC)),
-        tail: &[
-            0, 2, 0x1f, 0xd6, // br x16
-        ],
-        entry: 0,
-        origin: 0,
-        addend: 0,
-    }),
-    far_stub: Some(Stub {
-        head: &[
-            0x50, 0, 0, 0x58, // ldr x16, 8
-            0, 2, 0x1f, 0xd6, // br x16
-        ],
-        pair: [0, 0, 0, 0, 0, 0, 0, 0],
-        first: field!(0, R_AARCH64_ABS64),
-        second: None,
-        tail: &[],
-        entry: 0,
-        origin: 8,
-        addend: 0,
-    }),
-    far_relative_stub: Some(Stub {
-        head: &[
-            0x90, 0, 0, 0x58, // ldr x16, 16
-            0x11, 0, 0, 0x10, // adr x17, 0
-            0x10, 2, 0x11, 0x8b, // add x16, x16, x17
-            0, 2, 0x1f, 0xd6, // br x16
-        ],
-        pair: [0, 0, 0, 0, 0, 0, 0, 0],
-        first: field!(0, R_AARCH64_PREL64),
-        second: None,
-        tail: &[],
-        entry: 0,
-        origin: 16,
-        // from `adr`
-        addend: 12,
-    }),
+    landing_load_stub: Some(load_stub!(&words!(0xd503_245f), 4)), // bti c
+    jump_stub: Some(stub!(
+        &[],
+        words!(0x9000_0010, 0x9100_0210), // adrp x16, 0; add x16, x16, 0
+        field!(0, R_AARCH64_ADR_PREL_PG_HI21),
+        Some(field!(4, R_AARCH64_ADD_ABS_LO12_NC)),
+        &words!(0xd61f_0200) // br x16
+    )),
+    far_stub: Some(stub!(
+        &words!(0x5800_0050, 0xd61f_0200), // ldr x16, 8; br x16
+        [0; 8],
+        field!(0, R_AARCH64_ABS64),
+        None,
+        &[],
+        0,
+        8,
+        0
+    )),
+    far_relative_stub: Some(stub!(
+        // ldr x16, 16; adr x17, 0; add x16, x16, x17; br x16
+        &words!(0x5800_0090, 0x1000_0011, 0x8b11_0210, 0xd61f_0200),
+        [0; 8],
+        field!(0, R_AARCH64_PREL64),
+        None,
+        &[],
+        0,
+        16,
+        12 // from `adr`
+    )),
     toc_load_stub: None,
     toc_far_stub: None,
     prefixed_load_stub: None,

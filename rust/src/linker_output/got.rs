@@ -99,12 +99,6 @@ fn unit_of(alignment: u64) -> u64 {
     if alignment == 0 { 1 } else { alignment }
 }
 
-/// The last multiple of an alignment at an address or below.
-#[inline]
-fn at_or_below(alignment: u64, address: u64) -> u64 {
-    address - address % unit_of(alignment)
-}
-
 /// The first multiple of an alignment at an address or above, modulo 2^64.
 #[inline]
 fn at_or_above(alignment: u64, address: u64) -> u64 {
@@ -133,7 +127,8 @@ impl Target {
         let thread_pointer = match self.thread_pointer {
             ThreadPointer::AboveImage => at_or_above(alignment, image.wrapping_add(len)),
             ThreadPointer::BelowImage { reserved, bias } => {
-                at_or_below(alignment, image.wrapping_sub(reserved)).wrapping_add(bias)
+                let above = image.wrapping_sub(reserved);
+                (above - above % unit_of(alignment)).wrapping_add(bias)
             }
         };
         Origins {

@@ -142,6 +142,18 @@ pub struct Interpreter {
     pub path: &'static str,
 }
 
+/// A path, and the bits of `e_flags` that it is for.
+macro_rules! interpreter {
+    ($flags:literal, $path:literal) => {
+        Interpreter {
+            flags: $flags,
+            path: $path,
+        }
+    };
+}
+
+pub(crate) use interpreter;
+
 impl Target {
     /// How many bytes the shortest instruction of an output with such `e_flags` has.
     ///

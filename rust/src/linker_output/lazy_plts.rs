@@ -3,7 +3,7 @@
 //! The lazy PLTs of the architectures.
 
 use crate::linker_output::lazy_plt::{LazyField, LazyPiece, LazyPlt, LazyTarget, LazyWord};
-use crate::linker_output::stubs::{StubField, field};
+use crate::linker_output::stubs::{StubField, field, words};
 use crate::elf::{AllowedRange, Architecture};
 
 /// Code of a length, and its field: the place, the relocation, what the value is computed from, the
@@ -36,33 +36,17 @@ macro_rules! piece {
     };
 }
 
-/// The bytes of two instructions of 4.
-macro_rules! bytes {
-    ($first:literal, $second:literal) => {
-        [
-            ($first as u32 & 0xff) as u8,
-            ($first as u32 >> 8 & 0xff) as u8,
-            ($first as u32 >> 16 & 0xff) as u8,
-            ($first as u32 >> 24 & 0xff) as u8,
-            ($second as u32 & 0xff) as u8,
-            ($second as u32 >> 8 & 0xff) as u8,
-            ($second as u32 >> 16 & 0xff) as u8,
-            ($second as u32 >> 24 & 0xff) as u8,
-        ]
-    };
-}
-
 /// An instruction of 4 bytes, and its field.
 macro_rules! one {
     ($word:literal $(, $field:tt)*) => {
-        piece!(bytes!($word, 0), 4 $(, $field)*)
+        piece!(words!($word, 0), 4 $(, $field)*)
     };
 }
 
 /// Two instructions of 4 bytes.
 macro_rules! two {
     ($first:literal, $second:literal) => {
-        piece!(bytes!($first, $second), 8)
+        piece!(words!($first, $second), 8)
     };
 }
 

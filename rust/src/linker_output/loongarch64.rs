@@ -6,8 +6,8 @@ use crate::linker_output::description::Target;
 use crate::linker_output::dynamic::{DynamicType, DynamicTypes, named};
 use crate::linker_output::flags::FlagRules;
 use crate::linker_output::got::{GotLayout, ThreadPointer};
-use crate::linker_output::layout::{Interpreter, WORDS};
-use crate::linker_output::stubs::{Stub, StubField, field};
+use crate::linker_output::layout::{Interpreter, WORDS, interpreter};
+use crate::linker_output::stubs::{Stub, StubField, field, stub, words};
 use crate::elf::{AllowedRange, Architecture};
 
 /// The description.
@@ -47,50 +47,27 @@ pub(crate) static TARGET: Target = Target {
     runs: &[],
     interpreter_flags: 7,
     interpreters: &[
-        Interpreter {
-            flags: 1,
-            path: "/lib64/ld-linux-loongarch-lp64s.so.1",
-        },
-        Interpreter {
-            flags: 2,
-            path: "/lib64/ld-linux-loongarch-lp64f.so.1",
-        },
-        Interpreter {
-            flags: 3,
-            path: "/lib64/ld-linux-loongarch-lp64d.so.1",
-        },
+        interpreter!(1, "/lib64/ld-linux-loongarch-lp64s.so.1"),
+        interpreter!(2, "/lib64/ld-linux-loongarch-lp64f.so.1"),
+        interpreter!(3, "/lib64/ld-linux-loongarch-lp64d.so.1"),
     ],
     landing_property: None,
     instructions: Architecture::LoongArch64,
-    load_stub: Stub {
-        head: &[],
-        pair: [
-            0x0f, 0, 0, 0x1a, // pcalau12i $t3, 0
-            0xef, 1, 0xc0, 0x28, // ld.d $t3, $t3, 0
-        ],
-        first: field!(0, (R_LARCH_GOT_PC_HI20, signed 32)),
-        second: Some(field!(4, R_LARCH_GOT_PC_LO12)),
-        tail: &[
-            0xe0, 1, 0, 0x4c, // jirl $zero, $t3, 0
-        ],
-        entry: 0,
-        origin: 0,
-        addend: 0,
-    },
+    load_stub: stub!(
+        &[],
+        words!(0x1a00_000f, 0x28c0_01ef), // pcalau12i $t3, 0; ld.d $t3, $t3, 0
+        field!(0, (R_LARCH_GOT_PC_HI20, signed 32)),
+        Some(field!(4, R_LARCH_GOT_PC_LO12)),
+        &words!(0x4c00_01e0) // jirl $zero, $t3, 0
+    ),
     landing_load_stub: None,
-    jump_stub: Some(Stub {
-        head: &[],
-        pair: [
-            0x0f, 0, 0, 0x1e, // pcaddu18i $t3, 0
-            0xe0, 1, 0, 0x4c, // jirl $zero, $t3, 0
-        ],
-        first: field!(0, R_LARCH_CALL36),
-        second: None,
-        tail: &[],
-        entry: 0,
-        origin: 0,
-        addend: 0,
-    }),
+    jump_stub: Some(stub!(
+        &[],
+        words!(0x1e00_000f, 0x4c00_01e0), // pcaddu18i $t3, 0; jirl $zero, $t3, 0
+        field!(0, R_LARCH_CALL36),
+        None,
+        &[]
+    )),
     far_stub: None,
     far_relative_stub: None,
     toc_load_stub: None,

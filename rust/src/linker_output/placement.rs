@@ -189,10 +189,9 @@ const MOST_PASSES: u32 = 32;
 /// What became of a branch in a sweep.
 #[derive(Clone, Copy)]
 enum Visit {
-    /// It reaches what it goes by.
+    /// It reaches what it goes by, or goes by a stub at the boundary next to it, which stays in
+    /// reach.
     Served,
-    /// It goes by a stub at the boundary next to it, which stays in reach.
-    Near,
     /// It goes by another stub.
     Raised,
     /// It is lost, and no boundary next to it is in reach.

@@ -8,10 +8,10 @@ use crate::linker_output::dynamic::{DynamicType, DynamicTypes, named};
 use crate::linker_output::flags::FlagRules;
 use crate::linker_output::got::{GotHeader, GotLayout, ThreadPointer};
 use crate::linker_output::layout::{
-    Interpreter, ProvidedSymbol, RunWord, SaveRestoreRoutines, SymbolPlace, WORDS,
+    Interpreter, ProvidedSymbol, RunWord, SaveRestoreRoutines, SymbolPlace, WORDS, interpreter,
 };
 use crate::linker_output::r_types::r_type;
-use crate::linker_output::stubs::{Stub, StubField, field};
+use crate::linker_output::stubs::{Stub, StubField, field, stub, words};
 use crate::linker_output::tags::{DynamicTag, TagRule, tag};
 use crate::elf::{AllowedRange, Architecture};
 
@@ -64,64 +64,47 @@ macro_rules! of_vectors {
 /// `mtctr 12` and `bctr`.
 macro_rules! to_r12 {
     () => {
-        &[0xa6, 3, 0x89, 0x7d, 0x20, 4, 0x80, 0x4e]
+        &words!(0x7d89_03a6, 0x4e80_0420)
     };
 }
 
-/// A stub by its pair of instructions, and the relocation of the second one.
-macro_rules! stub {
-    ($pair:expr, $second:ident) => {
-        Stub {
-            head: &[
-                0x18, 0, 0x41, 0xf8, // std 2, 24(1)
-                0xa6, 2, 8, 0x7c, // mflr 0
-                5, 0, 0x9f, 0x42, // bcl 20, 31, .+4
-                0xa6, 2, 0x88, 0x7d, // mflr 12
-                0xa6, 3, 8, 0x7c, // mtlr 0
-            ],
-            pair: $pair,
-            first: field!(0, R_PPC64_TOC16_HA),
-            second: Some(field!(4, $second)),
-            tail: to_r12!(),
-            entry: 4,
-            origin: 12,
-            addend: 0,
-        }
+/// A stub by the second of its pair of instructions, and that instruction's relocation.
+macro_rules! by_address {
+    ($word:literal, $relocation:ident) => {
+        stub!(
+            // std 2, 24(1); mflr 0; bcl 20, 31, .+4; mflr 12; mtlr 0
+            &words!(0xf841_0018, 0x7c08_02a6, 0x429f_0005, 0x7d88_02a6, 0x7c08_03a6),
+            words!(0x3d8c_0000, $word), // addis 12, 12, 0
+            field!(0, R_PPC64_TOC16_HA),
+            Some(field!(4, $relocation)),
+            to_r12!(),
+            4,
+            12,
+            0
+        )
     };
 }
 
 /// A stub by the TOC pointer, after other code, and where a call enters that needs none of that.
-macro_rules! toc_stub {
+macro_rules! by_toc {
     ($head:expr, $entry:literal) => {
-        Some(Stub {
-            head: $head,
-            pair: [
-                0, 0, 0x82, 0x3d, // addis 12, 2, 0
-                0, 0, 0x8c, 0xe9, // ld 12, 0(12)
-            ],
-            first: field!(0, R_PPC64_TOC16_HA),
-            second: Some(field!(4, R_PPC64_TOC16_LO_DS)),
-            tail: to_r12!(),
-            entry: $entry,
-            origin: 0,
-            addend: 0,
-        })
+        Some(stub!(
+            $head,
+            words!(0x3d82_0000, 0xe98c_0000), // addis 12, 2, 0; ld 12, 0(12)
+            field!(0, R_PPC64_TOC16_HA),
+            Some(field!(4, R_PPC64_TOC16_LO_DS)),
+            to_r12!(),
+            $entry,
+            0,
+            0
+        ))
     };
 }
 
 /// A stub by a prefixed instruction.
-macro_rules! prefixed_stub {
-    ($instruction:expr) => {
-        Some(Stub {
-            head: &[],
-            pair: $instruction,
-            first: field!(0, R_PPC64_PCREL34),
-            second: None,
-            tail: to_r12!(),
-            entry: 0,
-            origin: 0,
-            addend: 0,
-        })
+macro_rules! by_prefixed {
+    ($prefix:literal, $suffix:literal) => {
+        Some(stub!(&[], words!($prefix, $suffix), field!(0, R_PPC64_PCREL34), None, to_r12!()))
     };
 }
 
@@ -193,31 +176,16 @@ pub(crate) static TARGET: Target = Target {
         of_vectors!("_restvr_", 0x7e8c_00ce), // lvx 20,12,0
     ],
     interpreter_flags: 0,
-    interpreters: &[Interpreter {
-        flags: 0,
-        path: "/lib64/ld64.so.2",
-    }],
+    interpreters: &[interpreter!(0, "/lib64/ld64.so.2")],
     landing_property: None,
     instructions: Architecture::Ppc64,
-    load_stub: stub!(
-        [
-            0, 0, 0x8c, 0x3d, // addis 12, 12, 0
-            0, 0, 0x8c, 0xe9, // ld 12, 0(12)
-        ],
-        R_PPC64_TOC16_LO_DS
-    ),
+    load_stub: by_address!(0xe98c_0000, R_PPC64_TOC16_LO_DS), // ld 12, 0(12)
     landing_load_stub: None,
-    jump_stub: Some(stub!(
-        [
-            0, 0, 0x8c, 0x3d, // addis 12, 12, 0
-            0, 0, 0x8c, 0x39, // addi 12, 12, 0
-        ],
-        R_PPC64_TOC16_LO
-    )),
+    jump_stub: Some(by_address!(0x398c_0000, R_PPC64_TOC16_LO)), // addi 12, 12, 0
     far_stub: None,
     far_relative_stub: None,
-    toc_load_stub: toc_stub!(&[0x18, 0, 0x41, 0xf8], 4), // std 2, 24(1)
-    toc_far_stub: toc_stub!(&[], 0),
-    prefixed_load_stub: prefixed_stub!([0, 0, 0x10, 4, 0, 0, 0x80, 0xe5]), // pld 12, 0(0), 1
-    prefixed_jump_stub: prefixed_stub!([0, 0, 0x10, 6, 0, 0, 0x80, 0x39]), // paddi 12, 0, 0, 1
+    toc_load_stub: by_toc!(&words!(0xf841_0018), 4), // std 2, 24(1)
+    toc_far_stub: by_toc!(&[], 0),
+    prefixed_load_stub: by_prefixed!(0x0410_0000, 0xe580_0000), // pld 12, 0(0), 1
+    prefixed_jump_stub: by_prefixed!(0x0610_0000, 0x3980_0000), // paddi 12, 0, 0, 1
 };

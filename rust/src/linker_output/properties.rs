@@ -100,47 +100,27 @@ pub enum PropertyError {
 /// ```
 #[must_use]
 pub fn property_rule(architecture: Architecture, kind: u32) -> Option<PropertyRule> {
-    if kind == 1 {
-        return Some(PropertyRule::Largest);
-    }
-    if kind == 2 {
-        return Some(PropertyRule::Present);
-    }
-    if 0xb000_0000 <= kind && kind <= 0xb000_7fff {
-        return Some(PropertyRule::All);
-    }
-    if 0xb000_8000 <= kind && kind <= 0xb000_ffff {
-        return Some(PropertyRule::Any);
-    }
-    processor_rule(architecture, kind)
-}
-
-/// The same of processor-specific types.
-fn processor_rule(architecture: Architecture, kind: u32) -> Option<PropertyRule> {
-    match architecture {
+    match (architecture, kind) {
+        (_, 1) => Some(PropertyRule::Largest),
+        (_, 2) => Some(PropertyRule::Present),
+        (_, 0xb000_0000..=0xb000_7fff) => Some(PropertyRule::All),
+        (_, 0xb000_8000..=0xb000_ffff) => Some(PropertyRule::Any),
         #[cfg(feature = "x86_64")]
-        Architecture::X86_64 => {
-            if kind == 0xc000_0000 || 0xc001_0000 <= kind && kind <= 0xc001_7fff {
-                Some(PropertyRule::AnyOfAll)
-            } else if kind == 0xc000_0001 || 0xc000_8000 <= kind && kind <= 0xc000_ffff {
-                Some(PropertyRule::Any)
-            } else if 0xc000_0002 <= kind && kind <= 0xc000_7fff {
-                Some(PropertyRule::All)
-            } else {
-                None
-            }
-        }
+        (Architecture::X86_64, 0xc000_0000) => Some(PropertyRule::AnyOfAll),
+        #[cfg(feature = "x86_64")]
+        (Architecture::X86_64, 0xc001_0000..=0xc001_7fff) => Some(PropertyRule::AnyOfAll),
+        #[cfg(feature = "x86_64")]
+        (Architecture::X86_64, 0xc000_0001) => Some(PropertyRule::Any),
+        #[cfg(feature = "x86_64")]
+        (Architecture::X86_64, 0xc000_8000..=0xc000_ffff) => Some(PropertyRule::Any),
+        #[cfg(feature = "x86_64")]
+        (Architecture::X86_64, 0xc000_0002..=0xc000_7fff) => Some(PropertyRule::All),
         #[cfg(feature = "aarch64")]
-        Architecture::AArch64 => match kind {
-            0xc000_0000 => Some(PropertyRule::All),
-            0xc000_0001 => Some(PropertyRule::Same),
-            _ => None,
-        },
+        ( Architecture::AArch64, 0xc000_0000) => Some(PropertyRule::All),
         #[cfg(feature = "riscv64")]
-        Architecture::RiscV => match kind {
-            0xc000_0000 => Some(PropertyRule::All),
-            _ => None,
-        },
+        ( Architecture::RiscV, 0xc000_0000) => Some(PropertyRule::All),
+        #[cfg(feature = "aarch64")]
+        (Architecture::AArch64, 0xc000_0001) => Some(PropertyRule::Same),
         _ => None,
     }
 }
@@ -178,38 +158,26 @@ fn merge_values(
     first: Option<Property>,
     second: Option<Property>,
 ) -> Result<Option<Property>, PropertyError> {
-    match rule {
-        PropertyRule::All => {
-            return Ok(unless_zero(kind, value_of(first) & value_of(second)));
+    Ok(match (rule, first, second) {
+        (PropertyRule::All, _, _) => unless_zero(kind, value_of(first) & value_of(second)),
+        (PropertyRule::Any, _, _) => unless_zero(kind, value_of(first) | value_of(second)),
+        (PropertyRule::AnyOfAll, Some(one), Some(other)) => {
+            Some(of_value(kind, one.value | other.value))
         }
-        PropertyRule::Any => {
-            return Ok(unless_zero(kind, value_of(first) | value_of(second)));
+        (PropertyRule::AnyOfAll, _, _) => None,
+        (_, None, _) => second,
+        (_, _, None) => first,
+        (PropertyRule::Largest, Some(one), Some(other)) => {
+            Some(of_value(kind, one.value.max(other.value)))
         }
-        PropertyRule::AnyOfAll => {
-            return Ok(match (first, second) {
-                (Some(first), Some(second)) => Some(of_value(kind, first.value | second.value)),
-                _ => None,
-            });
-        }
-        _ => {}
-    }
-    let Some(one) = first else {
-        return Ok(second);
-    };
-    let Some(other) = second else {
-        return Ok(first);
-    };
-    match rule {
-        PropertyRule::Largest => Ok(Some(of_value(kind, one.value.max(other.value)))),
-        PropertyRule::Present => Ok(Some(of_value(kind, 0))),
-        _ => {
-            if one.value == other.value && one.version == other.version {
-                Ok(Some(Property { kind, ..one }))
-            } else {
-                Err(PropertyError::Differs(kind))
+        (PropertyRule::Present, _, _) => Some(of_value(kind, 0)),
+        (PropertyRule::Same, Some(one), Some(other)) => {
+            if one.value != other.value || one.version != other.version {
+                return Err(PropertyError::Differs(kind));
             }
+            Some(Property { kind, ..one })
         }
-    }
+    })
 }
 
 /// The first property of a type.

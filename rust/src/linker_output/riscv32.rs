@@ -4,10 +4,10 @@
 
 use crate::linker_output::description::Target;
 use crate::linker_output::dynamic::{DynamicType, DynamicTypes, named};
-use crate::linker_output::layout::Interpreter;
+use crate::linker_output::layout::{Interpreter, interpreter};
 #[cfg(feature = "riscv64")]
 use crate::linker_output::riscv64::TARGET;
-use crate::linker_output::stubs::Stub;
+use crate::linker_output::stubs::{Stub, words};
 
 impl Target {
     /// The description of RV32: that of RV64 with types of words of 4 bytes, other paths, and a
@@ -32,24 +32,12 @@ impl Target {
                 ..TARGET.dynamic
             },
             interpreters: &[
-                Interpreter {
-                    flags: 0,
-                    path: "/lib/ld-linux-riscv32-ilp32.so.1",
-                },
-                Interpreter {
-                    flags: 2,
-                    path: "/lib/ld-linux-riscv32-ilp32f.so.1",
-                },
-                Interpreter {
-                    flags: 4,
-                    path: "/lib/ld-linux-riscv32-ilp32d.so.1",
-                },
+                interpreter!(0, "/lib/ld-linux-riscv32-ilp32.so.1"),
+                interpreter!(2, "/lib/ld-linux-riscv32-ilp32f.so.1"),
+                interpreter!(4, "/lib/ld-linux-riscv32-ilp32d.so.1"),
             ],
             load_stub: Stub {
-                pair: [
-                    0x17, 0x0e, 0, 0, // auipc t3, 0
-                    3, 0x2e, 0x0e, 0, // lw t3, 0(t3)
-                ],
+                pair: words!(0x0000_0e17, 0x000e_2e03), // auipc t3, 0; lw t3, 0(t3)
                 ..TARGET.load_stub
             },
             ..TARGET

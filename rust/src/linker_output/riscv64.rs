@@ -6,8 +6,8 @@ use crate::linker_output::description::Target;
 use crate::linker_output::dynamic::{DynamicType, DynamicTypes, named};
 use crate::linker_output::flags::FlagRules;
 use crate::linker_output::got::{GotHeader, GotLayout, ThreadPointer};
-use crate::linker_output::layout::{CodeUnit, Interpreter, ProvidedSymbol, SymbolPlace};
-use crate::linker_output::stubs::{Stub, StubField, field};
+use crate::linker_output::layout::{CodeUnit, Interpreter, ProvidedSymbol, SymbolPlace, interpreter};
+use crate::linker_output::stubs::{Stub, StubField, field, stub, words};
 use crate::linker_output::tags::{DynamicTag, TagRule, tag};
 use crate::elf::{AllowedRange, Architecture};
 
@@ -58,36 +58,19 @@ pub(crate) static TARGET: Target = Target {
     runs: &[],
     interpreter_flags: 0xe,
     interpreters: &[
-        Interpreter {
-            flags: 0,
-            path: "/lib/ld-linux-riscv64-lp64.so.1",
-        },
-        Interpreter {
-            flags: 2,
-            path: "/lib/ld-linux-riscv64-lp64f.so.1",
-        },
-        Interpreter {
-            flags: 4,
-            path: "/lib/ld-linux-riscv64-lp64d.so.1",
-        },
+        interpreter!(0, "/lib/ld-linux-riscv64-lp64.so.1"),
+        interpreter!(2, "/lib/ld-linux-riscv64-lp64f.so.1"),
+        interpreter!(4, "/lib/ld-linux-riscv64-lp64d.so.1"),
     ],
     landing_property: None,
     instructions: Architecture::RiscV,
-    load_stub: Stub {
-        head: &[],
-        pair: [
-            0x17, 0x0e, 0, 0, // auipc t3, 0
-            3, 0x3e, 0x0e, 0, // ld t3, 0(t3)
-        ],
-        first: field!(0, R_RISCV_PCREL_HI20),
-        second: Some(field!(4, R_RISCV_PCREL_LO12_I)),
-        tail: &[
-            0x67, 0, 0x0e, 0, // jr t3
-        ],
-        entry: 0,
-        origin: 0,
-        addend: 0,
-    },
+    load_stub: stub!(
+        &[],
+        words!(0x0000_0e17, 0x000e_3e03), // auipc t3, 0; ld t3, 0(t3)
+        field!(0, R_RISCV_PCREL_HI20),
+        Some(field!(4, R_RISCV_PCREL_LO12_I)),
+        &words!(0x000e_0067) // jr t3
+    ),
     landing_load_stub: None,
     jump_stub: None,
     far_stub: None,

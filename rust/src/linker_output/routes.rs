@@ -56,22 +56,17 @@ pub enum RouteError {
     Write(RelocateError),
 }
 
-/// Whether a branch may go by a stub to a target that it doesn't reach.
+/// Whether a branch may go by a stub to a target that it doesn't reach: by its kind, and a field
+/// that is that of `R_AARCH64_CALL26`, `R_LARCH_B26` or `R_PPC64_REL24`.
 #[inline(always)]
 fn may_go_by_stub(row: &Row) -> bool {
+    let RowSize::BitMasking { insn, .. } = row.info().size else {
+        return false;
+    };
     matches!(
         row.kind(),
         RelocationKind::Relative | RelocationKind::PltRelative
-    ) && has_call_form(row.info().size)
-}
-
-/// Whether a field is that of `R_AARCH64_CALL26`, `R_LARCH_B26` or `R_PPC64_REL24`.
-#[inline(always)]
-fn has_call_form(size: RowSize) -> bool {
-    let RowSize::BitMasking { insn, .. } = size else {
-        return false;
-    };
-    matches_any!(
+    ) && matches_any!(
         insn,
         #[cfg(feature = "aarch64")]
         AnyForm::AArch64(AArch64Instruction::JumpCall),
@@ -95,73 +90,48 @@ fn has_toc(architecture: Architecture, r_type: u32) -> bool {
     }
 }
 
-/// Whether it is a branch of PowerPC64's code that has none.
-#[inline(always)]
-fn has_no_toc(architecture: Architecture, r_type: u32) -> bool {
-    match architecture {
-        #[cfg(feature = "ppc64")]
-        Architecture::Ppc64 => r_type == Ppc64Relocation::R_PPC64_REL24_NOTOC.r_type(),
-        _ => false,
-    }
-}
-
-/// Whether a branch to a symbol enters a function of the output itself.
-#[inline(always)]
-fn is_entered(symbol: &Symbol) -> bool {
-    symbol.stub == 0 && !symbol.is_undefined_weak
-}
-
-/// Whether the function may leave another TOC pointer, and the caller needs its own.
+/// Whether a branch enters a function of the output itself that may leave another TOC pointer, and
+/// the caller needs its own.
 #[inline(always)]
 fn loses_toc(architecture: Architecture, r_type: u32, symbol: &Symbol) -> bool {
-    has_toc(architecture, r_type) && is_entered(symbol) && symbol.other / 32 == 1
+    has_toc(architecture, r_type)
+        && symbol.stub == 0
+        && !symbol.is_undefined_weak
+        && symbol.other / 32 == 1
 }
 
-/// Whether the function takes a TOC pointer that the caller hasn't.
+/// Whether the function takes a TOC pointer that the caller hasn't: one of code that has none.
+#[cfg(feature = "ppc64")]
 #[inline(always)]
 fn lacks_toc(architecture: Architecture, r_type: u32, symbol: &Symbol) -> bool {
-    has_no_toc(architecture, r_type) && is_entered(symbol) && 1 < symbol.other / 32
+    matches_any!(architecture, #[cfg(feature = "ppc64")] Architecture::Ppc64)
+        && r_type == Ppc64Relocation::R_PPC64_REL24_NOTOC.r_type()
+        && symbol.stub == 0
+        && !symbol.is_undefined_weak
+        && 1 < symbol.other / 32
 }
 
-/// How far after a function's global entry point its local one is.
-#[inline(always)]
-fn local_entry(other: u8) -> u64 {
-    let logarithm = other / 32;
-    if logarithm < 2 { 0 } else { 1 << logarithm }
-}
-
-/// How far after a function's global entry point a stub goes.
+/// How far after a function's global entry point a stub goes: to the local one for code that has a
+/// TOC pointer.
 #[inline(always)]
 fn after_global(architecture: Architecture, r_type: u32, symbol: &Symbol) -> u64 {
-    if has_toc(architecture, r_type) {
-        local_entry(symbol.other)
-    } else {
+    let logarithm = symbol.other / 32;
+    if !has_toc(architecture, r_type) || logarithm < 2 {
         0
-    }
-}
-
-/// What a stub goes to in place of a symbol.
-#[inline(always)]
-fn callee_of(architecture: Architecture, r_type: u32, symbol: &Symbol) -> u64 {
-    if symbol.stub == 0 {
-        let offset = after_global(architecture, r_type, symbol);
-        symbol.address.wrapping_add(offset)
     } else {
-        symbol.stub
+        1 << logarithm
     }
 }
 
-/// The same with the addend.
+/// What a stub goes to in place of a symbol, with the addend.
 #[inline(always)]
 fn stub_target(architecture: Architecture, symbol: &Symbol, relocation: &Rela) -> u64 {
-    let callee = callee_of(architecture, relocation.r_type, symbol);
-    callee.wrapping_add(relocation.addend as u64)
-}
-
-/// Whether two words are `bl`, and `nop` or `ld 2,24(1)`.
-#[inline(always)]
-fn can_restore(call: u32, next: u32) -> bool {
-    call / 0x400_0000 == 18 && call % 4 == 1 && (next == 0x6000_0000 || next == 0xe841_0018)
+    let addend = relocation.addend as u64;
+    if symbol.stub != 0 {
+        return symbol.stub.wrapping_add(addend);
+    }
+    let offset = after_global(architecture, relocation.r_type, symbol);
+    symbol.address.wrapping_add(offset).wrapping_add(addend)
 }
 
 /// The word at an offset.
@@ -170,11 +140,15 @@ fn word_at(section: &[u8], offset: u64) -> u32 {
     u32_from_slice(&section[offset as usize..])
 }
 
-/// Whether such words are at an offset.
+/// Whether `bl`, and after it `nop` or `ld 2,24(1)`, are at an offset.
 #[inline(always)]
 fn has_room(section: &[u8], offset: u64) -> bool {
-    has_window(section, offset, 0, 8)
-        && can_restore(word_at(section, offset), word_at(section, offset + 4))
+    if !has_window(section, offset, 0, 8) {
+        return false;
+    }
+    let call = word_at(section, offset);
+    let next = word_at(section, offset + 4);
+    call / 0x400_0000 == 18 && call % 4 == 1 && (next == 0x6000_0000 || next == 0xe841_0018)
 }
 
 /// By a stub of a kind with an entry.
@@ -186,21 +160,14 @@ fn by_stub(
     has_room: bool,
     target: u64,
 ) -> Result<Route, RouteError> {
-    if !loses_toc {
-        Ok(Route::Stub {
-            kind,
-            entry,
-            target,
-        })
-    } else if has_room {
-        Ok(Route::Stub {
-            kind,
-            entry: 0,
-            target,
-        })
-    } else {
-        Err(RouteError::NoRoom)
+    if loses_toc && !has_room {
+        return Err(RouteError::NoRoom);
     }
+    Ok(Route::Stub {
+        kind,
+        entry: if loses_toc { 0 } else { entry },
+        target,
+    })
 }
 
 /// By a stub to a far target, if there is one.
@@ -237,12 +204,6 @@ fn obstacle(row: &Row, value: i64, offset: u64, section: &[u8]) -> Option<Reloca
     obstacle_in(row, value, &section[offset as usize..])
 }
 
-/// Whether a stub may serve a branch that doesn't reach its target.
-#[inline(always)]
-fn is_served(row: &Row, symbol: &Symbol) -> bool {
-    may_go_by_stub(row) && (symbol.stub != 0 || !symbol.is_undefined_weak)
-}
-
 impl Target {
     /// The route of a branch whose function gets the TOC pointer as it expects.
     #[inline(always)]
@@ -256,7 +217,7 @@ impl Target {
         match obstacle {
             None => Ok(Route::Direct),
             Some(RelocateError::OutOfReach) => {
-                if is_served(row, symbol) {
+                if may_go_by_stub(row) && (symbol.stub != 0 || !symbol.is_undefined_weak) {
                     let target = stub_target(self.instructions, symbol, relocation);
                     by_jump(&self.jump_stub, false, false, target)
                 } else {
@@ -268,6 +229,7 @@ impl Target {
     }
 
     /// The route of a branch, by whether there is room after it, and why it can't be written.
+    #[cfg(feature = "ppc64")]
     #[inline(always)]
     fn route_by(
         &self,

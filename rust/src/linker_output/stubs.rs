@@ -97,6 +97,45 @@ macro_rules! field {
 
 pub(crate) use field;
 
+/// The bytes of instructions of 4.
+macro_rules! words {
+    ($($word:literal),+) => {
+        [$(
+            ($word as u32 & 0xff) as u8,
+            ($word as u32 >> 8 & 0xff) as u8,
+            ($word as u32 >> 16 & 0xff) as u8,
+            ($word as u32 >> 24 & 0xff) as u8
+        ),+]
+    };
+}
+
+pub(crate) use words;
+
+/// A stub: the code before the fields, the bytes with them, the fields and the code after them; and
+/// the entry, the origin and the addend, where these aren't all 0.
+macro_rules! stub {
+    ($head:expr, $pair:expr, $first:expr, $second:expr, $tail:expr) => {
+        stub!($head, $pair, $first, $second, $tail, 0, 0, 0)
+    };
+    (
+        $head:expr, $pair:expr, $first:expr, $second:expr, $tail:expr, $entry:expr, $origin:expr,
+        $addend:expr
+    ) => {
+        Stub {
+            head: $head,
+            pair: $pair,
+            first: $first,
+            second: $second,
+            tail: $tail,
+            entry: $entry,
+            origin: $origin,
+            addend: $addend,
+        }
+    };
+}
+
+pub(crate) use stub;
+
 /// What the values of a stub's fields are computed from.
 #[inline]
 fn operands_of(stub: &Stub, place: u64, target: u64) -> Operands {

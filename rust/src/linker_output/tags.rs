@@ -83,15 +83,6 @@ impl TagRule {
             TagRule::Options => true,
         }
     }
-
-    /// The tag's value.
-    fn value(self, facts: &DynamicFacts) -> u64 {
-        match self {
-            TagRule::LazyPlt => facts.first_entry.wrapping_sub(32),
-            TagRule::Options => facts.options,
-            _ => 0,
-        }
-    }
 }
 
 impl Target {
@@ -117,7 +108,11 @@ impl Target {
                 if before == 0 {
                     return Some(DynamicEntry {
                         tag: listed.tag,
-                        value: listed.rule.value(facts),
+                        value: match listed.rule {
+                            TagRule::LazyPlt => facts.first_entry.wrapping_sub(32),
+                            TagRule::Options => facts.options,
+                            _ => 0,
+                        },
                     });
                 }
                 before -= 1;

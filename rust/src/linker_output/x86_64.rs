@@ -6,9 +6,9 @@ use crate::linker_output::description::Target;
 use crate::linker_output::dynamic::{DynamicType, DynamicTypes, named};
 use crate::linker_output::flags::FlagRules;
 use crate::linker_output::got::{GotLayout, ThreadPointer};
-use crate::linker_output::layout::{CodeUnit, Interpreter, ProvidedSymbol, SymbolPlace};
+use crate::linker_output::layout::{CodeUnit, Interpreter, ProvidedSymbol, SymbolPlace, interpreter};
 use crate::linker_output::properties::LandingProperty;
-use crate::linker_output::stubs::{Stub, StubField, field};
+use crate::linker_output::stubs::{Stub, StubField, field, stub};
 use crate::elf::{AllowedRange, Architecture};
 
 /// The description.
@@ -52,36 +52,33 @@ pub(crate) static TARGET: Target = Target {
     }],
     runs: &[],
     interpreter_flags: 0,
-    interpreters: &[Interpreter {
-        flags: 0,
-        path: "/lib64/ld-linux-x86-64.so.2",
-    }],
+    interpreters: &[interpreter!(0, "/lib64/ld-linux-x86-64.so.2")],
     // GNU_PROPERTY_X86_FEATURE_1_AND, and its bit IBT
     landing_property: Some(LandingProperty {
         kind: 0xc000_0002,
         bit: 1,
     }),
     instructions: Architecture::X86_64,
-    load_stub: Stub {
-        head: &[],
-        pair: [0xff, 0x25, 0, 0, 0, 0, 0xcc, 0xcc],
-        first: field!(2, R_X86_64_PC32),
-        second: None,
-        tail: &[],
-        entry: 0,
-        origin: 2,
-        addend: -4,
-    },
-    landing_load_stub: Some(Stub {
-        head: &[0xf3, 0x0f, 0x1e, 0xfa], // endbr64
-        pair: [0xff, 0x25, 0, 0, 0, 0, 0x66, 0x0f],
-        first: field!(2, R_X86_64_PC32),
-        second: None,
-        tail: &[0x1f, 0x44, 0, 0],
-        entry: 0,
-        origin: 6,
-        addend: -4,
-    }),
+    load_stub: stub!(
+        &[],
+        [0xff, 0x25, 0, 0, 0, 0, 0xcc, 0xcc],
+        field!(2, R_X86_64_PC32),
+        None,
+        &[],
+        0,
+        2,
+        -4
+    ),
+    landing_load_stub: Some(stub!(
+        &[0xf3, 0x0f, 0x1e, 0xfa], // endbr64
+        [0xff, 0x25, 0, 0, 0, 0, 0x66, 0x0f],
+        field!(2, R_X86_64_PC32),
+        None,
+        &[0x1f, 0x44, 0, 0],
+        0,
+        6,
+        -4
+    )),
     jump_stub: None,
     far_stub: None,
     far_relative_stub: None,

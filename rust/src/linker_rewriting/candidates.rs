@@ -12,6 +12,9 @@ use crate::linker_section::relocations::{Rela, relocation_at};
 use crate::architecture::{Relaxation, choose, may_be_skipped};
 use crate::elf::{Architecture, Choice, LinkFacts, Operands};
 
+/// A rewrite, and the `r_type` of its relocation after it.
+pub(crate) type Chosen = Choice<Relaxation, u32>;
+
 #[inline(always)]
 pub(crate) fn is_tls_get_addr(symbols: &[SymbolFacts], symbol: u32) -> bool {
     match symbols.get(symbol as usize) {
@@ -67,7 +70,7 @@ pub(crate) fn candidate_by(
     context: &RelaxContext<'_>,
     site: &Site<'_>,
     facts: &Option<LinkFacts>,
-) -> Option<Choice<Relaxation, u32>> {
+) -> Option<Chosen> {
     let Some(facts) = facts else {
         return None;
     };
@@ -99,10 +102,7 @@ fn own_facts(context: &RelaxContext<'_>, site: &Site<'_>) -> Option<LinkFacts> {
 /// The rewrite of the instruction of the relocation with an index by its own symbol, as
 /// `candidate_by` says.
 #[inline(always)]
-pub(crate) fn candidate(
-    context: &RelaxContext<'_>,
-    site: &Site<'_>,
-) -> Option<Choice<Relaxation, u32>> {
+pub(crate) fn candidate(context: &RelaxContext<'_>, site: &Site<'_>) -> Option<Chosen> {
     candidate_by(context, site, &own_facts(context, site))
 }
 

@@ -22,23 +22,25 @@ struct Place {
     above: u64,
 }
 
+/// The bytes that the decisions of a section write and delete.
+#[derive(Clone, Copy)]
+struct Windows<'a> {
+    relocations: &'a [u8],
+    decisions: &'a [DecisionNumbers],
+}
+
 /// Where the bytes begin and end that the decision with an index writes or deletes.
 #[inline(always)]
-fn span_at(relocations: &[u8], decisions: &[DecisionNumbers], index: usize) -> (u64, u64) {
-    let decision = decision_in(decisions, index);
-    span_of(&decision, relocation_in(relocations, index).offset)
+fn span_at(windows: &Windows<'_>, index: usize) -> (u64, u64) {
+    let decision = decision_in(windows.decisions, index);
+    span_of(&decision, relocation_in(windows.relocations, index).offset)
 }
 
 /// An index that is no more than another, below which all bytes end at or below an offset.
-fn place_before(
-    relocations: &[u8],
-    decisions: &[DecisionNumbers],
-    offset: u64,
-    from: usize,
-) -> usize {
+fn place_before(windows: &Windows<'_>, offset: u64, from: usize) -> usize {
     let mut at = from;
     while at > 0 {
-        let (start, end) = span_at(relocations, decisions, at - 1);
+        let (start, end) = span_at(windows, at - 1);
         if start < end && end <= offset {
             return at;
         }
@@ -49,21 +51,14 @@ fn place_before(
 
 /// The place, from an index on, before the first bytes that end after an offset, beside those of
 /// the decision with another index. Those before it end at or below that offset, and `below`.
-fn place_from(
-    relocations: &[u8],
-    decisions: &[DecisionNumbers],
-    index: usize,
-    offset: u64,
-    from: usize,
-    below: u64,
-) -> Place {
-    let len = relocations_len(relocations);
+fn place_from(windows: &Windows<'_>, index: usize, offset: u64, from: usize, below: u64) -> Place {
+    let len = relocations_len(windows.relocations);
     let mut below = below;
     for at in from..len {
-        if let Decision::Kept = decision_in(decisions, at) {
+        if let Decision::Kept = decision_in(windows.decisions, at) {
             continue;
         }
-        let (start, end) = span_at(relocations, decisions, at);
+        let (start, end) = span_at(windows, at);
         if end <= start {
             continue;
         }
@@ -90,18 +85,12 @@ fn place_from(
 /// The same, from any place on. What is before it is passed again only where it ends after the
 /// offset.
 #[inline(always)]
-fn place_beside(
-    relocations: &[u8],
-    decisions: &[DecisionNumbers],
-    index: usize,
-    offset: u64,
-    place: Place,
-) -> Place {
+fn place_beside(windows: &Windows<'_>, index: usize, offset: u64, place: Place) -> Place {
     if place.below <= offset {
-        return place_from(relocations, decisions, index, offset, place.at, place.below);
+        return place_from(windows, index, offset, place.at, place.below);
     }
-    let from = place_before(relocations, decisions, offset, place.at);
-    place_from(relocations, decisions, index, offset, from, offset)
+    let from = place_before(windows, offset, place.at);
+    place_from(windows, index, offset, from, offset)
 }
 
 /// Whether the field of the relocation at an index ends after a start.
@@ -130,8 +119,12 @@ pub(crate) fn first_covered(
     section: &[u8],
     decisions: &[DecisionNumbers],
 ) -> Option<usize> {
+    let windows = Windows {
+        relocations,
+        decisions,
+    };
     let count = relocations_len(relocations);
-    let first = place_from(relocations, decisions, count, 0, 0, 0);
+    let first = place_from(&windows, count, 0, 0, 0);
     if first.at == count {
         return None;
     }
@@ -147,7 +140,7 @@ pub(crate) fn first_covered(
         if let Decision::Consumed = decision_in(decisions, index) {
             continue;
         }
-        place = place_beside(relocations, decisions, index, offset, place);
+        place = place_beside(&windows, index, offset, place);
         if place.at == count {
             continue;
         }

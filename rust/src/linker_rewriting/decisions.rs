@@ -2,7 +2,7 @@
 // Made by tools/generate of crates/linker_rewriting/src/decisions.rt.
 //! What becomes of each relocation of a section and of its instruction.
 
-use crate::linker_rewriting::candidates::candidate;
+use crate::linker_rewriting::candidates::{Chosen, candidate};
 use crate::linker_rewriting::facts::{OutputFacts, RelaxContext, SymbolFacts};
 use crate::linker_rewriting::groups::{Scope, UnrelaxableGroups, group_stays, scope_in};
 use crate::linker_rewriting::phases::Phase;
@@ -183,7 +183,7 @@ pub(crate) fn subject_of(relocation: &Rela) -> Subject {
 }
 
 #[inline(always)]
-fn label_decision(phase: Phase, chosen: Choice<Relaxation, u32>, high: &Rela) -> Decision {
+fn label_decision(phase: Phase, chosen: Chosen, high: &Rela) -> Decision {
     if takes_symbol(phase, chosen.relocation) {
         Decision::RewrittenWithSymbol(chosen, subject_of(high))
     } else {

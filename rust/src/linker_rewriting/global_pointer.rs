@@ -9,7 +9,7 @@ use crate::linker_rewriting::decisions::{
     Decision, DecisionNumbers, Deletion, RewritingError, decision_in, subject_of,
 };
 use crate::linker_rewriting::facts::{OutputFacts, RelaxContext, SymbolFacts, address_in, contradiction};
-use crate::linker_rewriting::relocations::{Site, relocation_in};
+use crate::linker_rewriting::relocations::{Site, relocation_in, site};
 use crate::linker_rewriting::riscv_pcrel_groups::{high_at, is_beyond, label_at};
 use crate::linker_rewriting::rules::{Rule, decide_by};
 use crate::linker_rewriting::sections::list_deletions;
@@ -76,19 +76,6 @@ fn labelled(context: &RelaxContext<'_>, relocations: &[u8], relocation: &Rela) -
     }
 }
 
-/// The relocation whose symbol and addend are those of a part.
-fn part_subject(
-    context: &RelaxContext<'_>,
-    relocations: &[u8],
-    relocation: &Rela,
-    part: Part,
-) -> Option<Rela> {
-    match part {
-        Part::Labelled(_) => labelled(context, relocations, relocation),
-        Part::High(_) | Part::Low(_) => Some(*relocation),
-    }
-}
-
 /// What a relocation is of an address, and the relocation whose symbol and addend are its own.
 fn member_of(
     context: &RelaxContext<'_>,
@@ -96,8 +83,10 @@ fn member_of(
     relocation: &Rela,
 ) -> Option<(Part, Rela)> {
     let part = part_of(context.architecture, relocation.r_type)?;
-    let subject = part_subject(context, relocations, relocation, part)?;
-    Some((part, subject))
+    match part {
+        Part::Labelled(_) => Some((part, labelled(context, relocations, relocation)?)),
+        Part::High(_) | Part::Low(_) => Some((part, *relocation)),
+    }
 }
 
 /// Whether 12 signed bits hold the distance of an address from another one.
@@ -226,14 +215,8 @@ pub fn survey_global_pointer(
         ascends: is_ascending(relocations),
     };
     for index in 0..relocations_len(relocations) {
-        let site = Site {
-            relocations,
-            section,
-            index,
-            relocation: relocation_in(relocations, index),
-        };
-        let symbol = keeping_symbol(&parts, &site);
-        keep_word(kept, symbol);
+        let site = site!(relocations, section, index);
+        keep_word(kept, keeping_symbol(&parts, &site));
     }
     Ok(())
 }

@@ -64,22 +64,6 @@ pub(crate) fn lists_any(architecture: Architecture, phase: Phase, relocations: &
     false
 }
 
-#[inline(always)]
-fn is_weak_zero(symbols: &[SymbolFacts], symbol: u32) -> bool {
-    match symbols.get(symbol as usize) {
-        Some(symbol) => symbol.is_undefined_weak,
-        None => false,
-    }
-}
-
-#[inline(always)]
-fn changes_toc(symbols: &[SymbolFacts], symbol: u32) -> bool {
-    match symbols.get(symbol as usize) {
-        Some(symbol) => may_change_toc(symbol),
-        None => false,
-    }
-}
-
 /// Whether a relocation is of a call that stays as it is, by its symbol: of AArch64 a branch, but
 /// for those to what is undefined and weak, which become a `nop`; of PowerPC64 a call that returns
 /// with the same TOC pointer.
@@ -96,12 +80,23 @@ pub(crate) fn keeps_call(
         (Phase::PreLayout, Architecture::AArch64) => {
             let is_call = r_type == AArch64Relocation::R_AARCH64_CALL26.r_type();
             let is_branch = is_call || r_type == AArch64Relocation::R_AARCH64_JUMP26.r_type();
-            is_branch && !is_weak_zero(symbols, relocation.symbol)
+            if !is_branch {
+                return false;
+            }
+            match symbols.get(relocation.symbol as usize) {
+                Some(symbol) => !symbol.is_undefined_weak,
+                None => true,
+            }
         }
         #[cfg(feature = "ppc64")]
         (Phase::PreLayout, Architecture::Ppc64) => {
-            let is_call = r_type == Ppc64Relocation::R_PPC64_REL24.r_type();
-            is_call && !changes_toc(symbols, relocation.symbol)
+            if r_type != Ppc64Relocation::R_PPC64_REL24.r_type() {
+                return false;
+            }
+            match symbols.get(relocation.symbol as usize) {
+                Some(symbol) => !may_change_toc(symbol),
+                None => true,
+            }
         }
         _ => false,
     }

@@ -15,6 +15,20 @@ pub(crate) struct Site<'a> {
     pub relocation: Rela,
 }
 
+/// The site of the relocation with an index below `relocations_len`.
+macro_rules! site {
+    ($relocations:ident, $section:ident, $index:ident) => {
+        Site {
+            relocations: $relocations,
+            section: $section,
+            index: $index,
+            relocation: relocation_in($relocations, $index),
+        }
+    };
+}
+
+pub(crate) use site;
+
 /// The relocation with an index below `relocations_len`. Its bounds are tested once: the compiler
 /// sees that its bytes are in the slice.
 #[inline(always)]

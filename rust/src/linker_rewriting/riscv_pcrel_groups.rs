@@ -2,12 +2,12 @@
 // Made by tools/generate of crates/linker_rewriting/src/riscv_pcrel_groups.rt.
 //! Groups of one label of RISC-V: a high part, and the low parts whose symbol is the label at it.
 
-use crate::linker_rewriting::candidates::candidate_by;
+use crate::linker_rewriting::candidates::{Chosen, candidate_by};
 use crate::linker_rewriting::decisions::{Decision, DecisionNumbers, decision_in};
 use crate::linker_rewriting::facts::{OutputFacts, RelaxContext, SymbolFacts, link_facts};
 use crate::linker_rewriting::groups::{Scope, scope_in};
 use crate::linker_rewriting::phases::Phase;
-use crate::linker_rewriting::relocations::{Site, relocation_in};
+use crate::linker_rewriting::relocations::{Site, relocation_in, site};
 use crate::linker_rewriting::sequences::is_marked_at;
 use crate::linker_section::facts::{Addresses, Symbol};
 use crate::linker_section::relocations::{Rela, first_from, is_ascending, relocations_len};
@@ -40,20 +40,11 @@ pub(crate) fn is_beyond(relocations: &[u8], at: u64, index: usize) -> bool {
     SEARCHED <= index && relocation_in(relocations, index - SEARCHED).offset == at
 }
 
-/// Where a search ends that begins at an index, of n relocations.
-fn search_end(first: usize, len: usize) -> usize {
-    if len - first < SEARCHED {
-        len
-    } else {
-        first + SEARCHED
-    }
-}
-
 /// The index of the first relocation with an `r_type` at an offset, among those that are searched
 /// of relocations that ascend. So it takes O(log n).
 pub(crate) fn high_at(relocations: &[u8], r_type: u32, at: u64) -> Option<usize> {
     let first = first_from(relocations, at);
-    for index in first..search_end(first, relocations_len(relocations)) {
+    for index in first..relocations_len(relocations).min(first + SEARCHED) {
         let relocation = relocation_in(relocations, index);
         if relocation.offset != at {
             return None;
@@ -127,7 +118,7 @@ pub(crate) fn label_candidate(
     context: &RelaxContext<'_>,
     site: &Site<'_>,
     high: usize,
-) -> Option<Choice<Relaxation, u32>> {
+) -> Option<Chosen> {
     let part = relocation_in(site.relocations, high);
     let marked = is_label_marked(context, site, high);
     let facts = without_entry(link_facts(context, &part, &part, marked));
@@ -169,12 +160,7 @@ fn note_highs(
     decisions: &mut [DecisionNumbers],
 ) {
     for index in 0..relocations_len(relocations) {
-        let site = Site {
-            relocations,
-            section,
-            index,
-            relocation: relocation_in(relocations, index),
-        };
+        let site = site!(relocations, section, index);
         let Some(high) = lacking(context, &site) else {
             continue;
         };

@@ -5,7 +5,7 @@
 
 use crate::linker_rewriting::covered::first_covered;
 use crate::linker_rewriting::decisions::{Decision, DecisionNumbers, RewritingError, decision_in, end_after};
-use crate::linker_rewriting::relocations::{Site, relocation_in};
+use crate::linker_rewriting::relocations::{Site, relocation_in, site};
 use crate::linker_rewriting::riscv_pcrel_groups::is_note;
 use crate::linker_section::relocations::relocations_len;
 use crate::elf::Architecture;
@@ -44,18 +44,12 @@ pub(crate) fn decide_by<R: Rule>(
             decisions[index] = DecisionNumbers::from_decision(Decision::Kept);
             continue;
         }
-        let relocation = relocation_in(relocations, index);
+        let site = site!(relocations, section, index);
         let stays = is_note(&decision_in(decisions, index));
-        let site = Site {
-            relocations,
-            section,
-            index,
-            relocation,
-        };
         let Some(decision) = rule.decide(is_taken, stays, &site) else {
             return Err(RewritingError::NotSurveyed(index));
         };
-        let (start, own) = rule.span(&decision, relocation.offset);
+        let (start, own) = rule.span(&decision, site.relocation.offset);
         let Some(new_end) = end_after(start, own, end) else {
             return Err(RewritingError::Overlaps(index));
         };

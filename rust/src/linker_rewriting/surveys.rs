@@ -7,7 +7,7 @@ use crate::linker_rewriting::facts::{OutputFacts, RelaxContext, SymbolFacts, con
 use crate::linker_rewriting::groups::{Group, Scope, UnrelaxableGroups, scope_in, symbol_of_group};
 use crate::linker_rewriting::phases::Phase;
 use crate::linker_rewriting::r_types::{is_surveyed, of_each};
-use crate::linker_rewriting::relocations::{Site, relocation_in};
+use crate::linker_rewriting::relocations::{Site, relocation_in, site};
 use crate::linker_section::relocations::{Rela, relocations_len};
 use crate::elf::Architecture;
 #[cfg(feature = "ppc64")]
@@ -57,25 +57,18 @@ fn keeping(context: &RelaxContext<'_>, site: &Site<'_>) -> Option<Group> {
     }
 }
 
-/// Whether a relocation of PowerPC64 marks the call of `__tls_get_addr` at an offset.
-#[cfg(feature = "ppc64")]
-#[inline(always)]
-fn marks_call(offset: u64, mark: &Rela) -> bool {
-    let is_mark = mark.r_type == Ppc64Relocation::R_PPC64_TLSGD.r_type()
-        || mark.r_type == Ppc64Relocation::R_PPC64_TLSLD.r_type();
-    is_mark && mark.offset == offset
-}
-
-/// Whether the relocation before is the mark at the same place.
+/// Whether the relocation before is a mark of PowerPC64 of the call of `__tls_get_addr` at the same
+/// place.
 #[cfg(feature = "ppc64")]
 #[inline(always)]
 fn is_marked(site: &Site<'_>) -> bool {
-    let (relocations, index) = (site.relocations, site.index);
-    1 <= index
-        && marks_call(
-            site.relocation.offset,
-            &relocation_in(relocations, index - 1),
-        )
+    if site.index < 1 {
+        return false;
+    }
+    let mark = relocation_in(site.relocations, site.index - 1);
+    let is_mark = mark.r_type == Ppc64Relocation::R_PPC64_TLSGD.r_type()
+        || mark.r_type == Ppc64Relocation::R_PPC64_TLSLD.r_type();
+    is_mark && mark.offset == site.relocation.offset
 }
 
 /// Whether a relocation is one whose mark a survey looks for: a use of `__tls_get_addr` on
@@ -152,15 +145,9 @@ fn survey_in(
     let len = relocations_len(relocations);
     let mut index = next_keeping(context, relocations, 0);
     while index < len {
-        let relocation = relocation_in(relocations, index);
-        let site = Site {
-            relocations,
-            section,
-            index,
-            relocation,
-        };
+        let site = site!(relocations, section, index);
         let group = keeping(context, &site);
-        keep_group(kept, group, relocation.symbol);
+        keep_group(kept, group, site.relocation.symbol);
         let unmarked = is_unmarked(context, &site);
         keep_threads(kept, unmarked);
         index = next_keeping(context, relocations, index + 1);

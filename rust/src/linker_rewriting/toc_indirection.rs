@@ -9,11 +9,11 @@
 //! the same. In `PreLayout` no load is tested to be in reach, and `has_near_symbols` of the output
 //! decides in its place.
 
-use crate::linker_rewriting::candidates::candidate_by;
+use crate::linker_rewriting::candidates::{Chosen, candidate_by};
 use crate::linker_rewriting::decisions::{Decision, DecisionNumbers, RewritingError, span_of, subject_of};
 use crate::linker_rewriting::facts::{OutputFacts, RelaxContext, SymbolFacts, address_in, contradiction, link_facts};
 use crate::linker_rewriting::phases::Phase;
-use crate::linker_rewriting::relocations::{Site, relocation_in};
+use crate::linker_rewriting::relocations::{Site, relocation_in, site};
 use crate::linker_rewriting::riscv_pcrel_groups::high_at;
 use crate::linker_rewriting::rules::{Rule, decide_by};
 use crate::linker_rewriting::sections::make_all;
@@ -117,11 +117,7 @@ fn with_r_type(r_type: u32, relocation: &Rela) -> Rela {
 
 /// The rewrite of a load, if each other one of the word is rewritten.
 #[inline(always)]
-fn load_candidate(
-    words: &Words<'_>,
-    site: &Site<'_>,
-    load: (u32, usize),
-) -> Option<Choice<Relaxation, u32>> {
+fn load_candidate(words: &Words<'_>, site: &Site<'_>, load: (u32, usize)) -> Option<Chosen> {
     let (entry, word) = load;
     let word = relocation_in(words.relocations, word);
     let facts = link_facts(words.context, &site.relocation, &word, false);
@@ -177,14 +173,8 @@ pub fn survey_toc_loads(
         relocations: words,
     };
     for index in 0..relocations_len(relocations) {
-        let site = Site {
-            relocations,
-            section,
-            index,
-            relocation: relocation_in(relocations, index),
-        };
-        let word = keeping_word(&words, &site);
-        keep_word(kept, word);
+        let site = site!(relocations, section, index);
+        keep_word(kept, keeping_word(&words, &site));
     }
     Ok(())
 }

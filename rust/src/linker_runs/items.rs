@@ -113,7 +113,7 @@ pub(crate) fn unsigned_addend(relocation: &Relocation) -> Option<u64> {
 fn is_formed(machine: Machine, section: &[u8], relocation: &Relocation) -> bool {
     match machine {
         #[cfg(feature = "riscv64")]
-        Machine::RiscV { .. } => riscv64::is_formed(section, relocation),
+        Machine::RiscV(_) => riscv64::is_formed(section, relocation),
         #[cfg(feature = "loongarch64")]
         Machine::LoongArch64 => loongarch64::is_formed(section, relocation),
     }
@@ -147,7 +147,7 @@ pub fn first_malformed<R: AsRelocation>(
 fn ahead<R: AsRelocation>(machine: Machine, relocations: &[R], index: usize, known: usize) -> usize {
     match machine {
         #[cfg(feature = "riscv64")]
-        Machine::RiscV { .. } => {
+        Machine::RiscV(_) => {
             if known <= index {
                 riscv64::next_alignment(relocations, index)
             } else {
@@ -171,9 +171,7 @@ fn item_at<R: AsRelocation>(
 ) -> Option<Item> {
     match machine {
         #[cfg(feature = "riscv64")]
-        Machine::RiscV { is_32 } => {
-            riscv64::item_at(is_32, section, base, relocations, index, ahead)
-        }
+        Machine::RiscV(isa) => { riscv64::item_at(isa, section, base, relocations, index, ahead) }
         #[cfg(feature = "loongarch64")]
         Machine::LoongArch64 => loongarch64::item_at(section, base, relocations, index),
     }

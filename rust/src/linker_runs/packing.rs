@@ -18,12 +18,21 @@ use crate::linker_base::relaxation::{DeltaSlice, RelaxDelta};
 use crate::linker_base::rewrite::overwrite;
 use crate::elf::Architecture;
 
+/// The base instruction set of RISC-V code.
+#[derive(Clone, Copy, Debug, PartialEq, Eq, Hash)]
+pub enum Isa {
+    /// RV32, whose C extension has `c.jal`.
+    Rv32,
+    /// RV64.
+    Rv64,
+}
+
 /// The architecture of a section's code.
 #[derive(Clone, Copy, Debug, PartialEq, Eq, Hash)]
 pub enum Machine {
-    /// RISC-V, whose code of 32 bits has `c.jal`.
+    /// RISC-V.
     #[cfg(feature = "riscv64")]
-    RiscV { is_32: bool },
+    RiscV(Isa),
     /// LoongArch of 64 bits.
     #[cfg(feature = "loongarch64")]
     LoongArch64,
@@ -36,7 +45,7 @@ impl Machine {
     pub fn of(architecture: Architecture) -> Option<Machine> {
         match architecture {
             #[cfg(feature = "riscv64")]
-            Architecture::RiscV => Some(Machine::RiscV { is_32: false }),
+            Architecture::RiscV => Some(Machine::RiscV(Isa::Rv64)),
             #[cfg(feature = "loongarch64")]
             Architecture::LoongArch64 => Some(Machine::LoongArch64),
             #[cfg(feature = "aarch64")]
@@ -129,8 +138,8 @@ fn code_of_site(
     let target = start.wrapping_add(position_of(deltas, site.target).output_offset);
     match machine {
         #[cfg(feature = "riscv64")]
-        Machine::RiscV { is_32 } => {
-            riscv64::code_of(is_32, section, site.offset - base, kept, place, target)
+        Machine::RiscV(isa) => {
+            riscv64::code_of(isa, section, site.offset - base, kept, place, target)
         }
         #[cfg(feature = "loongarch64")]
         Machine::LoongArch64 => {
@@ -144,7 +153,7 @@ fn code_of_site(
 fn nop_len(machine: Machine) -> u64 {
     match machine {
         #[cfg(feature = "riscv64")]
-        Machine::RiscV { .. } => 2,
+        Machine::RiscV(_) => 2,
         #[cfg(feature = "loongarch64")]
         Machine::LoongArch64 => 4,
     }
@@ -296,7 +305,7 @@ fn put_words(packed: &mut [u8], at: u64, word: [u8; 4], count: u64) {
 fn put_nops(machine: Machine, packed: &mut [u8], at: u64, len: u64) {
     match machine {
         #[cfg(feature = "riscv64")]
-        Machine::RiscV { .. } => {
+        Machine::RiscV(_isa) => {
             put_words(packed, at, [0x13, 0x00, 0x00, 0x00], len / 4);
             if len % 4 == 2 {
                 put_bytes(packed, at.wrapping_add(len - 2), &[0x01, 0x00]);
@@ -385,7 +394,7 @@ pub fn has_its_instructions(machine: Machine, section: &[u8], base: u64, item: &
     let offset = site.offset - base;
     match machine {
         #[cfg(feature = "riscv64")]
-        Machine::RiscV { is_32 } => riscv64::has_shapes(is_32, section, offset, &site.shapes),
+        Machine::RiscV(isa) => riscv64::has_shapes(isa, section, offset, &site.shapes),
         #[cfg(feature = "loongarch64")]
         Machine::LoongArch64 => loongarch64::has_shapes(section, offset, &site.shapes),
     }

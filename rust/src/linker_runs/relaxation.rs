@@ -20,7 +20,7 @@ use validity::is_power_of_two;
 
 /// One form of the instructions of a site, as C has it.
 #[repr(C)]
-#[derive(Clone, Copy, PartialEq, Eq, Debug, Hash)]
+#[derive(Default, Clone, Copy, PartialEq, Eq, Debug, Hash)]
 pub struct Shape {
     /// How far below its output offset the target may lie, in bytes.
     pub max_backward: u64,
@@ -34,7 +34,7 @@ pub struct Shape {
 
 /// The forms that the instructions of a site can have, by ascending length, as C has them.
 #[repr(C)]
-#[derive(Clone, Copy, PartialEq, Eq, Debug, Hash)]
+#[derive(Default, Clone, Copy, PartialEq, Eq, Debug, Hash)]
 pub struct Shapes {
     /// The short forms, of which the first `count` count.
     pub short: [Shape; 2],

@@ -13,6 +13,7 @@ use crate::linker_elf::elf::InstructionRewrite;
 /// instruction is its bits 0 to 4, and the first source register its bits 5 to 9.
 ///
 /// ```
+/// use linker_utils::elf::InstructionRewrite;
 /// use linker_utils::loongarch64::RewriteKind;
 ///
 /// // `ld.d $a0, $a0, 0` becomes `addi.d $a0, $a0, 0`
@@ -134,36 +135,6 @@ impl RewriteKind {
         self as u32
     }
 
-    /// Rewrites the instruction at an offset of a section. All other bytes, the offset and the
-    /// addend are unchanged.
-    ///
-    /// # Requires
-    ///
-    /// - `self.can_apply(section_bytes, *offset_in_section)`
-    #[cfg_attr(debug_assertions, track_caller)]
-    #[inline]
-    pub fn apply(self, section_bytes: &mut [u8], offset_in_section: &mut u64, addend: &mut i64) {
-        debug_assert!(self.can_apply(section_bytes, *offset_in_section));
-        let _ = addend;
-        let offset = *offset_in_section;
-        rewrites!(self, replacement row => row.apply(section_bytes, offset))
-    }
-
-    /// Whether `apply` may be called at an offset of a section: the bytes that it rewrites lie in
-    /// the section.
-    #[must_use]
-    pub fn can_apply(self, section: &[u8], offset: u64) -> bool {
-        window_is_in(section, offset, self.window())
-    }
-
-    /// The bytes that `apply` writes: the 4 from the offset, and none for `NoOp`, `Delete` and
-    /// `DeleteAddi`. Those that are then deleted (`deleted`) may lie after them.
-    #[must_use]
-    #[inline]
-    pub fn window(self) -> RewriteWindow {
-        rewrites!(self => window)
-    }
-
     /// Whether the instruction that begins at an offset of a section, or the pair, is one that the
     /// rewrite is meant for: `can_apply`, and the opcodes and registers. `NoOp` is meant for any
     /// offset, and `ReplaceWithNop` and `Delete` for any instruction in the section. `BaseToTp` is
@@ -174,43 +145,36 @@ impl RewriteKind {
         rewrites!(self, original row => row.is_for(section, offset))
     }
 
-    /// What happens to the next relocation: it is applied as usual.
-    #[must_use]
-    #[inline]
-    pub fn next_modifier(&self) -> RelocationModifier {
-        RelocationModifier::Normal
-    }
-
     /// The bytes to be deleted after the rewrite: the `jirl` of a call after `CallToBl` and
     /// `CallToB`, and the instruction itself for `Delete` and `DeleteAddi`. `None` for the others.
     #[must_use]
     #[inline]
     pub fn deleted(self) -> Option<DeletedBytes> {
-        rewrites!(self => deleted)
+        rewrites!(self, replacement row => row.deleted)
     }
 }
 
 impl InstructionRewrite for RewriteKind {
     #[cfg_attr(debug_assertions, track_caller)]
-    #[inline(always)]
-    fn apply(self, section: &mut [u8], offset: &mut u64, addend: &mut i64) {
+    #[inline]
+    fn apply(self, section: &mut [u8], offset: &mut u64, _addend: &mut i64) {
         debug_assert!(self.can_apply(section, *offset));
-        RewriteKind::apply(self, section, offset, addend);
+        rewrites!(self, replacement row => row.apply(section, *offset))
     }
 
-    #[inline(always)]
+    #[inline]
     fn can_apply(self, section: &[u8], offset: u64) -> bool {
-        RewriteKind::can_apply(self, section, offset)
+        window_is_in(section, offset, self.window())
     }
 
-    #[inline(always)]
+    #[inline]
     fn window(self) -> RewriteWindow {
-        RewriteKind::window(self)
+        rewrites!(self, replacement row => row.window())
     }
 
-    #[inline(always)]
+    #[inline]
     fn next_modifier(&self) -> RelocationModifier {
-        RewriteKind::next_modifier(self)
+        RelocationModifier::Normal
     }
 
     #[inline(always)]

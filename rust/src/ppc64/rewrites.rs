@@ -16,6 +16,7 @@ use crate::linker_elf::ppc64::Ppc64Relocation;
 /// writes is 0, for the relocation after it, or the number itself where that is `R_PPC64_NONE`.
 ///
 /// ```
+/// use linker_utils::elf::InstructionRewrite;
 /// use linker_utils::ppc64::RewriteKind;
 ///
 /// // ld 9,0(10) becomes addi 9,10,0
@@ -53,13 +54,11 @@ pub enum RewriteKind {
     /// Turns `addi rT,rA` into `ld rT,0(rA)`.
     AddiToLd,
     /// Turns the call of `__tls_get_addr` and the `nop` after it into `nop` and `addi 3,3,0`. The
-    /// offset is then that of the `addi`, 4 bytes on.
+    /// offset is then that of the second instruction, 4 bytes on, as with the two below.
     CallToAddi,
-    /// Turns the call of `__tls_get_addr` and the `nop` after it into `nop` and `add 3,3,13`. The
-    /// offset is then that of the `add`, 4 bytes on.
+    /// Turns these into `nop` and `add 3,3,13`.
     CallToAdd,
-    /// Turns the call of `__tls_get_addr` and the `nop` after it into `nop` and `addi 3,3,4096`.
-    /// The offset is then that of the `addi`, 4 bytes on.
+    /// Turns these into `nop` and `addi 3,3,4096`.
     CallToAddi4096,
     /// Turns the `nop` after a call into `ld 2,24(1)`, which restores the TOC pointer. The offset
     /// is that of the call, which stays.
@@ -204,14 +203,6 @@ macro_rules! rewrites {
     };
 }
 
-/// Moves the offset on, or sets the addend, where a row says so.
-macro_rules! after {
-    ($places:tt) => {};
-    ([$offset:ident $addend:ident] moved $moved:literal) => { *$offset += $moved; };
-    ([$offset:ident $addend:ident] addend $value:literal) => { *$addend = $value; };
-    ($places:tt $other:tt $($row:tt)*) => { after!($places $($row)*) };
-}
-
 impl RewriteKind {
     /// The rewrite with a number, its place in the enum. None above the last.
     #[must_use]
@@ -227,41 +218,6 @@ impl RewriteKind {
         self as u32
     }
 
-    /// Rewrites the instruction at an offset of a section. All other bytes are unchanged. So are
-    /// the addend, except that it is 0 after `AddiAfterLis`, and the offset, except that
-    /// `CallToAddi`, `CallToAdd` and `CallToAddi4096` move it 4 bytes on.
-    ///
-    /// # Requires
-    ///
-    /// - `self.can_apply(section_bytes, *offset_in_section)`
-    #[cfg_attr(debug_assertions, track_caller)]
-    #[inline]
-    pub fn apply(self, section_bytes: &mut [u8], offset_in_section: &mut u64, addend: &mut i64) {
-        debug_assert!(self.can_apply(section_bytes, *offset_in_section));
-        let offset = *offset_in_section;
-        rewrites!(
-            self,
-            replacement row => row.apply(section_bytes, offset),
-            after [offset_in_section addend]
-        )
-    }
-
-    /// Whether `apply` may be called at an offset of a section: the window lies in the section. The
-    /// instruction is not tested.
-    #[must_use]
-    pub fn can_apply(self, section: &[u8], offset: u64) -> bool {
-        window_is_in(section, offset, self.window())
-    }
-
-    /// The bytes that `apply` writes: the instruction's 4. For a prefixed instruction or a call and
-    /// its `nop` they are 8, and for `NoOp` and `KeepAddis` none. They begin at the offset, and for
-    /// `AddToMove` and `IndexedToDirect` one byte before it.
-    #[must_use]
-    #[inline]
-    pub fn window(self) -> RewriteWindow {
-        rewrites!(self => window)
-    }
-
     /// Whether the instruction at an offset of a section is one that the rewrite is meant for:
     /// `can_apply`, and the opcodes and registers. `NoOp` is meant for any offset. No instruction
     /// is meant whose base is register 0, which stands for the number 0, nor an access with update,
@@ -273,28 +229,13 @@ impl RewriteKind {
         rewrites!(self, original row => row.is_for(section, offset))
     }
 
-    /// What happens to the next relocation: it is skipped after `CallToAddi`, `CallToAdd`,
-    /// `CallToAddi4096`, `BranchToNop` and `BranchToAdd`, since it is that of the call itself,
-    /// `R_PPC64_REL24` or `R_PPC64_REL24_NOTOC`, which follows `R_PPC64_TLSGD` or `R_PPC64_TLSLD`.
-    #[must_use]
-    #[inline]
-    pub fn next_modifier(&self) -> RelocationModifier {
-        match self.skipped_offset() {
-            Some(_) => RelocationModifier::SkipNextRelocation,
-            None => RelocationModifier::Normal,
-        }
-    }
-
-    /// Where the relocation is that `next_modifier` skips, in bytes from the offset of the
-    /// rewrite's own relocation on: that of the call itself, at the same offset. `None` where none
-    /// is skipped.
-    ///
-    /// The rewrite needs a relocation there whose type `may_be_skipped` and whose symbol is
-    /// `__tls_get_addr`.
+    /// Where the relocation is that `next_modifier` skips, as [`Relaxation::skipped_offset`](crate::architecture::Relaxation::skipped_offset) says:
+    /// that of the call itself, `R_PPC64_REL24` or `R_PPC64_REL24_NOTOC`, at the same offset, which
+    /// follows `R_PPC64_TLSGD` or `R_PPC64_TLSLD`.
     #[must_use]
     #[inline]
     pub fn skipped_offset(self) -> Option<u64> {
-        rewrites!(self => skipped)
+        rewrites!(self, replacement row => row.skipped)
     }
 }
 
@@ -311,25 +252,32 @@ pub fn may_be_skipped(name: Ppc64Relocation) -> bool {
 
 impl InstructionRewrite for RewriteKind {
     #[cfg_attr(debug_assertions, track_caller)]
-    #[inline(always)]
+    #[inline]
     fn apply(self, section: &mut [u8], offset: &mut u64, addend: &mut i64) {
         debug_assert!(self.can_apply(section, *offset));
-        RewriteKind::apply(self, section, offset, addend);
+        rewrites!(self, replacement row => {
+            row.apply(section, *offset);
+            *offset += row.moved;
+            *addend = row.addend.unwrap_or(*addend);
+        })
     }
 
-    #[inline(always)]
+    #[inline]
     fn can_apply(self, section: &[u8], offset: u64) -> bool {
-        RewriteKind::can_apply(self, section, offset)
+        window_is_in(section, offset, self.window())
     }
 
-    #[inline(always)]
+    #[inline]
     fn window(self) -> RewriteWindow {
-        RewriteKind::window(self)
+        rewrites!(self, replacement row => row.window())
     }
 
-    #[inline(always)]
+    #[inline]
     fn next_modifier(&self) -> RelocationModifier {
-        RewriteKind::next_modifier(self)
+        match self.skipped_offset() {
+            Some(_) => RelocationModifier::SkipNextRelocation,
+            None => RelocationModifier::Normal,
+        }
     }
 
     #[inline(always)]

@@ -7,7 +7,7 @@ use crate::elf::{RelocationKindInfo, RelocationSize};
 use crate::rewrite_rows::same_name;
 use crate::linker_base::bit_misc::BitExtraction;
 use crate::linker_base::relaxation::RelocationModifier;
-use crate::linker_elf::elf::RiscVInstruction;
+use crate::linker_elf::elf::{InstructionRewrite, RiscVInstruction};
 use crate::linker_elf::riscv64 as relocations;
 
 /// A rewrite that the crate `linker-utils` 0.11.0 has too: the `RewriteKind` of the same name. No

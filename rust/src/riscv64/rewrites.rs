@@ -9,7 +9,8 @@ use crate::linker_base::rewrite::{DeletedBytes, RewriteWindow, window_is_in};
 use crate::linker_elf::elf::InstructionRewrite;
 use crate::linker_elf::riscv64::RiscVRelocation;
 
-/// A rewrite of one instruction, or of a pair whose second instruction is then deleted.
+/// A rewrite of one instruction, or of a pair whose second instruction is then deleted. The caller
+/// deletes the bytes that `deleted` says.
 #[cfg_attr(not(exhaustive), non_exhaustive)]
 #[derive(Default, Clone, Copy, PartialEq, Eq, Debug, Hash, PartialOrd, Ord)]
 pub enum RewriteKind {
@@ -19,25 +20,24 @@ pub enum RewriteKind {
     /// Writes two `c.nop` in place of four bytes. Requires the C extension.
     ReplaceWithNop,
     /// Turns the `auipc` of an `auipc` and `jalr` pair into a `jal` of distance 0 with the
-    /// `auipc`'s destination register (RISC-V ELF psABI, "Function Call Relaxation"). The caller
-    /// deletes the `jalr` after it. If the `jalr` links another register than the `auipc`'s, as in
-    /// `tail f`, that is not the call's jump: `matches` is the test.
+    /// `auipc`'s destination register (RISC-V ELF psABI, "Function Call Relaxation"). If the `jalr`
+    /// links another register, as in `tail f`, that is not the call's jump: `matches` is the test.
     CallToJal,
     /// Turns the first two bytes of a `lui` into a `c.lui` of immediate 0 with the `lui`'s
-    /// destination register. The caller deletes the two bytes after it.
+    /// destination register.
     Hi20ToCLui,
-    /// Leaves a `lui` whose immediate is 0 as it is; the caller deletes it.
+    /// Leaves a `lui` whose immediate is 0, which is deleted.
     Hi20Delete,
     /// Clears bits 15 to 19: the source register of the instruction that adds the low part becomes
     /// x0.
     Lo12Rs1ToZero,
     /// Turns the `auipc` of a tail call, whose `jalr` links no register, into a `jal x0` of
-    /// distance 0. The caller deletes the `jalr` after it.
+    /// distance 0.
     TailToJal,
     /// Turns the first two bytes of a tail call into a `c.j` of distance 0. Requires the C
-    /// extension. The caller deletes the six bytes after it.
+    /// extension.
     TailToCJ,
-    /// Leaves the instruction as it is; the caller deletes its four bytes.
+    /// Leaves the instruction, which is deleted.
     Delete,
     /// Writes one nop of four bytes, `addi x0, x0, 0`, in place of an instruction.
     ReplaceWithLongNop,
@@ -66,8 +66,7 @@ pub enum RewriteKind {
     /// Turns `ld` into `addi` of 0 and x0, with its destination register.
     LdToAddiZero,
     /// Turns the first two bytes of a call whose `jalr` links x1 into a `c.jal` of distance 0.
-    /// Requires RV32 and the C extension: code of RV64 has `c.addiw` of these bits. The caller
-    /// deletes the six bytes after it.
+    /// Requires RV32 and the C extension: code of RV64 has `c.addiw` of these bits.
     CallToCJal,
 }
 
@@ -161,38 +160,6 @@ impl RewriteKind {
         self as u32
     }
 
-    /// Rewrites the instruction at an offset of a section. All other bytes, the offset and the
-    /// addend are unchanged.
-    ///
-    /// # Requires
-    ///
-    /// - `self.can_apply(section_bytes, *offset_in_section)`
-    #[inline]
-    #[cfg_attr(debug_assertions, track_caller)]
-    pub fn apply(self, section_bytes: &mut [u8], offset_in_section: &mut u64, addend: &mut i64) {
-        debug_assert!(self.can_apply(section_bytes, *offset_in_section));
-        let _ = addend;
-        let offset = *offset_in_section;
-        rewrites!(self, replacement row => row.apply(section_bytes, offset))
-    }
-
-    /// Whether `apply` may be called at an offset of a section: the bytes that it rewrites lie in
-    /// the section.
-    #[must_use]
-    #[inline(always)]
-    pub fn can_apply(self, section: &[u8], offset: u64) -> bool {
-        window_is_in(section, offset, self.window())
-    }
-
-    /// The bytes that `apply` writes, which begin at the offset: none for `NoOp`, `Hi20Delete` and
-    /// `Delete`, 2 for `Hi20ToCLui`, `TailToCJ`, `CallToCJal` and `CLuiToCLi`, and 4 for the rest.
-    /// Those that are then deleted (`deleted`) may lie after them.
-    #[inline(always)]
-    #[must_use]
-    pub fn window(self) -> RewriteWindow {
-        rewrites!(self => window)
-    }
-
     /// Whether the instruction that begins at an offset of a section, or the pair, is one that the
     /// rewrite is meant for: `can_apply`, and the opcodes and registers. `NoOp` is meant for any
     /// offset, and `ReplaceWithNop`, `ReplaceWithLongNop` and `Delete` for any four bytes of the
@@ -206,24 +173,12 @@ impl RewriteKind {
         rewrites!(self, original row => row.is_for(section, offset))
     }
 
-    /// What happens to the next relocation: `CallToJal`, `CallToCJal`, `TailToJal`, `TailToCJ` and
-    /// `Hi20Delete` skip it.
-    #[must_use]
-    #[inline]
-    pub fn next_modifier(&self) -> RelocationModifier {
-        match self.skipped_offset() {
-            Some(_) => RelocationModifier::SkipNextRelocation,
-            None => RelocationModifier::Normal,
-        }
-    }
-
-    /// Where the relocation is that `next_modifier` skips, in bytes from the offset of the
-    /// rewrite's own relocation on: the `R_RISCV_RELAX` at the same offset. `None` where none is
-    /// skipped.
+    /// Where the relocation is that `next_modifier` skips, as [`Relaxation::skipped_offset`](crate::architecture::Relaxation::skipped_offset) says:
+    /// the `R_RISCV_RELAX` at the same offset.
     #[must_use]
     #[inline]
     pub fn skipped_offset(self) -> Option<u64> {
-        rewrites!(self => skipped)
+        rewrites!(self, replacement row => row.skipped)
     }
 
     /// The bytes to be deleted after the rewrite. `None` where there are none: only `CallToJal`,
@@ -239,7 +194,7 @@ impl RewriteKind {
     #[must_use]
     #[inline]
     pub fn deleted(self) -> Option<DeletedBytes> {
-        rewrites!(self => deleted)
+        rewrites!(self, replacement row => row.deleted)
     }
 }
 
@@ -252,26 +207,29 @@ pub fn may_be_skipped(name: RiscVRelocation) -> bool {
 }
 
 impl InstructionRewrite for RewriteKind {
+    #[inline]
     #[cfg_attr(debug_assertions, track_caller)]
-    #[inline(always)]
-    fn apply(self, section: &mut [u8], offset: &mut u64, addend: &mut i64) {
+    fn apply(self, section: &mut [u8], offset: &mut u64, _addend: &mut i64) {
         debug_assert!(self.can_apply(section, *offset));
-        RewriteKind::apply(self, section, offset, addend);
+        rewrites!(self, replacement row => row.apply(section, *offset))
     }
 
     #[inline(always)]
     fn can_apply(self, section: &[u8], offset: u64) -> bool {
-        RewriteKind::can_apply(self, section, offset)
+        window_is_in(section, offset, self.window())
     }
 
     #[inline(always)]
     fn window(self) -> RewriteWindow {
-        RewriteKind::window(self)
+        rewrites!(self, replacement row => row.window())
     }
 
-    #[inline(always)]
+    #[inline]
     fn next_modifier(&self) -> RelocationModifier {
-        RewriteKind::next_modifier(self)
+        match self.skipped_offset() {
+            Some(_) => RelocationModifier::SkipNextRelocation,
+            None => RelocationModifier::Normal,
+        }
     }
 
     #[inline(always)]

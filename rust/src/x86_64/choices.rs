@@ -8,7 +8,7 @@ use crate::rewrite_rows::or;
 use crate::linker_elf::elf::choice_table::{
     ChoiceTable, Chosen, RewriteSet, Table, by_table, choice_by, conditions, table_of,
 };
-use crate::linker_elf::elf::{Choice, LinkFacts, Operands};
+use crate::linker_elf::elf::{Choice, InstructionRewrite, LinkFacts, Operands};
 
 /// The instructions that an entry is for.
 #[derive(Debug)]
@@ -34,7 +34,7 @@ impl RewriteSet for RewriteKind {
             Pattern::Legacy(n, opcode) => is_legacy(section, offset, n, opcode),
             Pattern::LeaOfDescriptor(n) => is_lea_of_descriptor(section, offset, n),
         };
-        is_pattern && self.matches_inline(section, offset)
+        is_pattern && self.can_apply(section, offset) && self.is_for(section, offset)
     }
 
     #[inline(always)]
@@ -280,7 +280,7 @@ impl ChoiceTable for RewriteKind {
 /// bytes and any offset may be passed, and the rewrite can be applied there.
 ///
 /// ```
-/// use linker_utils::elf::{LinkFacts, Operands};
+/// use linker_utils::elf::{InstructionRewrite, LinkFacts, Operands};
 /// use linker_utils::x86_64::{RewriteKind, X86_64Relocation, choose, row};
 ///
 /// // mov x@GOTPCREL(%rip), %rdi, in an executable that is always loaded at one address

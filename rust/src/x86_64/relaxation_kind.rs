@@ -5,6 +5,7 @@
 use super::RewriteKind;
 use crate::rewrite_rows::same_name;
 use crate::linker_base::relaxation::RelocationModifier;
+use crate::linker_elf::elf::InstructionRewrite;
 
 /// A rewrite that the crate `linker-utils` 0.11.0 has too: the `RewriteKind` of the same name. No
 /// variants are added, so that a match of all needs no last arm.

@@ -12,9 +12,11 @@ use crate::linker_elf::elf::InstructionRewrite;
 /// field's (x86-64 psABI, "Optimize GOTPCRELX Relocations", and "ELF Handling For Thread-Local
 /// Storage"). A variant's number is the count of the instruction's bytes before the field: 2
 /// without a prefix, 3 with REX, 4 with REX2, 6 with EVEX. With any other number the prefix is
-/// unchanged.
+/// unchanged. The offset becomes that of the field afterwards, and the addend 0 where the field
+/// becomes absolute or an offset from the thread pointer.
 ///
 /// ```
+/// use linker_utils::elf::InstructionRewrite;
 /// use linker_utils::x86_64::RewriteKind;
 ///
 /// // jmp *x@GOTPCREL(%rip) becomes jmp x; nop
@@ -448,31 +450,6 @@ impl RewriteKind {
         rewrites!(self => [edit section offset_in_section addend])
     }
 
-    /// Rewrites the instructions around the field at an offset of a section. The offset becomes
-    /// that of the field afterwards. The addend becomes 0 where the field becomes absolute or an
-    /// offset from the thread pointer. All other bytes are unchanged.
-    ///
-    /// `RexMovIndirectToAbsolute(3)` keeps the register that `mov` names, if bit 0 of the REX byte
-    /// was clear.
-    ///
-    /// # Requires
-    ///
-    /// - `self.can_apply(section_bytes, *offset_in_section)`
-    #[cfg_attr(debug_assertions, track_caller)]
-    #[inline(always)]
-    pub fn apply(self, section_bytes: &mut [u8], offset_in_section: &mut u64, addend: &mut i64) {
-        debug_assert!(self.can_apply(section_bytes, *offset_in_section));
-        self.rewrite(section_bytes, offset_in_section, addend);
-    }
-
-    /// Whether `apply` may be called at an offset of a section: the bytes that it rewrites lie in
-    /// the section. The instruction is not tested.
-    #[must_use]
-    #[inline(always)]
-    pub fn can_apply(self, section: &[u8], offset: u64) -> bool {
-        window_is_in(section, offset, self.window())
-    }
-
     /// The bytes that `apply` writes; none for `NoOp`. The field whose value is written afterwards
     /// lies after them, as the last 4 of the 16 bytes of a general-dynamic sequence; but
     /// `JmpIndirectToRelative` and `TlsGdToLocalExecLarge` write 0 to their field.
@@ -485,7 +462,7 @@ impl RewriteKind {
 
     /// Whether the instruction or the sequence at an offset is one that the rewrite is for.
     #[inline(always)]
-    fn is_for(self, section: &[u8], offset: u64) -> bool {
+    pub(super) fn is_for(self, section: &[u8], offset: u64) -> bool {
         rewrites!(self => [is section offset])
     }
 
@@ -500,40 +477,12 @@ impl RewriteKind {
     /// is for.
     #[must_use]
     pub fn matches(self, section: &[u8], offset: u64) -> bool {
-        self.matches_inline(section, offset)
-    }
-
-    /// `matches`, where the caller knows the rewrite.
-    #[inline(always)]
-    pub(super) fn matches_inline(self, section: &[u8], offset: u64) -> bool {
         self.can_apply(section, offset) && self.is_for(section, offset)
     }
 
-    /// What happens to the next relocation: the TLS sequences skip that of their call.
-    #[must_use]
-    #[inline]
-    pub fn next_modifier(&self) -> RelocationModifier {
-        match self.skipped_offset() {
-            Some(_) => RelocationModifier::SkipNextRelocation,
-            None => RelocationModifier::Normal,
-        }
-    }
-
-    /// Where the relocation is that `next_modifier` skips, in bytes from the offset of the
-    /// rewrite's own relocation on: that of the sequence's call, whose field of 4 bytes, or of 8 in
-    /// a `movabs`, is there. `None` where none is skipped.
-    ///
-    /// The rewrite needs a relocation there whose type `may_be_skipped` and whose symbol is
-    /// `__tls_get_addr`. Without it the next relocation may be that of another call.
-    ///
-    /// ```
-    /// use linker_utils::x86_64::RewriteKind;
-    ///
-    /// // lea x@tlsld(%rip), %rdi; call __tls_get_addr@PLT
-    /// let sequence = [0x48, 0x8d, 0x3d, 0, 0, 0, 0, 0xe8, 0, 0, 0, 0];
-    /// assert!(RewriteKind::TlsLdToLocalExec.matches(&sequence, 3));
-    /// assert_eq!(RewriteKind::TlsLdToLocalExec.skipped_offset(), Some(5));
-    /// ```
+    /// Where the relocation is that `next_modifier` skips, as [`Relaxation::skipped_offset`](crate::architecture::Relaxation::skipped_offset) says:
+    /// that of the sequence's call, whose field of 4 bytes, or of 8 in a `movabs`, is there.
+    /// Without one the next relocation may be that of another call.
     #[must_use]
     #[inline]
     pub fn skipped_offset(self) -> Option<u64> {
@@ -558,26 +507,31 @@ pub fn may_be_skipped(name: X86_64Relocation) -> bool {
 }
 
 impl InstructionRewrite for RewriteKind {
+    // `RexMovIndirectToAbsolute(3)` keeps the register that `mov` names, if bit 0 of the REX byte
+    // was clear
     #[cfg_attr(debug_assertions, track_caller)]
     #[inline(always)]
     fn apply(self, section: &mut [u8], offset: &mut u64, addend: &mut i64) {
         debug_assert!(self.can_apply(section, *offset));
-        RewriteKind::apply(self, section, offset, addend);
+        self.rewrite(section, offset, addend);
     }
 
     #[inline(always)]
     fn can_apply(self, section: &[u8], offset: u64) -> bool {
-        RewriteKind::can_apply(self, section, offset)
+        window_is_in(section, offset, self.window())
     }
 
-    #[inline(always)]
+    #[inline]
     fn window(self) -> RewriteWindow {
         RewriteKind::window(self)
     }
 
-    #[inline(always)]
+    #[inline]
     fn next_modifier(&self) -> RelocationModifier {
-        RewriteKind::next_modifier(self)
+        match self.skipped_offset() {
+            Some(_) => RelocationModifier::SkipNextRelocation,
+            None => RelocationModifier::Normal,
+        }
     }
 
     #[inline(always)]

@@ -43,7 +43,10 @@ impl<'a> RelaxCursor<'a> {
             self.reached.pass(input_offset);
             return input_offset.max(self.reached.end) - self.reached.deleted;
         }
-        self.reached.kept(input_offset) - self.reached.deleted
+        if input_offset < self.reached.end && self.is_ahead(input_offset) {
+            return self.reached.end - self.reached.deleted;
+        }
+        input_offset - self.reached.deleted
     }
 
     /// Whether `input_offset` may be given to `translate`.
@@ -83,9 +86,16 @@ impl<'a> RelaxCursor<'a> {
         self.deltas.len() - self.reached.rest.as_slice().len()
     }
 
-    // Whether all deltas that are passed begin strictly below the offset: the last one decides.
+    // Whether all deltas that are passed begin strictly below the offset: the last one decides, and
+    // its end where the offset lies past that.
     #[inline]
     fn is_ahead(&self, input_offset: u64) -> bool {
-        self.turns() == 0 || self.reached.end - self.reached.bytes < input_offset
+        if self.reached.end < input_offset {
+            return true;
+        }
+        match self.turns().checked_sub(1) {
+            Some(last) => self.deltas[last].input_offset < input_offset,
+            None => true,
+        }
     }
 }

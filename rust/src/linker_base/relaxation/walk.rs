@@ -16,8 +16,6 @@ pub(super) struct Reached<'a> {
     pub deleted: u64,
     // Where the last of these ends.
     pub end: u64,
-    // The bytes of this last one, or 0 where there is none.
-    pub bytes: u64,
 }
 
 // Where the first of some deltas begins, or `u64::MAX` where there is none.
@@ -38,7 +36,6 @@ impl<'a> Reached<'a> {
             next: first_offset(deltas),
             deleted: 0,
             end: 0,
-            bytes: 0,
         }
     }
 
@@ -50,20 +47,8 @@ impl<'a> Reached<'a> {
                 break;
             };
             self.deleted = delta.cumulative_deleted;
-            self.bytes = u64::from(delta.bytes_deleted);
-            self.end = self.next.wrapping_add(self.bytes);
+            self.end = self.next.wrapping_add(u64::from(delta.bytes_deleted));
             self.next = first_offset(self.rest.as_slice());
-        }
-    }
-
-    // The end of the last delta that was passed, where the offset lies inside that, or else the
-    // offset: one comparison, and no branch.
-    #[inline(always)]
-    pub(super) fn kept(&self, offset: u64) -> u64 {
-        if self.end.wrapping_sub(offset) < self.bytes {
-            self.end
-        } else {
-            offset
         }
     }
 

@@ -118,7 +118,8 @@ impl State {
         let place = if stub < places.len() {
             places[stub]
         } else {
-            code.start_of(before, self.stubs[stub].boundary)
+            let boundary = self.stubs[stub].boundary;
+            code.boundaries[boundary] + before[boundary]
         };
         code.reaches_at(before, branch, place)
     }

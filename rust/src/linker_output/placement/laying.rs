@@ -56,11 +56,6 @@ impl Code<'_> {
         offset + before[passed(self.boundaries, offset)]
     }
 
-    /// Where the stubs at a boundary begin.
-    pub(super) fn start_of(&self, before: &[u64], boundary: usize) -> u64 {
-        self.boundaries[boundary] + before[boundary]
-    }
-
     /// Where a stub is.
     pub(super) fn place_of(&self, groups: &[StubCounts], before: &[u64], stub: &StubAt) -> u64 {
         let start = self.boundaries[stub.boundary] + before[stub.boundary];

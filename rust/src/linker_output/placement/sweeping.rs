@@ -24,7 +24,7 @@ impl State {
         let lost = code.is_lost(before, places, &branch, way);
         if let Way::Near(_) = way {
             self.note(code, index);
-            return Ok(Visit::Near);
+            return Ok(Visit::Served);
         }
         if lost {
             if self.raise(code, before, places, index)? {
@@ -54,7 +54,6 @@ impl State {
         for index in 0..code.branches.len() {
             match self.visit(code, before, places, late, index)? {
                 Visit::Served => {}
-                Visit::Near => {}
                 Visit::Raised => changed = true,
                 Visit::Lost => {
                     if !changed {

@@ -139,13 +139,10 @@ impl DecisionNumbers {
     /// The numbers of a rewrite that is kept, with a number of the bytes that it rewrites.
     #[inline(always)]
     pub(crate) fn from_choice(choice: Choice<Relaxation, u32>, number: u32) -> DecisionNumbers {
-        of_choice(
-            1,
-            choice,
-            Subject {
-                symbol: number,
-                addend: 0,
-            },
-        )
+        let bytes = Subject {
+            symbol: number,
+            addend: 0,
+        };
+        of_choice(1, choice, bytes)
     }
 }

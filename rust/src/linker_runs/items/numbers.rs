@@ -7,7 +7,7 @@ use crate::linker_runs::shapes::fixed;
 
 /// A part of a run that relaxation may shorten, in numbers, as C has it. Any numbers are an item.
 #[repr(C)]
-#[derive(Clone, Copy, Debug, PartialEq, Eq, Hash)]
+#[derive(Default, Clone, Copy, Debug, PartialEq, Eq, Hash)]
 pub struct ItemNumbers {
     /// The input offset of its first byte.
     pub offset: u64,

@@ -19,7 +19,7 @@ use crate::riscv64::RiscVRelocation;
 fn short_r_type(machine: Machine, kept: u64, r_type: u32) -> u32 {
     match machine {
         #[cfg(feature = "riscv64")]
-        Machine::RiscV { .. } => {
+        Machine::RiscV(_) => {
             if r_type != RiscVRelocation::R_RISCV_CALL.r_type()
                 && r_type != RiscVRelocation::R_RISCV_CALL_PLT.r_type()
             {
@@ -48,7 +48,7 @@ fn short_r_type(machine: Machine, kept: u64, r_type: u32) -> u32 {
 fn align_r_type(machine: Machine) -> u32 {
     match machine {
         #[cfg(feature = "riscv64")]
-        Machine::RiscV { .. } => RiscVRelocation::R_RISCV_ALIGN.r_type(),
+        Machine::RiscV(_) => RiscVRelocation::R_RISCV_ALIGN.r_type(),
         #[cfg(feature = "loongarch64")]
         Machine::LoongArch64 => LoongArch64Relocation::R_LARCH_ALIGN.r_type(),
     }

@@ -2,10 +2,10 @@
 // Made by tools/generate of crates/linker_runs/src/packing/riscv64.rt.
 //! RISC-V: what a call becomes.
 
-use crate::linker_runs::packing::ItemError;
 use crate::linker_runs::packing::code::{Code, Template, pair_at, relocated};
+use crate::linker_runs::packing::{Isa, ItemError};
 use crate::linker_runs::relaxation::Shapes;
-use crate::linker_runs::riscv64::{link_at, links_short};
+use crate::linker_runs::riscv64::link_at;
 use crate::linker_runs::shapes::riscv64::{CALL, TAIL_C};
 use crate::linker_elf::elf::Row;
 use crate::riscv64::{self, RiscVRelocation};
@@ -37,9 +37,9 @@ fn short_jump(link: u32) -> [u8; 2] {
 
 /// The instruction of which n bytes stay of a call that links a register.
 #[inline(always)]
-fn template_of(is_32: bool, section: &[u8], offset: u64, link: u32, kept: u64) -> Option<Template> {
+fn template_of(isa: Isa, section: &[u8], offset: u64, link: u32, kept: u64) -> Option<Template> {
     match kept {
-        2 if links_short(is_32, link) => Some(Template {
+        2 if isa.links_short(link) => Some(Template {
             row: row_of(RiscVRelocation::R_RISCV_RVC_JUMP),
             code: Code::Half(short_jump(link)),
         }),
@@ -58,7 +58,7 @@ fn template_of(is_32: bool, section: &[u8], offset: u64, link: u32, kept: u64) -
 /// What a call becomes of which n bytes stay, at an address and for a target's.
 #[inline(always)]
 pub(crate) fn code_of(
-    is_32: bool,
+    isa: Isa,
     section: &[u8],
     offset: u64,
     kept: u64,
@@ -68,7 +68,7 @@ pub(crate) fn code_of(
     let Some(link) = link_at(section, offset) else {
         return Err(ItemError::NotItsInstructions);
     };
-    let Some(template) = template_of(is_32, section, offset, link, kept) else {
+    let Some(template) = template_of(isa, section, offset, link, kept) else {
         return Err(ItemError::NoShape);
     };
     match relocated(template, place, target) {
@@ -78,14 +78,14 @@ pub(crate) fn code_of(
 }
 
 /// Whether a call that links a register can have the shapes.
-fn are_of_link(is_32: bool, link: u32, shapes: &Shapes) -> bool {
-    *shapes == CALL || (links_short(is_32, link) && *shapes == TAIL_C)
+fn are_of_link(isa: Isa, link: u32, shapes: &Shapes) -> bool {
+    *shapes == CALL || (isa.links_short(link) && *shapes == TAIL_C)
 }
 
 /// Whether a call at an offset can have the shapes.
-pub(crate) fn has_shapes(is_32: bool, section: &[u8], offset: u64, shapes: &Shapes) -> bool {
+pub(crate) fn has_shapes(isa: Isa, section: &[u8], offset: u64, shapes: &Shapes) -> bool {
     match link_at(section, offset) {
-        Some(link) => are_of_link(is_32, link, shapes),
+        Some(link) => are_of_link(isa, link, shapes),
         None => false,
     }
 }

@@ -213,14 +213,11 @@ fn first_run_fault(items: &ItemList<'_>, start: u64) -> Option<ItemFault> {
 /// It doesn't allocate, and takes O(n log n) for n items.
 #[must_use]
 pub fn first_faulty(items: &[ItemNumbers], start: u64) -> Option<ItemFault> {
-    first_fault(&ItemList::new(items), start)
-}
-
-fn first_fault(items: &ItemList<'_>, start: u64) -> Option<ItemFault> {
-    if let Some(found) = first_own_fault(items, start) {
+    let list = ItemList::new(items);
+    if let Some(found) = first_own_fault(&list, start) {
         return Some(found);
     }
-    first_run_fault(items, start)
+    first_run_fault(&list, start)
 }
 
 /// Whether [`relax`](crate::runs::relax()) and [`relax_into`](crate::runs::relax_into()) accept a run at an address.
