@@ -111,11 +111,15 @@ fn loses_toc(architecture: Architecture, r_type: u32, symbol: &Symbol) -> bool
 fn lacks_toc(architecture: Architecture, r_type: u32, symbol: &Symbol) -> bool
     ensures { result ≡ lacks_toc architecture r_type symbol.now }
 {
-    matches!(architecture, Architecture::Ppc64)
-        && r_type == Ppc64Relocation::R_PPC64_REL24_NOTOC.r_type()
-        && symbol.stub == 0
-        && !symbol.is_undefined_weak
-        && 1 < symbol.other / 32
+    match architecture {
+        Architecture::Ppc64 => {
+            r_type == Ppc64Relocation::R_PPC64_REL24_NOTOC.r_type()
+                && symbol.stub == 0
+                && !symbol.is_undefined_weak
+                && 1 < symbol.other / 32
+        }
+        _ => false,
+    }
 }
 
 /// How far after a function's global entry point a stub goes: to the local one for code that has a
