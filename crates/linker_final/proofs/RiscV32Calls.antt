@@ -1,9 +1,13 @@
 -- RV32's calls, by what RV64's instructions do.
 use Rattle.linker_final.proofs.Imports.{Bool, Calls, CjType, HasCalled, IType, IsApplied, IsSame32, IsSomeAnd, List, LongCall, Operands, PltRelative, RiscVRelocation, ShortCall, Some, UType, UiType, after_rewrite, ap, ap₂, arith, call_to_cjal, drop, eq-eqb, even, executed_32, false, fetched_32, fetched_word, field, from_le_bytes, if◌then◌else◌, ints, is_cjal, jump_row, le-leb, length, length-drop, lift, modulo_32, moved, nat_le, ne_eqb, negsuc, pair_row, plt_address, pos, put_there, rd_of, refl, riscv_form, riscv_row, same_low_two, step_32, subst, sum_64, sym, symbol_address, true, w16, w32, word_of, wrapped_is, ℕ, ℤ, ◌%◌, ◌&&◌, ◌+ℤ◌, ◌+◌, ◌-◌, ◌==◌, ◌^◌, ◌∙◌, ◌≡◌, ◌≢◌, ◌≤◌}
 use Rattle.linker_laws.specs.RiscVMachine.{Hart, Instruction, auipc, executed, fetched, goes_on, goes_to, jal, jumps, of_word, rs1_of, sums, with_integer, register}
-use Rattle.linker_elf.specs.declared.riscv64.relocations.RiscVRelocation.TheVariants as names
 use Rattle.linker_final.proofs.RiscV32.{symbol_32, with_addend_sum}
 use Rattle.linker_laws.proofs.RiscVJumps.{high_decodes, high_long, low_decodes, low_long, pair_base, pair_leads, pair_link, pair_register, short_jump_function, short_jump_leads, short_jump_low}
+use Rattle.linker_final.specs.RiscV32.{PackedCall}
+use Rattle.linker_laws.proofs.RiscVMachine.{address_is}
+use Rattle.linker_runs.specs.Packing.{address_of}
+use Rattle.linker_runs.specs.RiscVSites.RiscVBecomes.{call as long_one, jump as word_one, short_jump as half_one}
+use Rattle.linker_elf.specs.declared.riscv64.relocations.RiscVRelocation.TheVariants as names
 use Rattle.linker_utils.specs.declared.riscv64.rewrites.RewriteKind.TheVariants as kinds
 
 -- ---- what is fetched
@@ -67,6 +71,20 @@ plt_32 o a same = omega (arith, same)
 
 -- ---- `c.jal`
 
+called : (code : List ℕ) (place target : ℕ) (j : ℤ) (h : Hart) → h.pc ≡ place → fetched_32 code ≡ Some (2, jal 1 j) → moved place j % 2 ^ 32 ≡ target % 2 ^ 32
+    → IsSomeAnd (step_32 code h) (HasCalled 2 place target 1 h)
+called code place target j h at is leads =
+    subst (λ s. IsSomeAnd s (HasCalled 2 place target 1 h))
+    (sym (ap (λ i. executed_32 i h) is))
+    (record {
+      goes = ap (λ a. moved a j % 2 ^ 32) at ∙ leads;
+      links = ap (λ a. sum_64 a 2 % 2 ^ 32) at
+          ∙ (let e : sum_64 place 2 % 2 ^ 32 ≡ (place + 2) % 2 ^ 32 = omega arith in e);
+      others = λ r link base. kept (r == 0) (r == 1) (sum_64 h.pc 2) (h.integers r) (h.integers r) (ne_eqb r 1 link) refl;
+      floats = refl;
+      memory = refl;
+    })
+
 short_call : ShortCall
 short_call o addend small same call code matches relocated h at =
     let p : Operands = record o { addend = addend } in
@@ -83,18 +101,16 @@ short_call o addend small same call code matches relocated h at =
     let is = fetched_cjal code (omega (arith, long, len))
     (short_jump_low p jump code applied len quadrant function)
     (short_jump_function p jump code applied len quadrant function) in
-    subst (λ s. IsSomeAnd s (HasCalled 2 o.place (symbol_address o) 1 h))
-    (sym (ap (λ i. executed_32 i h) is))
-    (record {
-      goes = ap (λ m. m % 2 ^ 32) (ap (λ a. moved a j) at
-          ∙ short_jump_leads p jump code applied len quadrant function (with_addend_sum o addend small))
-          ∙ symbol_32 o addend same;
-      links = ap (λ a. sum_64 a 2 % 2 ^ 32) at
-          ∙ (let e : sum_64 o.place 2 % 2 ^ 32 ≡ (o.place + 2) % 2 ^ 32 = omega arith in e);
-      others = λ r link base. kept (r == 0) (r == 1) (sum_64 h.pc 2) (h.integers r) (h.integers r) (ne_eqb r 1 link) refl;
-      floats = refl;
-      memory = refl;
-    })
+    called code o.place (symbol_address o) j h at is
+    (ap (λ m. m % 2 ^ 32) (short_jump_leads p jump code applied len quadrant function (with_addend_sum o addend small)) ∙ symbol_32 o addend same)
+
+packed_call : PackedCall
+packed_call s site code (half_one len short cj) two link h at =
+    called code (address_of s site.offset) (address_of s site.target) ((riscv_form CjType).machine (from_le_bytes w16 code)) h at
+    (fetched_cjal code (omega (arith, two)) cj.quadrant (cj.function ∙ ap (λ l. if l == 0 then 5 else 1) link))
+    (ap (λ m. m % 2 ^ 32) (address_is _ (address_of s site.target) cj.goes))
+packed_call s site code (word_one len word) two link h at = absurd (omega (arith, len, two))
+packed_call s site code (long_one len far) two link h at = absurd (omega (arith, len, two))
 
 -- ---- `auipc` and `jalr`
 
@@ -151,4 +167,4 @@ long_call name row_is o addend small same call code matches relocated h at =
     )
 
 pub calls : Calls
-calls = (long_call names.R_RISCV_CALL refl, long_call names.R_RISCV_CALL_PLT refl, short_call)
+calls = (long_call names.R_RISCV_CALL refl, long_call names.R_RISCV_CALL_PLT refl, short_call, packed_call)

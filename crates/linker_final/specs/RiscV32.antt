@@ -12,14 +12,20 @@ use Rattle.linker_laws.specs.Schemes.{AreAddresses, Computed, PremiseHolds, Step
 use Rattle.linker_laws.specs.Schemes.{here, number_at, place, plt_address, symbol_address, zero}
 use Rattle.linker_riscv64.specs.RiscVFields.{rd_of}
 use Rattle.std.specs.Prelude.{Bool, IsSomeAnd, List, None, Ok, Option, Result, Some, [], drop}
-use Rattle.std.specs.Prelude.{false, length, nat_le, pos, true, ℕ, ℤ, ⊤, ◌≡◌, ◌≢◌, ◌<◌, ◌+◌, ◌%◌}
-use Rattle.std.specs.Prelude.{◌^◌, ◌/◌, ◌∷◌, ◌==◌, ◌&&◌, if◌then◌else◌}
+use Rattle.std.specs.Prelude.{false, length, nat_le, pos, true, ℕ, ℤ, ⊤, ◌≡◌, ◌≢◌, ◌<◌, ◌+◌, ◌-◌}
+use Rattle.std.specs.Prelude.{◌%◌, ◌^◌, ◌/◌, ◌∷◌, ◌==◌, ◌&&◌, if◌then◌else◌}
 use Rattle.linker_elf.specs.Elf.{IsWithin}
 use Rattle.linker_elf.specs.Reach.{reach_of, riscv_pair_bounds}
 use Rattle.linker_elf.specs.Rows.{Bounds}
 use Rattle.linker_section.specs.RiscV32.{AreWrapped}
 use Rattle.linker_section.specs.declared.values.ValueError.{ValueError}
 use Rattle.linker_elf.specs.declared.riscv64.relocations.RiscVRelocation.TheVariants as names
+use Rattle.linker_riscv64.specs.RiscVCalls.{link_register}
+use Rattle.linker_riscv64.specs.declared.calls.LinkRegister.TheVariants.{OfJalr}
+use Rattle.linker_runs.specs.Packing.{Section, SiteBecomes, address_of}
+use Rattle.linker_runs.specs.declared.relaxation.Site.{Site}
+use Rattle.linker_runs.specs.declared.packing.Isa.TheVariants.{Rv32}
+use Rattle.linker_runs.specs.declared.packing.Machine.TheVariants as machines
 use Rattle.linker_utils.specs.RiscVRewrites.{riscv_matches}
 use Rattle.linker_utils.specs.declared.riscv64.rewrites.RewriteKind.TheVariants as kinds
 
@@ -202,5 +208,13 @@ ShortCall =
     CallDoes names.R_RISCV_RVC_JUMP (λ call. after_rewrite kinds.CallToCJal call 0)
     (λ o call code h. IsSomeAnd (step_32 code h) (HasCalled 2 o.place (symbol_address o) 1 h))
 
+-- So do the two bytes that `pack_run` leaves of a call that links ra: they are a `c.jal`, too.
+abbrev pub PackedCall : Type 0
+PackedCall =
+    (s : Section) (site : Site) (code : List ℕ) → SiteBecomes (machines.RiscV Rv32) s site code
+    → length code ≡ 2 → link_register OfJalr s.bytes (site.offset - s.base) ≡ 1
+    → (h : Hart) → h.pc ≡ address_of s site.offset → IsSomeAnd (step_32 code h)
+    (HasCalled 2 (address_of s site.offset) (address_of s site.target) 1 h)
+
 abbrev pub Calls : Type 0
-Calls = LongCall names.R_RISCV_CALL × LongCall names.R_RISCV_CALL_PLT × ShortCall
+Calls = LongCall names.R_RISCV_CALL × LongCall names.R_RISCV_CALL_PLT × ShortCall × PackedCall

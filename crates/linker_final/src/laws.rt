@@ -132,7 +132,8 @@ pub fn riscv32_instructions()
 /// RV32: a call by `auipc` and `jalr`, and the `c.jal` that `CallToCJal` makes of it, each with the
 /// value of its relocation, whose addend is the file's modulo 2^32. Both go to their targets, by
 /// `jalr` without bit 0, and leave in ra the address after their bytes: pc + 8 and pc + 2. All else
-/// stays, but for the register of the `auipc`.
+/// stays, but for the register of the `auipc`. The same holds of the `c.jal` that `pack_run` leaves
+/// of a call which links ra.
 pub fn riscv32_calls()
     ensures { riscv32.Calls }
 {
