@@ -1,6 +1,7 @@
 -- AArch64: the rewrites of a section are of instructions that are rewritten together, and these are
 -- groups.
-use Rattle.linker_final.proofs.Imports.{AArch64, AArch64Relocation, AbsoluteLowPart, Agree, AreCalled, Begins, BeginsRewritten, Bool, Choice, ComesTo, Condition, Entry, GotRelative, GotTpOff, GotTpOffGot, Grouped, HasFinal, Independent, IsAddressRewritten, IsArchitectureChoice, IsDescriptorLeft, IsDescriptorRewritten, IsDone, IsLinked, IsLoadRewritten, IsMade, IsNameOf, IsNamed, IsOfEntry as IsOfEntryIn, IsOfOne as IsOfOneIn, IsPartAt, IsPhase, IsRewrittenAgain, IsRewrittenBy, IsRewrittenByNoOther, IsRewrittenOf, IsRow, IsScopeDecision, IsScopeIn, IsSomeAnd, IsWholeBy, IsWrittenByNoOther, Kept, Kinds, Linked, List, None, Ok, Operands, Phase, Rela, Relative, Relaxation, RewriteKind, Rewrites, RewritesAreGroups, RowInfo, Section, Some, State, Symbol, ThreadOffset, TpOff, UntouchedInstruction, UntouchedInstructions, [], aarch64_name, aarch64_row, aarch64_scope_in, addend_after, address, aligned_row, anything, ap, arith, at_address, at_call, at_high, at_initial, at_jump, at_load, at_local, at_low, bytes_row, call, chosen_at, cond, cond-false, count, decision_at, drop, entry, entry_address, entry_of, entry_pages, eq-eqb, eqb, false, field, following, go_to, group_stays, half, high, in_phase, inl, inr, insn_row, instruction_at, is_there, jump, length, load, loaded, low, object, of_entry as of_entry_in, of_group, of_link, of_one as of_one_in, of_option, offset_after, offset_of, operands_by, operands_with, page, paged_row, place_pages, plt_address, put, r_type_of, refl, register, relaxation_rewrite, relocation_after, relocation_in, replaces, rewriting, scope_there, sequences_are_whole, signed_row, slice_get, span, subst, sum_64, sym, symbol_address, take, take-take, thread_offset, to_initial, to_local, true, two_at, unlabelled, value_of, weak_zero, with_register, word_of, ℕ, ℤ, ◌*◌, ◌+◌, ◌-◌, ◌<◌, ◌^◌, ◌∙◌, ◌∷◌, ◌≡◌, ◌≢◌, ◌≤◌}
+use Rattle.linker_final.proofs.Imports.{AArch64, AArch64Relocation, AbsoluteLowPart, Agree, AreCalled, Begins, BeginsRewritten, Bool, Choice, ComesTo, Condition, Entry, GotRelative, GotTpOff, GotTpOffGot, Grouped, HasFinal, Independent, IsAddressRewritten, IsArchitectureChoice, IsDescriptorLeft, IsDescriptorRewritten, IsDone, IsLinked, IsLoadRewritten, IsMade, IsNameOf, IsNamed, IsOfEntry as IsOfEntryIn, IsOfOne as IsOfOneIn, IsPartAt, IsPhase, IsRewrittenAgain, IsRewrittenBy, IsRewrittenByNoOther, IsRewrittenOf, IsRow, IsScopeDecision, IsScopeIn, IsSomeAnd, IsWholeBy, IsWrittenByNoOther, Kept, Kinds, Linked, List, None, Ok, Operands, Phase, Rela, Relative, Relaxation, RewriteKind, Rewrites, RewritesAreGroups, RowInfo, Section, Some, State, Symbol, ThreadOffset, TpOff, UntouchedInstruction, UntouchedInstructions, [], aarch64_name, aarch64_row, aarch64_scope_in, addend_after, address, aligned_row, anything, ap, arith, at_address, at_call, at_high, at_initial, at_jump, at_load, at_local, at_low, bytes_row, chosen_at, cond, cond-false, count, decision_at, drop, entry, entry_address, entry_of, entry_pages, eq-eqb, eqb, false, field, following, go_to, group_stays, half, high, in_phase, inl, inr, insn_row, instruction_at, is_there, length, load, loaded, low, object, of_entry as of_entry_in, of_group, of_link, of_one as of_one_in, of_option, offset_after, offset_of, operands_by, operands_with, page, paged_row, place_pages, plt_address, put, r_type_of, refl, register, relaxation_rewrite, relocation_after, relocation_in, replaces, rewriting, scope_there, sequences_are_whole, signed_row, slice_get, span, subst, sum_64, sym, symbol_address, take, take-take, thread_offset, to_initial, to_local, true, two_at, unlabelled, value_of, weak_zero, with_register, word_of, ℕ, ℤ, ◌*◌, ◌+◌, ◌-◌, ◌<◌, ◌^◌, ◌∙◌, ◌∷◌, ◌≡◌, ◌≢◌, ◌≤◌}
+use Rattle.linker_final.specs.AArch64Section.{call, jump}
 use Rattle.linker_laws.specs.AArch64Groups.{BranchToNop, Code, Descriptor, EndsInNops, Has, IsPair, Stands, go_and_link, link, seen, with_entry, Groups, Leaves, IsRewritten}
 use Rattle.linker_utils.specs.AArch64Rewrites.{AArch64Applies, AArch64Entry, AreOfOneRegister, IsAdd64, IsAdrp, IsIntoOwnSource, IsLdr64, aarch64_entries, aarch64_matches, aarch64_rewrite, halves_to_local_exec, is_ldr64, nop, nop_adr, rewrites_where, rn_of, to_address, to_adr, to_initial_exec, to_local_exec, HasPattern, rd_of}
 use Rattle.linker_elf.specs.declared.aarch64.forms.AArch64Instruction.TheVariants.{Add, Adr, LdrRegister, Movkz, Movnz}

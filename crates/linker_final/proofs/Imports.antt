@@ -37,15 +37,15 @@ pub use Rattle.linker_elf.specs.declared.loongarch64.forms.LoongArch64Instructio
 pub use Rattle.linker_elf.specs.declared.loongarch64.relocations.LoongArch64Relocation.{LoongArch64Relocation}
 pub use Rattle.linker_elf.specs.declared.riscv64.forms.RiscVInstruction.TheVariants.{BType, CbType, CjType, CluiType, IType, JType, SType, UType, UiType}
 pub use Rattle.linker_elf.specs.declared.riscv64.relocations.RiscVRelocation.{RiscVRelocation}
-pub use Rattle.linker_final.specs.AArch64Section.{Begins, ComesTo, HasFinal, IsDescriptorLeft, IsRewrittenAgain, IsRewrittenOf, Rewrites, address, at_address, at_call, at_high, at_initial, at_jump, at_load, at_local, at_low, call, high, jump, load, low, object, register, rewriting, span, to_initial, to_local}
+pub use Rattle.linker_final.specs.AArch64Section.{Begins, ComesTo, HasFinal, IsDescriptorLeft, IsRewrittenAgain, IsRewrittenOf, Rewrites, address, at_address, at_call, at_high, at_initial, at_jump, at_load, at_local, at_low, high, load, low, object, register, rewriting, span, to_initial, to_local}
 pub use Rattle.linker_final.specs.Final.{AreBytes, AreCalled, AreInTurn, AreLeft, AreLinked, AreListed, ArePhases, AreRewritten, EachPlace, HasRewritten, IsBesideAll, IsFollowed, IsLinked, IsOutside, IsPhase, IsPhaseIn, IsRewrittenByNoOther, IsWrittenByNoOther, Keeps, Known, Knows, Linked, OtherBytes, OtherFields, Place, RewritesAreGroups, RewritesNone, Rewriting, RewritingPhase, RunsAreFollowed, Section, UntouchedByOthers, UntouchedBytes, UntouchedBytesAreTheSame, UntouchedInPhase, UntouchedInstruction, UntouchedInstructions, begins, comparison, count, count_of, elsewhere, instruction_at, linked_by, offset_of, rewriting_phase, two_at, unchanged, within}
 pub use Rattle.linker_final.specs.Packed.{AlignmentsHold, AreDeleted, AreRelaxedAndPacked, DeletedBytesAreGone, Goes, HoldsIn, InstructionsAreRelocated, IsAligned, IsBefore, IsKeptInstruction, IsOfRun, IsPackCause, IsPacked, IsRewrittenAndPacked, IsSiteOf, IsSkipped, IsUnwritten, ItemsAreDeleted, KeptBytesStay, LoongArchBranchesGo, Packed, PaddingIsNops, PlacesAreRelocated, PlacesHaveAddresses, RiscVBranchesGo, Run, SectionsAreAligned, StayTogether, Stays, address_at, architecture_of, final_instruction, final_number, packed_of, padding_at, padding_len, place_of, site_after, site_bytes, site_len, site_offset, site_place, site_target}
-pub use Rattle.linker_final.specs.RiscV32.{Addends, Branches, Calls, HasCalled, HasWrappedAddend, IsSame32, IsWrappedValue, IsWrappedWithin, Law32, LongCall, PairsReachAll, Reaches32, RelativeAddresses, ShortCall, Values, Word, Words, executed_32, fetched_32, is_cjal, modulo_32, step_32}
+pub use Rattle.linker_final.specs.RiscV32.{Addends, Branches, Calls, HasCalled, HasWrappedAddend, IsSame32, IsWrappedValue, IsWrappedWithin, Law32, LongCall, PackedCall, PairsReachAll, Reaches32, RelativeAddresses, ShortCall, Values, Word, Words, executed_32, fetched_32, is_cjal, modulo_32, step_32}
 pub use Rattle.linker_final.specs.Steps.{AllPass, Executed, Group, Numbers, all_below, at, m0, made_high, made_low, pc}
 pub use Rattle.linker_final.specs.Worked.{HasGroups, IsGroupOf, IsLinkedAs, IsOfCalls, IsPhaseOf, code_at, halves, none_stays}
 pub use Rattle.linker_final.specs.declared.worked.TheConstants.{AARCH64_OBJECT, AARCH64_RELOCATIONS, OUTPUT}
 pub use Rattle.linker_laws.proofs.RiscVGroups.{absolute_rows, based_group, below_32, cj_goes, jal_goes, jump_group, nothing_left, puts, row_of, word_goes}
-pub use Rattle.linker_laws.proofs.RiscVMachine.{fetched_word, moved_twice, written}
+pub use Rattle.linker_laws.proofs.RiscVMachine.{address_is, fetched_word, moved_twice, written}
 pub use Rattle.linker_laws.proofs.Sums.{cast_is, difference_below, lift, sum_zero, wrapped_is}
 pub use Rattle.linker_laws.proofs.Words.{put_there, same_low_two, word_below}
 pub use Rattle.linker_laws.specs.Changes.{go_to, put, with_register}
@@ -75,7 +75,8 @@ pub use Rattle.linker_rewriting.specs.declared.phases.Phase.{Phase}
 pub use Rattle.linker_riscv64.specs.RiscVCalls.{IsCallPair, link_register, word_at}
 pub use Rattle.linker_riscv64.specs.RiscVFields.{funct3_of, opcode_of, rd_of}
 pub use Rattle.linker_runs.specs.Deleting.{deletions_of_run}
-pub use Rattle.linker_runs.specs.Packing.{IsInside, IsPackedRun, ItemBecomes, SiteBecomes, is_fixed, kept_len, nops, packed_offset, section_of}
+pub use Rattle.linker_runs.specs.Packing.{IsInside, IsPackedRun, ItemBecomes, SiteBecomes, address_of, is_fixed, kept_len, nops, packed_offset, section_of}
+pub use Rattle.linker_runs.specs.RiscVSites.RiscVBecomes.{call, jump, short_jump}
 pub use Rattle.linker_runs.specs.declared.packing.Machine.{Machine}
 pub use Rattle.linker_runs.specs.declared.packing.Machine.TheVariants.{LoongArch64}
 pub use Rattle.linker_runs.specs.declared.relaxation.Item.{Item}

@@ -1,7 +1,7 @@
 -- The final bytes of a section that was packed.
-use Rattle.linker_final.proofs.Imports.{Addresses, Adds, Aligned, AlignmentsHold, All-drop, All-from_get_or, All-take, AnyForm, Architecture, AreAddresses, AreBytes, AreDeleted, AreRelaxedAndPacked, BType, BitMasking, BitRange, Branch21, Branch26, CbType, CjType, DeletedBytesAreGone, Goes, HoldsIn, InstructionsAreRelocated, IsAddress, IsAligned, IsApplied, IsInside, IsKeptInstruction, IsOfRun, IsPacked, IsRewrittenAndPacked, IsRow, IsSiteOf, IsSkipped, IsSomeAnd, IsTrue, IsUnwritten, Item, ItemBecomes, ItemsAreDeleted, JType, KeptBytesStay, Linked, List, LoongArch64, LoongArch64Relocation, LoongArchBranchesGo, Machine, MatchOption, None, Ok, Operands, Option, Packed, PaddingIsNops, PlacesAreRelocated, PlacesHaveAddresses, RecordsDeletions, Rela, RiscVBranchesGo, RiscVRelocation, RowInfo, Run, SectionsAreAligned, Shift10, Shift5, Site, SiteBecomes, Some, StayTogether, Stays, Symbol, UntouchedBytes, UntouchedInstruction, address_at, ap, architecture_of, arith, bytes_row, cases_Bool, cases_lt, count, deletions_of_run, div-add-mod', drop, false, final_number, get_or, has_value, here, inl, inr, instruction_at, is_fixed, kept_len, length, loongarch_form, loongarch_row, mod-mul-add, names_label, nops, offset_at, operands_in, operands_of as operands_by_symbols, operands_with, packed_of, packed_offset, padding_at, padding_len, place, place_of, plt_address, pos, refl, relocation_in, riscv_form, riscv_row, site_bytes, site_len, site_offset, slice_get, some_window, subst, suc, sum_64, sym, symbol_address, take, true, value_of, window_len, zero, ℕ, ℤ, ⊤, ◌%◌, ◌*ℤ◌, ◌*◌, ◌+ℤ◌, ◌+◌, ◌-◌, ◌/◌, ◌<◌, ◌^◌, ◌∙◌, ◌≡◌, ◌≢◌, ◌≤◌, ◌⊎◌}
+use Rattle.linker_final.proofs.Imports.{Addresses, Adds, Aligned, AlignmentsHold, All-drop, All-from_get_or, All-take, AnyForm, Architecture, AreAddresses, AreBytes, AreDeleted, AreRelaxedAndPacked, BType, BitMasking, BitRange, Branch21, Branch26, CbType, CjType, DeletedBytesAreGone, Goes, HoldsIn, InstructionsAreRelocated, IsAddress, IsAligned, IsApplied, IsInside, IsKeptInstruction, IsOfRun, IsPacked, IsRewrittenAndPacked, IsRow, IsSiteOf, IsSkipped, IsSomeAnd, IsTrue, IsUnwritten, Item, ItemBecomes, ItemsAreDeleted, JType, KeptBytesStay, Linked, List, LoongArch64, LoongArch64Relocation, LoongArchBranchesGo, Machine, MatchOption, None, Ok, Operands, Option, Packed, PaddingIsNops, PlacesAreRelocated, PlacesHaveAddresses, RecordsDeletions, Rela, RiscVBranchesGo, RiscVRelocation, RowInfo, Run, SectionsAreAligned, Shift10, Shift5, Site, SiteBecomes, Some, StayTogether, Stays, Symbol, UntouchedBytes, UntouchedInstruction, address_at, address_of, ap, architecture_of, arith, bytes_row, cases_Bool, cases_lt, count, deletions_of_run, div-add-mod', drop, false, final_number, get_or, has_value, here, inl, inr, instruction_at, is_fixed, kept_len, length, loongarch_form, loongarch_row, mod-mul-add, names_label, nops, offset_at, operands_in, operands_of as operands_by_symbols, operands_with, packed_of, packed_offset, padding_at, padding_len, place, place_of, plt_address, pos, refl, relocation_in, riscv_form, riscv_row, site_bytes, site_len, site_offset, slice_get, some_window, subst, suc, sum_64, sym, symbol_address, take, true, value_of, window_len, zero, ℕ, ℤ, ⊤, ◌%◌, ◌*ℤ◌, ◌*◌, ◌+ℤ◌, ◌+◌, ◌-◌, ◌/◌, ◌<◌, ◌^◌, ◌∙◌, ◌≡◌, ◌≢◌, ◌≤◌, ◌⊎◌}
 use Rattle.linker_runs.specs.Relaxing.{IsSound, end_of, freed_before, item_at, needed, choice_of, offset_of}
-use Rattle.linker_runs.specs.Packing.{address_of, Section}
+use Rattle.linker_runs.specs.Packing.{Section}
 use Rattle.linker_base.proofs.Rank.{rank-le, rank-mono, rank_all_kept, rank_gone, rank_kept, selected_once}
 use Rattle.linker_base.specs.Deletions.{IsValid, is_kept, rank}
 use Rattle.linker_base.specs.Listed.{AreValidDeltas}

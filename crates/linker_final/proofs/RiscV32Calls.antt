@@ -1,12 +1,8 @@
 -- RV32's calls, by what RV64's instructions do.
-use Rattle.linker_final.proofs.Imports.{Bool, Calls, CjType, HasCalled, IType, IsApplied, IsSame32, IsSomeAnd, List, LongCall, Operands, PltRelative, RiscVRelocation, ShortCall, Some, UType, UiType, after_rewrite, ap, ap₂, arith, call_to_cjal, drop, eq-eqb, even, executed_32, false, fetched_32, fetched_word, field, from_le_bytes, if◌then◌else◌, ints, is_cjal, jump_row, le-leb, length, length-drop, lift, modulo_32, moved, nat_le, ne_eqb, negsuc, pair_row, plt_address, pos, put_there, rd_of, refl, riscv_form, riscv_row, same_low_two, step_32, subst, sum_64, sym, symbol_address, true, w16, w32, word_of, wrapped_is, ℕ, ℤ, ◌%◌, ◌&&◌, ◌+ℤ◌, ◌+◌, ◌-◌, ◌==◌, ◌^◌, ◌∙◌, ◌≡◌, ◌≢◌, ◌≤◌}
+use Rattle.linker_final.proofs.Imports.{Bool, Calls, CjType, HasCalled, IType, IsApplied, IsSame32, IsSomeAnd, List, LongCall, Operands, PackedCall, PltRelative, RiscVRelocation, ShortCall, Some, UType, UiType, address_is, address_of, after_rewrite, ap, ap₂, arith, call as long_one, call_to_cjal, drop, eq-eqb, even, executed_32, false, fetched_32, fetched_word, field, from_le_bytes, if◌then◌else◌, ints, is_cjal, jump as word_one, jump_row, le-leb, length, length-drop, lift, modulo_32, moved, nat_le, ne_eqb, negsuc, pair_row, plt_address, pos, put_there, rd_of, refl, riscv_form, riscv_row, same_low_two, short_jump as half_one, step_32, subst, sum_64, sym, symbol_address, true, w16, w32, word_of, wrapped_is, ℕ, ℤ, ◌%◌, ◌&&◌, ◌+ℤ◌, ◌+◌, ◌-◌, ◌==◌, ◌^◌, ◌∙◌, ◌≡◌, ◌≢◌, ◌≤◌}
 use Rattle.linker_laws.specs.RiscVMachine.{Hart, Instruction, auipc, executed, fetched, goes_on, goes_to, jal, jumps, of_word, rs1_of, sums, with_integer, register}
 use Rattle.linker_final.proofs.RiscV32.{symbol_32, with_addend_sum}
 use Rattle.linker_laws.proofs.RiscVJumps.{high_decodes, high_long, low_decodes, low_long, pair_base, pair_leads, pair_link, pair_register, short_jump_function, short_jump_leads, short_jump_low}
-use Rattle.linker_final.specs.RiscV32.{PackedCall}
-use Rattle.linker_laws.proofs.RiscVMachine.{address_is}
-use Rattle.linker_runs.specs.Packing.{address_of}
-use Rattle.linker_runs.specs.RiscVSites.RiscVBecomes.{call as long_one, jump as word_one, short_jump as half_one}
 use Rattle.linker_elf.specs.declared.riscv64.relocations.RiscVRelocation.TheVariants as names
 use Rattle.linker_utils.specs.declared.riscv64.rewrites.RewriteKind.TheVariants as kinds
 

@@ -1,15 +1,13 @@
 -- RISC-V: calls in the final bytes of a packed section, and what is deleted of it.
-use Rattle.linker_final.proofs.Imports.{All-drop, All-take, AreAddresses, AreBytes, AreDeleted as IsGone, CallStays, DeletedLui, HasWord, IsApplied, IsBefore, IsCallPair, IsLow12, IsLowOffset, IsLui, IsSomeAnd, List, Operands, Packed, RiscV, RiscVRelocation, Site, SiteBecomes, Some, State, ap, architecture_of, arith, cj_goes, drop, drop-drop, eqb-true, even, false, field, from_le_bytes, if◌then◌else◌, inl, inr, jal_goes, jump_group, length, length-drop, link_register, offset_at, operands_with, place_of, plt_address, rd_of, refl, relocation_in, riscv_matches, riscv_relocation, site_bytes, site_len, site_offset, site_place, site_target, subst, sym, take, take_all, value_of, w16, w32, word_at, ℕ, ◌%◌, ◌+◌, ◌-◌, ◌<◌, ◌^◌, ◌∙◌, ◌≡◌, ◌≢◌, ◌≤◌}
+use Rattle.linker_final.proofs.Imports.{All-drop, All-take, AreAddresses, AreBytes, AreDeleted as IsGone, CallStays, DeletedLui, HasWord, IsApplied, IsBefore, IsCallPair, IsLow12, IsLowOffset, IsLui, IsSomeAnd, List, Operands, Packed, RiscV, RiscVRelocation, Site, SiteBecomes, Some, State, address_is, ap, architecture_of, arith, call, cj_goes, drop, drop-drop, eqb-true, even, false, field, from_le_bytes, if◌then◌else◌, inl, inr, jal_goes, jump, jump_group, length, length-drop, link_register, offset_at, operands_with, place_of, plt_address, rd_of, refl, relocation_in, riscv_matches, riscv_relocation, short_jump, site_bytes, site_len, site_offset, site_place, site_target, subst, sym, take, take_all, value_of, w16, w32, word_at, ℕ, ◌%◌, ◌+◌, ◌-◌, ◌<◌, ◌^◌, ◌∙◌, ◌≡◌, ◌≢◌, ◌≤◌}
 use Rattle.linker_final.specs.RiscVSection.{CallIsAlike, HighPartsAreLeftOut, IsOfCall, LongCallsStay, LuiIsLeftOut, SitesCallTheSame, SumIsLeftOut, call_row, instructions_in, landing}
 use Rattle.linker_laws.specs.RiscVGroups.{Code, Groups, AreDeleted}
-use Rattle.linker_laws.proofs.RiscVMachine.{address_is}
 use Rattle.linker_final.proofs.PackedBytes.{are_addresses, instructions, no_place, places_inside, site_becomes, site_inside, site_length, site_small, stay_inside}
 use Rattle.linker_final.proofs.Written.{back_of_pair, front_of_pair, some_value, window_length}
 use Rattle.linker_riscv64.specs.declared.calls.LinkRegister.TheVariants.{OfJalr}
 use Rattle.linker_runs.specs.Origins.{HasItsInstructions}
 use Rattle.linker_runs.specs.RiscVItems.{IsCallAt}
 use Rattle.linker_runs.specs.RiscVSites.{RiscVBecomes}
-use Rattle.linker_runs.specs.RiscVSites.RiscVBecomes.{call, jump, short_jump}
 use Rattle.linker_runs.specs.Sites.{operands_of}
 use Rattle.linker_utils.specs.declared.riscv64.rewrites.RewriteKind.{RewriteKind}
 use Rattle.linker_runs.specs.declared.packing.Isa.TheVariants.{Rv64}

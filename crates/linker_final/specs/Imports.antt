@@ -1,6 +1,5 @@
 -- The names of other crates that several files of definitions here use.
 pub use Rattle.linker_base.specs.Bits.{field}
-pub use Rattle.linker_elf.specs.Applied.{IsApplied}
 pub use Rattle.linker_elf.specs.Architectures.{IsRow}
 pub use Rattle.linker_elf.specs.ElfNames.{IsNameOf, IsNamed, r_type_of}
 pub use Rattle.linker_elf.specs.LoongArch.{five_instructions, loongarch_form, page, upper_and_lower_value}
@@ -30,7 +29,11 @@ pub use Rattle.linker_rewriting.specs.declared.decisions.Decision.{Decision}
 pub use Rattle.linker_rewriting.specs.declared.decisions.Decision.TheVariants.{Kept, Rewritten, RewrittenWithSymbol}
 pub use Rattle.linker_rewriting.specs.declared.groups.Scope.TheVariants.{Grouped, NotRelaxable}
 pub use Rattle.linker_rewriting.specs.declared.groups.UnrelaxableGroups.{UnrelaxableGroups}
+pub use Rattle.linker_runs.specs.Choosing.{AreItems, IsRelaxation}
+pub use Rattle.linker_runs.specs.Deleting.{deletions_of_run}
 pub use Rattle.linker_runs.specs.Machines.{RiscV64}
+pub use Rattle.linker_runs.specs.Moved.{AreMoved, IsMoved}
+pub use Rattle.linker_runs.specs.Packing.{IsFirstRejected, IsInside, IsNotIn, IsPackedRun, Section, SiteBecomes, address_of, is_fixed, kept_len, nops, packed_offset, section_of}
 pub use Rattle.linker_runs.specs.declared.relaxation.Item.{Item}
 pub use Rattle.linker_runs.specs.declared.relaxation.Site.{Site}
 pub use Rattle.linker_section.specs.Relocations.{relocation_in}

@@ -3,22 +3,21 @@
 use Rattle.std.specs.Prelude.{◌≡◌, ◌≢◌, ℕ, ◌+◌, ◌-◌, ◌/◌, ◌^◌, ◌<◌, ◌≤◌, List, length, take, drop}
 use Rattle.std.specs.Prelude.{slice_index, IsTrue, Ok, Some, true, false, ℤ, ◌⊎◌, ◌%◌, MatchOption}
 use Rattle.std.specs.Prelude.{None, pos, ◌+ℤ◌, ◌*ℤ◌, slice_get, IsSomeAnd, Option}
-use Rattle.linker_final.specs.Imports.{Addresses, Architecture, AreWritten, BType, Branch21}
-use Rattle.linker_final.specs.Imports.{Branch26, CbType, CjType, IsApplied, IsFirstFault, IsRow}
-use Rattle.linker_final.specs.Imports.{Item, JType, Operands, RiscVRelocation, RowInfo, Shift10}
-use Rattle.linker_final.specs.Imports.{Shift5, Site as site, Symbol, has_value, loongarch_form}
-use Rattle.linker_final.specs.Imports.{names_label, offset_at, operands_with, relocation_in}
-use Rattle.linker_final.specs.Imports.{riscv_form, riscv_row, sum_64, value_of, window_len}
+use Rattle.linker_final.specs.Imports.{Addresses, Architecture, AreItems, AreMoved, AreWritten}
+use Rattle.linker_final.specs.Imports.{BType, Branch21, Branch26, CbType, CjType, IsFirstFault}
+use Rattle.linker_final.specs.Imports.{IsFirstRejected, IsInside, IsMoved, IsNotIn, IsPackedRun}
+use Rattle.linker_final.specs.Imports.{IsRelaxation, IsRow, Item, JType, Operands, RiscVRelocation}
+use Rattle.linker_final.specs.Imports.{RowInfo, Section, Shift10, Shift5, Site as site, Symbol}
+use Rattle.linker_final.specs.Imports.{address_of, deletions_of_run, has_value, is_fixed, kept_len}
+use Rattle.linker_final.specs.Imports.{loongarch_form, names_label, nops, offset_at, operands_with}
+use Rattle.linker_final.specs.Imports.{packed_offset, relocation_in, riscv_form, riscv_row}
+use Rattle.linker_final.specs.Imports.{section_of, sum_64, value_of, window_len}
+use Rattle.linker_elf.specs.Applied.{IsApplied}
 use Rattle.linker_laws.specs.Schemes.{AreAddresses, IsAddress, number_at, plt_address}
 use Rattle.linker_laws.specs.Schemes.{symbol_address}
-use Rattle.linker_runs.specs.Moved.{AreMoved, IsMoved}
 use Rattle.linker_elf.specs.declared.loongarch64.relocations.LoongArch64Relocation.{LoongArch64Relocation}
 use Rattle.linker_elf.specs.declared.riscv64.forms.RiscVInstruction.{RiscVInstruction}
-use Rattle.linker_runs.specs.Deleting.{deletions_of_run}
 use Rattle.linker_elf.specs.LoongArchRelocations.{loongarch_row}
-use Rattle.linker_runs.specs.Choosing.{AreItems, IsRelaxation}
-use Rattle.linker_runs.specs.Packing.{IsPackedRun, section_of, IsFirstRejected, IsInside, IsNotIn}
-use Rattle.linker_runs.specs.Packing.{Section, address_of, is_fixed, kept_len, nops, packed_offset}
 use Rattle.linker_runs.specs.declared.packing.Machine.TheVariants.{LoongArch64, RiscV}
 use Rattle.linker_base.specs.Deletions.{is_kept}
 use Rattle.linker_base.specs.declared.bit_misc.BitRange.{BitRange}

@@ -1,13 +1,14 @@
 -- RV32: relocations with wrapped addends, and what instructions with them compute, modulo 2^32
 -- (RISC-V unprivileged ISA, "RV32I Base Integer Instruction Set": registers have 32 bits).
 use Rattle.linker_final.specs.Imports.{Addresses, BType, Call, CbType, CjType, EntryAddresses, Hart}
-use Rattle.linker_final.specs.Imports.{Instruction, IsApplied, IsRow, IsValue, JType, Jump}
-use Rattle.linker_final.specs.Imports.{Operands, Pairs, Rela, Relocated, RiscV, RiscVRelocation}
-use Rattle.linker_final.specs.Imports.{RowInfo, Symbol, UType, adds, after_rewrite, cast_unsigned}
-use Rattle.linker_final.specs.Imports.{even, executed, fetched, field, from_le_bytes}
-use Rattle.linker_final.specs.Imports.{int_rem_euclid, jal, jumps, low_load, low_store}
-use Rattle.linker_final.specs.Imports.{number_of_bytes, register, relocation_in, riscv_form}
-use Rattle.linker_final.specs.Imports.{riscv_row, sums, w16, w64, word_of}
+use Rattle.linker_final.specs.Imports.{Instruction, IsRow, IsValue, JType, Jump, Operands, Pairs}
+use Rattle.linker_final.specs.Imports.{Rela, Relocated, RiscV, RiscVRelocation, RowInfo, Section}
+use Rattle.linker_final.specs.Imports.{Site, SiteBecomes, Symbol, UType, address_of, adds}
+use Rattle.linker_final.specs.Imports.{after_rewrite, cast_unsigned, even, executed, fetched, field}
+use Rattle.linker_final.specs.Imports.{from_le_bytes, int_rem_euclid, jal, jumps, low_load}
+use Rattle.linker_final.specs.Imports.{low_store, number_of_bytes, register, relocation_in}
+use Rattle.linker_final.specs.Imports.{riscv_form, riscv_row, sums, w16, w64, word_of}
+use Rattle.linker_elf.specs.Applied.{IsApplied}
 use Rattle.linker_laws.specs.Schemes.{AreAddresses, Computed, PremiseHolds, Step, entry_and_addend}
 use Rattle.linker_laws.specs.Schemes.{here, number_at, place, plt_address, symbol_address, zero}
 use Rattle.linker_riscv64.specs.RiscVFields.{rd_of}
@@ -22,8 +23,6 @@ use Rattle.linker_section.specs.declared.values.ValueError.{ValueError}
 use Rattle.linker_elf.specs.declared.riscv64.relocations.RiscVRelocation.TheVariants as names
 use Rattle.linker_riscv64.specs.RiscVCalls.{link_register}
 use Rattle.linker_riscv64.specs.declared.calls.LinkRegister.TheVariants.{OfJalr}
-use Rattle.linker_runs.specs.Packing.{Section, SiteBecomes, address_of}
-use Rattle.linker_runs.specs.declared.relaxation.Site.{Site}
 use Rattle.linker_runs.specs.declared.packing.Isa.TheVariants.{Rv32}
 use Rattle.linker_runs.specs.declared.packing.Machine.TheVariants as machines
 use Rattle.linker_utils.specs.RiscVRewrites.{riscv_matches}

@@ -1,12 +1,9 @@
 -- Programs that the calls link: words of which every premise of the laws of runs holds.
 use Rattle.std.specs.Prelude.{◌≡◌, ℕ, zero, suc, ◌+◌, ◌/◌, List, [], ◌∷◌, length, false, replicate}
-use Rattle.linker_final.specs.Imports.{Addresses, Architecture, AreWritten, Decision, Item, Kinds}
-use Rattle.linker_final.specs.Imports.{RelaxContext, RiscV, RiscV64, State, Symbol}
-use Rattle.linker_final.specs.Imports.{UnrelaxableGroups, half, put, same, with_register}
-use Rattle.linker_runs.specs.Moved.{AreMoved}
-use Rattle.linker_runs.specs.Deleting.{deletions_of_run}
-use Rattle.linker_runs.specs.Packing.{IsPackedRun, section_of}
-use Rattle.linker_runs.specs.Choosing.{IsRelaxation}
+use Rattle.linker_final.specs.Imports.{Addresses, Architecture, AreMoved, AreWritten, Decision}
+use Rattle.linker_final.specs.Imports.{IsPackedRun, IsRelaxation, Item, Kinds, RelaxContext, RiscV}
+use Rattle.linker_final.specs.Imports.{RiscV64, State, Symbol, UnrelaxableGroups, deletions_of_run}
+use Rattle.linker_final.specs.Imports.{half, put, same, section_of, with_register}
 use Rattle.linker_final.specs.Final.{AreCalled, AreLinked, HasRewritten, IsPhase, Linked, Rewriting}
 use Rattle.linker_final.specs.Final.{RewritingPhase, Section, rewriting_phase}
 use Rattle.linker_rewriting.specs.GlobalPointer.{AreBased, AreRelocationsBy, section_based}
