@@ -16,32 +16,24 @@
     F(st_name) F(st_info) F(st_other) F(st_shndx) F(st_value) F(st_size)
 #define COPY(field) to.field = from.field;
 
-/* Writes an entry of a table as the struct of the other class. Both may be one table, which is cut
- * in place. */
-#define CONVERT(From, To, FIELDS, table, made, i)                              \
-    From from;                                                                 \
-    To to = {0};                                                               \
-    memcpy(&from, (const uint8_t *)(table) + (i) * sizeof from, sizeof from);  \
-    memcpy(&to, &from, sizeof to < sizeof from ? sizeof to : sizeof from);     \
-    FIELDS(COPY)                                                               \
-    memcpy((uint8_t *)(made) + (i) * sizeof to, &to, sizeof to)
-
-#define WIDENS(type)                                                              \
-    const void *wide_##type(const void *table, size_t count) {                    \
-        Elf64_##type *made = is_narrow ? take(count, sizeof *made) : NULL;        \
-        for (size_t i = 0; is_narrow && i < count; i++) {                         \
-            CONVERT(Elf32_##type, Elf64_##type, FIELDS_OF_##type, table, made, i); \
-        }                                                                         \
-        return is_narrow ? made : table;                                          \
+/* A table as structs of the other class, if files are of ELFCLASS32. */
+#define CONVERTS(name, From, To, FIELDS)                                        \
+    const void *name(const void *table, size_t count) {                         \
+        To *made = is_narrow ? take(count, sizeof *made) : NULL;                \
+        for (size_t i = 0; is_narrow && i < count; i++) {                       \
+            From from;                                                          \
+            To to = {0};                                                        \
+            memcpy(&from, (const uint8_t *)table + i * sizeof from, sizeof from); \
+            memcpy(&to, &from, sizeof to < sizeof from ? sizeof to : sizeof from); \
+            FIELDS(COPY)                                                        \
+            made[i] = to;                                                       \
+        }                                                                       \
+        return is_narrow ? made : table;                                        \
     }
-#define CUTS(type)                                                                 \
-    size_t cut_##type(void *table, size_t count) {                                 \
-        for (size_t i = 0; is_narrow && i < count; i++) {                          \
-            CONVERT(Elf64_##type, Elf32_##type, FIELDS_OF_##type, table, table, i); \
-        }                                                                          \
-        return count * SIZE_OF(type);                                              \
-    }
-WIDENS(Ehdr) WIDENS(Shdr) WIDENS(Sym) CUTS(Ehdr) CUTS(Shdr) CUTS(Phdr) CUTS(Sym)
+#define CONVERTS_BOTH_WAYS(type)                                               \
+    CONVERTS(wide_##type, Elf32_##type, Elf64_##type, FIELDS_OF_##type)        \
+    CONVERTS(cut_##type, Elf64_##type, Elf32_##type, FIELDS_OF_##type)
+CONVERTS_BOTH_WAYS(Ehdr) CONVERTS_BOTH_WAYS(Shdr) CONVERTS_BOTH_WAYS(Phdr) CONVERTS_BOTH_WAYS(Sym)
 
 /* Notes the class of the files, which all have to have. Only RISC-V's may be of ELFCLASS32. */
 void note_class(const struct object *o) {

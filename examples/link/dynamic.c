@@ -32,7 +32,7 @@ void bind_symbols(void) {
                        (is_default || visibility_of(s) == STV_PROTECTED);
         if (s->library && is_thread_local(s) != (ELF64_ST_TYPE(s->there->st_info) == STT_TLS))
             fail_of(s->object, "'%s' is thread-local in only one of it and %s", s->name,
-                    s->library->file.path);
+                    s->library->path);
         bool may_be_there = !is_defined(s) && (s->library || bind_of(s) == STB_WEAK);
         s->is_imported = is_seen && is_default && (is_shared || may_be_there);
         s->is_exported = is_seen && is_defined(s) && (is_shared || s->is_exported);
@@ -71,7 +71,7 @@ void import(struct section *in, Elf64_Rela *r, const struct linker_utils_require
     } else if (!linked.is_executable) {
         fail_at(in, r, " can't reach '%s', which another file may replace", s->name);
     } else if (s->library) {
-        const char *file = s->library->file.path;
+        const char *file = s->library->path;
         if (ELF64_ST_VISIBILITY(s->there->st_other) == STV_PROTECTED)
             fail_at(in, r, " can't replace the protected '%s' of %s", s->name, file);
         bool is_function = ELF64_ST_TYPE(s->there->st_info) == STT_FUNC;
@@ -83,16 +83,16 @@ void import(struct section *in, Elf64_Rela *r, const struct linker_utils_require
 /* Makes room for a variable of a library in the program, and moves all its names there. Its address
  * and its section in the library say how it is aligned. */
 static void make_copy(struct symbol *s) {
-    const struct library *l = s->library;
+    const struct object *l = s->library;
     uint64_t align = s->there->st_value & -s->there->st_value, most = 64;
-    if (s->there->st_shndx < l->file.sections_len)
-        most = l->file.heads[s->there->st_shndx].sh_addralign;
+    if (s->there->st_shndx < l->sections_len)
+        most = l->heads[s->there->st_shndx].sh_addralign;
     if (!s->there->st_size || s->there->st_size > MOST_BYTES)
-        fail_of(&l->file, ".dynsym: '%s' can't be copied", s->name);
+        fail_of(l, ".dynsym: '%s' can't be copied", s->name);
     uint64_t at = make_room(bss, align && align < most ? align : most, s->there->st_size);
     add_row(bss, at, types.copy, s, 0);
-    for (size_t i = 0; i <= l->file.symbols_len; i++) { /* at last itself, if by its version */
-        struct symbol *alias = i < l->file.symbols_len ? l->file.symbols[i] : s;
+    for (size_t i = 0; i <= l->symbols_len; i++) { /* at last itself, if by its version */
+        struct symbol *alias = i < l->symbols_len ? l->symbols[i] : s;
         if (!alias || alias->library != l || alias->there->st_value != s->there->st_value ||
             alias->there->st_shndx != s->there->st_shndx || (alias->object && is_defined(alias)))
             continue;
@@ -161,7 +161,7 @@ static void write_hashes(void) {
 static void write_needed(void) {
     uint64_t last = 0;
     uint16_t number = VER_NDX_GLOBAL;
-    for (struct library *l = libraries; l; l = l->next) {
+    EACH_LIBRARY(l) {
         Elf64_Verneed head = {.vn_version = VER_NEED_CURRENT, .vn_file = l->name_at,
                               .vn_aux = sizeof head};
         for (struct version *v = l->versions; v <= l->versions + MOST_VERSIONS; v++) {
@@ -268,7 +268,7 @@ static void put_entries(void) {
     bool is_static = false;
     if (own_name && !name) name = add_name(dynstr, own_name);
     dynamic->len = 0;
-    for (const struct library *l = libraries; l; l = l->next) put_entry(DT_NEEDED, l->name_at);
+    EACH_LIBRARY(l) put_entry(DT_NEEDED, l->name_at);
     if (name) put_entry(DT_SONAME, name);
     put_function(DT_INIT, "_init");
     put_function(DT_FINI, "_fini");
@@ -307,7 +307,7 @@ void make_dynamic(void) {
         fail("no dynamic linker is known for such objects");
     if (interpreter) append(interpreter, 1, path, used + 1);
     make_room(dynstr, 1, 1); /* the empty name is always there */
-    for (struct library *l = libraries; l; l = l->next) l->name_at = add_name(dynstr, l->name);
+    EACH_LIBRARY(l) l->name_at = add_name(dynstr, l->name);
     list_dynamic();
     put_entries();
 }

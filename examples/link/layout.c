@@ -134,17 +134,6 @@ void add_part_of(struct output *o, struct section *s, uint64_t align) {
     o->last = s;
 }
 
-/* Whether a GiB may be too little for the linked file: then 32 bits may not hold each distance. */
-bool is_long(void) {
-    uint64_t low = UINT64_MAX, high = 0, len = 0, most = INT32_MAX / 2;
-    EACH_OUTPUT(o) {
-        len += o->len + MOST_ALIGN;
-        if (o->is_placed && o->place < low) low = o->place;
-        if (o->is_placed && o->place > high) high = o->place;
-    }
-    return len > most || (low < high && high - low > most - len);
-}
-
 /* Copies a section to where it goes. The unwind information has no gaps: they would end it. */
 void copy_section(struct section *s) {
     struct output *o = s->output;
@@ -165,8 +154,8 @@ struct linker_utils_item alignment_item(uint64_t at, uint64_t align, uint64_t le
  * may have once code is shorter. And what those before it are. */
 struct place {
     struct run *run;
-    uint64_t at, low, high, permissions;
-    bool is_behind_placed, has_data; /* the last one; one that isn't protected */
+    uint64_t at, low, high;
+    const struct output *last; /* that isn't empty */
 };
 
 static struct run runs[MOST_OUTPUTS];
@@ -175,7 +164,7 @@ static const struct output *first_tls; /* null where there is no thread-local st
 static void begin_run(struct place *p, uint64_t address) {
     struct run *run = p->run ? p->run + 1 : runs;
     *run = (struct run){.is = {.start = address}};
-    *p = (struct place){.run = run, .low = address, .high = address};
+    *p = (struct place){.run = run, .low = address, .high = address, .last = p->last};
 }
 
 static void skip(struct place *p, uint64_t len) {
@@ -216,20 +205,18 @@ static void place_next(struct place *p, struct output *o) {
  * too. */
 static void place_behind(struct place *p, struct output *o) {
     uint64_t page = linker_utils_page(machine), align = o->flags & SHF_TLS ? tls.align : o->align;
-    uint64_t permissions = o->flags & (SHF_WRITE | SHF_EXECINSTR);
-    bool is_first_data = is_dynamic && !p->has_data && o->len && o->rank >= RANK_DATA;
+    bool is_other = o->len && (o->flags ^ p->last->flags) & (SHF_WRITE | SHF_EXECINSTR);
+    bool is_first_data = is_dynamic && o->len && p->last->rank < RANK_DATA && o->rank >= RANK_DATA;
     if (!p->run) begin_run(p, linked.is_fixed ? BASE : 0);
-    if (o->len && permissions != p->permissions) skip(p, page);
-    if (o->len) p->permissions = permissions;
-    if (p->is_behind_placed) align = MOST_ALIGN;
+    if (is_other) skip(p, page);
+    if (p->last->is_placed) align = MOST_ALIGN;
     align_next(p, o, is_first_data && page > align ? page : align);
-    p->has_data |= is_first_data;
 }
 
 /* Places the sections, first those that the command line places. Thread-local storage has no gaps
  * except for its alignments. */
 void place_outputs(void) {
-    struct place p = {.run = NULL};
+    struct place p = {.last = headers};
     first_tls = NULL, tls.len = 0, tls.align = 1;
     EACH_OUTPUT(o) {
         bool is_array = o->rank >= RANK_ARRAYS && o->rank < RANK_RELOCATED;
@@ -253,10 +240,10 @@ void place_outputs(void) {
         } else {
             if (o->is_placed) place_next(&p, o);
             else place_behind(&p, o);
-            p.is_behind_placed = o->is_placed;
             o->run = p.run, o->base = p.at;
             if (is_tls) first_tls = o;
         }
+        if (o->len) p.last = o;
         if (is_tls) tls.len = o->base + o->len - first_tls->base;
         if (is_tls && !o->has_bytes) continue;
         skip(&p, o->len);

@@ -61,6 +61,7 @@ enum { NEAR = 100, FROM_POINTER };
 /* each section of the linked file, each that objects have, and each symbol, in their order */
 #define EACH_OUTPUT(o) for (struct output *o, **o##_at = outputs; (o = *o##_at); o##_at++)
 #define EACH_OBJECT(o) for (struct object *o = objects; o; o = o->next)
+#define EACH_LIBRARY(l) for (struct object *l = libraries; l; l = l->next)
 #define EACH_SECTION_OF(o, s) \
     for (struct section *s = (o)->sections; s < (o)->sections + (o)->sections_len; s++)
 #define EACH_SECTION(s) EACH_OBJECT(s##_of) EACH_SECTION_OF(s##_of, s)
@@ -117,14 +118,23 @@ struct output {
     struct section *first, *last;        /* of its parts, where it shrinks */
 };
 
-/* An object. After its own symbols are those that relocations get, with entries of the GOT for an
- * addend each, or a thunk. */
+/* A version of a library. */
+struct version {
+    const char *name;
+    uint32_t hash;
+    uint16_t number; /* in the linked file; 0 where it needs none */
+};
+
+/* An object or a shared library. After an object's own symbols are those that relocations get, with
+ * entries of the GOT for an addend each, or a thunk. A symbol of a library is null where nothing can
+ * refer to it. */
 struct object {
     struct object *next, *below; /* and in the stack of those that are being read */
     const char *path, *names;    /* of symbols */
     const uint8_t *bytes;
     const Elf64_Shdr *heads;
     struct section *sections;    /* one for each head */
+    const struct section *table; /* of its symbols; null: none */
     const Elf64_Sym *mentions;   /* of its symbols, as it says itself */
     struct symbol **symbols;     /* as all objects say */
     int64_t *addends;            /* of these; null where all are 0 */
@@ -132,6 +142,12 @@ struct object {
     size_t len, sections_len, symbols_len, mentions_len, resolved_len, symbols_room, addends_room;
     size_t facts_len, facts_room;
     bool is_threaded, is_compressed; /* it has thread-local symbols; the shortest instructions */
+    /* of a library: as programs name it, here and in the linked file; by number; of its symbols'
+     * versions, null where it has none */
+    const char *name;
+    uint32_t name_at;
+    struct version *versions;
+    const struct section *numbers;
 };
 
 /* A section of an object, or code that the linker adds. Offsets of relocations count from it. */
@@ -149,23 +165,6 @@ struct section {
     /* SHF_EXCLUDE, or of a group that an earlier object has too; loads of addresses in the GOT;
      * ULEB128 numbers that are added to */
     bool is_discarded, has_loads, has_numbers;
-};
-
-/* A version of a library. */
-struct version {
-    const char *name;
-    uint32_t hash;
-    uint16_t number; /* in the linked file; 0 where it needs none */
-};
-
-/* A shared library. */
-struct library {
-    struct library *next;
-    struct object file;       /* a symbol of it is null where nothing can refer to it */
-    const char *name;         /* as programs name it */
-    uint32_t name_at;         /* in the linked file */
-    struct version *versions; /* by number */
-    const struct section *names, *numbers; /* its symbols, and their versions; null: none */
 };
 
 /* Its first 64 bytes are what each pass over all symbols reads. `needs_stub`: it is an indirect
@@ -190,7 +189,7 @@ struct symbol {
     struct archive *archive; /* which can define it; null where none can */
     uint64_t stub;           /* to a function of another file, where `has_stub` */
     struct symbol *thunks;   /* to it */
-    struct library *library; /* the first that defines it; null where none does */
+    struct object *library;  /* the first that defines it; null where none does */
     const Elf64_Sym *there;  /* as that has it */
 };
 
@@ -231,8 +230,7 @@ SHARED struct linker_utils_link linked; /* its addresses so far as these are kno
 SHARED struct linker_utils_dynamic_types types;
 SHARED struct linker_utils_got known_got; /* likewise */
 SHARED const char *own_name;         /* of a shared library, by `-soname`; null where it has none */
-SHARED struct object *objects;       /* in the order in which they are read */
-SHARED struct library *libraries;    /* in their order */
+SHARED struct object *objects, *libraries; /* in the order in which they are read */
 /* all that objects mention, in their order; `_TLS_MODULE_BASE_`, null where no object requires it;
  * and what has the entry of the GOT that is the module's, if any */
 SHARED struct symbol *symbols, *module_base, module;
@@ -313,7 +311,6 @@ struct linker_utils_item alignment_item(uint64_t at, uint64_t align, uint64_t le
 void add_section(struct section *s), copy_section(struct section *s), sort_outputs(void);
 void add_part_of(struct output *o, struct section *s, uint64_t align);
 void place_outputs(void), set_addresses(void);
-bool is_long(void);
 /* relocate.c */
 void print_place(const struct section *s, const Elf64_Rela *r);
 void check(const struct section *s, const Elf64_Rela *r, uint32_t status);
@@ -347,11 +344,10 @@ void fill_entry(struct symbol *s, const struct entry *e);
 bool write_dynamic(void);
 /* class32.c */
 void note_class(const struct object *o);
-/* the entries of a file's table as those of ELFCLASS64; cut_*: in place, returns their length */
-const void *wide_Ehdr(const void *table, size_t count), *wide_Shdr(const void *table, size_t count);
-const void *wide_Sym(const void *table, size_t count);
-size_t cut_Ehdr(void *table, size_t count), cut_Shdr(void *table, size_t count);
-size_t cut_Phdr(void *table, size_t count), cut_Sym(void *table, size_t count);
+/* the entries of a file's table as those of ELFCLASS64, and those as a file has them */
+#define CONVERSIONS_OF(type) \
+    *wide_##type(const void *table, size_t count), *cut_##type(const void *table, size_t count)
+const void CONVERSIONS_OF(Ehdr), CONVERSIONS_OF(Shdr), CONVERSIONS_OF(Phdr), CONVERSIONS_OF(Sym);
 /* properties.c, relax.c, frames.c, output.c */
 uint64_t read_frames(const struct section *s, const uint8_t *bytes, uint8_t *rows);
 void merge_properties(const char *flag), relax(void), index_frames(void);

@@ -160,7 +160,6 @@ int main(int argc, char **argv) {
     define_symbols();
     if (is_dynamic) bind_symbols();
     place_symbols();
-    linked.has_near_symbols = !is_long();
     EACH_OBJECT(o) {
         progress("rewriting", o);
         rewrite_object(o, LINKER_UTILS_PHASE_PRE_LAYOUT, LINKER_UTILS_PHASE_PRE_LAYOUT);

@@ -40,8 +40,9 @@ const char *text_at(const struct section *s, uint64_t at) {
 }
 
 /* Leaves out the sections of a group that an earlier object has too. */
-static void read_group(const struct section *s, const struct section *table) {
+static void read_group(const struct section *s) {
     const struct object *o = s->object;
+    const struct section *table = o->table;
     const Elf64_Shdr *head = s->head;
     size_t len;
     const Elf32_Word *words = table_of(o, head, sizeof *words, &len);
@@ -87,17 +88,16 @@ static void check_symbol(const struct object *o, size_t i, bool is_local, const 
         fail_in(&o->sections[at], "'%s' is thread-local in a section that is not", name);
 }
 
-static void read_symbols(const struct section *table) {
+static void read_symbols(struct object *o) {
     static uint32_t *hashes; /* of the global ones of one object after another */
     static size_t room;
-    struct object *o = table->object;
-    size_t len = o->symbols_len = o->symbols_room = o->mentions_len, first = table->head->sh_info;
+    size_t len = o->symbols_len = o->symbols_room = o->mentions_len, first = o->table->head->sh_info;
     struct symbol *local = take(first < len ? first : len, sizeof *local);
     o->symbols = zeros(len, sizeof *o->symbols);
     hashes = grow(hashes, len, &room, sizeof *hashes);
-    if (len) o->names = text_at(table, 0);
+    if (len) o->names = text_at(o->table, 0);
     for (size_t i = 0; i < len; i++) {
-        const char *name = text_at(table, o->mentions[i].st_name);
+        const char *name = text_at(o->table, o->mentions[i].st_name);
         check_symbol(o, i, i < first, name);
         if (i < first) o->symbols[i] = memcpy(local++, mention(o, i), sizeof *local);
         else hashes[i] = hash_of(name);
@@ -120,7 +120,7 @@ static void resolve_all(void) {
     }
 }
 
-/* Reads the header and the sections of a file. */
+/* Reads the header, the sections and the table of symbols of a file. */
 void read_heads(struct object *o, uint16_t type, const char *otherwise) {
     Elf64_Ehdr head;
     note_class(o);
@@ -149,6 +149,13 @@ void read_heads(struct object *o, uint16_t type, const char *otherwise) {
     demand(o, !objects || !linker_utils_join_flags(machine, flags, head.e_flags, &joined),
            "of another ABI than those before it");
     if (type == ET_REL) machine_flags = joined;
+    EACH_SECTION_OF(o, s) {
+        if (s->head->sh_type != (type == ET_REL ? SHT_SYMTAB : SHT_DYNSYM)) continue;
+        demand(o, !o->table, "two tables of symbols");
+        o->mentions = table_of(o, s->head, SIZE_OF(Sym), &o->mentions_len);
+        o->mentions = wide_Sym(o->mentions, o->mentions_len);
+        o->table = s;
+    }
 }
 
 /* Reads an object, and puts it after the others. */
@@ -156,16 +163,8 @@ static void read_object(struct object file) {
     struct object *o = *objects_end = keep(&file, sizeof file);
     objects_end = &o->next;
     read_heads(o, ET_REL, "not a relocatable object");
-    const struct section *table = NULL;
-    EACH_SECTION_OF(o, s) {
-        if (s->head->sh_type != SHT_SYMTAB) continue;
-        demand(o, !table, "two tables of symbols");
-        o->mentions = table_of(o, s->head, SIZE_OF(Sym), &o->mentions_len);
-        o->mentions = wide_Sym(o->mentions, o->mentions_len);
-        table = s;
-    }
-    EACH_SECTION_OF(o, s) if (s->head->sh_type == SHT_GROUP) read_group(s, table);
-    if (table) read_symbols(table);
+    EACH_SECTION_OF(o, s) if (s->head->sh_type == SHT_GROUP) read_group(s);
+    if (o->table) read_symbols(o);
     EACH_SECTION_OF(o, s) {
         uint32_t type = s->head->sh_type, of = s->head->sh_info;
         if (type == SHT_PROGBITS) continue;

@@ -75,8 +75,9 @@ static void put_symbols(uint64_t offset, Elf64_Ehdr *head, bool has_symbols) {
             append(&symbol_table, 8, &elf, sizeof elf);
             symbol_table.info += (uint32_t)locals;
         }
-    symbol_table.element = SIZE_OF(Sym);
-    symbol_table.len = cut_Sym(symbol_table.bytes, symbol_table.len / sizeof(Elf64_Sym));
+    size_t len = symbol_table.len / sizeof(Elf64_Sym);
+    symbol_table.element = SIZE_OF(Sym), symbol_table.len = len * SIZE_OF(Sym);
+    symbol_table.bytes = (uint8_t *)cut_Sym(symbol_table.bytes, len);
     offset = round_up(offset, 8);
     add_head(outputs[outputs_len++] = &symbol_table, offset);
     add_head(outputs[outputs_len++] = &strings, offset + symbol_table.len);
@@ -95,16 +96,15 @@ static void write_part(FILE *file, uint64_t offset, const void *bytes, uint64_t 
 
 /* Writes all parts, once they are known. A file that is there already stays what it is: a device or
  * a pipe is written to. Only an ordinary one is made executable. */
-static void write_parts(const char *path, Elf64_Ehdr *head) {
+static void write_parts(const char *path, const Elf64_Ehdr *head) {
     struct stat status;
-    uint64_t heads_at = head->e_shoff, loads_len = cut_Phdr(loads, head->e_phnum);
-    uint64_t head_len = cut_Ehdr(head, 1);
     FILE *file = fopen(path, "wb");
     if (!file) fail("%s: can't be written", path);
-    write_part(file, 0, head, head_len);
-    write_part(file, head_len, loads, loads_len);
+    write_part(file, 0, cut_Ehdr(head, 1), head->e_ehsize);
+    write_part(file, head->e_phoff, cut_Phdr(loads, head->e_phnum), head->e_phnum * SIZE_OF(Phdr));
     EACH_OUTPUT(o) if (o->index && o->has_bytes) write_part(file, o->in_file, o->bytes, o->len);
-    if (heads_at) write_part(file, heads_at, heads, cut_Shdr(heads, heads_len));
+    if (head->e_shoff)
+        write_part(file, head->e_shoff, cut_Shdr(heads, heads_len), heads_len * SIZE_OF(Shdr));
     bool is_ordinary = !fstat(fileno(file), &status) && S_ISREG(status.st_mode);
     bool holds = !ferror(file) && (!is_ordinary || !fchmod(fileno(file), 0755));
     if (fclose(file) || !holds) fail("%s: can't be written", path);

@@ -67,12 +67,13 @@ struct symbol *named_by(const char *name, uint32_t hash) {
 
 struct symbol *named(const char *name) { return named_by(name, hash_of(name)); }
 
-/* Which of two mentions of a symbol counts: the higher, and else the first. A definition in a
- * discarded section counts less than any other, but no member is loaded for it. */
+/* Which of two mentions of a symbol counts: the higher, and else the first. That of no object is the
+ * least. A definition in a discarded section counts less than any other, but no member is loaded for
+ * it. */
 int rank(const struct symbol *s) {
     bool is_weak = bind_of(s) == STB_WEAK;
     uint16_t at = s->elf.st_shndx;
-    if (at == SHN_UNDEF) return !is_weak;
+    if (at == SHN_UNDEF) return s->object ? !is_weak : -1;
     if (at < SHN_LORESERVE && s->object->sections[at].is_discarded) return 2;
     return at == SHN_COMMON ? 4 : is_weak ? 3 : 5;
 }
@@ -80,7 +81,7 @@ int rank(const struct symbol *s) {
 /* Adds to a global symbol what one more object says of it. Loads the member that defines it, if one
  * is needed now and an archive has it. */
 void resolve(struct symbol *known, struct symbol *s) {
-    int before = known->object ? rank(known) : -1, after = rank(s);
+    int before = rank(known), after = rank(s);
     bool is_tls = is_thread_local(s);
     if (before >= 0 && is_thread_local(known) != is_tls)
         fail_of(s->object, "'%s' is %sthread-local, and in %s it is%s", s->name,
@@ -103,8 +104,7 @@ void resolve(struct symbol *known, struct symbol *s) {
 /* Whether a member of an archive is linked that defines a symbol: an object or a library refers to
  * it, not only weakly, and no object defines it. */
 bool is_needed(const struct symbol *s) {
-    int known = s->object ? rank(s) : 0;
-    return known == 1 || (!known && s->is_required);
+    return rank(s) == 1 || (rank(s) < 1 && s->is_required);
 }
 
 /* A symbol of an archive's index. The first archive that has it counts. A member that is needed
@@ -224,22 +224,23 @@ void define_symbols(void) {
 
 /* Places the symbols that objects define, and the sections with these. Common symbols are the first
  * in `.bss`, as in ld.lld. One is far whose offset is about a GiB or more, or as much below 0, or
- * whose thread-local storage is as long. */
+ * whose thread-local storage is as long. Where a GiB may be too little for the linked file, 32 bits
+ * may not hold each distance. */
 void place_symbols(void) {
-    uint64_t most = INT32_MAX / 2 - MOST_ALIGN, tls_len = 0;
-    EACH_SYMBOL(s) {
-        if (s->elf.st_shndx != SHN_COMMON) continue;
-        s->output = bss, s->offset = make_room(bss, s->elf.st_value, s->elf.st_size);
-    }
+    uint64_t most = INT32_MAX / 2 - MOST_ALIGN;
+    EACH_SYMBOL(s)
+        if (s->elf.st_shndx == SHN_COMMON)
+            s->output = bss, s->offset = make_room(bss, s->elf.st_value, s->elf.st_size);
     EACH_SECTION(s) copy_section(s);
-    EACH_OUTPUT(o) tls_len += o->flags & SHF_TLS ? o->len : 0;
+    place_outputs();
+    linked.has_near_symbols = span < INT32_MAX / 2;
     EACH_SYMBOL(s) {
         uint16_t at = s->elf.st_shndx;
         if (s->output) continue;
         s->offset = s->elf.st_value;
         if (!at || at >= s->object->sections_len) continue;
         s->output = s->object->sections[at].output, s->offset += s->object->sections[at].offset;
-        if (s->elf.st_value + most > 2 * most || (tls_len > most && is_thread_local(s)))
+        if (s->elf.st_value + most > 2 * most || (tls.len > most && is_thread_local(s)))
             s->is_far = has_far_symbols = true;
     }
 }
