@@ -115,21 +115,18 @@ void require(struct object *o) {
     }
 }
 
-/* An indirect function's address is that of its stub, which goes to the address in a slot. When the
- * program starts, the function is called, which says which address that is. */
-static void make_stub(struct symbol *s) {
-    struct symbol *resolver = keep(s, sizeof *s);
-    s->output = stubs, s->offset = add_slot(resolver, types.irelative);
-    s->elf.st_shndx = SHN_ABS, s->elf.st_other = 0;
-}
-
-/* Makes the stubs and the GOT. The local symbols' entries are the last. */
+/* Makes the stubs and the GOT. An indirect function's address is that of its stub, which goes to the
+ * address in a slot. When the program starts, the function is called, which says which address that
+ * is. The local symbols' entries are the last. */
 void make_entries(void) {
     if (got->has_bytes && known_got.has_header) make_room(got, 8, word_len());
     for (int is_local = 0; is_local < 2; is_local++)
         EACH_SYMBOL(s) {
             if ((!s->needs_stub && !s->entries) || (bind_of(s) == STB_LOCAL) != is_local) continue;
-            if (s->needs_stub) make_stub(s);
+            if (s->needs_stub) {
+                s->offset = add_slot(keep(s, sizeof *s), types.irelative), s->output = stubs;
+                s->elf.st_shndx = SHN_ABS, s->elf.st_other = 0;
+            }
             for (struct entry *e = s->entries; e; e = e->next) {
                 e->offset = make_room(got, word_len(), word_len() * linker_utils_get_entry_words(e->class));
                 fill_entry(s, e);

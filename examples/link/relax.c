@@ -54,33 +54,26 @@ static void add_items(struct section *s) {
     items_len += made.items_used;
 }
 
-/* Leaves out those items of a section that lose nothing: their bytes stay as they are. */
-static void leave_whole_items(struct section *s) {
-    size_t last = s->first_item;
-    for (size_t i = last; i < s->first_item + s->items_len; i++) {
-        if (stay[i] == items[i].len) continue;
-        items[last] = items[i];
-        makers[last++] = makers[i];
-    }
-    s->items_len = (uint32_t)(last - s->first_item);
-}
-
 /* Writes code anew: what becomes shorter, and without what it loses, with what is left of the gaps
- * between its sections. Their relocations go to where their bytes are. */
+ * between its sections. Their relocations go to where their bytes are. Items that lose nothing are
+ * left out: their bytes stay as they are. */
 static void pack_output(struct output *o) {
     struct linker_utils_run part = o->run->is;
     uint8_t *packed = zeros(o->len, 1);
     uint64_t from = 0, to = 0, start = address_of(o, 0);
     for (struct section *s = o->first; s; s = s->behind) {
-        leave_whole_items(s);
         struct linker_utils_section here = section_of(s);
-        part.items = items + s->first_item, part.items_len = s->items_len;
+        const size_t first = s->first_item;
+        part.items = items + first, part.items_len = 0;
+        for (size_t i = first; i < first + s->items_len; i++)
+            if (stay[i] != items[i].len)
+                makers[first + part.items_len] = makers[i], items[first + part.items_len++] = items[i];
         uint64_t at = address_of(o, s->offset) - start;
         size_t len = linker_utils_packed_run_len(&here, &part), faulty = SIZE_MAX;
         memcpy(packed + to, o->bytes + from, at - to);
         uint32_t status = linker_utils_pack_run(machine | class_bit(), &here, &part, packed + at, len,
                                                 &faulty);
-        check_items(s, faulty < s->items_len ? makers[s->first_item + faulty] : SIZE_MAX, status);
+        check_items(s, faulty < part.items_len ? makers[first + faulty] : SIZE_MAX, status);
         from = s->offset + s->len;
         s->offset = at, s->len = len;
         to = at + len;
