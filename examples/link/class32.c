@@ -34,13 +34,3 @@
     CONVERTS(wide_##type, Elf32_##type, Elf64_##type, FIELDS_OF_##type)        \
     CONVERTS(cut_##type, Elf64_##type, Elf32_##type, FIELDS_OF_##type)
 CONVERTS_BOTH_WAYS(Ehdr) CONVERTS_BOTH_WAYS(Shdr) CONVERTS_BOTH_WAYS(Phdr) CONVERTS_BOTH_WAYS(Sym)
-
-/* Notes the class of the files, which all have to have. Only RISC-V's may be of ELFCLASS32. */
-void note_class(const struct object *o) {
-    Elf32_Ehdr head = {.e_shnum = 0};
-    if (o->len >= sizeof head) memcpy(&head, o->bytes, sizeof head);
-    bool is_one = head.e_ident[EI_CLASS] == ELFCLASS32 &&
-                  !linker_utils_read_rela32(head.e_machine, NULL, 0, NULL, 0);
-    demand(o, !machine || is_one == is_narrow, "of another class than those before it");
-    is_narrow = is_one;
-}

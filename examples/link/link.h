@@ -125,12 +125,12 @@ struct version {
     uint16_t number; /* in the linked file; 0 where it needs none */
 };
 
-/* An object or a shared library. After an object's own symbols are those that relocations get, with
+/* An object, an archive or a shared library. After an object's own symbols are those that relocations get, with
  * entries of the GOT for an addend each, or a thunk. A symbol of a library is null where nothing can
  * refer to it. */
 struct object {
     struct object *next, *below; /* and in the stack of those that are being read */
-    const char *path, *names;    /* of symbols */
+    const char *path, *names;    /* of symbols, or an archive's of members */
     const uint8_t *bytes;
     const Elf64_Shdr *heads;
     struct section *sections;    /* one for each head */
@@ -140,8 +140,9 @@ struct object {
     int64_t *addends;            /* of these; null where all are 0 */
     struct linker_utils_facts_snapshot *facts; /* of these, as rewrites were chosen by them */
     size_t len, sections_len, symbols_len, mentions_len, resolved_len, symbols_room, addends_room;
-    size_t facts_len, facts_room;
+    size_t facts_len, facts_room, names_len;
     bool is_threaded, is_compressed; /* it has thread-local symbols; the shortest instructions */
+    bool *is_loaded;  /* of an archive by half of a member's offset */
     /* of a library: as programs name it, here and in the linked file; by number; of its symbols'
      * versions, null where it has none */
     const char *name;
@@ -186,7 +187,7 @@ struct symbol {
     uint32_t hash;               /* of a dynamic one's name */
     const struct object *object; /* null where only an index of an archive names it */
     const char *name;
-    struct archive *archive; /* which can define it; null where none can */
+    struct object *archive; /* which can define it; null where none can */
     uint64_t stub;           /* to a function of another file, where `has_stub` */
     struct symbol *thunks;   /* to it */
     struct object *library;  /* the first that defines it; null where none does */
@@ -259,6 +260,12 @@ static inline unsigned stt_of(const struct symbol *s) { return ELF64_ST_TYPE(s->
 static inline unsigned visibility_of(const struct symbol *s) { return s->elf.st_other & 3; }
 static inline bool is_defined(const struct symbol *s) { return s->elf.st_shndx != SHN_UNDEF; }
 static inline bool is_thread_local(const struct symbol *s) { return stt_of(s) == STT_TLS; }
+static inline bool is_ifunc(const struct symbol *s) {
+    return stt_of(s) == STT_GNU_IFUNC && is_defined(s) && !s->is_imported;
+}
+static inline bool is_undefined_weak(const struct symbol *s) {
+    return !is_defined(s) && bind_of(s) == STB_WEAK && !s->is_imported;
+}
 
 static inline uint32_t type_of(const Elf64_Rela *r) { return ELF64_R_TYPE(r->r_info); }
 
@@ -290,16 +297,15 @@ void *keep(const void *value, size_t size);
 void read_heads(struct object *o, uint16_t type, const char *otherwise);
 const char *text_at(const struct section *s, uint64_t at);
 const void *table_of(const struct object *o, const Elf64_Shdr *head, size_t size, size_t *len);
-void read_file(const char *path), load_member(struct archive *a, uint64_t offset);
+void read_file(const char *path), load_member(struct object *a, uint64_t offset);
 /* libraries.c */
 void read_library(struct object file), find_version(struct symbol *s);
 /* symbols.c */
 uint32_t hash_of(const char *name);
 struct symbol *named(const char *name), *named_by(const char *name, uint32_t hash);
-void offer(const char *name, struct archive *a, uint64_t member), list_symbol(struct symbol *s);
+void offer(const char *name, struct object *a, uint64_t member), list_symbol(struct symbol *s);
 void resolve(struct symbol *known, struct symbol *s), define_symbols(void), place_symbols(void);
 int rank(const struct symbol *s);
-bool is_ifunc(const struct symbol *s), is_undefined_weak(const struct symbol *s);
 bool is_here(const struct symbol *s), is_needed(const struct symbol *s);
 /* layout.c */
 struct output *output_of(const char *name);
@@ -343,7 +349,6 @@ void add_row(struct output *o, uint64_t offset, uint32_t type, struct symbol *s,
 void fill_entry(struct symbol *s, const struct entry *e);
 bool write_dynamic(void);
 /* class32.c */
-void note_class(const struct object *o);
 /* the entries of a file's table as those of ELFCLASS64, and those as a file has them */
 #define CONVERSIONS_OF(type) \
     *wide_##type(const void *table, size_t count), *cut_##type(const void *table, size_t count)

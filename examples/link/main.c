@@ -155,7 +155,6 @@ int main(int argc, char **argv) {
     shrinks = !linker_utils_section_items(machine, &(struct linker_utils_section){0}, NULL, 0,
                                           &(struct linker_utils_items){0}, NULL);
     expect_ok(linker_utils_get_dynamic_types(machine, &types));
-    expect_ok(linker_utils_get_got(machine, 0, 0, &known_got));
     EACH_SECTION(s) add_section(s);
     define_symbols();
     if (is_dynamic) bind_symbols();

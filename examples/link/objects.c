@@ -8,11 +8,6 @@
 
 #include "link.h"
 
-struct archive {
-    struct object file, names; /* with the long names of members */
-    bool *is_loaded;           /* by half of a member's offset */
-};
-
 static struct object **objects_end = &objects;
 static struct object *reading; /* a stack of those whose undefined symbols are to be looked up */
 
@@ -120,10 +115,15 @@ static void resolve_all(void) {
     }
 }
 
-/* Reads the header, the sections and the table of symbols of a file. */
+/* Reads the header, the sections and the table of symbols of a file. All files have to be of one
+ * class, and only RISC-V's may be of ELFCLASS32. */
 void read_heads(struct object *o, uint16_t type, const char *otherwise) {
-    Elf64_Ehdr head;
-    note_class(o);
+    Elf64_Ehdr head = {.e_shnum = 0};
+    if (o->len >= sizeof(Elf32_Ehdr)) memcpy(&head, o->bytes, sizeof(Elf32_Ehdr));
+    bool is_one = head.e_ident[EI_CLASS] == ELFCLASS32 &&
+                  !linker_utils_read_rela32(head.e_machine, NULL, 0, NULL, 0);
+    demand(o, !machine || is_one == is_narrow, "of another class than those before it");
+    is_narrow = is_one;
     memcpy(&head, wide_Ehdr(bytes_at(o, 0, SIZE_OF(Ehdr)), 1), sizeof head);
     if (memcmp(head.e_ident, is_narrow ? ELFMAG "\1\1" : ELFMAG "\2\1", 6) ||
         head.e_type != type || !head.e_shnum)
@@ -179,31 +179,31 @@ static void read_object(struct object file) {
 }
 
 /* What an archive's member has after its header. */
-static struct object member_at(const struct archive *a, uint64_t offset) {
-    const struct ar_hdr *head = (const void *)bytes_at(&a->file, offset, sizeof *head);
+static struct object member_at(const struct object *a, uint64_t offset) {
+    const struct ar_hdr *head = (const void *)bytes_at(a, offset, sizeof *head);
     char *end = NULL;
     bool holds = !memcmp(head->ar_fmag, ARFMAG, 2); /* no digit, so that the number ends there */
     uint64_t len = holds ? strtoull(head->ar_size, &end, 10) : 0;
-    demand(&a->file, holds && end != head->ar_size, "a member's header is not there");
-    return (struct object){.bytes = bytes_at(&a->file, offset + sizeof *head, len), .len = len};
+    demand(a, holds && end != head->ar_size, "a member's header is not there");
+    return (struct object){.bytes = bytes_at(a, offset + sizeof *head, len), .len = len};
 }
 
 /* Reads a member that the index names. */
-void load_member(struct archive *a, uint64_t offset) {
+void load_member(struct object *a, uint64_t offset) {
     if (a->is_loaded[offset / 2]) return;
     a->is_loaded[offset / 2] = true;
     struct object member = member_at(a, offset);
-    const char *name = (const char *)a->file.bytes + offset;
+    const char *name = (const char *)a->bytes + offset;
     size_t most = sizeof ((struct ar_hdr *)NULL)->ar_name;
     if (*name == '/') {
         uint64_t at = strtoull(name + 1, NULL, 10);
-        demand(&a->file, at < a->names.len, "a member's name is not there");
-        name = (const char *)a->names.bytes + at, most = a->names.len - at;
+        demand(a, at < a->names_len, "a member's name is not there");
+        name = a->names + at, most = a->names_len - at;
     }
     const char *slash = memchr(name, '/', most);
     int len = (int)(slash ? slash - name : (ptrdiff_t)most);
-    member.path = take(strlen(a->file.path) + (size_t)len + 3, 1);
-    sprintf((char *)member.path, "%s(%.*s)", a->file.path, len, name);
+    member.path = take(strlen(a->path) + (size_t)len + 3, 1);
+    sprintf((char *)member.path, "%s(%.*s)", a->path, len, name);
     read_object(member);
 }
 
@@ -213,25 +213,26 @@ static uint32_t big_endian(const uint8_t *bytes) {
 
 /* Offers what the index of an archive names. A member that is needed already is read at once. */
 static void read_archive(struct object file) {
-    struct archive *a = NEW(struct archive, .file = file, .is_loaded = take(file.len / 2 + 1, 1));
-    struct object index = {.len = 0};
+    struct object *a = keep(&file, sizeof file), index = {.len = 0};
+    a->is_loaded = take(file.len / 2 + 1, 1);
     /* the special ones are first */
     for (uint64_t at = SARMAG, i = 0; i < 2 && at < file.len; i++) {
         const char *name = (const char *)file.bytes + at;
         struct object member = member_at(a, at);
         if (!memcmp(name, "/ ", 2)) index = member;
-        else if (!memcmp(name, "// ", 3)) a->names = member;
+        else if (!memcmp(name, "// ", 3))
+            a->names = (const char *)member.bytes, a->names_len = member.len;
         at += sizeof(struct ar_hdr) + member.len + member.len % 2;
     }
     if (file.len == SARMAG) return;
-    demand(&a->file, index.len >= 4, "an archive without an index");
+    demand(a, index.len >= 4, "an archive without an index");
     uint64_t count = big_endian(index.bytes);
-    demand(&a->file, count <= (index.len - 4) / 4, "the index ends too early");
+    demand(a, count <= (index.len - 4) / 4, "the index ends too early");
     const char *end = (const char *)index.bytes + index.len, *text = end - index.len + 4 * (count + 1);
     for (uint64_t i = 1; i <= count; i++) {
         const char *next = memchr(text, 0, (size_t)(end - text));
         uint64_t at = big_endian(index.bytes + 4 * i);
-        demand(&a->file, next, "the index ends too early");
+        demand(a, next, "the index ends too early");
         if (at % 2 || at >= file.len || file.len - at < sizeof(struct ar_hdr) ||
             memcmp(((const struct ar_hdr *)(file.bytes + at))->ar_fmag, ARFMAG, 2))
             fail_of(&file, "the index points nowhere for '%.200s'", text);

@@ -10,14 +10,6 @@ static struct cell {
 } *cells;
 static size_t cells_len, named_len;
 
-bool is_ifunc(const struct symbol *s) {
-    return stt_of(s) == STT_GNU_IFUNC && is_defined(s) && !s->is_imported;
-}
-
-bool is_undefined_weak(const struct symbol *s) {
-    return !is_defined(s) && bind_of(s) == STB_WEAK && !s->is_imported;
-}
-
 /* Whether a rewrite may take where a symbol is: in the linked file, or, of a weak thread-local
  * variable that nothing defines, at the thread pointer. */
 bool is_here(const struct symbol *s) {
@@ -109,7 +101,7 @@ bool is_needed(const struct symbol *s) {
 
 /* A symbol of an archive's index. The first archive that has it counts. A member that is needed
  * already is loaded. */
-void offer(const char *name, struct archive *a, uint64_t member) {
+void offer(const char *name, struct object *a, uint64_t member) {
     struct symbol *s = named(name);
     if (s->archive || s->library) return;
     s->archive = a, s->offset = member;
