@@ -115,9 +115,9 @@ void require(struct object *o) {
     }
 }
 
-/* Makes the stubs and the GOT. An indirect function's address is that of its stub, which goes to the
- * address in a slot. When the program starts, the function is called, which says which address that
- * is. The local symbols' entries are the last. */
+/* Makes the stubs and the GOT. An indirect function's address is that of its stub, which goes to
+ * the address in a slot. When the program starts, the function is called, which says which address
+ * that is. The local symbols' entries are the last. */
 void make_entries(void) {
     if (got->has_bytes && known_got.has_header) make_room(got, 8, word_len());
     for (int is_local = 0; is_local < 2; is_local++)

@@ -125,9 +125,9 @@ struct version {
     uint16_t number; /* in the linked file; 0 where it needs none */
 };
 
-/* An object, an archive or a shared library. After an object's own symbols are those that relocations get, with
- * entries of the GOT for an addend each, or a thunk. A symbol of a library is null where nothing can
- * refer to it. */
+/* An object, an archive or a shared library. After an object's own symbols are those that
+ * relocations get, with entries of the GOT for an addend each, or a thunk. A symbol of a library is
+ * null where nothing can refer to it. */
 struct object {
     struct object *next, *below; /* and in the stack of those that are being read */
     const char *path, *names;    /* of symbols, or an archive's of members */
@@ -142,13 +142,11 @@ struct object {
     size_t len, sections_len, symbols_len, mentions_len, resolved_len, symbols_room, addends_room;
     size_t facts_len, facts_room, names_len;
     bool is_threaded, is_compressed; /* it has thread-local symbols; the shortest instructions */
-    bool *is_loaded;  /* of an archive by half of a member's offset */
-    /* of a library: as programs name it, here and in the linked file; by number; of its symbols'
-     * versions, null where it has none */
-    const char *name;
-    uint32_t name_at;
-    struct version *versions;
-    const struct section *numbers;
+    bool *is_loaded;               /* of an archive, by half of a member's offset */
+    const char *name;              /* of a library, as programs name it */
+    uint32_t name_at;              /* in the linked file */
+    struct version *versions;      /* by number */
+    const struct section *numbers; /* of its symbols' versions; null where it has none */
 };
 
 /* A section of an object, or code that the linker adds. Offsets of relocations count from it. */
@@ -187,7 +185,7 @@ struct symbol {
     uint32_t hash;               /* of a dynamic one's name */
     const struct object *object; /* null where only an index of an archive names it */
     const char *name;
-    struct object *archive; /* which can define it; null where none can */
+    struct object *archive;  /* which can define it; null where none can */
     uint64_t stub;           /* to a function of another file, where `has_stub` */
     struct symbol *thunks;   /* to it */
     struct object *library;  /* the first that defines it; null where none does */

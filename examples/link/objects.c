@@ -86,7 +86,8 @@ static void check_symbol(const struct object *o, size_t i, bool is_local, const 
 static void read_symbols(struct object *o) {
     static uint32_t *hashes; /* of the global ones of one object after another */
     static size_t room;
-    size_t len = o->symbols_len = o->symbols_room = o->mentions_len, first = o->table->head->sh_info;
+    size_t len = o->symbols_len = o->symbols_room = o->mentions_len;
+    size_t first = o->table->head->sh_info;
     struct symbol *local = take(first < len ? first : len, sizeof *local);
     o->symbols = zeros(len, sizeof *o->symbols);
     hashes = grow(hashes, len, &room, sizeof *hashes);

@@ -11,8 +11,7 @@ static size_t heads_len = 1;
 static struct output strings = {.name = ".strtab", .align = 1, .has_bytes = true,
                                 .type = SHT_STRTAB};
 static struct output symbol_table = {.name = ".symtab", .align = 8, .has_bytes = true, .info = 1,
-                                     .type = SHT_SYMTAB,
-                                     .link = &strings};
+                                     .type = SHT_SYMTAB, .link = &strings};
 
 /* The header of a part of a segment that is loaded. */
 static Elf64_Phdr part(uint32_t type, uint32_t flags, uint64_t at, uint64_t len, uint64_t align) {

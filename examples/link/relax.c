@@ -63,11 +63,10 @@ static void pack_output(struct output *o) {
     uint64_t from = 0, to = 0, start = address_of(o, 0);
     for (struct section *s = o->first; s; s = s->behind) {
         struct linker_utils_section here = section_of(s);
-        const size_t first = s->first_item;
-        part.items = items + first, part.items_len = 0;
+        size_t first = s->first_item, last = first;
         for (size_t i = first; i < first + s->items_len; i++)
-            if (stay[i] != items[i].len)
-                makers[first + part.items_len] = makers[i], items[first + part.items_len++] = items[i];
+            if (stay[i] != items[i].len) makers[last] = makers[i], items[last++] = items[i];
+        part.items = items + first, part.items_len = last - first;
         uint64_t at = address_of(o, s->offset) - start;
         size_t len = linker_utils_packed_run_len(&here, &part), faulty = SIZE_MAX;
         memcpy(packed + to, o->bytes + from, at - to);

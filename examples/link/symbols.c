@@ -59,9 +59,9 @@ struct symbol *named_by(const char *name, uint32_t hash) {
 
 struct symbol *named(const char *name) { return named_by(name, hash_of(name)); }
 
-/* Which of two mentions of a symbol counts: the higher, and else the first. That of no object is the
- * least. A definition in a discarded section counts less than any other, but no member is loaded for
- * it. */
+/* Which of two mentions of a symbol counts: the higher, and else the first. That of no object is
+ * the least. A definition in a discarded section counts less than any other, but no member is
+ * loaded for it. */
 int rank(const struct symbol *s) {
     bool is_weak = bind_of(s) == STB_WEAK;
     uint16_t at = s->elf.st_shndx;
