@@ -51,7 +51,6 @@ void import(struct section *in, Elf64_Rela *r, const struct linker_utils_require
     bool is_of_thread = kind == LINKER_UTILS_KIND_TP_OFF;
     bool is_changed = kind >= LINKER_UTILS_KIND_ABSOLUTE_SET && kind < LINKER_UTILS_KIND_RELATIVE;
     bool is_imported = s->is_imported && !((is_in_module || is_changed) && is_defined(s));
-    bool is_word = needs->is_word && in->output->flags & SHF_WRITE;
     if (needs->entry_class || kind == LINKER_UTILS_KIND_TLS_DESC_CALL) return;
     if ((is_imported && (is_in_module || is_of_thread)) || (is_of_thread && !linked.is_executable))
         fail_at(in, r, " can't reach '%s' from such an output", s->name);
@@ -63,7 +62,7 @@ void import(struct section *in, Elf64_Rela *r, const struct linker_utils_require
     if (!is_imported && (linked.is_fixed || !needs->depends_on_load || !is_here(s))) return;
     if (is_imported && needs->may_use_stub) {
         s->has_stub |= !needs->stub_only_if_undefined || !is_defined(s);
-    } else if (is_word) {
+    } else if (needs->is_word && in->output->flags & SHF_WRITE) {
         uint32_t type = is_imported ? types.word : types.relative;
         add_row(in->output, in->offset + r->r_offset, type, s, r->r_addend);
     } else if (!is_imported) {

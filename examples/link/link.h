@@ -349,8 +349,8 @@ bool write_dynamic(void);
 /* class32.c */
 /* the entries of a file's table as those of ELFCLASS64, and those as a file has them */
 #define CONVERSIONS_OF(type) \
-    *wide_##type(const void *table, size_t count), *cut_##type(const void *table, size_t count)
-const void CONVERSIONS_OF(Ehdr), CONVERSIONS_OF(Shdr), CONVERSIONS_OF(Phdr), CONVERSIONS_OF(Sym);
+    const void *wide_##type(const void *, size_t count), *cut_##type(const void *, size_t count);
+CONVERSIONS_OF(Ehdr) CONVERSIONS_OF(Shdr) CONVERSIONS_OF(Phdr) CONVERSIONS_OF(Sym)
 /* properties.c, relax.c, frames.c, output.c */
 uint64_t read_frames(const struct section *s, const uint8_t *bytes, uint8_t *rows);
 void merge_properties(const char *flag), relax(void), index_frames(void);
