@@ -101,14 +101,18 @@ fn loses_toc(architecture: Architecture, r_type: u32, symbol: &Symbol) -> bool {
 }
 
 /// Whether the function takes a TOC pointer that the caller hasn't: one of code that has none.
-#[cfg(feature = "ppc64")]
 #[inline(always)]
 fn lacks_toc(architecture: Architecture, r_type: u32, symbol: &Symbol) -> bool {
-    matches_any!(architecture, #[cfg(feature = "ppc64")] Architecture::Ppc64)
-        && r_type == Ppc64Relocation::R_PPC64_REL24_NOTOC.r_type()
-        && symbol.stub == 0
-        && !symbol.is_undefined_weak
-        && 1 < symbol.other / 32
+    match architecture {
+        #[cfg(feature = "ppc64")]
+        Architecture::Ppc64 => {
+            r_type == Ppc64Relocation::R_PPC64_REL24_NOTOC.r_type()
+                && symbol.stub == 0
+                && !symbol.is_undefined_weak
+                && 1 < symbol.other / 32
+        }
+        _ => false,
+    }
 }
 
 /// How far after a function's global entry point a stub goes: to the local one for code that has a
@@ -229,7 +233,6 @@ impl Target {
     }
 
     /// The route of a branch, by whether there is room after it, and why it can't be written.
-    #[cfg(feature = "ppc64")]
     #[inline(always)]
     fn route_by(
         &self,
