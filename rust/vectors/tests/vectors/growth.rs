@@ -354,11 +354,8 @@ fn expect_sections(count: usize) {
     };
     expect_growth("items of RISC-V", count, of_riscv, |(section, relocations)| {
         assert_eq!(first_malformed(Machine::RiscV(Isa::Rv64), &section, &relocations), None);
-        let made = section_items(
-            Machine::RiscV(Isa::Rv64),
-            &Section::new(&section, []),
-            &relocations,
-        );
+        let made =
+            section_items(Machine::RiscV(Isa::Rv64), &Section::new(&section, []), &relocations);
         assert_eq!(made.expect("memory").items.len(), section.len() / 8);
     });
     expect_growth("items of LoongArch", count, of_loongarch, |(section, relocations)| {
@@ -368,11 +365,8 @@ fn expect_sections(count: usize) {
     });
     let to_pack = |count: usize| {
         let (section, relocations) = of_riscv(count);
-        let made = section_items(
-            Machine::RiscV(Isa::Rv64),
-            &Section::new(&section, []),
-            &relocations,
-        );
+        let made =
+            section_items(Machine::RiscV(Isa::Rv64), &Section::new(&section, []), &relocations);
         let items = made.expect("memory").items;
         let plan = relax(&items, 0).expect("memory");
         let deltas = deletions(&items, 0, &plan.kept).expect("memory");
@@ -381,13 +375,8 @@ fn expect_sections(count: usize) {
     expect_growth("packing of a run", count, to_pack, |(section, items, deltas)| {
         let mut packed = vec![0; packed_run_len(0, section.len(), deltas.deltas())];
         let run = Run { start: 0, items: &items, deltas: deltas.deltas() };
-        pack_run(
-            Machine::RiscV(Isa::Rv64),
-            &mut Section::new(section, []),
-            &run,
-            &mut packed,
-        )
-        .expect("items");
+        pack_run(Machine::RiscV(Isa::Rv64), &mut Section::new(section, []), &run, &mut packed)
+            .expect("items");
     });
     let shrunk = |count: usize| {
         let calls: Vec<_> = (0..count as u64).map(|index| (8 * index, 8 * (index / 2))).collect();
