@@ -64,11 +64,11 @@ pub record HasRewritten (p : RewritingPhase) : Type 0 where
   -- what slices have
   pub as_many : length p.relocations_after ≡ length p.relocations
 
--- The call changed neither.
+-- The phase changed neither the relocations nor the bytes.
 abbrev pub LeavesAll : RewritingPhase → Type 0
 LeavesAll p = (p.relocations_after ≡ p.relocations) × (p.rewritten ≡ p.section)
 
--- why no value is written after it
+-- why no value is written after the phase
 abbrev pub IsNotWritten : RewritingPhase → List FactsSnapshot → Addresses → List Symbol
     → WritingError → Type 0
 IsNotWritten p kept addresses symbols =

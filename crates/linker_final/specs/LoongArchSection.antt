@@ -250,12 +250,12 @@ words_in kept bytes = if kept == 8 then pair bytes (drop 4 bytes) else word_of b
 abbrev pub site_words : Packed → site → List ℕ
 site_words p here = words_in (site_len p here) (site_bytes p here)
 
--- What is said of the object's instructions at an offset, and of final words at an address. After
--- each of both an address is next, and the final ones lead to a target.
+-- What is said of the object's instructions at an offset, of the final words at an address, of the
+-- address after these, and of the target that they lead to.
 abbrev pub EndsLaw : Type 1
 EndsLaw = Packed → (o at : ℕ) → List ℕ → (after target : ℕ) → Type 0
 
--- It is said of each site whose instructions of the object are some.
+-- It is said of each site whose instructions of the object pass a test.
 abbrev pub EachSite : (List ℕ → ℕ → Type 0) → EndsLaw → Type 0
 EachSite IsAt Ends =
     (p : Packed) → IsPacked p → p.machine ≡ loongarch64 → (i : ℕ) (here : site) → IsSiteOf p i here

@@ -134,7 +134,7 @@ LoadIsAlike l high n IsKnown Said NewHas =
     IsKnown (word_of (object l high)) (word_of ld)
     → LoadBecomes n Said NewHas (object l high) ld
 
--- the `ld` is over the register of the `auipc`
+-- the `ld` is over the register of the `auipc`, which isn't x0
 abbrev pub IsOver : ℕ → ℕ → Type 0
 IsOver auipc ld = (rs1_of ld ≡ rd_of auipc) × (rd_of auipc ≢ 0)
 

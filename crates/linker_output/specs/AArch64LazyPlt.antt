@@ -2,8 +2,9 @@
 -- resolver (Arm Architecture Reference Manual for A-profile, DDI 0487, C6.2).
 use Rattle.std.specs.Prelude.{◌==◌, ◌||◌, List, Bool, false, Option, Some, IsSomeAnd, if◌then◌else◌}
 use Rattle.std.specs.Prelude.{◌≡◌, ◌≤◌, ◌/◌, ◌^◌, ◌<◌, ℕ, ◌+ℤ◌, ◌*ℤ◌, pos}
-use Rattle.linker_output.specs.Imports.{AArch64, LazyEntry, LazyPiece, difference_64, field, rd_of}
-use Rattle.linker_output.specs.Imports.{rn_of, signed, stored, sum_64}
+use Rattle.linker_output.specs.Imports.{AArch64, LazyEntry, LazyPiece, difference_64, field, signed}
+use Rattle.linker_output.specs.Imports.{stored, sum_64}
+use Rattle.linker_utils.specs.AArch64Rewrites.{rd_of, rn_of}
 use Rattle.linker_laws.specs.AArch64Machine as machine
 use Rattle.linker_laws.specs.AArch64Machine.{State, read_x, write_x_or_sp, go_on, load_64}
 use Rattle.linker_laws.specs.AArch64Machine.{in_64_bits}

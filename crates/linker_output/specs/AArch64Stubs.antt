@@ -1,8 +1,10 @@
 -- AArch64: stubs go to their targets (Arm Architecture Reference Manual for A-profile, DDI 0487,
 -- C6.2).
 use Rattle.std.specs.Prelude.{◌≡◌, ◌==◌, ◌&&◌, ◌||◌, ◌/◌, ◌^◌, ◌<◌, ℕ, List, Bool, false}
-use Rattle.std.specs.Prelude.{Option, Some, None, IsSomeAnd, if◌then◌else◌, drop, pos, ◌+ℤ◌, ◌*ℤ◌}
-use Rattle.linker_output.specs.Imports.{AArch64, Ldr, field, number_of_bytes, rd_of, rn_of, sum_64}
+use Rattle.std.specs.Prelude.{Option, Some, None, IsSomeAnd, IsTrue, if◌then◌else◌, drop, pos}
+use Rattle.std.specs.Prelude.{◌+ℤ◌, ◌*ℤ◌}
+use Rattle.linker_output.specs.Imports.{AArch64, Ldr, field, number_of_bytes, sum_64, word_of}
+use Rattle.linker_utils.specs.AArch64Rewrites.{rd_of, rn_of}
 use Rattle.linker_elf.specs.AArch64.{aarch64_form}
 use Rattle.linker_laws.specs.AArch64Machine as machine
 use Rattle.linker_laws.specs.AArch64Machine.{State, read_x, write_x, go_to, go_on, load_64}
@@ -77,12 +79,13 @@ Loads =
     → IsStub AArch64 aarch64_output.load_stub place word code
     → (s : State) → s.pc ≡ place → IsSomeAnd (run_stub 3 code s) (GoesTo (load_64 s.memory word) s)
 
--- the same where indirect branches may go to the stub
+-- the same where indirect branches may go to the stub, which begins with "BTI c"
 abbrev pub LandingLoads : Type 0
 LandingLoads =
     (place word : ℕ) → place < 2 ^ 64 → word < 2 ^ 64 → (code : List ℕ)
     → IsSomeAnd aarch64_output.landing_load_stub (λ stub. IsStub AArch64 stub place word code)
-    → (s : State) → s.pc ≡ place → IsSomeAnd (run_stub 4 code s) (GoesTo (load_64 s.memory word) s)
+    → (s : State) → s.pc ≡ place → IsTrue (is_bti_c (word_of code))
+    × IsSomeAnd (run_stub 4 code s) (GoesTo (load_64 s.memory word) s)
 
 abbrev pub Jumps : Type 0
 Jumps =

@@ -16,9 +16,8 @@ pub use Rattle.linker_elf.specs.declared.elf.relocate.RelocateError.{RelocateErr
 pub use Rattle.linker_elf.specs.declared.elf.relocate.RelocateError.TheVariants.{OutOfReach, Unsupported}
 pub use Rattle.linker_elf.specs.declared.elf.value.Operands.{Operands}
 pub use Rattle.linker_elf.specs.declared.ppc64.forms.Ppc64Form.TheVariants.{Branch24}
-pub use Rattle.linker_laws.specs.Machine.{AreBytes, Memory, loaded, moved, stored, wrapped}
+pub use Rattle.linker_laws.specs.Machine.{AreBytes, Memory, loaded, moved, stored, word_of, wrapped}
 pub use Rattle.linker_laws.specs.Ppc64Machine.{Formats, State, base, go_on, go_to, indexed_address, next_pc, step, step_prefixed, store, with_number, write}
-pub use Rattle.linker_laws.specs.Ppc64RewriteLaws.{prefixed_of, word_of}
 pub use Rattle.linker_output.specs.declared.flags.FlagRules.{FlagRules}
 pub use Rattle.linker_output.specs.declared.got.GotHeader.TheVariants.{Base, Dynamic}
 pub use Rattle.linker_output.specs.declared.got.ThreadPointer.TheVariants.{AboveImage, BelowImage}
@@ -45,7 +44,6 @@ pub use Rattle.linker_output.specs.declared.tags.DynamicTag.{DynamicTag}
 pub use Rattle.linker_output.specs.declared.tags.TagRule.{TagRule}
 pub use Rattle.linker_output.specs.declared.tags.TagRule.TheVariants.{LandingPlt, LazyPlt, Options, SignedPlt, VariantCalls}
 pub use Rattle.linker_section.specs.declared.needed.EntryClass.TheVariants.{Address, Descriptor, Module, ModuleOffset, ThreadOffset}
-pub use Rattle.linker_utils.specs.AArch64Rewrites.{rd_of, rn_of}
 pub use Rattle.linker_utils.specs.Ppc64Rewrites.{HasTwo, opcode_of, ra_of, rb_of, rt_of}
 pub use Rattle.std.specs.Int.{bit_at, cast_unsigned, from_le_bytes, to_le_bytes, w32, w64}
 pub use Rattle.std.specs.List.{list_all, prefix_len, sum_by}

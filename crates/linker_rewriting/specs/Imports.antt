@@ -15,6 +15,7 @@ pub use Rattle.linker_rewriting.specs.declared.decisions.Deletion.{Deletion}
 pub use Rattle.linker_rewriting.specs.declared.decisions.RewritingError.{RewritingError}
 pub use Rattle.linker_rewriting.specs.declared.decisions.RewritingError.TheVariants.{Contradiction, NotSurveyed, Overlaps, TooShort}
 pub use Rattle.linker_rewriting.specs.declared.decisions.Subject.{Subject}
+pub use Rattle.linker_rewriting.specs.declared.decisions.numbers.DecisionNumbers.{DecisionNumbers}
 pub use Rattle.linker_rewriting.specs.declared.facts.OutputFacts.{OutputFacts}
 pub use Rattle.linker_rewriting.specs.declared.facts.RelaxContext.{RelaxContext}
 pub use Rattle.linker_rewriting.specs.declared.facts.SymbolFacts.{SymbolFacts}

@@ -1,11 +1,12 @@
 -- Decisions in numbers, as C has them.
-use Rattle.std.specs.Prelude.{◌≡◌, ℕ, ◌==◌, if◌then◌else◌, List, map, pos, Option, Some, None}
+use Rattle.std.specs.Prelude.{◌≡◌, ℕ, ◌==◌, ◌/◌, if◌then◌else◌, List, map, length, take, pos}
+use Rattle.std.specs.Prelude.{Option, Some, None}
 use Rattle.std.proofs.Common.{ap}
 use Rattle.linker_elf.specs.Machines.{architecture_of}
-use Rattle.linker_rewriting.specs.Imports.{Architecture, Choice, Consumed, Decision, Kept}
-use Rattle.linker_rewriting.specs.Imports.{Relaxation, Rewritten, RewrittenWithSymbol, Subject}
-use Rattle.linker_rewriting.specs.Imports.{rewrite_of_number}
-use Rattle.linker_rewriting.specs.declared.decisions.numbers.DecisionNumbers.{DecisionNumbers}
+use Rattle.linker_rewriting.specs.Decisions.{AllCanBeMade, deletions_by, pairs_in}
+use Rattle.linker_rewriting.specs.Imports.{Architecture, Choice, Consumed, Decision}
+use Rattle.linker_rewriting.specs.Imports.{DecisionNumbers, Deletion, Kept, Relaxation, Rewritten}
+use Rattle.linker_rewriting.specs.Imports.{RewrittenWithSymbol, Subject, rewrite_of_number}
 
 -- one that rewrites nothing
 abbrev pub of_fate : ℕ → DecisionNumbers
@@ -51,6 +52,17 @@ decision_in numbers = decision_by numbers.fate (subject_in numbers) (choice_in n
 
 abbrev pub decisions_in : List DecisionNumbers → List Decision
 decisions_in decisions = map decision_in decisions
+
+-- Each decision can be made in a section's bytes.
+abbrev pub AreMakeable : List ℕ → List ℕ → List DecisionNumbers → Type 0
+AreMakeable relocations section decisions =
+    AllCanBeMade relocations section (decisions_in decisions) (length relocations / 24)
+
+-- The first n deletions of a list are all that the decisions have.
+abbrev pub AreListed : List ℕ → List DecisionNumbers → List Deletion → ℕ → Type 0
+AreListed relocations decisions deleted n =
+    take n (pairs_in deleted)
+    ≡ deletions_by relocations (decisions_in decisions) (length relocations / 24)
 
 -- how one is written: one that rewrites nothing has no other number than its fate
 abbrev pub IsWrittenAs : Decision → DecisionNumbers → Type 0

@@ -2,9 +2,9 @@
 
 ghost use Rattle.std.specs.Prelude.{◌≡◌, ◌<◌, ◌≤◌, ◌/◌, length, true, false};
 ghost use Rattle.linker_elf.specs.declared.elf.RowInfo.{RowInfo};
-ghost use Rattle.linker_rewriting.specs.Numbers.{decisions_in};
+ghost use Rattle.linker_rewriting.specs.Numbers.{AreMakeable, decisions_in};
 ghost use Rattle.linker_rewriting.specs.Decisions.{IsFirstCovered, start_at, end_at};
-ghost use Rattle.linker_rewriting.specs.Inner.Passed.{AreAllApart, AreMakeable};
+ghost use Rattle.linker_rewriting.specs.Inner.Passed.{AreAllApart};
 ghost use Rattle.linker_rewriting.specs.Inner.Places.{AreBelow, AreSearchable, IsPlace, IsThePlace};
 ghost use Rattle.linker_rewriting.specs.Inner.Places.{in_windows};
 ghost use Rattle.linker_section.specs.Fields.{IsField, field_end};

@@ -7,11 +7,12 @@ ghost use Rattle.std.specs.Prelude.{◌≡◌, ◌↔◌, ◌+◌, ◌<◌, ◌�
 ghost use Rattle.std.specs.Prelude.{IfSome, IfErr, IfOk, OnOk, OnErr, IsTrue, ◌&&◌};
 ghost use Rattle.std.specs.Prelude.{◌==◌, true, MatchOption, None, ⊤};
 ghost use Rattle.std.specs.Int.{w32, from_le_bytes};
-ghost use Rattle.linker_rewriting.specs.Numbers.{decisions_in, IsWrittenDecision};
+ghost use Rattle.linker_rewriting.specs.Numbers.{AreListed, AreMakeable, IsWrittenDecision};
+ghost use Rattle.linker_rewriting.specs.Numbers.{decisions_in};
 ghost use Rattle.linker_rewriting.specs.Agreement.{Agree, IsContradiction, of_tables};
 ghost use Rattle.linker_rewriting.specs.Decisions.{EachIs, IsRejectedFirst, IsWithin, RestStays};
 ghost use Rattle.linker_rewriting.specs.Facts.{context_of};
-ghost use Rattle.linker_rewriting.specs.Inner.Passed.{AreListed, AreMakeable, CanStand, at_site};
+ghost use Rattle.linker_rewriting.specs.Inner.Passed.{CanStand, at_site};
 ghost use Rattle.linker_rewriting.specs.Inner.Passed.{by_bases};
 ghost use Rattle.linker_riscv64.specs.RiscVCalls.{word_at};
 ghost use Rattle.linker_riscv64.specs.RiscVFields.{opcode_of, funct3_of};

@@ -7,11 +7,11 @@
 ghost use Rattle.std.specs.Prelude.{◌≡◌, ◌↔◌, ◌<◌, ◌≤◌, ◌+◌, ◌/◌, ℕ, length, drop};
 ghost use Rattle.std.specs.Prelude.{IfErr, IfOk, IfSome, IfNone, IsTrue, OnOk, OnErr, true};
 ghost use Rattle.linker_section.specs.Relocations.{relocation_in};
-ghost use Rattle.linker_rewriting.specs.Numbers.{decisions_in, numbers_in, IsKeptDecision};
-ghost use Rattle.linker_rewriting.specs.Numbers.{IsWrittenDecision};
+ghost use Rattle.linker_rewriting.specs.Numbers.{AreListed, AreMakeable, IsKeptDecision};
+ghost use Rattle.linker_rewriting.specs.Numbers.{IsWrittenDecision, decisions_in, numbers_in};
 ghost use Rattle.linker_rewriting.specs.Agreement.{Agree, of_tables};
 ghost use Rattle.linker_rewriting.specs.Facts.{pre_layout, context_of};
-ghost use Rattle.linker_rewriting.specs.Inner.Passed.{AreAllApart, AreListed, AreMakeable};
+ghost use Rattle.linker_rewriting.specs.Inner.Passed.{AreAllApart};
 ghost use Rattle.linker_rewriting.specs.Inner.Passed.{StayUnless};
 ghost use Rattle.linker_rewriting.specs.Rewritten.{section_after, relocation_after, AreDone};
 ghost use Rattle.linker_rewriting.specs.Rewritten.{AreRelocationsAfter, OthersStay, IsRewrittenAs};

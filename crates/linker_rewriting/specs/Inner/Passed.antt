@@ -1,14 +1,12 @@
 -- What contracts say of contexts, sites and decisions, as the code has them.
-use Rattle.std.specs.Prelude.{◌≡◌, ◌<◌, ◌/◌, ℕ, List, Bool, false, length, take, Option, IfSome}
-use Rattle.linker_rewriting.specs.Imports.{Addresses, Choice, Decision, Deletion, Rela}
+use Rattle.std.specs.Prelude.{◌≡◌, ◌<◌, ◌/◌, ℕ, List, Bool, false, length, Option, IfSome}
+use Rattle.linker_rewriting.specs.Imports.{Addresses, Choice, Decision, DecisionNumbers, Rela}
 use Rattle.linker_rewriting.specs.Imports.{RelaxContext as Passed, Relaxation, Rewritten, Symbol}
-use Rattle.linker_rewriting.specs.Decisions.{AllCanBeMade, AreApart, IsThere, decision_at}
-use Rattle.linker_rewriting.specs.Decisions.{deletions_by, pairs_in}
+use Rattle.linker_rewriting.specs.Decisions.{AreApart, IsThere, decision_at}
 use Rattle.linker_rewriting.specs.Facts.{RelaxContext, context_of}
 use Rattle.linker_rewriting.specs.Inner.Left.{AreKept}
 use Rattle.linker_rewriting.specs.Notes.{AreHighsNoted, AreLabelsNoted}
 use Rattle.linker_rewriting.specs.Numbers.{decisions_in}
-use Rattle.linker_rewriting.specs.declared.decisions.numbers.DecisionNumbers.{DecisionNumbers}
 use Rattle.linker_rewriting.specs.declared.global_pointer.Bases.{Bases}
 use Rattle.linker_rewriting.specs.declared.relocations.Site.{Site}
 
@@ -30,12 +28,7 @@ CanBeRewritten site = λ chosen.
 abbrev pub by_bases {ℓ} : {X : Type ℓ} → (Addresses → List Symbol → ℕ → X) → Bases → X
 by_bases Is bases = Is bases.addresses.now bases.values.now bases.gp
 
--- all can be made
-abbrev pub AreMakeable : List ℕ → List ℕ → List DecisionNumbers → Type 0
-AreMakeable bytes section decisions =
-    AllCanBeMade bytes section (decisions_in decisions) (length bytes / 24)
-
--- their bytes are apart
+-- the bytes of decisions are apart
 abbrev pub AreAllApart : List ℕ → List DecisionNumbers → Type 0
 AreAllApart bytes decisions = AreApart bytes (decisions_in decisions) (length bytes / 24)
 
@@ -44,17 +37,12 @@ abbrev pub StayUnless : Bool → List ℕ → List DecisionNumbers → Type 0
 StayUnless changes bytes decisions =
     changes ≡ false → AreKept (decisions_in decisions) (length bytes / 24)
 
--- so many deletions are listed: all that decisions have
-abbrev pub AreListed : List ℕ → List DecisionNumbers → List Deletion → ℕ → Type 0
-AreListed bytes decisions deleted len =
-    take len (pairs_in deleted) ≡ deletions_by bytes (decisions_in decisions) (length bytes / 24)
-
 -- each is the same decision
 abbrev pub AreSet : List ℕ → Decision → List DecisionNumbers → Type 0
 AreSet bytes decision decisions =
     (n : ℕ) → n < length bytes / 24 → decision_at (decisions_in decisions) n ≡ decision
 
--- the groups that stay, at their high parts
+-- the groups that stay are noted at their high parts
 abbrev pub AreAllHighsNoted : Passed → List ℕ → List ℕ → List DecisionNumbers → Type 0
 AreAllHighsNoted s bytes section decisions =
     AreHighsNoted (context_of s) bytes section (decisions_in decisions) (length bytes / 24)

@@ -49,11 +49,12 @@ pub record IsPlaceBeside (bytes : List ℕ) (decisions : List Decision) (limit i
 abbrev pub in_windows {ℓ} : {X : Type ℓ} → (List ℕ → List Decision → X) → Windows → X
 in_windows Is windows = Is windows.relocations.now (decisions_in windows.decisions.now)
 
--- each relocation has one, and their bytes are apart
+-- Each relocation has a decision. Bytes that begin below 2^64 end there, and all are apart.
 pub record AreSearchable (windows : Windows) : Type 0 where
   pub enough : length windows.relocations.now / 24 ≤ length windows.decisions.now
   pub bounded : in_windows AreBounded windows (length windows.relocations.now / 24)
   pub apart : in_windows AreApart windows (length windows.relocations.now / 24)
 
+-- the place, among all decisions
 abbrev pub IsThePlace : Windows → ℕ → ℕ → Place → Type 0
 IsThePlace windows = in_windows IsPlaceBeside windows (length windows.relocations.now / 24)

@@ -32,7 +32,7 @@ KeepsNone architecture phase symbols r =
     IsOfNone architecture phase r.r_type
     × (needs_mark phase architecture (slice_get symbols r.symbol) ≡ false)
 
--- those from an index on, and below the next one, are so
+-- The relocations from an index on and below the next one are of no group, and need no mark.
 pub record IsNextKeeping (s : Passed) (bytes : List ℕ) (first next : ℕ) : Type 0 where
   pub from : first ≤ next
   pub within : next ≤ length bytes / 24
