@@ -375,8 +375,10 @@ enum linker_utils_aarch64_rewrite {
      * LINKER_UTILS_AARCH64_FORM_ADR only ORs a value into them: the caller clears bits 5 to 23, 29
      * and 30 before that write. */
     LINKER_UTILS_AARCH64_REWRITE_ADD_TO_ADR = 9,
-    /* Turns `ldr` with an unsigned offset into `adr` alike. Bits 22, 29 and 30 of the opcode are
-     * immediate bits of `adr`, and unchanged too. */
+    /* Turns `ldr` with an unsigned offset into `adr`: clears bits 24, 27 and 31. The immediate's
+     * old bits are unchanged, as are bits 22, 29 and 30 of the opcode, which are immediate bits of
+     * `adr`: the caller clears bits 5 to 23, 29 and 30 before it writes
+     * LINKER_UTILS_AARCH64_FORM_ADR. */
     LINKER_UTILS_AARCH64_REWRITE_LDR_TO_ADR = 10,
     /* Turns LDR (immediate), 64 bits with an unsigned offset, into ADD (immediate). Bits 0 to 20
      * are unchanged. Requires such an instruction. */
@@ -393,24 +395,26 @@ enum linker_utils_riscv_rewrite {
     /* Writes two `c.nop` in place of four bytes. Requires the C extension. */
     LINKER_UTILS_RISCV_REWRITE_REPLACE_WITH_NOP = 1,
     /* Turns the `auipc` of an `auipc` and `jalr` pair into a `jal` of distance 0 with the `auipc`'s
-     * destination register (RISC-V ELF psABI, "Function Call Relaxation"). If the `jalr` links
-     * another register, as in `tail f`, that is not the call's jump: `matches` is the test. */
+     * destination register (RISC-V ELF psABI, "Function Call Relaxation"). The caller deletes the
+     * `jalr` after it. If the `jalr` links another register than the `auipc`'s, as in `tail f`,
+     * that is not the call's jump: `matches` is the test. */
     LINKER_UTILS_RISCV_REWRITE_CALL_TO_JAL = 2,
     /* Turns the first two bytes of a `lui` into a `c.lui` of immediate 0 with the `lui`'s
-     * destination register. */
+     * destination register. The caller deletes the two bytes after it. */
     LINKER_UTILS_RISCV_REWRITE_HI20_TO_C_LUI = 3,
-    /* Leaves a `lui` whose immediate is 0, which is deleted. */
+    /* Leaves a `lui` whose immediate is 0 as it is; the caller deletes it. */
     LINKER_UTILS_RISCV_REWRITE_HI20_DELETE = 4,
     /* Clears bits 15 to 19: the source register of the instruction that adds the low part becomes
      * x0. */
     LINKER_UTILS_RISCV_REWRITE_LO12_RS1_TO_ZERO = 5,
     /* Turns the `auipc` of a tail call, whose `jalr` links no register, into a `jal x0` of distance
-     * 0. */
+     * 0. The caller deletes the `jalr` after it. */
     LINKER_UTILS_RISCV_REWRITE_TAIL_TO_JAL = 6,
     /* Turns the first two bytes of a tail call into a `c.j` of distance 0. Requires the C
-     * extension. */
+     * extension. The caller deletes the six bytes after it. */
     LINKER_UTILS_RISCV_REWRITE_TAIL_TO_C_J = 7,
-    LINKER_UTILS_RISCV_REWRITE_DELETE = 8, /* Leaves the instruction, which is deleted. */
+    /* Leaves the instruction as it is; the caller deletes its four bytes. */
+    LINKER_UTILS_RISCV_REWRITE_DELETE = 8,
     /* Writes one nop of four bytes, `addi x0, x0, 0`, in place of an instruction. */
     LINKER_UTILS_RISCV_REWRITE_REPLACE_WITH_LONG_NOP = 9,
     /* Makes x4, the thread pointer, the source register of the instruction that adds the low part
@@ -436,7 +440,8 @@ enum linker_utils_riscv_rewrite {
     /* Turns `ld` into `addi` of 0 and x0, with its destination register. */
     LINKER_UTILS_RISCV_REWRITE_LD_TO_ADDI_ZERO = 19,
     /* Turns the first two bytes of a call whose `jalr` links x1 into a `c.jal` of distance 0.
-     * Requires RV32 and the C extension: code of RV64 has `c.addiw` of these bits. */
+     * Requires RV32 and the C extension: code of RV64 has `c.addiw` of these bits. The caller
+     * deletes the six bytes after it. */
     LINKER_UTILS_RISCV_REWRITE_CALL_TO_C_JAL = 20
 };
 
@@ -498,10 +503,13 @@ enum linker_utils_ppc64_rewrite {
     LINKER_UTILS_PPC64_REWRITE_ADDI_TO_ADDIS_THREAD = 9, /* Turns `addi rT` into `addis rT,13,0`. */
     LINKER_UTILS_PPC64_REWRITE_ADDI_TO_LD = 10, /* Turns `addi rT,rA` into `ld rT,0(rA)`. */
     /* Turns the call of `__tls_get_addr` and the `nop` after it into `nop` and `addi 3,3,0`. The
-     * offset is then that of the second instruction, 4 bytes on, as with the two below. */
+     * offset is then that of the `addi`, 4 bytes on. */
     LINKER_UTILS_PPC64_REWRITE_CALL_TO_ADDI = 11,
-    LINKER_UTILS_PPC64_REWRITE_CALL_TO_ADD = 12, /* Turns these into `nop` and `add 3,3,13`. */
-    /* Turns these into `nop` and `addi 3,3,4096`. */
+    /* Turns the call of `__tls_get_addr` and the `nop` after it into `nop` and `add 3,3,13`. The
+     * offset is then that of the `add`, 4 bytes on. */
+    LINKER_UTILS_PPC64_REWRITE_CALL_TO_ADD = 12,
+    /* Turns the call of `__tls_get_addr` and the `nop` after it into `nop` and `addi 3,3,4096`. The
+     * offset is then that of the `addi`, 4 bytes on. */
     LINKER_UTILS_PPC64_REWRITE_CALL_TO_ADDI4096 = 13,
     /* Turns the `nop` after a call into `ld 2,24(1)`, which restores the TOC pointer. The offset is
      * that of the call, which stays. */

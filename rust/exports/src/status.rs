@@ -198,7 +198,7 @@ pub enum Status {
     UnknownProperty,
 }
 
-/// A status that is about what has an index, and the index.
+/// Writes the index of what a status is about, and returns the status.
 #[inline(always)]
 pub(crate) fn at_fault(status: u32, index: usize, faulty: &mut usize) -> u32 {
     *faulty = index;

@@ -38,8 +38,9 @@ pub enum RewriteKind {
     /// [`AArch64Instruction::Adr`](crate::aarch64::AArch64Instruction::Adr) only ORs a value into them: the caller clears bits 5 to 23, 29 and
     /// 30 before that write.
     AddToAdr,
-    /// Turns `ldr` with an unsigned offset into `adr` alike. Bits 22, 29 and 30 of the opcode are
-    /// immediate bits of `adr`, and unchanged too.
+    /// Turns `ldr` with an unsigned offset into `adr`: clears bits 24, 27 and 31. The immediate's
+    /// old bits are unchanged, as are bits 22, 29 and 30 of the opcode, which are immediate bits of
+    /// `adr`: the caller clears bits 5 to 23, 29 and 30 before it writes [`AArch64Instruction::Adr`](crate::aarch64::AArch64Instruction::Adr).
     LdrToAdr,
     /// Turns LDR (immediate), 64 bits with an unsigned offset, into ADD (immediate). Bits 0 to 20
     /// are unchanged. Requires such an instruction.

@@ -100,7 +100,7 @@ fn loses_toc(architecture: Architecture, r_type: u32, symbol: &Symbol) -> bool {
         && symbol.other / 32 == 1
 }
 
-/// Whether the function takes a TOC pointer that the caller hasn't: one of code that has none.
+/// Whether the function takes a TOC pointer, and the branch is of code that has none.
 #[inline(always)]
 fn lacks_toc(architecture: Architecture, r_type: u32, symbol: &Symbol) -> bool {
     match architecture {

@@ -97,7 +97,7 @@ macro_rules! field {
 
 pub(crate) use field;
 
-/// The bytes of instructions of 4.
+/// The bytes of instructions of 4 bytes each.
 macro_rules! words {
     ($($word:literal),+) => {
         [$(

@@ -11,24 +11,37 @@ use crate::linker_elf::elf::choice_table::{
 use crate::linker_elf::elf::{Choice, LinkFacts, Operands};
 use crate::linker_elf::loongarch64::{LoongArch64Relocation, LoongArch64Relocation as Names};
 
-/// The instructions that an entry is for, of which its relocation is at the first one; at those
-/// whose names begin with `LowOf` a pair, it is at the second.
+/// The instructions that an entry is for, where its relocation is at the first one, if no other is
+/// named.
 #[derive(Debug)]
 pub enum Pattern {
     /// Those that its rewrite is meant for.
     OfRewrite,
+    /// `pcalau12i rd` and `ld.d rd, rd`.
     Load,
+    /// The same at the `ld.d`.
     LowOfLoad,
+    /// `pcalau12i rd` and `addi.d rd, rd`.
     Sum,
+    /// The same at the `addi.d`.
     LowOfSum,
+    /// `pcalau12i`.
     Pcalau12i,
+    /// `ld.d`.
     Ld,
+    /// `pcalau12i a0` of a TLS descriptor.
     PageOfDescriptor,
+    /// `addi.d a0, a0` of a TLS descriptor.
     LowOfDescriptor,
+    /// `ld.d ra, a0, 0` of a TLS descriptor.
     LoadOfDescriptor,
+    /// `jirl ra, ra, 0` of a TLS descriptor.
     CallOfDescriptor,
+    /// `lu12i.w`.
     Lu12i,
+    /// `add.d rd, rj, tp`.
     AddTp,
+    /// What adds an immediate of 12 bits, other than a store of its own base.
     LowOverOther,
 }
 

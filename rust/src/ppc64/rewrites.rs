@@ -54,11 +54,13 @@ pub enum RewriteKind {
     /// Turns `addi rT,rA` into `ld rT,0(rA)`.
     AddiToLd,
     /// Turns the call of `__tls_get_addr` and the `nop` after it into `nop` and `addi 3,3,0`. The
-    /// offset is then that of the second instruction, 4 bytes on, as with the two below.
+    /// offset is then that of the `addi`, 4 bytes on.
     CallToAddi,
-    /// Turns these into `nop` and `add 3,3,13`.
+    /// Turns the call of `__tls_get_addr` and the `nop` after it into `nop` and `add 3,3,13`. The
+    /// offset is then that of the `add`, 4 bytes on.
     CallToAdd,
-    /// Turns these into `nop` and `addi 3,3,4096`.
+    /// Turns the call of `__tls_get_addr` and the `nop` after it into `nop` and `addi 3,3,4096`.
+    /// The offset is then that of the `addi`, 4 bytes on.
     CallToAddi4096,
     /// Turns the `nop` after a call into `ld 2,24(1)`, which restores the TOC pointer. The offset
     /// is that of the call, which stays.

@@ -9,8 +9,7 @@ use crate::linker_base::rewrite::{DeletedBytes, RewriteWindow, window_is_in};
 use crate::linker_elf::elf::InstructionRewrite;
 use crate::linker_elf::riscv64::RiscVRelocation;
 
-/// A rewrite of one instruction, or of a pair whose second instruction is then deleted. The caller
-/// deletes the bytes that `deleted` says.
+/// A rewrite of one instruction, or of a pair whose second instruction is then deleted.
 #[cfg_attr(not(exhaustive), non_exhaustive)]
 #[derive(Default, Clone, Copy, PartialEq, Eq, Debug, Hash, PartialOrd, Ord)]
 pub enum RewriteKind {
@@ -20,24 +19,25 @@ pub enum RewriteKind {
     /// Writes two `c.nop` in place of four bytes. Requires the C extension.
     ReplaceWithNop,
     /// Turns the `auipc` of an `auipc` and `jalr` pair into a `jal` of distance 0 with the
-    /// `auipc`'s destination register (RISC-V ELF psABI, "Function Call Relaxation"). If the `jalr`
-    /// links another register, as in `tail f`, that is not the call's jump: `matches` is the test.
+    /// `auipc`'s destination register (RISC-V ELF psABI, "Function Call Relaxation"). The caller
+    /// deletes the `jalr` after it. If the `jalr` links another register than the `auipc`'s, as in
+    /// `tail f`, that is not the call's jump: `matches` is the test.
     CallToJal,
     /// Turns the first two bytes of a `lui` into a `c.lui` of immediate 0 with the `lui`'s
-    /// destination register.
+    /// destination register. The caller deletes the two bytes after it.
     Hi20ToCLui,
-    /// Leaves a `lui` whose immediate is 0, which is deleted.
+    /// Leaves a `lui` whose immediate is 0 as it is; the caller deletes it.
     Hi20Delete,
     /// Clears bits 15 to 19: the source register of the instruction that adds the low part becomes
     /// x0.
     Lo12Rs1ToZero,
     /// Turns the `auipc` of a tail call, whose `jalr` links no register, into a `jal x0` of
-    /// distance 0.
+    /// distance 0. The caller deletes the `jalr` after it.
     TailToJal,
     /// Turns the first two bytes of a tail call into a `c.j` of distance 0. Requires the C
-    /// extension.
+    /// extension. The caller deletes the six bytes after it.
     TailToCJ,
-    /// Leaves the instruction, which is deleted.
+    /// Leaves the instruction as it is; the caller deletes its four bytes.
     Delete,
     /// Writes one nop of four bytes, `addi x0, x0, 0`, in place of an instruction.
     ReplaceWithLongNop,
@@ -66,7 +66,8 @@ pub enum RewriteKind {
     /// Turns `ld` into `addi` of 0 and x0, with its destination register.
     LdToAddiZero,
     /// Turns the first two bytes of a call whose `jalr` links x1 into a `c.jal` of distance 0.
-    /// Requires RV32 and the C extension: code of RV64 has `c.addiw` of these bits.
+    /// Requires RV32 and the C extension: code of RV64 has `c.addiw` of these bits. The caller
+    /// deletes the six bytes after it.
     CallToCJal,
 }
 
