@@ -1,5 +1,5 @@
 -- AArch64's stubs go to their targets.
-use Rattle.linker_output.proofs.Imports.{AArch64, Bool, IsInstructionOf, IsSomeAnd, None, Option, RelativeAddresses, Some, WritesPair, [], aarch64_name, aarch64_output, aarch64_row, add_after, adds_pair, adrp_after, ap, arith, cond, drop, eqb, false, field, field_of, ldr_after, loads, of_registers, operands_of, or_else, refl, run_by, subst, sum_64, sum_zero, sym, symbol_address, true, word_of, words, ℕ, ◌++◌, ◌||◌, ◌∙◌, ◌∷◌, ◌≡◌}
+use Rattle.linker_output.proofs.Imports.{AArch64, Bool, IsInstructionOf, IsSomeAnd, IsTrue, None, Option, RelativeAddresses, Some, WritesPair, [], aarch64_name, aarch64_output, aarch64_row, add_after, adds_pair, adrp_after, ap, arith, cond, drop, eqb, false, field, field_of, ldr_after, loads, of_registers, operands_of, or_else, refl, run_by, subst, sum_64, sum_zero, sym, symbol_address, true, word_of, words, ℕ, ◌++◌, ◌||◌, ◌∙◌, ◌∷◌, ◌≡◌}
 use Rattle.linker_output.specs.AArch64Stubs.{GoesTo, run_stub, further, stub_step}
 use Rattle.linker_laws.specs.AArch64Machine.{load_64, adrp_address, added, add, ldr, go_to, State, step, loaded, go_on}
 use Rattle.linker_laws.proofs.AArch64Steps.{set}
