@@ -106,7 +106,7 @@ landing_loads_go relative place target inside below code is s at =
     let lands : run_stub 4 code s ≡ run_stub 3 plain (go_on s) =
     ap (λ c. run_stub 4 c s) is.3
     ∙ run_more (λ s. s.pc) stub_step 0xd503245f (word_of plain) (words 2 (drop 4 plain)) s (go_on s) (run_stub 3 plain (go_on s)) refl refl refl in (
-      subst (λ c. IsTrue (stubs.is_bti_c (word_of c))) (sym is.3) tt,
+      subst (λ c. IsTrue (stubs.is_bti_c (word_of c))) (sym is.3) refl,
       subst (λ end. IsSomeAnd end (GoesTo (load_64 s.memory target) s)) (sym lands)
           (after_landing (load_64 s.memory target) s (run_stub 3 plain (go_on s)) goes),
     )
