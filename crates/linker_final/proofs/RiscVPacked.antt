@@ -102,7 +102,7 @@ sites groups p is riscv i site of name of_call =
     let s = p.section in
     let o = site_offset p site in
     let code = site_bytes p site in
-    let final : RiscVBecomes false s.bytes o (site_place p site) (site_target p site) code =
+    let final : RiscVBecomes Rv64 s.bytes o (site_place p site) (site_target p site) code =
     subst (λ m. SiteBecomes m s site code) riscv (site_becomes p is i site of) in
     let has = subst (λ m. HasItsInstructions m s.bytes s.base (Site site)) riscv of.there in
     becomes groups s.bytes o is.section_bytes has.3.0 (site_inside p i site of) (site_place p site)

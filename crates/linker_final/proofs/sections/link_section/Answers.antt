@@ -5,8 +5,7 @@ use Rattle.linker_final.proofs.sections.link_section.Goals as goal
 pub returns-in-Err-clause-cause : goal.returns-in-Err-clause-cause
 returns-in-Err-clause-cause c = (
   c.in-Err.ensures.rejected,
-  c.in-Err.ensures.entries,
-  c.in-Err.ensures.section,
+  (c.in-Err.ensures.entries, c.in-Err.ensures.section),
 )
 
 pub returns-in-Ok-clause-linked : goal.returns-in-Ok-clause-linked

@@ -6,10 +6,12 @@ pub returns-in-Err-clause-cause : goal.returns-in-Err-clause-cause
 returns-in-Err-clause-cause c = (
   c.args.relocations.now,
   c.args.section.now,
-  c.in-Err.ensures.rejected,
-  (refl, refl),
-  (c.in-Err.ensures.entries, c.in-Err.ensures.section),
-  refl,
+  (
+    c.in-Err.ensures.rejected,
+    (refl, refl),
+    (c.in-Err.ensures.entries, c.in-Err.ensures.section),
+    refl,
+  ),
 )
 
 pub returns-in-Err-rewrite_placed_section-clause-cause :
@@ -18,9 +20,11 @@ returns-in-Err-rewrite_placed_section-clause-cause c =
     let stopped = c.in-Err-rewrite_placed_section.ensures in (
       c.rewrite_section.new.relocations,
       c.rewrite_section.new.section,
-      has_rewritten _ _ _ _ _ _ _ c.in_default.ensures.rewritten (search rules) (search rules),
-      stopped.rejected,
-      (stopped.entries, stopped.section),
+      (
+        has_rewritten _ _ _ _ _ _ _ c.in_default.ensures.rewritten (search rules) (search rules),
+        stopped.rejected,
+        (stopped.entries, stopped.section),
+      ),
     )
 
 pub returns-in-Ok-clause-linked : goal.returns-in-Ok-clause-linked
@@ -58,8 +62,10 @@ returns-in-Err-relocate_rewritten_section-clause-cause c =
     rw stopped.unchanged (
       c.rewrite_section.new.relocations,
       c.rewrite_section.new.section,
-      has_rewritten _ _ _ _ _ _ _ c.in_default.ensures.rewritten (search rules) (search rules),
-      has_rewritten _ _ _ _ _ _ _ placed.rewritten (search rules) (search rules),
-      listed_so _ _ _ c.in_default-rewrite_placed_section.field-0 placed.listed placed.deletions_stay,
-      stopped.cause,
+      (
+        has_rewritten _ _ _ _ _ _ _ c.in_default.ensures.rewritten (search rules) (search rules),
+        has_rewritten _ _ _ _ _ _ _ placed.rewritten (search rules) (search rules),
+        listed_so _ _ _ c.in_default-rewrite_placed_section.field-0 placed.listed placed.deletions_stay,
+        stopped.cause,
+      ),
     )
