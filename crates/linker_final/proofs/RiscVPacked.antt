@@ -1,5 +1,5 @@
 -- RISC-V: calls in the final bytes of a packed section, and what is deleted of it.
-use Rattle.linker_final.proofs.Imports.{All-drop, All-take, AreAddresses, AreBytes, AreDeleted as IsGone, CallStays, DeletedLui, HasWord, IsApplied, IsBefore, IsCallPair, IsLow12, IsLowOffset, IsLui, IsSomeAnd, List, Operands, Packed, RiscV, RiscVRelocation, Site, SiteBecomes, Some, State, address_is, ap, architecture_of, arith, call, cj_goes, drop, drop-drop, eqb-true, even, false, field, from_le_bytes, if◌then◌else◌, inl, inr, jal_goes, jump, jump_group, length, length-drop, link_register, offset_at, operands_with, place_of, plt_address, rd_of, refl, relocation_in, riscv_matches, riscv_relocation, short_jump, site_bytes, site_len, site_offset, site_place, site_target, subst, sym, take, take_all, value_of, w16, w32, word_at, ℕ, ◌%◌, ◌+◌, ◌-◌, ◌<◌, ◌^◌, ◌∙◌, ◌≡◌, ◌≢◌, ◌≤◌}
+use Rattle.linker_final.proofs.Imports.{All-drop, All-take, AreAddresses, AreBytes, AreDeleted as IsGone, CallStays, DeletedLui, HasWord, IsApplied, IsBefore, IsCallPair, IsLow12, IsLowOffset, IsLui, IsSomeAnd, List, Operands, Packed, RiscV, RiscVRelocation, Site, SiteBecomes, Some, State, address_is, ap, architecture_of, arith, call, cj_goes, drop, drop-drop, eqb-true, even, field, from_le_bytes, if◌then◌else◌, inl, inr, jal_goes, jump, jump_group, length, length-drop, link_register, offset_at, operands_with, place_of, plt_address, rd_of, refl, relocation_in, riscv_matches, riscv_relocation, short_jump, site_bytes, site_len, site_offset, site_place, site_target, subst, sym, take, take_all, value_of, w16, w32, word_at, ℕ, ◌%◌, ◌+◌, ◌-◌, ◌<◌, ◌^◌, ◌∙◌, ◌≡◌, ◌≢◌, ◌≤◌}
 use Rattle.linker_final.specs.RiscVSection.{CallIsAlike, HighPartsAreLeftOut, IsOfCall, LongCallsStay, LuiIsLeftOut, SitesCallTheSame, SumIsLeftOut, call_row, instructions_in, landing}
 use Rattle.linker_laws.specs.RiscVGroups.{Code, Groups, AreDeleted}
 use Rattle.linker_final.proofs.PackedBytes.{are_addresses, instructions, no_place, places_inside, site_becomes, site_inside, site_length, site_small, stay_inside}
