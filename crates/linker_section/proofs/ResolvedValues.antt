@@ -64,21 +64,9 @@ resolved_some architecture addresses bytes lookup i row v is =
 
 -- ---- what is found
 
-abbrev IsSome : Option RowInfo → Type 0
-IsSome None = ⊥
-IsSome (Some row) = Unit
-
 abbrev IsFoundSome : Outcome → Type 0
 IsFoundSome (Ok (Some found)) = Unit
 IsFoundSome outcome = ⊥
-
-abbrev IsFoundNone : Outcome → Type 0
-IsFoundNone (Ok None) = Unit
-IsFoundNone outcome = ⊥
-
-abbrev IsFailed : Outcome → Type 0
-IsFailed (Err why) = Unit
-IsFailed outcome = ⊥
 
 -- the row of a relocation that is written nothing to isn't of a pair
 alone_unless : (skipped : Bool) (architecture : Architecture) (addresses : Addresses)
