@@ -3,8 +3,9 @@ use Rattle.linker_section.proofs.Imports.{Addresses, Architecture, AreAllRelocat
 use Rattle.linker_elf.specs.declared.elf.RelocationKind.TheVariants as kinds
 use Rattle.std.specs.Result.{is_err}
 use Rattle.linker_section.proofs.All.{all_relocated}
+use Rattle.linker_section.proofs.Local.{one_local}
 use Rattle.linker_section.proofs.Runs.{fields_small}
-use Rattle.linker_section.proofs.Stepping.{first_order, ascends_one, one_restores, apart_now, len_alone}
+use Rattle.linker_section.proofs.Stepping.{first_order, ascends_next, drop_after, one_restores, apart_now, len_alone}
 use Rattle.linker_section.proofs.Saving.{restores_by}
 
 pub below_first : (architecture : Architecture) (addresses : Addresses) (bytes : List ℕ)
@@ -128,12 +129,14 @@ front_quickly architecture addresses bytes values before now after memory other 
     ∙ cond-false (eqb (window_len row) 0) last field (ne_eqb (window_len row) 0 (λ e. omega (arith, e, value.some))) in
     let far : leb last.len (o - last.offset) ≡ true = le-leb last.len (o - last.offset) (omega (arith, following, within)) in
     let below : last.offset ≤ o = omega (arith, following, within) in
+    let local = one_local row quick.v o now after quick.written in
     let clear_now : clear_in None i (field_of_row row o now) last ≡ true =
     ap (λ f. clear_in None i f last) same ∙ or_right (eqb (window_len row) 0) (is_clear_of field last) (or_left (leb last.len (o - last.offset)) _ far) in
     record {
       last = field;
       order = subst (Ascends architecture bytes before after (i + 1)) next_is
-          (ascends_one architecture bytes before now after i last row quick.v front.order below same_length value.has.is_row value.has.valued clear_now quick.written);
+          (ascends_next architecture bytes before now after i last row front.order below same_length value.has.is_row value.has.valued value.single local.inside
+          (λ offset window. drop_after o (window_len row) offset now after local window) clear_now);
       is_last = record {
         same = λ is. absurd (omega (arith, is, later));
         own = λ differs k here. subst (λ x. IsOwnField architecture bytes x field) (omega (arith, here))

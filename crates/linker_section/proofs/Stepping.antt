@@ -232,20 +232,20 @@ drop_after o w offset now after local window =
 
 -- ---- one more relocation
 
-pub ascends_one : (architecture : Architecture) (bytes before now after : List ℕ) (k : ℕ)
-    (last : Field) (row : RowInfo) (v : ℤ) → Ascends architecture bytes before now k last
+-- of no pair, after which the bytes outside of its field are those before
+pub ascends_next : (architecture : Architecture) (bytes before now after : List ℕ) (k : ℕ)
+    (last : Field) (row : RowInfo) → Ascends architecture bytes before now k last
     → last.offset ≤ offset_at bytes k → length now ≡ length before
     → IsRow architecture (relocation_in bytes k).r_type (Some row) → has_value row.kind ≡ true
+    → is_of_pair row ≡ false → offset_at bytes k + window_len row ≤ length now
+    → ((offset : ℕ) → offset_at bytes k + window_len row ≤ offset ⊎ (window_len row ≡ 0)
+    → drop offset after ≡ drop offset now)
     → clear_in None k (field_of_row row (offset_at bytes k) now) last ≡ true
-    → IsWritten row v (offset_at bytes k) now after
     → Ascends architecture bytes before after (k + 1) (next_field (field_of_row row (offset_at bytes k) now) last)
-ascends_one architecture bytes before now after k last row v order below same is_row has clear written =
+ascends_next architecture bytes before now after k last row order below same is_row has alone inside kept clear =
     let o = offset_at bytes k in
     let field = field_of_row row o now in
-    let next = next_field field last in
     let is = clear_field architecture bytes before now k last row order same is_row has below clear in
-    let alone = written_alone row v o now after written in
-    let local = one_local row v o now after written in
     let len : field.len ≡ window_len row = len_alone row (drop o now) has alone in
     let following = next_is architecture bytes before k last field row below is in
     record {
@@ -258,14 +258,14 @@ ascends_one architecture bytes before now after k last row v order below same is
       inside = λ some. elim following.is_one [
         | inl is_last ↦ let a = order.inside (let l = ap (λ f. f.len) is_last in omega (arith, some, l)) in
             let e = ap (λ f. f.offset) is_last in let l = ap (λ f. f.len) is_last in omega (arith, a, e, l)
-        | inr is_field ↦ let e = ap (λ f. f.offset) (is_field.0) in let l = ap (λ f. f.len) (is_field.0) in omega (arith, local.inside, len, e, l, same)
+        | inr is_field ↦ let e = ap (λ f. f.offset) (is_field.0) in let l = ap (λ f. f.len) (is_field.0) in omega (arith, inside, len, e, l, same)
       ];
       following = λ offset from.
           let window : o + window_len row ≤ offset ⊎ (window_len row ≡ 0) = elim following.own [
             | inl own ↦ inl (omega (arith, own, from, len))
             | inr none ↦ inr (sym len ∙ none)
           ] in
-          drop_after o (window_len row) offset now after local window ∙ order.following offset (omega (arith, following.end, from));
+          kept offset window ∙ order.following offset (omega (arith, following.end, from));
     }
 
 -- ---- a relocation without a value
@@ -292,35 +292,6 @@ ascends_mark architecture bytes before now k last order alone none =
           (or_parts (begins_pair row.size row.kind) (ends_pair row.size row.kind) (alone row (subst (λ x. IsRow architecture (relocation_in bytes x).r_type (Some row)) at is_row))).0;
       inside = order.inside;
       following = order.following;
-    }
-
--- ---- a relocation that is left out, with a field in the section
-
-ascends_left : (architecture : Architecture) (bytes before now : List ℕ) (k : ℕ) (last : Field)
-    (row : RowInfo) → Ascends architecture bytes before now k last
-    → last.offset ≤ offset_at bytes k → length now ≡ length before
-    → IsRow architecture (relocation_in bytes k).r_type (Some row) → has_value row.kind ≡ true
-    → is_of_pair row ≡ false → offset_at bytes k + window_len row ≤ length now
-    → clear_in None k (field_of_row row (offset_at bytes k) now) last ≡ true
-    → Ascends architecture bytes before now (k + 1) (next_field (field_of_row row (offset_at bytes k) now) last)
-ascends_left architecture bytes before now k last row order below same is_row has alone inside clear =
-    let o = offset_at bytes k in
-    let field = field_of_row row o now in
-    let is = clear_field architecture bytes before now k last row order same is_row has below clear in
-    let following = next_is architecture bytes before k last field row below is in
-    record {
-      apart = apart_after architecture bytes before now k last field row order below refl is;
-      claimed = claimed_after architecture bytes before now k last field row order below refl is;
-      no_pair = λ i other here is_other.
-          let at : i ≡ k = omega (arith, here) in
-          let one : row ≡ other = one_info architecture _ row other is_row (subst (λ x. IsRow architecture (relocation_in bytes x).r_type (Some other)) at is_other) in
-          subst (λ x. begins_pair x.size x.kind ≡ false) one (or_parts (begins_pair row.size row.kind) (ends_pair row.size row.kind) alone).0;
-      inside = λ some. elim following.is_one [
-        | inl is_last ↦ let a = order.inside (let l = ap (λ f. f.len) is_last in omega (arith, some, l)) in
-            let e = ap (λ f. f.offset) is_last in let l = ap (λ f. f.len) is_last in omega (arith, a, e, l)
-        | inr is_field ↦ let e = ap (λ f. f.offset) (is_field.0) in let l = ap (λ f. f.len) (is_field.0) in omega (arith, inside, (len_alone row (drop o now) has alone), e, l, same)
-      ];
-      following = λ offset from. let end = following.end in order.following offset (omega (arith, end, from));
     }
 
 -- ---- in either order
@@ -385,6 +356,23 @@ apart_next None architecture bytes before now k last row is_limit order there be
 apart_next (Some limit) architecture bytes before now k last row is_limit order there below same is_row has clear =
     fewer_apart architecture bytes before (k + 1) limit (omega (arith, order, (not_limit k limit clear))) (is_limit.0)
 
+-- of no pair, after which the bytes outside of its field are those before
+pub next_order : (limit : Option ℕ) (architecture : Architecture) (bytes before now after : List ℕ)
+    (k : ℕ) (last : Field) (row : RowInfo) → IsLimit architecture bytes before limit
+    → IsInOrder limit architecture bytes before now k last → k < length bytes / 24
+    → IfNone limit (last.offset ≤ offset_at bytes k)
+    → length now ≡ length before → IsRow architecture (relocation_in bytes k).r_type (Some row)
+    → has_value row.kind ≡ true → is_of_pair row ≡ false
+    → offset_at bytes k + window_len row ≤ length now
+    → ((offset : ℕ) → offset_at bytes k + window_len row ≤ offset ⊎ (window_len row ≡ 0)
+    → drop offset after ≡ drop offset now)
+    → clear_in limit k (field_of_row row (offset_at bytes k) now) last ≡ true
+    → IsInOrder limit architecture bytes before after (k + 1) (next_field (field_of_row row (offset_at bytes k) now) last)
+next_order None architecture bytes before now after k last row is_limit order there below same is_row has alone inside kept clear =
+    ascends_next architecture bytes before now after k last row order below same is_row has alone inside kept clear
+next_order (Some limit) architecture bytes before now after k last row is_limit order there below same is_row has alone inside kept clear =
+    let isnt = not_limit k limit clear in omega (arith, order, isnt)
+
 pub one_order : (limit : Option ℕ) (architecture : Architecture) (bytes before now after : List ℕ)
     (k : ℕ) (last : Field) (row : RowInfo) (v : ℤ)
     → IsLimit architecture bytes before limit
@@ -395,24 +383,11 @@ pub one_order : (limit : Option ℕ) (architecture : Architecture) (bytes before
     → clear_in limit k (field_of_row row (offset_at bytes k) now) last ≡ true
     → IsWritten row v (offset_at bytes k) now after
     → IsInOrder limit architecture bytes before after (k + 1) (next_field (field_of_row row (offset_at bytes k) now) last)
-one_order None architecture bytes before now after k last row v is_limit order there below same is_row has clear written =
-    ascends_one architecture bytes before now after k last row v order below same is_row has clear written
-one_order (Some limit) architecture bytes before now after k last row v is_limit order there below same is_row has clear written =
-    let isnt = not_limit k limit clear in omega (arith, order, isnt)
-
-pub left_order : (limit : Option ℕ) (architecture : Architecture) (bytes before now : List ℕ)
-    (k : ℕ) (last : Field) (row : RowInfo) → IsLimit architecture bytes before limit
-    → IsInOrder limit architecture bytes before now k last → k < length bytes / 24
-    → IfNone limit (last.offset ≤ offset_at bytes k)
-    → length now ≡ length before → IsRow architecture (relocation_in bytes k).r_type (Some row)
-    → has_value row.kind ≡ true → is_of_pair row ≡ false
-    → offset_at bytes k + window_len row ≤ length now
-    → clear_in limit k (field_of_row row (offset_at bytes k) now) last ≡ true
-    → IsInOrder limit architecture bytes before now (k + 1) (next_field (field_of_row row (offset_at bytes k) now) last)
-left_order None architecture bytes before now k last row is_limit order there below same is_row has alone inside clear =
-    ascends_left architecture bytes before now k last row order below same is_row has alone inside clear
-left_order (Some limit) architecture bytes before now k last row is_limit order there below same is_row has alone inside clear =
-    let isnt = not_limit k limit clear in omega (arith, order, isnt)
+one_order limit architecture bytes before now after k last row v is_limit order there below same is_row has clear written =
+    let o = offset_at bytes k in
+    let local = one_local row v o now after written in
+    next_order limit architecture bytes before now after k last row is_limit order there below same is_row has
+    (written_alone row v o now after written) local.inside (λ offset window. drop_after o (window_len row) offset now after local window) clear
 
 -- the field isn't clear
 some_before : (architecture : Architecture) (bytes before now : List ℕ) (k : ℕ)

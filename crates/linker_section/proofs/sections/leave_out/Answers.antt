@@ -1,6 +1,6 @@
 use Rattle.linker_section.proofs.Imports.{Field, HasField, IfNone, IsField, IsInOrder, List, RelocationKind, RowInfo, ap, arith, clear_in, drop, false, field_end, field_len, field_of_row, has_value, inl, inr, is_of_pair, length, next_field, offset_at, refl, subst, sym, true, ℕ, ◌+◌, ◌∙◌, ◌≡◌, ◌≤◌}
 use Rattle.linker_section.proofs.Rows.{one_info}
-use Rattle.linker_section.proofs.Stepping.{alone_field, apart_next, field_valued, left_order, len_alone, mark_order, next_some, overlap_now}
+use Rattle.linker_section.proofs.Stepping.{alone_field, apart_next, field_valued, len_alone, mark_order, next_order, next_some, overlap_now}
 use Rattle.linker_section.proofs.sections.leave_out.Goals.{In-Some}
 use Rattle.linker_section.proofs.sections.leave_out.Goals as goal
 
@@ -101,8 +101,8 @@ returns c before is_limit order same =
     next_some (field_of_row w.row o a.section.now) a.last w.has.is_field.some ∙ sym w.field_is in (
       refl,
       subst (IsInOrder a.limit a.architecture bytes before a.section.now (a.index + 1)) next
-          (left_order a.limit a.architecture bytes before a.section.now a.index a.last w.row is_limit order c.requires.within c.requires.after same w.has.is_field.is_row w.valued w.alone
-          (omega (arith, within, w.has.offset_is, (len_alone w.row (drop o a.section.now) w.valued w.alone), w.has.end_is)) clear),
+          (next_order a.limit a.architecture bytes before a.section.now a.section.now a.index a.last w.row is_limit order c.requires.within c.requires.after same w.has.is_field.is_row w.valued w.alone
+          (omega (arith, within, w.has.offset_is, (len_alone w.row (drop o a.section.now) w.valued w.alone), w.has.end_is)) (λ offset window. refl) clear),
       (λ row is_field.
           omega (arith, within, (same_end (goal.at.returns c).In-Some before row w same is_field), same)),
     )
