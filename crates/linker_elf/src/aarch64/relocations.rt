@@ -9,7 +9,7 @@ ghost use Rattle.linker_elf.specs.AArch64Relocations.{aarch64_name, aarch64_row}
 ghost use Rattle.linker_elf.specs.contracts.aarch64.relocations.AArch64Relocation as names;
 
 use crate::elf::choice_table::RelocationName;
-use crate::elf::rows::{TableRow, info_in, listed, row_in, text_at};
+use crate::elf::rows::{TableRow, listed, row_in, text_at};
 use crate::elf::{Row, RowInfo};
 use std::fmt;
 
@@ -353,5 +353,8 @@ pub fn upstream_row(name: AArch64Relocation) -> Option<RowInfo>
     ensures others { IfSome result RowReadsNoOther }
     ensures fits { IfSome result RowFits }
 {
-    info_in(row(name))
+    match row(name) {
+        Some(row) => Some(row.info()),
+        None => None,
+    }
 }

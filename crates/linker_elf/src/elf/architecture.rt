@@ -8,8 +8,7 @@ ghost use Rattle.linker_elf.specs.ElfNames.{named, unnamed};
 ghost use Rattle.linker_elf.specs.Entries.{IsAnswerOf, IsGotAnswer, IsPltAnswer};
 ghost use Rattle.linker_elf.specs.Handles.{IsFound, architecture_in, first_handle};
 ghost use Rattle.linker_elf.specs.Machines.{architecture_of, machine_of};
-ghost use Rattle.linker_elf.specs.Uleb128.{IsNumberWritten, IsPairNumber, IsPairWritten};
-ghost use Rattle.linker_elf.specs.Uleb128.{BeginsWithNone};
+ghost use Rattle.linker_elf.specs.Uleb128.{IsPairNumber, IsPairWritten, BeginsWithNone};
 ghost use Rattle.linker_elf.specs.Value.{difference_64};
 ghost use Rattle.linker_elf.specs.Uleb128.{IsPairOutcome};
 ghost use Rattle.linker_elf.specs.declared.elf.RowInfo.{RowInfo};
@@ -412,7 +411,7 @@ pub fn pair_number(role: Uleb128Role, bytes: &[u8], first: u64, second: u64) -> 
     }
 }
 
-/// Writes that number.
+/// Writes that number over the one that `dest` begins with.
 fn write_pair_number(
     role: Uleb128Role,
     dest: &mut [u8],
@@ -422,7 +421,7 @@ fn write_pair_number(
     ensures { IsPairWritten role dest.old first second dest.new result }
 {
     let number = pair_number(role, dest, first, second);
-    write_number(number, dest)
+    utils::write_uleb128(dest, number).map_err(Uleb128PairError::Number)
 }
 
 /// Writes it if the role is one of a first relocation.
@@ -439,13 +438,6 @@ fn write_pair(
         Some(Uleb128Role::Adds) => write_pair_number(Uleb128Role::Adds, dest, first, second),
         _ => Err(Uleb128PairError::NotFirst),
     }
-}
-
-/// Writes a number over the ULEB128 number that `dest` begins with.
-fn write_number(number: u64, dest: &mut [u8]) -> Result<(), Uleb128PairError>
-    ensures { IsNumberWritten number dest.old dest.new result }
-{
-    utils::write_uleb128(dest, number).map_err(Uleb128PairError::Number)
 }
 
 const _: () = prove!(Architecture::AArch64 as u16 == EM_AARCH64);

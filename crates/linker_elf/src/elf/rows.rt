@@ -128,18 +128,6 @@ pub(crate) fn raw_info_in(entry: &'static Option<TableRow>) -> Option<RowInfo>
     }
 }
 
-/// What a row means, if there is one.
-#[inline(always)]
-pub(crate) fn info_in(row: Option<Row>) -> Option<RowInfo>
-    ensures row { result ≡ row }
-    ensures fits { IfSome result RowFits }
-{
-    match row {
-        Some(row) => Some(row.info()),
-        None => None,
-    }
-}
-
 impl Row {
     /// The row of an entry.
     #[inline(always)]
