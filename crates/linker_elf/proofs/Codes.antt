@@ -1,7 +1,7 @@
 -- The tables of the engine are the forms: the steps write and read the places, and a read returns
 -- what the form says.
-use Rattle.linker_elf.proofs.Imports.{AArch64, AArch64Instruction, Adr, AnyForm, BitsWritten, Bool, Call30, Call36, CluiType, D, Encoding, ImmediateBit, Layout, List, LoongArch64, LoongArch64Instruction, MachOLow12, Movnz, Ppc64, Ppc64Form, RiscV, RiscVInstruction, Shift10, Step, UType, UiType, Written, [], aarch64_form, aarch64_layout, access_scale, agree_below_at, and_parts, ap, arith, bit_and, bit_or, call30_field, cast_unsigned, cleared, code_of, consecutive_bits, false, form_of, from_le_bytes, get_or, imm16_places, leb, loongarch_layout, low12_places, lt-leb, move_opcode, moved_bits, moves_places, one_field, ored_cleared, own_form, place_sum, place_sum_below, pow_mono, ppc64_layout, reads, refl, relocation_form, riscv_layout, riscv_places, subst, sym, true, twos_complement, w32, w64, width_of, window_of, words_below, writes, ℕ, ◌%◌, ◌*◌, ◌+◌, ◌-◌, ◌<◌, ◌^◌, ◌∙◌, ◌∷◌, ◌≡◌, ◌≢◌, ◌≤◌}
-use Rattle.linker_elf.specs.Inner.Runs.{bits_of, is_plain}
+use Rattle.linker_elf.proofs.Imports.{AArch64, AArch64Instruction, Adr, AnyForm, BitsWritten, Bool, Call30, Call36, CluiType, D, Encoding, ImmediateBit, Layout, List, LoongArch64, LoongArch64Instruction, MachOLow12, Movnz, Ppc64, Ppc64Form, RiscV, RiscVInstruction, Shift10, Step, UType, UiType, Written, [], aarch64_form, aarch64_layout, access_scale, agree_below_at, and_parts, ap, arith, bit_and, bit_or, bits_of, call30_field, cast_unsigned, cleared, code_of, consecutive_bits, false, form_of, from_le_bytes, get_or, imm16_places, laid, leb, loongarch_layout, low12_places, lt-leb, move_opcode, moved_bits, moves_places, one_field, ored_cleared, own_form, place_sum, place_sum_below, pow_mono, ppc64_layout, reads, refl, relocation_form, riscv_layout, riscv_places, subst, sym, true, twos_complement, w32, w64, width_of, window_of, words_below, writes, ℕ, ◌%◌, ◌*◌, ◌+◌, ◌-◌, ◌<◌, ◌^◌, ◌∙◌, ◌∷◌, ◌≡◌, ◌≢◌, ◌≤◌}
+use Rattle.linker_elf.specs.Inner.Runs.{is_plain}
 use Rattle.linker_elf.proofs.LoongArch.{shift10_places, call36_places, shift10_value, call36_value}
 use Rattle.linker_elf.proofs.ReadNumbers.{value_of, is_read_by, field_value, field_flag, flag_is}
 use Rattle.linker_elf.proofs.AArch64Forms.{opcode_set, movnz_written, movnz_below, macho_below}
@@ -156,22 +156,31 @@ coded (Ppc64 f) p = ppc64_coded f
 coded (LoongArch64 f) p = loongarch_coded f
 
 coded_parts : (f : AnyForm) → is_plain f ≡ true
-    → (writes (bits_of (code_of f).0.window) (code_of f).0 (code_of f).1 ((relocation_form f).places 0) ≡ true)
+    → (writes (bits_of (code_of f).0.window) (code_of f).0.replaced (code_of f).1 ((relocation_form f).places 0) ≡ true)
     × (reads (code_of f).1 ((relocation_form f).places 0) ≡ true)
 coded_parts f p =
-    and_parts (writes (bits_of (code_of f).0.window) (code_of f).0 (code_of f).1 ((relocation_form f).places 0))
+    and_parts (writes (bits_of (code_of f).0.window) (code_of f).0.replaced (code_of f).1 ((relocation_form f).places 0))
     (reads (code_of f).1 ((relocation_form f).places 0)) (coded f p).moves
 
 pub plain_reads : (f : AnyForm) → is_plain f ≡ true → reads (code_of f).1 ((relocation_form f).places 0) ≡ true
 plain_reads f p = (coded_parts f p).1
 
--- what the engine writes of a plain form
+-- what the engine writes
+abbrev pub Writes : Encoding → List Step → ℕ → ℕ → ℕ → Type 0
+Writes code steps v x y = y ≡ laid steps v (bit_and x (2 ^ 64 - 1 - code.replaced))
+
+written_at : (code : Encoding) (steps : List Step) (v x y : ℕ) → Writes code steps v x y → (n : ℕ) (ps : List ImmediateBit)
+    → writes n code.replaced steps ps ≡ true → x < 2 ^ n → BitsWritten ps v x y
+written_at code steps v x y h n ps fits small =
+    subst (BitsWritten ps v x) (sym h) (written_by n code.replaced steps ps v x fits small)
+
+-- what it writes of a plain form
 pub plain_laid : (f : AnyForm) → is_plain f ≡ true → (code : Encoding) (steps : List Step) (v x y : ℕ) → code ≡ (code_of f).0 → steps ≡ (code_of f).1
-    → ((n : ℕ) (ps : List ImmediateBit) → writes n code steps ps ≡ true → x < 2 ^ n → BitsWritten ps v x y) → x < 2 ^ bits_of code.window
+    → Writes code steps v x y → x < 2 ^ bits_of code.window
     → BitsWritten ((relocation_form f).places 0) v x y
 plain_laid f p code steps v x y e s h small =
-    let fits : writes (bits_of code.window) code steps ((relocation_form f).places 0) ≡ true = rw (e, s) (coded_parts f p).0 in
-    h (bits_of code.window) ((relocation_form f).places 0) fits small
+    let fits : writes (bits_of code.window) code.replaced steps ((relocation_form f).places 0) ≡ true = rw (e, s) (coded_parts f p).0 in
+    written_at code steps v x y h (bits_of code.window) ((relocation_form f).places 0) fits small
 
 pub plain_below : (f : AnyForm) → is_plain f ≡ true → (code : Encoding) (v x y : ℕ) → code ≡ (code_of f).0
     → BitsWritten ((relocation_form f).places 0) v x y → x < 2 ^ bits_of code.window → y < 2 ^ bits_of code.window
@@ -187,13 +196,9 @@ plain_of Movnz a b = absurd (a refl)
 plain_of MachOLow12 a b = absurd (b refl)
 plain_of f a b = refl
 
-one_word : (f : AArch64Instruction) → bits_of (code_of (AArch64 f)).0.window ≡ 32
+pub one_word : (f : AArch64Instruction) → bits_of (code_of (AArch64 f)).0.window ≡ 32
 one_word Adr = refl
 one_word f = refl
-
--- what the engine writes
-abbrev pub Writes : Encoding → List Step → ℕ → ℕ → ℕ → Type 0
-Writes code steps v x y = (n : ℕ) (ps : List ImmediateBit) → writes n code steps ps ≡ true → x < 2 ^ n → BitsWritten ps v x y
 
 pub plain_word : (f : AArch64Instruction) (v : ℕ) (neg : Bool) (x y : ℕ) (code : Encoding) (steps : List Step) → f ≢ Movnz → f ≢ MachOLow12
     → code ≡ (code_of (AArch64 f)).0 → steps ≡ (code_of (AArch64 f)).1 → Writes code steps v x y → x < 2 ^ 32
@@ -214,11 +219,11 @@ pub movnz_word : (f : AArch64Instruction) (v : ℕ) (neg : Bool) (x bits opcode 
     → Writes code steps bits (bit_or (bit_and x 8388607) opcode) y
     → (y < 2 ^ 32) × Written (aarch64_form f) v neg x y
 movnz_word f v neg x bits opcode y code steps is e s b o h =
-    let known : writes 32 (code_of (AArch64 Movnz)).0 (code_of (AArch64 Movnz)).1 imm16_places ≡ true = refl in
-    let at : writes 32 code steps imm16_places ≡ true = rw (e, s, is) known in
+    let known : writes 32 (code_of (AArch64 Movnz)).0.replaced (code_of (AArch64 Movnz)).1 imm16_places ≡ true = refl in
+    let at : writes 32 code.replaced steps imm16_places ≡ true = rw (e, s, is) known in
     let base = ap (bit_or (bit_and x 8388607)) o ∙ opcode_set x (move_opcode neg) in
     let small = subst (λ t. t < 2 ^ 32) (sym base) (base_small neg x) in
-    let laid = movnz_written v neg x bits opcode y b o (h 32 imm16_places at small) in
+    let laid = movnz_written v neg x bits opcode y b o (written_at code steps bits (bit_or (bit_and x 8388607) opcode) y h 32 imm16_places at small) in
     (movnz_below v neg x y laid, subst (λ g. Written (aarch64_form g) v neg x y) (sym is) laid)
 
 -- the step of an offset's bits from its scale up
@@ -235,9 +240,9 @@ pub low12_word : (f : AArch64Instruction) (v : ℕ) (neg : Bool) (x s y : ℕ) (
     → ss ≡ record (get_or steps 0 d) { up = (get_or steps 0 d).up - s } ∷ [] → Writes code ss v x y → x < 2 ^ 32
     → (y < 2 ^ 32) × Written (aarch64_form f) v neg x y
 low12_word f v neg x s y code steps ss d is e t k small r h wide =
-    let known = agree_below_at (λ j. writes 32 (code_of (AArch64 MachOLow12)).0 (scaled j) (low12_places j)) (λ _. true) 5 s refl small in
-    let at : writes 32 code ss (low12_places s) ≡ true = rw (scaled_is f steps ss s d is t r, e, is) known in
-    let laid = subst (λ j. BitsWritten (low12_places j) v x y) k (h 32 (low12_places s) at wide) in
+    let known = agree_below_at (λ j. writes 32 (code_of (AArch64 MachOLow12)).0.replaced (scaled j) (low12_places j)) (λ _. true) 5 s refl small in
+    let at : writes 32 code.replaced ss (low12_places s) ≡ true = rw (scaled_is f steps ss s d is t r, e, is) known in
+    let laid = subst (λ j. BitsWritten (low12_places j) v x y) k (written_at code ss v x y h 32 (low12_places s) at wide) in
     (macho_below v neg x y laid wide, subst (λ g. Written (aarch64_form g) v neg x y) (sym is) laid)
 
 pub low12_number : (f : AArch64Instruction) (bytes : List ℕ) (x s number : ℕ) (steps ss : List Step) (d : Step) → f ≡ MachOLow12
@@ -257,13 +262,10 @@ pub aarch64_cleared : (f : AArch64Instruction) (x : ℕ) → x < 2 ^ 32
     → BitsWritten (ored_cleared ((aarch64_form f).places x)) 0 x (bit_and x (2 ^ 64 - 1 - (code_of (AArch64 f)).0.ored))
 aarch64_cleared MachOLow12 x small =
     let s = access_scale x in
-    let code = record (code_of (AArch64 MachOLow12)).0 { replaced = 0 } in
-    subst (λ ps. BitsWritten ps 0 x (bit_and x (2 ^ 64 - 1 - 0))) (sym (none_ored (s + 11 + 1 - s) s 10 0)) (written_by 32 code [] [] 0 x refl small)
+    subst (λ ps. BitsWritten ps 0 x (bit_and x (2 ^ 64 - 1 - 0))) (sym (none_ored (s + 11 + 1 - s) s 10 0)) (written_by 32 0 [] [] 0 x refl small)
 aarch64_cleared f x small =
-    let code = record (code_of (AArch64 f)).0 { replaced = (code_of (AArch64 f)).0.ored } in
-    written_by 32 code [] (ored_cleared ((aarch64_form f).places x)) 0 x refl small
+    written_by 32 (code_of (AArch64 f)).0.ored [] (ored_cleared ((aarch64_form f).places x)) 0 x refl small
 
 pub shift10_cleared : (x : ℕ) → x < 2 ^ 32 → BitsWritten (consecutive_bits 4 12 22 0 cleared) 0 x (bit_and x (2 ^ 64 - 1 - 0x3c00000))
 shift10_cleared x small =
-    let code = record (code_of (LoongArch64 Shift10)).0 { replaced = 0x3c00000 } in
-    written_by 32 code [] (consecutive_bits 4 12 22 0 cleared) 0 x refl small
+    written_by 32 0x3c00000 [] (consecutive_bits 4 12 22 0 cleared) 0 x refl small

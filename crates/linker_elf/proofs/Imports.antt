@@ -1,5 +1,5 @@
 -- The names of other crates that several files of proofs here use.
-pub use Rattle.linker_base.proofs.Bits.{low_mask_keeps, signed_bits}
+pub use Rattle.linker_base.proofs.Bits.{high_mask_keeps, low_mask_keeps, signed_bits}
 pub use Rattle.linker_base.proofs.ConsecutiveBits.{consecutive_bits_all, consecutive_bits_sum}
 pub use Rattle.linker_base.proofs.Fields.{bit_at_mod, bit_at_mod_above, bit_at_shl, bit_at_shl_below, bit_at_shr, mod_mod, same_fields, signed_rem}
 pub use Rattle.linker_base.proofs.Immediates.{always_clear, bit_looked_up, field_machine, fills, high_of, is_sound_layout, laid_field, layout_laid, layout_machine, none_ored, number_rem, place_sum_below, place_sum_laid, place_sum_placed, sound_field, subst_below, values_apart_fills}
@@ -20,9 +20,9 @@ pub use Rattle.linker_elf.specs.ElfNames.{ElfName, IsNameOf, IsNamed, named, r_t
 pub use Rattle.linker_elf.specs.Entries.{DependsOn, Ignores, IsGotAnswer, IsPltAnswer, is_branch, is_of_high_part, with_got_entry, with_plt_entry}
 pub use Rattle.linker_elf.specs.Inner.ChoiceTables.{AreEqualities, AreSampled, EntryApplies, IsChoiceAt, IsFirstOf, IsTableOf, ValuesHold, addend_condition, conditions_of, fact_conditions, facts_hold, is_held, seldom_facts_hold, value_conditions, with_fact}
 pub use Rattle.linker_elf.specs.Inner.FormLaws.{aarch64_restored, loongarch_restored, low12_field, low12_sound, ppc64_restored, riscv_restored, scale_small}
-pub use Rattle.linker_elf.specs.Inner.RowTables.{IsEntryOf, IsSound, addend_bits, bits_of, bytes_of, entry_of_terms, formula_of, info_of, is_over, is_plain, is_set, is_unit, of_entry, plt_of, raw_info_in, signed_in, symbol_of, takes_all, terms_of, tests_of, with_raw_kind}
-pub use Rattle.linker_elf.specs.Inner.Runs.{code_of, comes_from, is_laid, moves_places, none_from, none_to, one_from, one_to, reads, steps_fit, width_of, words_below, writes}
-pub use Rattle.linker_elf.specs.LoongArch.{IsCallBy, IsDistanceModulo, IsKeptOutside, IsSetAt, MakesAddress, Reaches, ReadsLow, call30_field, call36_high, call36_low, high_correction, high_distance, instruction, jirl_imm, loongarch_form, loongarch_layout, page, pcaddu18i_imm, reach, shift10_imm16, shift10_low}
+pub use Rattle.linker_elf.specs.Inner.RowTables.{IsEntryOf, IsSound, addend_bits, bytes_of, cleared_by, entry_of_terms, formula_of, has_plan, info_of, is_over, is_plain, is_set, is_unit, is_word, of_entry, plan_for, plan_of, plan_window, plt_of, raw_info_in, signed_in, symbol_of, takes_all, terms_of, tests_of, with_raw_kind}
+pub use Rattle.linker_elf.specs.Inner.Runs.{bits_of, code_of, comes_from, is_laid, laid, moved, moves_places, none_from, none_to, one_from, one_to, reads, steps_fit, width_of, words_below, writes}
+pub use Rattle.linker_elf.specs.LoongArch.{IsCallBy, IsDistanceModulo, IsKeptOutside, IsSetAt, MakesAddress, Reaches, ReadsLow, call30_field, call36_high, call36_low, has_16_bits, high_correction, high_distance, instruction, jirl_imm, loongarch_form, loongarch_layout, page, pcaddu18i_imm, reach, shift10_imm16, shift10_low}
 pub use Rattle.linker_elf.specs.LoongArchRelocations.{loongarch_name, loongarch_raw_row, loongarch_relocation, loongarch_row}
 pub use Rattle.linker_elf.specs.Ppc64.{IsPairDistance, KeepsHigh, PairHolds, pair, ppc64_form, ppc64_layout}
 pub use Rattle.linker_elf.specs.Ppc64Relocations.{ppc64_name, ppc64_relocation, ppc64_row}
@@ -61,7 +61,7 @@ pub use Rattle.linker_elf.specs.declared.ppc64.forms.Ppc64Form.TheVariants.{D, D
 pub use Rattle.linker_elf.specs.declared.ppc64.relocations.Ppc64Relocation.{Ppc64Relocation}
 pub use Rattle.linker_elf.specs.declared.ppc64.relocations.Ppc64Relocation.TheVariants.{R_PPC64_NONE, R_PPC64_TLS}
 pub use Rattle.linker_elf.specs.declared.riscv64.forms.RiscVInstruction.{RiscVInstruction}
-pub use Rattle.linker_elf.specs.declared.riscv64.forms.RiscVInstruction.TheVariants.{CluiType, IType, JType, SType, UType, UiType}
+pub use Rattle.linker_elf.specs.declared.riscv64.forms.RiscVInstruction.TheVariants.{BType, CbType, CjType, CluiType, IType, JType, SType, UType, UiType}
 pub use Rattle.linker_elf.specs.declared.riscv64.relocations.RiscVRelocation.{RiscVRelocation}
 pub use Rattle.linker_elf.specs.declared.riscv64.relocations.RiscVRelocation.TheVariants.{R_RISCV_NONE}
 pub use Rattle.linker_elf.specs.declared.x86_64.relocations.X86_64Relocation.{X86_64Relocation}
@@ -72,10 +72,10 @@ pub use Rattle.std.proofs.lemmas.Bool.{agree_below, agree_below_at, and_left, an
 pub use Rattle.std.proofs.lemmas.Int.{int_rem_euclid_is, ints, of_z-to_z, to_z-of_z, to_z_pos}
 pub use Rattle.std.proofs.lemmas.List.{drop-replicate, drop-take, drop_all, get_or-map, take_all}
 pub use Rattle.std.proofs.lemmas.List.Elements.{All-cons, All-drop, All-head, All-nil, All-tail, All-take}
-pub use Rattle.std.proofs.lemmas.Nat.{and_le_l, and_mask, div-add-mod', mod_below, one_shl, or_comm, or_lt, or_shifted, pow-add, pow_below, pow_pos, shl-shr, shr_below}
+pub use Rattle.std.proofs.lemmas.Nat.{and_assoc, and_le_l, and_le_r, and_mask, div-add-mod', mod_below, one_shl, or_comm, or_lt, or_shifted, pow-add, pow_below, pow_pos, shl-shr, shr_below}
 pub use Rattle.std.proofs.lemmas.Nat.Bits.{and_high_mask, and_pow, bit_at-lt, bit_at-zero, bit_at_above, bit_at_and, bit_at_not, bit_at_or, same_from_bits, same_from_bits_below}
 pub use Rattle.std.proofs.lemmas.Option.{none-some, slice_get_cases}
-pub use Rattle.std.specs.Int.{bit_at, cast_signed, cast_unsigned, from_le_bytes, int_rem_euclid, rotate_left, rotate_right, trailing_zeros, w16, w32}
+pub use Rattle.std.specs.Int.{bit_at, byte_len, cast_signed, cast_unsigned, from_le_bytes, int_rem_euclid, rotate_left, rotate_right, trailing_zeros, w16, w32}
 pub use Rattle.std.specs.Int.Bits.{and_zero_r}
 pub use Rattle.std.specs.Int.Signed.{le_z, le_z_yes}
 pub use Rattle.std.specs.List.{All, list_all, range_with_len}

@@ -16,6 +16,7 @@ pub mod LoongArchSequences
 pub mod NameTables
 pub mod Placed
 pub mod PlainRows
+pub mod Plans
 pub mod Ppc64Forms
 pub mod Ppc64Pairs
 pub mod Reached

@@ -1,5 +1,5 @@
 -- Steps of bits, as the engine moves them, write places and read them.
-use Rattle.linker_elf.proofs.Imports.{All, All-cons, All-nil, BitsWritten, Encoding, ImmediateBit, List, Mark, Step, [], agree_below, agree_below_at, and_le_l, and_parts, ap, arith, bit_and, bit_at, bit_at-lt, bit_at-place_sum, bit_at-zero, bit_at_above, bit_at_and, bit_at_mod, bit_at_mod_above, bit_at_not, bit_at_or, bit_at_shl, bit_at_shl_below, bit_at_shr, bit_for, bit_or, cases_lt, cleared, comes_from, cond-false, cond-true, consecutive_bits, div-le_self, eqb, eqb-true, false, get_or, inl, inr, is_laid, is_of, is_placed, length, list_all, ltb, ltb-true, max, mod-eq_of_lt, mod_below, ne_eqb, none_from, none_to, not, not-true, one_from, one_to, or_cases, or_from, or_lt, ored, place_sum, place_sum_below, placed_bit, pow_pos, reads, refl, replaced, rotate_left, rotate_right, same_from_bits, same_from_bits_below, steps_fit, subst, subst_below, suc, sym, take, true, value_bit, values_apart, values_below, w64, words_below, writes, zero, ℕ, ◌%◌, ◌&&◌, ◌*◌, ◌+◌, ◌-◌, ◌/◌, ◌<◌, ◌^◌, ◌||◌, ◌∙◌, ◌∷◌, ◌≡◌, ◌≤◌, ◌⊎◌}
+use Rattle.linker_elf.proofs.Imports.{All, All-cons, All-nil, BitsWritten, ImmediateBit, List, Mark, Step, [], agree_below, agree_below_at, and_le_l, and_parts, ap, arith, bit_and, bit_at, bit_at-lt, bit_at-place_sum, bit_at-zero, bit_at_above, bit_at_and, bit_at_mod, bit_at_mod_above, bit_at_not, bit_at_or, bit_at_shl, bit_at_shl_below, bit_at_shr, bit_for, bit_or, cases_lt, cleared, comes_from, cond-false, cond-true, consecutive_bits, div-le_self, eqb, eqb-true, false, get_or, inl, inr, is_laid, is_of, is_placed, laid, length, list_all, ltb, ltb-true, max, mod-eq_of_lt, mod_below, moved, ne_eqb, none_from, none_to, not, not-true, one_from, one_to, or_cases, or_from, or_lt, ored, place_sum, place_sum_below, placed_bit, pow_pos, reads, refl, replaced, rotate_left, rotate_right, same_from_bits, same_from_bits_below, steps_fit, subst, subst_below, suc, sym, take, true, value_bit, values_apart, values_below, w64, words_below, writes, zero, ℕ, ◌%◌, ◌&&◌, ◌*◌, ◌+◌, ◌-◌, ◌/◌, ◌<◌, ◌^◌, ◌||◌, ◌∙◌, ◌∷◌, ◌≡◌, ◌≤◌, ◌⊎◌}
 
 -- ---- rotations
 
@@ -58,14 +58,6 @@ turned_down y (suc u) k small h l =
     ]
 
 -- ---- to a window
-
-abbrev pub moved : Step → ℕ → ℕ
-moved s v = bit_and (rotate_left w64 ((v + s.added) % 2 ^ 64) s.up) s.mask
-
--- the bits of v, ORed to y
-abbrev pub laid : List Step → ℕ → ℕ → ℕ
-laid [] v y = y
-laid (s ∷ ss) v y = laid ss v (bit_or y (moved s v))
 
 laid_next : (ss : List Step) (i : ℕ) (d : Step) (v y : ℕ) → i < length ss → bit_or (laid (take i ss) v y) (moved (get_or ss i d) v) ≡ laid (take (suc i) ss) v y
 laid_next [] i d v y l = absurd (omega arith)
@@ -138,74 +130,74 @@ none_above n (s ∷ ss) i h l =
     let small = ltb-true s.mask (2 ^ n) (and_parts (ltb s.up 64) (ltb s.mask (2 ^ n)) fit.0).1 in
     rw (bit_at_above s.mask n i small l) (none_above n ss i fit.1 l)
 
-module _ (n : ℕ) (code : Encoding) (ss : List Step) (v x : ℕ) (short : n ≤ 64) (fit : steps_fit n ss ≡ true) (mask_small : code.replaced < 2 ^ n) (small : x < 2 ^ n) where
+module _ (n : ℕ) (mask : ℕ) (ss : List Step) (v x : ℕ) (short : n ≤ 64) (fit : steps_fit n ss ≡ true) (mask_small : mask < 2 ^ n) (small : x < 2 ^ n) where
   base : ℕ
-  base = bit_and x (2 ^ 64 - 1 - code.replaced)
+  base = bit_and x (2 ^ 64 - 1 - mask)
 
-  mask_wide : code.replaced < 2 ^ 64
-  mask_wide = subst_below code.replaced n 64 mask_small short
+  mask_wide : mask < 2 ^ 64
+  mask_wide = subst_below mask n 64 mask_small short
 
   x_wide : x < 2 ^ 64
   x_wide = subst_below x n 64 small short
 
-  place_laid : (p : ImmediateBit) (m : Mark) → p.insn_bit < 64 → is_laid code.replaced ss p m ≡ true
+  place_laid : (p : ImmediateBit) (m : Mark) → p.insn_bit < 64 → is_laid mask ss p m ≡ true
       → bit_at (laid ss v base) p.insn_bit ≡ placed_bit m (bit_for p v) (bit_at x p.insn_bit)
   unfolding base
   place_laid p replaced l h =
-      let parts = and_parts (eqb (bit_at code.replaced p.insn_bit) 1) (one_to ss p.value p.added p.insn_bit) h in
-      laid_one ss n v (bit_and x (2 ^ 64 - 1 - code.replaced)) p.value p.added p.insn_bit fit parts.1 l
-      ∙ omega (arith, bit_dropped code.replaced x p.insn_bit mask_wide l parts.0)
+      let parts = and_parts (eqb (bit_at mask p.insn_bit) 1) (one_to ss p.value p.added p.insn_bit) h in
+      laid_one ss n v (bit_and x (2 ^ 64 - 1 - mask)) p.value p.added p.insn_bit fit parts.1 l
+      ∙ omega (arith, bit_dropped mask x p.insn_bit mask_wide l parts.0)
   place_laid p ored l h =
-      let parts = and_parts (eqb (bit_at code.replaced p.insn_bit) 0) (one_to ss p.value p.added p.insn_bit) h in
-      laid_one ss n v (bit_and x (2 ^ 64 - 1 - code.replaced)) p.value p.added p.insn_bit fit parts.1 l
-      ∙ ap (λ b. max b (bit_for p v)) (bit_kept code.replaced x p.insn_bit mask_wide x_wide parts.0)
+      let parts = and_parts (eqb (bit_at mask p.insn_bit) 0) (one_to ss p.value p.added p.insn_bit) h in
+      laid_one ss n v (bit_and x (2 ^ 64 - 1 - mask)) p.value p.added p.insn_bit fit parts.1 l
+      ∙ ap (λ b. max b (bit_for p v)) (bit_kept mask x p.insn_bit mask_wide x_wide parts.0)
   place_laid p cleared l h =
-      let parts = and_parts (eqb (bit_at code.replaced p.insn_bit) 1) (none_to ss p.insn_bit) h in
-      laid_none ss v (bit_and x (2 ^ 64 - 1 - code.replaced)) p.insn_bit parts.1
-      ∙ bit_dropped code.replaced x p.insn_bit mask_wide l parts.0
+      let parts = and_parts (eqb (bit_at mask p.insn_bit) 1) (none_to ss p.insn_bit) h in
+      laid_none ss v (bit_and x (2 ^ 64 - 1 - mask)) p.insn_bit parts.1
+      ∙ bit_dropped mask x p.insn_bit mask_wide l parts.0
 
-  places_laid : (ps : List ImmediateBit) → list_all (λ (p : ImmediateBit). ltb p.insn_bit n && is_laid code.replaced ss p p.mark) ps ≡ true
+  places_laid : (ps : List ImmediateBit) → list_all (λ (p : ImmediateBit). ltb p.insn_bit n && is_laid mask ss p p.mark) ps ≡ true
       → All (λ (p : ImmediateBit). bit_at (laid ss v base) p.insn_bit ≡ placed_bit p.mark (bit_for p v) (bit_at x p.insn_bit)) ps
   places_laid [] h = All-nil (λ (p : ImmediateBit). bit_at (laid ss v base) p.insn_bit ≡ placed_bit p.mark (bit_for p v) (bit_at x p.insn_bit))
   places_laid (p ∷ ps) h =
-      let here = ltb p.insn_bit n && is_laid code.replaced ss p p.mark in
-      let parts = and_parts here (list_all (λ (q : ImmediateBit). ltb q.insn_bit n && is_laid code.replaced ss q q.mark) ps) h in
-      let both = and_parts (ltb p.insn_bit n) (is_laid code.replaced ss p p.mark) parts.0 in
+      let here = ltb p.insn_bit n && is_laid mask ss p p.mark in
+      let parts = and_parts here (list_all (λ (q : ImmediateBit). ltb q.insn_bit n && is_laid mask ss q q.mark) ps) h in
+      let both = and_parts (ltb p.insn_bit n) (is_laid mask ss p p.mark) parts.0 in
       let below = ltb-true p.insn_bit n both.0 in
       All-cons (λ (q : ImmediateBit). bit_at (laid ss v base) q.insn_bit ≡ placed_bit q.mark (bit_for q v) (bit_at x q.insn_bit)) p ps
       (place_laid p p.mark (omega arith) both.1) (places_laid ps parts.1)
 
-  others_kept : (ps : List ImmediateBit) → agree_below (λ i. is_placed ps i || (eqb (bit_at code.replaced i) 0 && none_to ss i)) (λ _. true) n ≡ true
+  others_kept : (ps : List ImmediateBit) → agree_below (λ i. is_placed ps i || (eqb (bit_at mask i) 0 && none_to ss i)) (λ _. true) n ≡ true
       → (i : ℕ) → is_placed ps i ≡ false → bit_at (laid ss v base) i ≡ bit_at x i
   unfolding base
   others_kept ps a i free =
       elim (cases_lt i n) [
         | inl inside ↦
-            let at : (is_placed ps i || (eqb (bit_at code.replaced i) 0 && none_to ss i)) ≡ true = agree_below_at (λ j. is_placed ps j || (eqb (bit_at code.replaced j) 0 && none_to ss j)) (λ _. true) n i a inside in
-            let parts = and_parts (eqb (bit_at code.replaced i) 0) (none_to ss i) (rw free at at) in
-            laid_none ss v (bit_and x (2 ^ 64 - 1 - code.replaced)) i parts.1
-            ∙ bit_kept code.replaced x i mask_wide x_wide parts.0
+            let at : (is_placed ps i || (eqb (bit_at mask i) 0 && none_to ss i)) ≡ true = agree_below_at (λ j. is_placed ps j || (eqb (bit_at mask j) 0 && none_to ss j)) (λ _. true) n i a inside in
+            let parts = and_parts (eqb (bit_at mask i) 0) (none_to ss i) (rw free at at) in
+            laid_none ss v (bit_and x (2 ^ 64 - 1 - mask)) i parts.1
+            ∙ bit_kept mask x i mask_wide x_wide parts.0
         | inr above ↦
-            laid_none ss v (bit_and x (2 ^ 64 - 1 - code.replaced)) i (none_above n ss i fit above)
-            ∙ bit_at_and x (2 ^ 64 - 1 - code.replaced) i ∙ omega (arith, bit_at_above x n i small above)
+            laid_none ss v (bit_and x (2 ^ 64 - 1 - mask)) i (none_above n ss i fit above)
+            ∙ bit_at_and x (2 ^ 64 - 1 - mask) i ∙ omega (arith, bit_at_above x n i small above)
       ]
 
-pub written_by : (n : ℕ) (code : Encoding) (ss : List Step) (ps : List ImmediateBit) (v x : ℕ) → writes n code ss ps ≡ true → x < 2 ^ n
-    → BitsWritten ps v x (laid ss v (bit_and x (2 ^ 64 - 1 - code.replaced)))
+pub written_by : (n : ℕ) (mask : ℕ) (ss : List Step) (ps : List ImmediateBit) (v x : ℕ) → writes n mask ss ps ≡ true → x < 2 ^ n
+    → BitsWritten ps v x (laid ss v (bit_and x (2 ^ 64 - 1 - mask)))
 unfolding base
-written_by n code ss ps v x h small =
-    let placed_all = list_all (λ (p : ImmediateBit). ltb p.insn_bit n && is_laid code.replaced ss p p.mark) ps in
-    let others_all = agree_below (λ i. is_placed ps i || (eqb (bit_at code.replaced i) 0 && none_to ss i)) (λ _. true) n in
-    let a = and_parts (ltb n 65) (ltb code.replaced (2 ^ n) && (steps_fit n ss && (placed_all && others_all))) h in
-    let b = and_parts (ltb code.replaced (2 ^ n)) (steps_fit n ss && (placed_all && others_all)) a.1 in
+written_by n mask ss ps v x h small =
+    let placed_all = list_all (λ (p : ImmediateBit). ltb p.insn_bit n && is_laid mask ss p p.mark) ps in
+    let others_all = agree_below (λ i. is_placed ps i || (eqb (bit_at mask i) 0 && none_to ss i)) (λ _. true) n in
+    let a = and_parts (ltb n 65) (ltb mask (2 ^ n) && (steps_fit n ss && (placed_all && others_all))) h in
+    let b = and_parts (ltb mask (2 ^ n)) (steps_fit n ss && (placed_all && others_all)) a.1 in
     let c = and_parts (steps_fit n ss) (placed_all && others_all) b.1 in
     let d = and_parts placed_all others_all c.1 in
     let below = ltb-true n 65 a.0 in
     let short : n ≤ 64 = omega arith in
-    let mask = ltb-true code.replaced (2 ^ n) b.0 in
+    let narrow = ltb-true mask (2 ^ n) b.0 in
     record {
-      placed = places_laid n code ss v x short c.0 mask small ps d.0;
-      kept = others_kept n code ss v x short c.0 mask small ps d.1;
+      placed = places_laid n mask ss v x short c.0 narrow small ps d.0;
+      kept = others_kept n mask ss v x short c.0 narrow small ps d.1;
     }
 
 -- ---- from a window

@@ -1,5 +1,6 @@
 -- The value of a row by the bits that count of its formula's terms.
-use Rattle.linker_elf.proofs.Imports.{AArch64, BitMasking, Bool, ByteSize, Err, FormulaError, LoongArch64, None, Ok, Operands, Option, Ppc64, Relative, RelocationKind, Result, RiscV, RowInfo, RowSize, Some, addend_bits, and_high_mask, and_mask, and_zero_r, ap, arith, bias_number, bit_and, bits_of, cases_Bool, cast_signed, cast_unsigned, completed, cond-false, cond-true, difference_64, entry_addend, entry_of_terms, entry_term, eqb, false, formula, formula_of, got_term, high_distance, if◌then◌else◌, inl, inr, is_offset, is_set, lacks, lacks_entry, lacks_tls_base, loads_plt_word, masks_entry, masks_got, masks_place, masks_symbol, names_got_entry, names_plt_entry, not, of_entry, or_no_value, page, page_if, place_term, plt_of, plt_term, read_signed, refl, relative_term, sequence_pc, signed_in, size_term, subst, sum_64, sym, symbol_of, symbol_term, terms_of, true, true≢false, value_given, value_of, w64, ℕ, ℤ, ◌&&◌, ◌-◌, ◌<◌, ◌^◌, ◌||◌, ◌∙◌, ◌≡◌, ◌⊎◌}
+use Rattle.linker_elf.proofs.Imports.{AArch64, BitMasking, Bool, ByteSize, Err, FormulaError, LoongArch64, None, Ok, Operands, Option, Ppc64, Relative, RelocationKind, Result, RiscV, RowInfo, RowSize, Some, addend_bits, and_high_mask, and_mask, and_zero_r, ap, arith, bias_number, bit_and, cases_Bool, cast_signed, cast_unsigned, completed, cond-false, cond-true, difference_64, entry_addend, entry_of_terms, entry_term, eqb, false, formula, formula_of, got_term, high_distance, if◌then◌else◌, inl, inr, is_offset, is_set, lacks, lacks_entry, lacks_tls_base, loads_plt_word, masks_entry, masks_got, masks_place, masks_symbol, names_got_entry, names_plt_entry, not, of_entry, or_no_value, page, page_if, place_term, plt_of, plt_term, read_signed, refl, relative_term, sequence_pc, signed_in, size_term, subst, sum_64, sym, symbol_of, symbol_term, terms_of, true, true≢false, value_given, value_of, w64, ℕ, ℤ, ◌&&◌, ◌-◌, ◌<◌, ◌^◌, ◌||◌, ◌∙◌, ◌≡◌, ◌⊎◌}
+use Rattle.linker_elf.specs.Inner.RowTables.{bits_of}
 use Rattle.linker_elf.specs.declared.elf.RelocationKind.TheVariants as kinds
 use Rattle.linker_elf.specs.declared.elf.value.Formula.{Formula}
 use Rattle.linker_elf.specs.declared.elf.value.Formula.TheVariants as formulas

@@ -18,6 +18,7 @@ pub use Rattle.linker_elf.specs.declared.elf.Uleb128Role.TheVariants.{Adds, Sets
 pub use Rattle.linker_elf.specs.declared.elf.architecture.Uleb128PairError.TheVariants.{NotFirst, Number}
 pub use Rattle.linker_elf.specs.declared.elf.choice.Choice.{Choice}
 pub use Rattle.linker_elf.specs.declared.elf.choice.LinkFacts.{LinkFacts}
+pub use Rattle.linker_elf.specs.declared.elf.engine.Step.{Step}
 pub use Rattle.linker_elf.specs.declared.elf.relocate.RelocateError.{RelocateError}
 pub use Rattle.linker_elf.specs.declared.elf.value.FormulaError.{FormulaError}
 pub use Rattle.linker_elf.specs.declared.elf.value.FormulaError.TheVariants.{NoEntry, NoTlsBase, NoValue}
@@ -30,4 +31,5 @@ pub use Rattle.linker_elf.specs.declared.ppc64.forms.Ppc64Form.{Ppc64Form}
 pub use Rattle.linker_elf.specs.declared.ppc64.forms.Ppc64Form.TheVariants.{Branch14, Branch24, D, DUnsigned, Ds, Prefixed}
 pub use Rattle.linker_elf.specs.declared.riscv64.forms.RiscVInstruction.{RiscVInstruction}
 pub use Rattle.linker_elf.specs.declared.riscv64.forms.RiscVInstruction.TheVariants.{BType, CbType, CjType, CluiType, IType, JType, SType, UType, UiType}
-pub use Rattle.std.specs.Int.{Width, bit_at, byte_len, cast_signed, cast_unsigned, from_le_bytes, int_div_euclid, int_rem_euclid, to_le_bytes, w16, w32, w64}
+pub use Rattle.std.specs.Int.{Width, bit_at, byte_len, cast_signed, cast_unsigned, from_le_bytes, int_div_euclid, int_rem_euclid, rotate_left, to_le_bytes, w16, w32, w64}
+pub use Rattle.std.specs.List.{All, list_all}

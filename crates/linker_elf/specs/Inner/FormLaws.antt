@@ -1,12 +1,11 @@
 -- The forms of all architectures keep the laws of forms. A clause of a variable stands for every
 -- variant that no clause above it names; one variant is named above it in any case.
-use Rattle.linker_elf.specs.Imports.{AArch64, AArch64Instruction, AnyForm, Call30, Call36, CluiType}
-use Rattle.linker_elf.specs.Imports.{D, Field, ImmediateBit, LoongArch64, LoongArch64Instruction}
-use Rattle.linker_elf.specs.Imports.{MachOLow12, Movnz, Ppc64, Ppc64Form, RiscV, RiscVInstruction}
-use Rattle.linker_elf.specs.Imports.{Shift10, Shift5, UType, UiType, WriteBackChangesNothing}
-use Rattle.linker_elf.specs.Imports.{WriteKeepsOtherBits, bit_at, cleared, cleared_bits, exactly}
-use Rattle.linker_elf.specs.Imports.{field, or_bits_to, unsigned, w16, w32}
-use Rattle.std.specs.List.{All}
+use Rattle.linker_elf.specs.Imports.{AArch64, AArch64Instruction, All, AnyForm, Call30, Call36}
+use Rattle.linker_elf.specs.Imports.{CluiType, D, Field, ImmediateBit, LoongArch64}
+use Rattle.linker_elf.specs.Imports.{LoongArch64Instruction, MachOLow12, Movnz, Ppc64, Ppc64Form}
+use Rattle.linker_elf.specs.Imports.{RiscV, RiscVInstruction, Shift10, Shift5, UType, UiType}
+use Rattle.linker_elf.specs.Imports.{WriteBackChangesNothing, WriteKeepsOtherBits, bit_at, cleared}
+use Rattle.linker_elf.specs.Imports.{cleared_bits, exactly, field, or_bits_to, unsigned, w16, w32}
 use Rattle.std.specs.Prelude.{false, true, ℕ}
 use Rattle.std.proofs.Common.{◌≡◌, ◌+◌, ◌/◌, ◌^◌, ◌<◌, refl, ap, sym, ◌∙◌, cond}
 use Rattle.std.proofs.lemmas.Bool.{agree_below_at, eqb-true, ltb-true}

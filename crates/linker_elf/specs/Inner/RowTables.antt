@@ -1,15 +1,21 @@
 -- Entries of the tables of rows.
 use Rattle.linker_elf.specs.Imports.{AArch64, AbsoluteAddition, AbsoluteAdditionWord6}
 use Rattle.linker_elf.specs.Imports.{AbsoluteLowPart, AbsoluteSetWord6, AbsoluteSubtraction}
-use Rattle.linker_elf.specs.Imports.{AbsoluteSubtractionWord6, Alignment, BitMasking, ByteSize}
-use Rattle.linker_elf.specs.Imports.{CluiType, Ds, FormulaError, LoongArch64, Movnz, NoEntry}
+use Rattle.linker_elf.specs.Imports.{AbsoluteSubtractionWord6, Alignment, AnyForm, BType}
+use Rattle.linker_elf.specs.Imports.{BitMasking, BitRange, ByteSize, CbType, CjType, CluiType, Ds}
+use Rattle.linker_elf.specs.Imports.{FormulaError, JType, LoongArch64, MachOLow12, Movnz, NoEntry}
 use Rattle.linker_elf.specs.Imports.{Operands, PageMask, Ppc64, Relative, RelocationKind, RiscV}
-use Rattle.linker_elf.specs.Imports.{RowSize, Shift10, cast_signed, cast_unsigned, w64}
-use Rattle.std.specs.Prelude.{Bool, Err, List, None, Ok, Option, Result, Some, [], bit_and, false}
-use Rattle.std.specs.Prelude.{map, slice_index_or, true, ℕ, ℤ, ◌≡◌, ◌-◌, ◌&&◌, ◌||◌, if◌then◌else◌}
-use Rattle.std.specs.Prelude.{◌==◌, ◌^◌}
+use Rattle.linker_elf.specs.Imports.{RowSize, Shift10, Step, cast_signed, cast_unsigned, w64}
+use Rattle.std.specs.Prelude.{Bool, Err, List, None, Ok, Option, Result, Some, [], bit_and, bit_or}
+use Rattle.std.specs.Prelude.{false, map, get_or, slice_index_or, true, ℕ, ℤ, ◌≡◌}
+use Rattle.std.specs.Prelude.{◌-◌, ◌/◌, ◌&&◌, ◌||◌, if◌then◌else◌, ◌==◌, ◌^◌}
 use Rattle.std.specs.Borrow.{Bor}
 use Rattle.linker_elf.specs.Agrees.{RowFits}
+use Rattle.linker_elf.specs.LoongArch.{has_16_bits}
+use Rattle.linker_elf.specs.Inner.Runs.{code_of}
+use Rattle.linker_elf.specs.declared.elf.engine.Window.{Window}
+use Rattle.linker_elf.specs.declared.elf.engine.Window.TheVariants.{Four, Eight}
+use Rattle.linker_elf.specs.declared.elf.engine.WritePlan.{WritePlan}
 use Rattle.linker_elf.specs.Bounds.{least_within, last_within}
 use Rattle.linker_elf.specs.Facts.{facts_of}
 use Rattle.linker_elf.specs.Numbers.{numbers_of}
@@ -45,6 +51,7 @@ abbrev pub is_plain : RowSize → RelocationKind → Bool
 is_plain (BitMasking bits (Ppc64 Ds)) kind = false
 is_plain (BitMasking bits (LoongArch64 Shift10)) AbsoluteLowPart = false
 is_plain (BitMasking bits (AArch64 Movnz)) kind = false
+is_plain (BitMasking bits (AArch64 MachOLow12)) kind = false
 is_plain (BitMasking bits (RiscV CluiType)) kind = false
 is_plain size kind = true
 
@@ -69,6 +76,50 @@ tests_of row =
       least = least_within (reach_of row);
       last = last_within (reach_of row);
     }
+
+-- ---- what a write does to an instruction
+
+-- forms of at most two steps and a window of 4 or 8 bytes
+abbrev pub has_plan : AnyForm → Bool
+has_plan (RiscV BType) = false
+has_plan (RiscV JType) = false
+has_plan (RiscV CbType) = false
+has_plan (RiscV CjType) = false
+has_plan (RiscV CluiType) = false
+has_plan insn = true
+
+-- The window's bits that are cleared because the form only ORs them. LoongArch's `Shift10` with an
+-- immediate of 12 bits has a part of its opcode there.
+abbrev pub cleared_by : AnyForm → BitRange → ℕ
+cleared_by (LoongArch64 f) bits = if has_16_bits bits then (code_of (LoongArch64 f)).0.ored else 0
+cleared_by insn bits = (code_of insn).0.ored
+
+abbrev pub is_word : Window → Bool
+is_word Four = true
+is_word window = false
+
+abbrev pub no_step : Step
+no_step = record { added = 0; up = 0; mask = 0 }
+
+abbrev pub plan_for : AnyForm → BitRange → WritePlan
+plan_for insn bits =
+    record {
+      is_word = is_word (code_of insn).0.window;
+      start = bits.start;
+      taken = (2 ^ 64 - 1) / 2 ^ (64 - (bits.end - bits.start));
+      replaced = bit_or (code_of insn).0.replaced (cleared_by insn bits);
+      first = get_or (code_of insn).1 0 no_step;
+      second = get_or (code_of insn).1 1 no_step;
+    }
+
+abbrev pub plan_of : RowSize → Option WritePlan
+plan_of (ByteSize n) = None
+plan_of (BitMasking bits insn) = if has_plan insn then Some (plan_for insn bits) else None
+
+-- the window of a plan
+abbrev pub plan_window : Bool → Window
+plan_window true = Four
+plan_window false = Eight
 
 -- the bits of an address that count where it may be that of a page
 abbrev pub bits_of : Bool → ℕ
@@ -179,6 +230,7 @@ entry_of is_own row =
       mask = row.mask;
       numbers = numbers_of row;
       tests = tests_of row;
+      plan = plan_of row.size;
       reach = record { bounds = reach_of row };
       terms = terms_of row;
       facts = facts_of row;

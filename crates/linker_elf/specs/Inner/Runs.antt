@@ -1,10 +1,11 @@
 -- Steps of bits between a value and a window, as the engine has them, and the tables of the forms.
 use Rattle.linker_elf.specs.Imports.{AArch64, AnyForm, ImmediateBit, LoongArch64, MachOLow12, Mark}
-use Rattle.linker_elf.specs.Imports.{Movnz, Ppc64, RiscV, Width, bit_at, cleared, is_of, is_placed}
-use Rattle.linker_elf.specs.Imports.{ored, replaced, values_apart, values_below, w16, w32, w64}
-use Rattle.std.specs.Prelude.{Bool, List, [], false, nat_lt, not, slice_index_or, true, ℕ, ◌+◌, ◌-◌}
+use Rattle.linker_elf.specs.Imports.{Movnz, Ppc64, RiscV, Step, Width, bit_at, cleared, is_of}
+use Rattle.linker_elf.specs.Imports.{is_placed, list_all, ored, replaced, rotate_left, values_apart}
+use Rattle.linker_elf.specs.Imports.{values_below, w16, w32, w64}
+use Rattle.std.specs.Prelude.{Bool, List, [], bit_and, bit_or, false, nat_lt, not, slice_index_or}
+use Rattle.std.specs.Prelude.{true, ℕ, ◌+◌, ◌-◌}
 use Rattle.std.specs.Prelude.{◌%◌, ◌^◌, ◌&&◌, ◌||◌, ◌==◌, ◌∷◌}
-use Rattle.std.specs.List.{list_all}
 use denote.Enum.Declared.{tag_of}
 use Rattle.std.proofs.lemmas.Bool.{agree_below}
 use Rattle.linker_elf.specs.contracts.aarch64.forms.AArch64Instruction as aarch64
@@ -14,7 +15,6 @@ use Rattle.linker_elf.specs.contracts.riscv64.forms.RiscVInstruction as riscv64
 use Rattle.linker_elf.specs.Elf.{relocation_form}
 use Rattle.linker_elf.specs.declared.aarch64.forms.TheConstants as aarch64_table
 use Rattle.linker_elf.specs.declared.elf.engine.Encoding.{Encoding}
-use Rattle.linker_elf.specs.declared.elf.engine.Step.{Step}
 use Rattle.linker_elf.specs.declared.elf.engine.TheConstants.{UNSIGNED}
 use Rattle.linker_elf.specs.declared.elf.engine.Window.{Window}
 use Rattle.linker_elf.specs.declared.elf.engine.Window.TheVariants.{Two, Four, Eight}
@@ -60,6 +60,15 @@ is_plain f = true
 
 -- ---- to a window
 
+-- the bits of v that a step moves
+abbrev pub moved : Step → ℕ → ℕ
+moved s v = bit_and (rotate_left w64 ((v + s.added) % 2 ^ 64) s.up) s.mask
+
+-- the bits of v that steps move, ORed to y
+abbrev pub laid : List Step → ℕ → ℕ → ℕ
+laid [] v y = y
+laid (s ∷ ss) v y = laid ss v (bit_or y (moved s v))
+
 -- no step moves a bit to window bit i
 abbrev pub none_to : List Step → ℕ → Bool
 none_to ss i = list_all (λ (s : Step). bit_at s.mask i == 0) ss
@@ -81,15 +90,16 @@ is_laid mask ss p cleared = bit_at mask p.insn_bit == 1 && none_to ss p.insn_bit
 abbrev pub steps_fit : ℕ → List Step → Bool
 steps_fit n ss = list_all (λ (s : Step). nat_lt s.up 64 && nat_lt s.mask (2 ^ n)) ss
 
--- A write of these steps is one at these places, in windows of n bits.
-abbrev pub writes : ℕ → Encoding → List Step → List ImmediateBit → Bool
-writes n code ss ps =
+-- A write of these steps, where the window's bits of a mask are replaced, is one at these places,
+-- in windows of n bits.
+abbrev pub writes : ℕ → ℕ → List Step → List ImmediateBit → Bool
+writes n mask ss ps =
     nat_lt n 65
-    && (nat_lt code.replaced (2 ^ n)
+    && (nat_lt mask (2 ^ n)
     && (steps_fit n ss
-    && (list_all (λ (p : ImmediateBit). nat_lt p.insn_bit n && is_laid code.replaced ss p p.mark) ps
+    && (list_all (λ (p : ImmediateBit). nat_lt p.insn_bit n && is_laid mask ss p p.mark) ps
     && agree_below
-    (λ i. is_placed ps i || (bit_at code.replaced i == 0 && none_to ss i)) (λ _. true) n)))
+    (λ i. is_placed ps i || (bit_at mask i == 0 && none_to ss i)) (λ _. true) n)))
 
 -- ---- from a window
 
@@ -120,4 +130,4 @@ reads ss ps =
 abbrev pub moves_places : AnyForm → List Step → Bool
 moves_places f ss =
     let places = (relocation_form f).places 0 in
-    writes (bits_of (code_of f).0.window) (code_of f).0 ss places && reads ss places
+    writes (bits_of (code_of f).0.window) (code_of f).0.replaced ss places && reads ss places

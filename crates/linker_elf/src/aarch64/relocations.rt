@@ -8,7 +8,9 @@ ghost use Rattle.linker_elf.specs.Readings.{RowReadsNoOther};
 ghost use Rattle.linker_elf.specs.AArch64Relocations.{aarch64_name, aarch64_row};
 ghost use Rattle.linker_elf.specs.contracts.aarch64.relocations.AArch64Relocation as names;
 
+use super::forms::form_of;
 use crate::elf::choice_table::RelocationName;
+use crate::elf::engine::form;
 use crate::elf::rows::{TableRow, listed, row_in, text_at};
 use crate::elf::{Row, RowInfo};
 use std::fmt;

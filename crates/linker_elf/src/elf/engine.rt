@@ -1,10 +1,11 @@
 //! Writes the bits of a value into the window of an instruction, and reads them.
 
-ghost use Rattle.std.specs.Prelude.{◌≡◌, ◌<◌, ◌≤◌, ◌^◌, ℕ, List, true, IsTrue, length, drop};
+ghost use Rattle.std.specs.Prelude.{◌≡◌, ◌<◌, ◌≤◌, ◌^◌, ◌-◌, List, true, IsTrue, length, drop};
+ghost use Rattle.std.specs.Prelude.{bit_and};
 ghost use Rattle.std.specs.Int.{from_le_bytes, byte_len, cast_unsigned, w64};
-ghost use Rattle.linker_base.specs.Form.{ImmediateBit, BitsWritten, Written, window_of, place_sum};
+ghost use Rattle.linker_base.specs.Form.{ImmediateBit, Written, window_of, place_sum};
 ghost use Rattle.linker_elf.specs.Elf.{relocation_form};
-ghost use Rattle.linker_elf.specs.Inner.Runs.{width_of, bits_of, writes, reads, code_of, is_plain};
+ghost use Rattle.linker_elf.specs.Inner.Runs.{width_of, bits_of, laid, reads, code_of, is_plain};
 
 use crate::elf::AnyForm;
 use linker_base::bit_misc::BitRange;
@@ -18,6 +19,22 @@ pub(crate) struct Step {
     pub(crate) up: u32,
     /// The window's bits that they are moved to.
     pub(crate) mask: u64,
+}
+
+/// How a row writes a value into an instruction, if its form has at most two steps and a window of
+/// 4 or 8 bytes.
+#[derive(Clone, Copy)]
+pub(crate) struct WritePlan {
+    /// Whether the window has 4 bytes.
+    pub(crate) is_word: bool,
+    /// The lowest of the value's bits that are taken.
+    pub(crate) start: u32,
+    /// The bits that are taken of the value from there up.
+    pub(crate) taken: u64,
+    /// The window's bits that are cleared first.
+    pub(crate) replaced: u64,
+    pub(crate) first: Step,
+    pub(crate) second: Step,
 }
 
 /// What a form is beside its steps.
@@ -53,25 +70,27 @@ pub(crate) const UNSIGNED: Encoding = Encoding {
     flag: !0,
 };
 
-/// A part of each form: with `code` what it is beside its steps; with `2 steps` or `6 steps` these,
-/// and as many that move nothing as are left; with `variant` and the forms' enum its variant; with
-/// `window` the length of its window in bytes. With `by`, what is done with a form, in an arm for
-/// each. A form is its name, its window, which bits of its number the immediate has, its steps and
+/// A part of a form, which `form_of` of each architecture calls with the form of a name: with `code`
+/// what it is beside its steps; with `2 steps` or `6 steps` these, and as many that move nothing as
+/// are left; with `variant` and the forms' enum its variant; with `window` the length of its window
+/// in bytes; with `plan`, the bits that are cleared first and a row's bits the row's plan, if it has
+/// one. A form is its name, its window, which bits of its number the immediate has, its steps and
 /// how it is read. A step is its runs, each a bit of the value, one of the window, and their
 /// length; with `or` a run is only ORed.
-macro_rules! forms {
-    ([by $forms:ident $value:expr, $form:ident: $done:expr] $(($name:ident $($part:tt)+))+) => {
-        match $value {
-            $($forms::$name => {
-                let $form = $forms::$name;
-                $done
-            })+
-        }
-    };
-    ($part:tt $($form:tt)+) => { [$($crate::elf::engine::form!($part $form)),+] };
-}
-
 macro_rules! form {
+    ([plan $cleared:ident $first:tt $last:tt] (
+        $name:ident $window:ident, $start:literal .. $end:literal,
+        $([$(added $added:literal:)? $($from:literal, $to:literal, $len:literal $($or:ident)?);+])+
+        $(clear $clear:literal, $clear_len:literal)?
+        $(; $($field:ident: $read:expr),+)?
+    )) => {
+        $crate::elf::engine::plan!(
+            $window $first $last
+            [$($($crate::elf::engine::run!($cleared $to, $len $($or)?) |)+)+
+                $($crate::elf::engine::run!(bits $clear, $clear_len) |)? 0]
+            $([0 $(+ $added)?; $($from, $to, $len);+])+
+        )
+    };
     ([variant $forms:ident] ($name:ident $($part:tt)+)) => { $forms::$name };
     ([window] ($name:ident Two, $($part:tt)+)) => { 2 };
     ([window] ($name:ident Four, $($part:tt)+)) => { 4 };
@@ -102,6 +121,24 @@ macro_rules! form {
     };
 }
 
+/// A plan, or none where the window has 2 bytes or there are more than two steps.
+macro_rules! plan {
+    (Four) => { true };
+    (Eight) => { false };
+    (Two $($row:tt)+) => { None };
+    ($window:ident $start:tt $end:tt [$replaced:expr] $first:tt $($second:tt)?) => {
+        Some($crate::elf::engine::WritePlan {
+            is_word: $crate::elf::engine::plan!($window),
+            start: $start,
+            taken: u64::MAX >> (64 - ($end - $start)),
+            replaced: $replaced,
+            first: $crate::elf::engine::steps!($first),
+            second: $crate::elf::engine::steps!($($second)? none),
+        })
+    };
+    ($($row:tt)+) => { None };
+}
+
 /// The steps, and in the slots that are left such as move nothing. A step moves by the distance of
 /// its first run. The mask would be another if that of a further run were another.
 macro_rules! steps {
@@ -112,33 +149,30 @@ macro_rules! steps {
     };
     (none) => { $crate::elf::engine::Step { added: 0, up: 0, mask: 0 } };
     (
-        [none $($slot:ident)*] [$($step:expr,)*]
         [
             $added:expr; $from:literal, $to:literal, $len:literal
             $(; $more:literal, $more_to:literal, $more_len:literal)*
         ]
-        $($rest:tt)*
+        $(none)?
     ) => {
+        $crate::elf::engine::Step {
+            added: $added,
+            up: (64 + $to - $from) % 64,
+            mask: $crate::elf::engine::run!(bits $to, $len)
+                $(| $crate::elf::engine::run!(bits $more_to, $more_len)
+                    << ((128 + $more_to - $more - (64 + $to - $from) % 64) % 64))*,
+        }
+    };
+    ([none $($slot:ident)*] [$($step:expr,)*] $next:tt $($rest:tt)*) => {
         $crate::elf::engine::steps!(
-            [$($slot)*]
-            [
-                $($step,)*
-                $crate::elf::engine::Step {
-                    added: $added,
-                    up: (64 + $to - $from) % 64,
-                    mask: $crate::elf::engine::run!(bits $to, $len)
-                        $(| $crate::elf::engine::run!(bits $more_to, $more_len)
-                            << ((128 + $more_to - $more - (64 + $to - $from) % 64) % 64))*,
-                },
-            ]
-            $($rest)*
+            [$($slot)*] [$($step,)* $crate::elf::engine::steps!($next),] $($rest)*
         )
     };
 }
 
 /// A run's bits of the window: all, those that are replaced, and those that are only ORed.
 macro_rules! run {
-    (bits $to:literal, $len:literal) => { (((1 << $len) - 1) << $to) };
+    (bits $to:literal, $len:literal $(or)?) => { (((1 << $len) - 1) << $to) };
     (replaced $to:literal, $len:literal) => { $crate::elf::engine::run!(bits $to, $len) };
     (replaced $to:literal, $len:literal or) => { 0 };
     (ored $to:literal, $len:literal) => { 0 };
@@ -146,7 +180,7 @@ macro_rules! run {
 }
 
 pub(crate) use form;
-pub(crate) use forms;
+pub(crate) use plan;
 pub(crate) use run;
 pub(crate) use steps;
 
@@ -205,12 +239,10 @@ impl Window {
 
 /// The window after a value is written. A step that moves nothing ORs nothing.
 #[inline(always)]
-pub(crate) fn window_with(code: &Encoding, steps: &[Step], value: u64, window: u64) -> u64
-    ensures { (n : ℕ) (places : List ImmediateBit) → writes n code.now steps.now places ≡ true
-        → window < 2 ^ n
-        → BitsWritten places value window result }
+pub(crate) fn window_with(replaced: u64, steps: &[Step], value: u64, window: u64) -> u64
+    ensures { result ≡ laid steps.now value (bit_and window (2 ^ 64 - 1 - replaced)) }
 {
-    let mut written = window & !code.replaced;
+    let mut written = window & !replaced;
     for step in steps {
         written |= value.wrapping_add(step.added).rotate_left(step.up) & step.mask;
     }
@@ -253,7 +285,7 @@ pub(crate) fn write(
         ≡ window_of (relocation_form _insn) dest.old
         → dest.new ≡ dest.old }
 {
-    let window = window_with(code, steps, value, code.window.load(dest));
+    let window = window_with(code.replaced, steps, value, code.window.load(dest));
     code.window.store(window, dest);
 }
 

@@ -4,7 +4,6 @@ ghost use Rattle.std.specs.Prelude.{◌≡◌, ◌≤◌, ◌<◌, ◌+◌, ◌^
 ghost use Rattle.std.specs.Prelude.{length, drop};
 ghost use Rattle.std.specs.Int.{byte_len, from_le_bytes};
 ghost use Rattle.linker_base.specs.Form.{window_of, Fits};
-ghost use Rattle.linker_elf.specs.AArch64.{aarch64_form};
 ghost use Rattle.linker_elf.specs.Elf.{relocation_form};
 ghost use Rattle.linker_elf.specs.Relocate.{number_of_bytes, low_bytes, number_written, bits_taken};
 ghost use Rattle.linker_elf.specs.Relocate.{InstructionWritten, IsWritten, window_len, IsAligned};
@@ -160,20 +159,6 @@ pub(crate) fn write_field(insn: AnyForm, bits: BitRange, value: i64, dest: &mut 
             insn.write_to_value(number, negative, dest);
         }
     }
-}
-
-/// Writes bits of a number into an instruction of AArch64. By itself: with it LLVM compiles the
-/// match of the architectures in `rows::write_plain` to a jump.
-#[inline(never)]
-pub(crate) fn write_aarch64(insn: AArch64Instruction, bits: BitRange, value: i64, dest: &mut [u8])
-    requires room { byte_len (aarch64_form insn).window ≤ length dest.old }
-    requires some { bits.start < bits.end }
-    requires inside { bits.end ≤ 64 }
-    requires fits { Fits (aarch64_form insn) (bits_taken bits value)
-        (window_of (aarch64_form insn) dest.old) }
-    ensures { InstructionWritten (AnyForm.AArch64 insn) bits value dest.old dest.new }
-{
-    write_field(AnyForm::AArch64(insn), bits, value, dest);
 }
 
 /// Whether an instruction is a MOVK, where a row is for MOVN and MOVZ.

@@ -1,7 +1,7 @@
 //! Rows of the relocation tables, and the macros that make them from each architecture's list.
 
 ghost use Rattle.std.specs.Prelude.{◌≡◌, ◌-◌, ◌<◌, ◌≤◌, ◌↔◌, IfErr, IfSome, IsTrue, OnOk, length};
-ghost use Rattle.std.specs.Prelude.{true, false, slice_get};
+ghost use Rattle.std.specs.Prelude.{Some, true, false, slice_get};
 ghost use Rattle.std.specs.Option.{unwrap_or};
 ghost use Rattle.linker_elf.specs.Agrees.{RowFits};
 ghost use Rattle.linker_elf.specs.Applied.{IsApplied, IsRejected};
@@ -16,11 +16,11 @@ ghost use Rattle.linker_elf.specs.Reach.{reach_of};
 ghost use Rattle.linker_elf.specs.Value.{value_of, value_given, completed, lacks};
 ghost use Rattle.linker_elf.specs.Inner.RowTables.{info_in, info_of, raw_info_in, IsSound};
 ghost use Rattle.linker_elf.specs.Inner.RowTables.{tests_of, takes_all, is_unit, nth_text};
+ghost use Rattle.linker_elf.specs.Inner.RowTables.{plan_window};
 
+use crate::elf::engine::{Window, WritePlan, window_with};
 use crate::elf::entries::{is_of_high_part, names_plt_entry};
-use crate::elf::relocate::{
-    is_encoded, store, write_aarch64, write_bits, write_field, write_number,
-};
+use crate::elf::relocate::{is_encoded, store, write_bits, write_field, write_number};
 use crate::elf::value::FormulaTerms;
 use crate::elf::{
     AllowedRange, AnyForm, ApplyError, Bias, FormulaError, Operands, PageMask, RelocateError,
@@ -37,6 +37,7 @@ pub(crate) struct TableRow {
     pub(crate) mask: Option<PageMask>,
     pub(crate) numbers: RelocationNumbers,
     pub(crate) tests: WriteTests,
+    pub(crate) plan: Option<WritePlan>,
     /// Which values can be written.
     pub(crate) reach: AllowedRange,
     pub(crate) terms: FormulaTerms,
@@ -432,7 +433,13 @@ fn write_row(
     match tests.bytes {
         4 => store(4, value.cast_unsigned(), dest),
         8 => store(8, value.cast_unsigned(), dest),
-        _ => write_form(entry, value, dest, in_place),
+        _ => match &entry.plan {
+            Some(plan) if plan.is_word => {
+                write_planned(entry, plan, Window::Four, value, dest);
+            }
+            Some(plan) => write_planned(entry, plan, Window::Eight, value, dest),
+            None => write_form(entry, value, dest, in_place),
+        },
     }
     Ok(())
 }
@@ -449,7 +456,30 @@ fn write_looking(entry: &'static TableRow, value: i64, dest: &mut [u8]) -> Resul
         .write_tested(&entry.tests, value, dest)
 }
 
-/// Writes a value of a row that takes all. By itself and with few arguments, so that a caller saves
+/// Writes a value of a row that takes all, by its plan: no branch depends on the form. The contract
+/// alone uses `_entry`.
+#[inline(always)]
+fn write_planned(
+    _entry: &'static TableRow,
+    plan: &WritePlan,
+    window: Window,
+    value: i64,
+    dest: &mut [u8],
+)
+    requires sound { IsSound _entry.now }
+    requires takes { takes_all (info_of _entry.now) ≡ true }
+    requires plan { _entry.now.plan ≡ Some plan.now }
+    requires window { window ≡ plan_window plan.now.is_word }
+    requires room { window_len (info_of _entry.now) ≤ length dest.old }
+    ensures { IsWritten _entry.now.size _entry.now.kind value dest.old dest.new }
+{
+    let number = value.cast_unsigned() >> plan.start & plan.taken;
+    let steps = [plan.first, plan.second];
+    let written = window_with(plan.replaced, &steps, number, window.load(dest));
+    window.store(written, dest);
+}
+
+/// The same without a plan. By itself and with few arguments, so that a caller saves
 /// no registers, and none is passed on the stack.
 #[inline(never)]
 fn write_plain(entry: &'static TableRow, value: i64, dest: &mut [u8])
@@ -461,8 +491,9 @@ fn write_plain(entry: &'static TableRow, value: i64, dest: &mut [u8])
     match entry.size {
         RowSize::ByteSize(len) => write_number(entry.kind, len as usize, value, dest),
         RowSize::BitMasking { range, insn } => match insn {
-            AnyForm::AArch64(insn) => write_aarch64(insn, range, value, dest),
-            _ => write_field(insn, range, value, dest),
+            // each of the others has a plan
+            AnyForm::RiscV(_) => write_field(insn, range, value, dest),
+            _ => write_bits(entry.kind, insn, range, value, dest),
         },
     }
 }
@@ -636,7 +667,7 @@ pub(crate) fn text_at(texts: &[&'static str], index: usize) -> &'static str
 macro_rules! row {
     ($forms:tt ($kind:ident, $bytes:tt bytes, $($rest:tt)+)) => {
         $crate::elf::rows::row!(
-            @ $kind [Bytes Bytes $kind 0 0 $bytes] [$crate::elf::RowSize::ByteSize($bytes)]
+            @ $kind [Bytes Bytes $kind 0 0 $bytes] [$crate::elf::RowSize::ByteSize($bytes)] [None]
             [form: 0, machine: 0, is_bits: 0, byte_size: $bytes, first_bit: 0, end_bit: 0]
             $($rest)+
         )
@@ -651,6 +682,7 @@ macro_rules! row {
                 range: linker_base::bit_misc::BitRange { start: $start, end: $end },
                 insn: $crate::elf::AnyForm::$architecture($crate::elf::$forms::$form),
             }]
+            [$crate::elf::rows::plan!($architecture $form $start $end)]
             [
                 form: $crate::elf::$forms::$form as u32, machine: $crate::elf::$machine, is_bits: 1,
                 byte_size: 0, first_bit: $start, end_bit: $end
@@ -659,7 +691,7 @@ macro_rules! row {
         )
     };
     (
-        @ $kind:ident [$($row:tt)+] [$size:expr] [$($of_size:tt)+]
+        @ $kind:ident [$($row:tt)+] [$size:expr] [$plan:expr] [$($of_size:tt)+]
         $range:ident $($number:literal $(.. $end:literal)?)?
         $(, reach: $reach:ident $reach_number:literal $(.. $reach_end:literal)?)?
         $(, alignment: $alignment:literal)?
@@ -699,6 +731,7 @@ macro_rules! row {
                     $range $($number $(.. $end)?)?
                 ),
             },
+            plan: $plan,
             reach: $crate::elf::AllowedRange {
                 bounds: $crate::elf::rows::bound!(
                     reach [$($reach $reach_number $(.. $reach_end)?)?]
@@ -728,6 +761,16 @@ macro_rules! row {
             },
             is_own: false $(| $own)?,
         }
+    };
+}
+
+/// The plan of a row. A write clears what AArch64's forms only OR, and a `Shift10` of 16 bits: one of
+/// 12 has a part of its opcode there.
+macro_rules! plan {
+    (AArch64 $form:ident $start:tt $end:tt) => { form_of!($form [plan bits $start $end]) };
+    (LoongArch64 Shift10 2 $end:tt) => { form_of!(Shift10 [plan bits 2 $end]) };
+    ($architecture:ident $form:ident $start:tt $end:tt) => {
+        form_of!($form [plan replaced $start $end])
     };
 }
 
@@ -811,13 +854,7 @@ macro_rules! fact {
     (bytes Bytes Bytes $kind:ident 0 0 $bytes:tt) => { $bytes };
     (bytes $($row:tt)+) => { 0 };
     (window Bytes Bytes $kind:ident 0 0 $bytes:tt) => { $bytes };
-    (window $form:ident RiscV $($row:tt)+) => {
-        $crate::riscv64::forms::WINDOWS[$crate::elf::RiscVInstruction::$form as usize]
-    };
-    (window Call30 $($row:tt)+) => { 8 };
-    (window Call36 $($row:tt)+) => { 8 };
-    (window Prefixed $($row:tt)+) => { 8 };
-    (window $($row:tt)+) => { 4 };
+    (window $form:ident $($row:tt)+) => { form_of!($form [window]) };
     (length CbType $($row:tt)+) => { $crate::elf::Length::Two };
     (length CjType $($row:tt)+) => { $crate::elf::Length::Two };
     (length CluiType $($row:tt)+) => { $crate::elf::Length::Two };
@@ -951,4 +988,5 @@ pub(crate) use entry;
 pub(crate) use fact;
 pub(crate) use listed;
 pub(crate) use mask;
+pub(crate) use plan;
 pub(crate) use row;

@@ -10,7 +10,9 @@ ghost use Rattle.linker_elf.specs.LoongArchRelocations.{loongarch_uleb128_role, 
 ghost use Rattle.linker_elf.specs.Inner.RowTables.{with_raw_kind};
 ghost use Rattle.linker_elf.specs.contracts.loongarch64.relocations.LoongArch64Relocation as names;
 
+use super::forms::form_of;
 use crate::elf::choice_table::RelocationName;
+use crate::elf::engine::form;
 use crate::elf::rows::{TableRow, listed, raw_info_in, row_in, text_at};
 use crate::elf::{RelocationKind, Row, RowInfo, SIZE_2KB, Uleb128Role};
 use std::fmt;

@@ -9,7 +9,9 @@ ghost use Rattle.linker_elf.specs.Ppc64Relocations.{ppc64_name, ppc64_relocation
 ghost use Rattle.linker_elf.specs.Rows.{raw_row};
 ghost use Rattle.linker_elf.specs.contracts.ppc64.relocations.Ppc64Relocation as names;
 
+use super::forms::form_of;
 use crate::elf::choice_table::RelocationName;
+use crate::elf::engine::form;
 use crate::elf::rows::{TableRow, listed, raw_info_in, row_in, text_at};
 use crate::elf::{Row, RowInfo};
 use std::fmt;

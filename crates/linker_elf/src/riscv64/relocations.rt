@@ -9,7 +9,9 @@ ghost use Rattle.linker_elf.specs.RiscVRelocations.{riscv_relocation, riscv_name
 ghost use Rattle.linker_elf.specs.RiscVRelocations.{riscv_uleb128_role, clui_row};
 ghost use Rattle.linker_elf.specs.contracts.riscv64.relocations.RiscVRelocation as names;
 
+use super::forms::form_of;
 use crate::elf::choice_table::RelocationName;
+use crate::elf::engine::form;
 use crate::elf::rows::{TableRow, listed, raw_info_in, row_in, text_at};
 use crate::elf::{Row, RowInfo, Uleb128Role};
 use std::fmt;

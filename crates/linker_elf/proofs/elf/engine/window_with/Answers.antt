@@ -1,10 +1,10 @@
-use Rattle.linker_elf.proofs.Imports.{BitsWritten, Step, ap, arith, bit_and, bit_or, get_or, subst, sym, take, take_all, ◌-◌, ◌^◌, ◌∙◌}
-use Rattle.linker_elf.proofs.Steps.{laid, laid_more, written_by}
+use Rattle.linker_elf.proofs.Imports.{Step, ap, arith, bit_and, bit_or, get_or, laid, take, take_all, ◌-◌, ◌^◌, ◌∙◌}
+use Rattle.linker_elf.proofs.Steps.{laid_more}
 use Rattle.linker_elf.proofs.elf.engine.window_with.Goals as goal
 
 pub loop-step-preserved : goal.loop-step-preserved
 loop-step-preserved c =
-    let x = bit_and c.args.window (2 ^ 64 - 1 - c.args.code.now.replaced) in
+    let x = bit_and c.args.window (2 ^ 64 - 1 - c.args.replaced) in
     let none : Step = record { added = 0; up = 0; mask = 0 } in
     let mask = (get_or c.args.steps.now c.loop-step.step-index none).mask in
     ap (λ y. bit_or y (bit_and c.rotate_left.result mask)) c.loop-step.invariant
@@ -12,8 +12,7 @@ loop-step-preserved c =
     ∙ laid_more c.args.steps.now c.loop-step.step-index none c.args.value x c.loop-step-test.true
 
 pub returns : goal.returns
-returns c = λ n places h small.
-    let x = bit_and c.args.window (2 ^ 64 - 1 - c.args.code.now.replaced) in
+returns c =
+    let x = bit_and c.args.window (2 ^ 64 - 1 - c.args.replaced) in
     let all = take_all c.loop-step.step-index c.args.steps.now (let past = c.loop-step-test.false in omega arith) in
-    subst (BitsWritten places c.args.value c.args.window) (sym (c.loop-step.invariant ∙ ap (λ ss. laid ss c.args.value x) all))
-    (written_by n c.args.code.now c.args.steps.now places c.args.value c.args.window h small)
+    c.loop-step.invariant ∙ ap (λ ss. laid ss c.args.value x) all

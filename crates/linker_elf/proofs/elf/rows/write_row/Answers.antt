@@ -34,8 +34,34 @@ returns-in-8-clause-ok c =
     (accepted_by entry v bytes c.ranges.value c.requires c.if-not-tests.false long aligned low high)
     (stored entry 8 c.cast_unsigned-in-8.result v bytes c.store-in-8.new.bytes c.requires c.in-8.is (omega arith) (search rules) c.store-in-8.ensures)
 
-pub returns-in_default-clause-ok : goal.returns-in_default-clause-ok
-returns-in_default-clause-ok c =
+pub returns-in-Some-clause-ok : goal.returns-in-Some-clause-ok
+returns-in-Some-clause-ok c =
+    let entry = c.args.entry.now in
+    let v = c.args.value in
+    let bytes = c.args.dest.now in
+    let long : entry.tests.window ≤ length bytes = omega (arith, c.if-dest-tests.false) in
+    let low : entry.tests.least ≤ℤ v = omega (arith, ints, c.if-value-tests.false) in
+    let high : v ≤ℤ entry.tests.last = omega (arith, ints, c.if-tests-value.false) in
+    let aligned : IsAligned entry.numbers.alignment v = subst (IsAligned entry.numbers.alignment) (to_z-of_z w64 v c.ranges.value) (c.has_no_bits.ensures.0 c.if-not-has_no_bits.false) in
+    writes_row (info_of entry) v bytes c.write_planned.new.dest c.ranges.value
+    (accepted_by entry v bytes c.ranges.value c.requires c.if-not-tests.false long aligned low high)
+    (subst (λ z. IsWritten entry.size entry.kind z bytes c.write_planned.new.dest) (to_z-of_z w64 v c.ranges.value) c.write_planned.ensures)
+
+pub returns-in-Some-2-clause-ok : goal.returns-in-Some-2-clause-ok
+returns-in-Some-2-clause-ok c =
+    let entry = c.args.entry.now in
+    let v = c.args.value in
+    let bytes = c.args.dest.now in
+    let long : entry.tests.window ≤ length bytes = omega (arith, c.if-dest-tests.false) in
+    let low : entry.tests.least ≤ℤ v = omega (arith, ints, c.if-value-tests.false) in
+    let high : v ≤ℤ entry.tests.last = omega (arith, ints, c.if-tests-value.false) in
+    let aligned : IsAligned entry.numbers.alignment v = subst (IsAligned entry.numbers.alignment) (to_z-of_z w64 v c.ranges.value) (c.has_no_bits.ensures.0 c.if-not-has_no_bits.false) in
+    writes_row (info_of entry) v bytes c.write_planned-in-Some-2.new.dest c.ranges.value
+    (accepted_by entry v bytes c.ranges.value c.requires c.if-not-tests.false long aligned low high)
+    (subst (λ z. IsWritten entry.size entry.kind z bytes c.write_planned-in-Some-2.new.dest) (to_z-of_z w64 v c.ranges.value) c.write_planned-in-Some-2.ensures)
+
+pub returns-in-None-clause-ok : goal.returns-in-None-clause-ok
+returns-in-None-clause-ok c =
     let entry = c.args.entry.now in
     let v = c.args.value in
     let bytes = c.args.dest.now in
