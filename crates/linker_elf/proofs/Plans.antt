@@ -2,7 +2,6 @@
 use Rattle.linker_elf.proofs.Imports.{AArch64, AArch64Instruction, Adr, AnyForm, BType, BitMasking, BitRange, BitsWritten, Bool, ByteSize, CbType, CjType, CluiType, Ds, IsSound, IsWritten, JType, List, LoongArch64, LoongArch64Instruction, MachOLow12, Movnz, None, Option, Ppc64, Ppc64Form, RelocationKind, RiscV, RiscVInstruction, RowSize, Shift5, SizeFits, Some, Step, TableRow, UType, Written, [], and_assoc, and_le_l, and_le_r, and_parts, ap, arith, bit_and, bit_or, bits_of, bits_taken, byte_len, cast_unsigned, cleared_by, code_of, drop, false, from_le_bytes, has_16_bits, has_plan, high_mask_keeps, if◌then◌else◌, info_of, int_lt, is_32_bit_move, is_plain, is_word, laid, loongarch_form, ltb, ltb-true, moved, none-some, number_placed, or_lt, ored_cleared, places_cleared, plan_for, plan_of, plan_window, pos, refl, relocation_form, steps_fit, subst, sym, takes_all, true, w64, width_of, writes, ℕ, ℤ, ◌&&◌, ◌-◌, ◌/◌, ◌<◌, ◌^◌, ◌∙◌, ◌∷◌, ◌≡◌, ◌≤◌}
 use Rattle.linker_elf.specs.declared.elf.engine.WritePlan.{WritePlan}
 use Rattle.linker_elf.specs.declared.elf.engine.Window.{Window}
-use Rattle.linker_elf.specs.declared.elf.engine.Window.TheVariants.{Four, Eight}
 use Rattle.linker_elf.specs.Inner.Runs.{is_plain as is_plain_form}
 use Rattle.linker_elf.proofs.Codes.{aarch64_cleared, coded, one_word}
 use Rattle.linker_elf.proofs.PlainRows.{takes, written}

@@ -71,7 +71,9 @@ macro_rules! form_of {
     (JumpCall $part:tt) => { form!($part (JumpCall Four, 0..26, [0, 0, 26 or]; signs: 1 << 25)) };
     (MachOLow12 $part:tt) => { form!($part (MachOLow12 Four, 0..12, [0, 10, 12])) };
     (each $($part:tt)+) => {
-        form_of!(@ [$($part)+] Adr Movkz Movnz Ldr LdrRegister Add LdSt TstBr Bcond JumpCall MachOLow12)
+        form_of!(
+            @ [$($part)+] Adr Movkz Movnz Ldr LdrRegister Add LdSt TstBr Bcond JumpCall MachOLow12
+        )
     };
     (@ $part:tt $($name:ident)+) => { [$(form_of!($name $part)),+] };
 }

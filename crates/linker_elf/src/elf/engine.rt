@@ -70,13 +70,13 @@ pub(crate) const UNSIGNED: Encoding = Encoding {
     flag: !0,
 };
 
-/// A part of a form, which `form_of` of each architecture calls with the form of a name: with `code`
-/// what it is beside its steps; with `2 steps` or `6 steps` these, and as many that move nothing as
-/// are left; with `variant` and the forms' enum its variant; with `window` the length of its window
-/// in bytes; with `plan`, the bits that are cleared first and a row's bits the row's plan, if it has
-/// one. A form is its name, its window, which bits of its number the immediate has, its steps and
-/// how it is read. A step is its runs, each a bit of the value, one of the window, and their
-/// length; with `or` a run is only ORed.
+/// A part of a form, which each architecture's `form_of` gives by its name: with `code` what it is
+/// beside its steps; with `2 steps` or `6 steps` these, and as many that move nothing as are left;
+/// with `variant` and the forms' enum its variant; with `window` the length of its window in bytes;
+/// with `plan`, the runs that are cleared first and a row's bits, the row's plan if there is one. A
+/// form is its name, its window, which bits of its number the immediate has, its steps and how it
+/// is read. A step is its runs, each a bit of the value, one of the window, and their length; with
+/// `or` a run is only ORed.
 macro_rules! form {
     ([plan $cleared:ident $first:tt $last:tt] (
         $name:ident $window:ident, $start:literal .. $end:literal,

@@ -409,7 +409,7 @@ fn has_no_bits(low_bits: u8, value: i64, _alignment: u64) -> bool
 }
 
 /// `Row::write`, of the row of an entry. Only rows that don't take all values look at the
-/// instruction. `in_place` is as of `write_form`.
+/// instruction. With `in_place` the bits of one are written here even without a plan.
 #[inline(always)]
 fn write_row(
     entry: &'static TableRow,
@@ -438,7 +438,12 @@ fn write_row(
                 write_planned(entry, plan, Window::Four, value, dest);
             }
             Some(plan) => write_planned(entry, plan, Window::Eight, value, dest),
-            None => write_form(entry, value, dest, in_place),
+            None => match entry.size {
+                RowSize::BitMasking { range, insn } if in_place => {
+                    write_field(insn, range, value, dest);
+                }
+                _ => write_plain(entry, value, dest),
+            },
         },
     }
     Ok(())
@@ -479,8 +484,8 @@ fn write_planned(
     window.store(written, dest);
 }
 
-/// The same without a plan. By itself and with few arguments, so that a caller saves
-/// no registers, and none is passed on the stack.
+/// The same without a plan. By itself and with few arguments, so that a caller saves no registers,
+/// and none is passed on the stack.
 #[inline(never)]
 fn write_plain(entry: &'static TableRow, value: i64, dest: &mut [u8])
     requires sound { IsSound entry.now }
@@ -495,20 +500,6 @@ fn write_plain(entry: &'static TableRow, value: i64, dest: &mut [u8])
             AnyForm::RiscV(_) => write_field(insn, range, value, dest),
             _ => write_bits(entry.kind, insn, range, value, dest),
         },
-    }
-}
-
-/// The same. With `in_place` the bits of an instruction are written here.
-#[inline(always)]
-fn write_form(entry: &'static TableRow, value: i64, dest: &mut [u8], in_place: bool)
-    requires sound { IsSound entry.now }
-    requires takes { takes_all (info_of entry.now) ≡ true }
-    requires room { window_len (info_of entry.now) ≤ length dest.old }
-    ensures { IsWritten entry.now.size entry.now.kind value dest.old dest.new }
-{
-    match entry.size {
-        RowSize::BitMasking { range, insn } if in_place => { write_field(insn, range, value, dest) }
-        _ => write_plain(entry, value, dest),
     }
 }
 
@@ -764,8 +755,8 @@ macro_rules! row {
     };
 }
 
-/// The plan of a row. A write clears what AArch64's forms only OR, and a `Shift10` of 16 bits: one of
-/// 12 has a part of its opcode there.
+/// The plan of a row. A write clears the bits that AArch64's forms only OR, and those of a `Shift10`
+/// with an immediate of 16 bits: where it has 12, the opcode is there.
 macro_rules! plan {
     (AArch64 $form:ident $start:tt $end:tt) => { form_of!($form [plan bits $start $end]) };
     (LoongArch64 Shift10 2 $end:tt) => { form_of!(Shift10 [plan bits 2 $end]) };

@@ -1,4 +1,4 @@
-use Rattle.linker_elf.proofs.Imports.{BitMasking, InstructionWritten, IsWritten, info_of, is_plain, subst, sym, to_z-of_z, true, w64, ◌≡◌}
+use Rattle.linker_elf.proofs.Imports.{InstructionWritten, IsWritten, info_of, is_plain, subst, sym, to_z-of_z, true, w64, ◌≡◌}
 use Rattle.linker_elf.proofs.PlainRows.{takes, written}
 use Rattle.linker_elf.proofs.elf.rows.write_plain.Goals as goal
 

@@ -1,4 +1,4 @@
-use Rattle.linker_elf.proofs.Imports.{bit_and, rules, sym, ◌/◌, ◌^◌}
+use Rattle.linker_elf.proofs.Imports.{bit_and, rules, ◌/◌, ◌^◌}
 use Rattle.linker_elf.proofs.Plans.{fits_by, writes_by}
 use Rattle.linker_elf.proofs.elf.rows.write_planned.Goals as goal
 

@@ -1,5 +1,5 @@
-use Rattle.linker_elf.proofs.Imports.{IsAligned, IsWritten, arith, info_of, ints, length, rules, subst, to_z-of_z, w64, ◌≤ℤ◌, ◌≤◌}
-use Rattle.linker_elf.proofs.PlainRows.{accepted_by, all_by, stored, takes}
+use Rattle.linker_elf.proofs.Imports.{InstructionWritten, IsAligned, IsWritten, arith, info_of, ints, is_plain, length, rules, subst, sym, to_z-of_z, true, w64, ◌≡◌, ◌≤ℤ◌, ◌≤◌}
+use Rattle.linker_elf.proofs.PlainRows.{accepted_by, all_by, stored, takes, written}
 use Rattle.linker_elf.proofs.WrittenRows.{writes_row}
 use Rattle.linker_elf.proofs.elf.rows.write_row.Goals as goal
 
@@ -60,8 +60,8 @@ returns-in-Some-2-clause-ok c =
     (accepted_by entry v bytes c.ranges.value c.requires c.if-not-tests.false long aligned low high)
     (subst (λ z. IsWritten entry.size entry.kind z bytes c.write_planned-in-Some-2.new.dest) (to_z-of_z w64 v c.ranges.value) c.write_planned-in-Some-2.ensures)
 
-pub returns-in-None-clause-ok : goal.returns-in-None-clause-ok
-returns-in-None-clause-ok c =
+pub returns-in-BitMasking-clause-ok : goal.returns-in-BitMasking-clause-ok
+returns-in-BitMasking-clause-ok c =
     let entry = c.args.entry.now in
     let v = c.args.value in
     let bytes = c.args.dest.now in
@@ -69,6 +69,25 @@ returns-in-None-clause-ok c =
     let low : entry.tests.least ≤ℤ v = omega (arith, ints, c.if-value-tests.false) in
     let high : v ≤ℤ entry.tests.last = omega (arith, ints, c.if-tests-value.false) in
     let aligned : IsAligned entry.numbers.alignment v = subst (IsAligned entry.numbers.alignment) (to_z-of_z w64 v c.ranges.value) (c.has_no_bits.ensures.0 c.if-not-has_no_bits.false) in
-    writes_row (info_of entry) v bytes c.write_form.new.dest c.ranges.value
+    let range = c.in-BitMasking.range in
+    let insn = c.in-BitMasking.insn in
+    let after = c.write_field.new.dest in
+    let plain = (takes (info_of entry) (all_by entry c.requires c.if-not-tests.false)).plain in
+    writes_row (info_of entry) v bytes after c.ranges.value
     (accepted_by entry v bytes c.ranges.value c.requires c.if-not-tests.false long aligned low high)
-    (subst (λ z. IsWritten entry.size entry.kind z bytes c.write_form.new.dest) (to_z-of_z w64 v c.ranges.value) c.write_form.ensures)
+    (subst (λ s. IsWritten s entry.kind v bytes after) (sym c.in-BitMasking.is)
+    (written range insn entry.kind v bytes after (subst (λ s. is_plain s entry.kind ≡ true) c.in-BitMasking.is plain)
+    (subst (λ n. InstructionWritten insn range n bytes after) (to_z-of_z w64 v c.ranges.value) c.write_field.ensures)))
+
+pub returns-in_default-size-clause-ok : goal.returns-in_default-size-clause-ok
+returns-in_default-size-clause-ok c =
+    let entry = c.args.entry.now in
+    let v = c.args.value in
+    let bytes = c.args.dest.now in
+    let long : entry.tests.window ≤ length bytes = omega (arith, c.if-dest-tests.false) in
+    let low : entry.tests.least ≤ℤ v = omega (arith, ints, c.if-value-tests.false) in
+    let high : v ≤ℤ entry.tests.last = omega (arith, ints, c.if-tests-value.false) in
+    let aligned : IsAligned entry.numbers.alignment v = subst (IsAligned entry.numbers.alignment) (to_z-of_z w64 v c.ranges.value) (c.has_no_bits.ensures.0 c.if-not-has_no_bits.false) in
+    writes_row (info_of entry) v bytes c.write_plain.new.dest c.ranges.value
+    (accepted_by entry v bytes c.ranges.value c.requires c.if-not-tests.false long aligned low high)
+    (subst (λ z. IsWritten entry.size entry.kind z bytes c.write_plain.new.dest) (to_z-of_z w64 v c.ranges.value) c.write_plain.ensures)
