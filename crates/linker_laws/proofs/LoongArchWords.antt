@@ -1,5 +1,5 @@
 -- Words of LoongArch to which a relocation was applied, and which instructions they are.
-use Rattle.linker_laws.proofs.Imports.{All-nil, BitsWritten, ImmediateBit, InstructionWritten, List, LoongArch64, Shift10, Shift5, [], and_parts, arith, bit_at, bit_for, bits_taken, eqb-true, false, field, from_le_bytes, high_kept, if◌then◌else◌, inl, inr, leb-true, ltb, max, nat_le, nat_tests, or_cases, ored, ored_cleared, placed_bit, refl, same_window, shift10_field, shift10_places, shift5_places, subst, true, w32, ℕ, ℤ, ◌%◌, ◌&&◌, ◌+◌, ◌-◌, ◌/◌, ◌<◌, ◌==◌, ◌^◌, ◌||◌, ◌∙◌, ◌≡◌, ◌≤◌, ◌⊎◌}
+use Rattle.linker_laws.proofs.Imports.{All-nil, BitsWritten, ImmediateBit, InstructionWritten, List, LoongArch64, Shift10, Shift5, [], and_parts, arith, bit_at, bit_for, bits_taken, eqb-true, field, from_le_bytes, high_kept, if◌then◌else◌, inl, inr, leb-true, ltb, max, nat_le, nat_tests, or_cases, ored, ored_cleared, placed_bit, refl, same_window, shift10_field, shift10_places, shift5_places, subst, true, w32, ℕ, ℤ, ◌%◌, ◌&&◌, ◌+◌, ◌-◌, ◌/◌, ◌<◌, ◌==◌, ◌^◌, ◌||◌, ◌∙◌, ◌≡◌, ◌≤◌, ◌⊎◌}
 use Rattle.linker_utils.specs.LoongArchRewrites.{adds_low12, rj_of, rd_of}
 use Rattle.linker_laws.specs.LoongArchMachine.{decode, pcalau_12, pcadd_2, lu12i_w, sums, action_of, adds, loads, ori}
 use Rattle.linker_laws.proofs.AArch64Words.{field_kept, top_kept}
@@ -35,9 +35,6 @@ low12_is op is =
           let to = leb-true op 0x0b3 p.1 in
           record { is = inr from; below = omega arith }
     ]
-
-pub no_low12 : (op : ℕ) → 0x0b3 < op → adds_low12 op ≡ false
-no_low12 op high = grind (arith, nat_tests)
 
 pub decodes_action : (x op : ℕ) → x / 2 ^ 22 ≡ op → adds_low12 op ≡ true → decode x ≡ sums (action_of op)
 decodes_action x op is low = grind (arith, nat_tests)

@@ -22,11 +22,11 @@ pub use Rattle.linker_utils_c.specs.Placement.{AreWays, Arrays, HaveLengths, IsC
 pub use Rattle.linker_utils_c.specs.Recognising.{AreInNumbers, IsMadeInNumbers, present}
 pub use Rattle.linker_utils_c.specs.Relocate.{AreRelocated, IsApplied, IsOutcome, IsRelocated, IsRelocatedAs, IsRelocatedAt}
 pub use Rattle.linker_utils_c.specs.Relocations.{InNumbers, IsRange, IsSize}
-pub use Rattle.linker_utils_c.specs.Status.{code, ok_or}
+pub use Rattle.linker_utils_c.specs.Status.{code}
 pub use Rattle.linker_utils_c.specs.declared.recognising.RecognisedNumbers.{RecognisedNumbers}
 pub use Rattle.linker_utils_c.specs.declared.relocate.Relocation.{Relocation}
 pub use Rattle.linker_utils_c.specs.declared.status.Status.TheVariants.{DifferentLengths, ShortMemory, Success, UnknownArchitecture, UnknownRewrite}
-pub use Rattle.std.proofs.Common.{Bool, Err, FitsSigned, IfErr, IsOk, List, MatchOption, MatchResult, None, Ok, OnErr, OnOk, Option, Result, Some, [], ap, arith, cond, drop, false, get_or, get_or-set_other, inl, inr, length, length-append, map, max, option_map, pos, refl, rules, set, slice_get, subst, suc, sym, take, true, vec_len, zero, ℕ, ℤ, ◌*◌, ◌++◌, ◌+◌, ◌-◌, ◌<◌, ◌^◌, ◌↔◌, ◌∙◌, ◌∷◌, ◌≡◌, ◌≢◌, ◌≤◌}
+pub use Rattle.std.proofs.Common.{Bool, Err, FitsSigned, IfErr, IsOk, List, MatchOption, MatchResult, None, Ok, OnErr, OnOk, Option, Result, Some, [], ap, arith, cond, drop, false, get_or, get_or-set_other, inl, inr, length, length-append, map, max, ok_or, option_map, pos, refl, rules, set, slice_get, subst, suc, sym, take, true, vec_len, zero, ℕ, ℤ, ◌*◌, ◌++◌, ◌+◌, ◌-◌, ◌<◌, ◌^◌, ◌↔◌, ◌∙◌, ◌∷◌, ◌≡◌, ◌≢◌, ◌≤◌}
 pub use Rattle.std.proofs.lemmas.Int.{to_z-of_z}
 pub use Rattle.std.proofs.lemmas.List.{append-nil, get_or-map, get_or-take, get_or_default, length-drop, length-map, length-set, length-take, map-append, map-id, take_all, take_more, take_more_set}
 pub use Rattle.std.proofs.lemmas.List.Sorted.{IsNonDecreasingBy-from_default, IsNonDecreasingBy-from_sort_by_key, IsNonDecreasingBy-push, IsNonDecreasingBy-short, IsPermutation-map, length_permutation}

@@ -1,12 +1,12 @@
 -- The numbers by which C names forms of instructions.
 use Rattle.std.specs.Prelude.{◌≡◌, ◌≢◌, ◌<◌, ◌≤◌, Bool, length, drop, ℕ, List}
-use Rattle.std.specs.Prelude.{Option, None, Some, Result, Ok, Err, MatchResult}
+use Rattle.std.specs.Prelude.{Option, None, Some, Result, Ok, Err, MatchResult, ok_or}
 use Rattle.linker_utils_c.specs.Imports.{Architecture, DoesNotFit, Status, Success, TooShort}
 use Rattle.linker_utils_c.specs.Imports.{UnknownArchitecture, UnknownForm, X86_64, architecture_of}
 use Rattle.linker_utils_c.specs.Imports.{byte_len, cast_unsigned, flag_number, form_of_number, w64}
 use Rattle.linker_base.specs.Form.{Form, window_of, Fits, Written, MachineReads, IsReadBack}
 use Rattle.linker_elf.specs.declared.elf.AnyForm.{AnyForm}
-use Rattle.linker_utils_c.specs.Status.{code, HasRoom, ok_or}
+use Rattle.linker_utils_c.specs.Status.{code, HasRoom}
 
 -- the form of a machine (e_machine) and a number, or which of the two is unknown
 abbrev pub form_among : Option Architecture → ℕ → Result AnyForm Status

@@ -1,6 +1,6 @@
 -- The numbers by which C names rewrites of instructions.
 use Rattle.std.specs.Prelude.{◌≡◌, ℕ, List, Option, None, Some, Result, Err}
-use Rattle.std.specs.Prelude.{ℤ}
+use Rattle.std.specs.Prelude.{ℤ, ok_or}
 use Rattle.linker_base.specs.Rewrite.{Rewrite, CanRewrite, rewritten, offset_after, addend_after}
 use Rattle.linker_base.specs.declared.relaxation.RelocationModifier.{RelocationModifier}
 use Rattle.linker_base.specs.declared.relaxation.RelocationModifier.TheVariants.{Normal}
@@ -8,7 +8,7 @@ use Rattle.linker_base.specs.declared.relaxation.RelocationModifier.TheVariants.
 use Rattle.linker_utils_c.specs.Imports.{Architecture, CannotApply, DoesNotMatch, Relaxation}
 use Rattle.linker_utils_c.specs.Imports.{Status, Success, UnknownArchitecture, UnknownRewrite}
 use Rattle.linker_utils_c.specs.Imports.{architecture_of, relaxation_matches, rewrite_of_number}
-use Rattle.linker_utils_c.specs.Status.{code, ok_or}
+use Rattle.linker_utils_c.specs.Status.{code}
 
 -- the rewrite of a machine (e_machine), a number and the bytes before the field, or which of the
 -- first two is unknown

@@ -1,6 +1,6 @@
 -- The statuses that C sees as numbers.
 use Rattle.std.specs.Prelude.{◌≡◌, ◌⊎◌, ℕ, ◌<◌, ◌≤◌, List, [], ◌∷◌, length}
-use Rattle.std.specs.Prelude.{Option, Some, None, Result, Ok, Err, MatchOption}
+use Rattle.std.specs.Prelude.{Option, MatchOption}
 use Rattle.linker_utils_c.specs.Imports.{Architecture, Status, architecture_of}
 use Rattle.linker_utils_c.specs.declared.status.Status.TheVariants as statuses
 
@@ -106,10 +106,6 @@ pub record HasRoom (len : ℕ) (bytes : List ℕ) (status : ℕ) : Type 0 where
   pub long : len ≤ length bytes → status ≡ code statuses.Success
 
 -- ---- what is found
-
-abbrev pub ok_or : {A : Type 0} → Option A → Status → Result A Status
-ok_or None absent = Err absent
-ok_or (Some a) absent = Ok a
 
 -- the status says that there is none, and nothing changes; else P of what is found
 abbrev pub IfFound : {A : Type 0} → Option A → Status → Type 0 → ℕ → (A → Type 0) → Type 0
