@@ -755,8 +755,8 @@ macro_rules! row {
     };
 }
 
-/// The plan of a row. A write clears the bits that AArch64's forms only OR, and those of a `Shift10`
-/// with an immediate of 16 bits: where it has 12, the opcode is there.
+/// The plan of a row. A write clears the bits that AArch64's forms only OR, and those of a
+/// `Shift10` with an immediate of 16 bits: where it has 12, the opcode is there.
 macro_rules! plan {
     (AArch64 $form:ident $start:tt $end:tt) => { form_of!($form [plan bits $start $end]) };
     (LoongArch64 Shift10 2 $end:tt) => { form_of!(Shift10 [plan bits 2 $end]) };
