@@ -418,15 +418,22 @@ pub trait InstructionRewrite: Copy {
         ensures offset { offset.new ≡ offset_after (rewrite self) offset.old }
         ensures addend { addend.new ≡ addend_after (rewrite self) addend.old };
 
-    /// Whether `apply` may be called at an offset of a section.
+    /// Whether `apply` may be called at an offset of a section: the bytes that it writes lie in the
+    /// section, and the instruction meets what the rewrite requires of it. For most rewrites
+    /// nothing is required and the instruction isn't tested; `matches` tests it.
     fn can_apply(self, section: &[u8], offset: u64) -> bool
         ensures { IsTrue result ↔ CanRewrite (rewrite self) section.now offset };
 
-    /// The bytes that `apply` writes at an offset.
+    /// The bytes that `apply` writes: from how far before the offset, and how many. None are
+    /// written by a rewrite that only changes the relocation. On x86-64 the field whose value is
+    /// written afterwards lies after them, but for `JmpIndirectToRelative` and
+    /// `TlsGdToLocalExecLarge`, which write 0 to it.
     fn window(self) -> RewriteWindow
         ensures { result ≡ window_of_rewrite (rewrite self) };
 
-    /// What becomes of the relocation after the rewritten one.
+    /// What becomes of the relocation after the rewritten one. It is skipped where it is that of
+    /// the call in a TLS sequence, which the rewrite removes, or the mark `R_RISCV_RELAX` of a
+    /// deleted instruction; `skipped_offset` says where it is. Else it is applied as usual.
     fn next_modifier(&self) -> RelocationModifier
         ensures { result ≡ modifier self.now };
 

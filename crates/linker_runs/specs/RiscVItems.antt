@@ -77,7 +77,7 @@ abbrev pub links_short : Isa → ℕ → Bool
 links_short Rv32 link = link == 0 || link == 1
 links_short Rv64 link = link == 0
 
--- one of them links as the call at an offset does
+-- a jump of two bytes links the register that the call at an offset links
 abbrev pub has_short_jump : Isa → List ℕ → ℕ → Bool
 has_short_jump isa section o = links_short isa (link_register OfJalr section o)
 

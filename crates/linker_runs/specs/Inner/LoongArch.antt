@@ -1,4 +1,4 @@
--- What sites of LoongArch become as they are, by their kinds.
+-- What an unchanged site of LoongArch becomes, by its kind.
 use Rattle.linker_runs.specs.Imports.{Address, Call, Kind, List, drop, sum_64, take, ℕ}
 use Rattle.linker_runs.specs.Sites.{IsRelocated}
 use Rattle.linker_runs.specs.LoongArchSites.{call_template, high_template, low_template}
