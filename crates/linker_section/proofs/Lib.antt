@@ -13,7 +13,6 @@ pub mod Lengths
 pub mod Local
 pub mod Numbers
 pub mod Outcomes
-pub mod QuickResolved
 pub mod QuickValues
 pub mod Reaching
 pub mod ResolvedOnce

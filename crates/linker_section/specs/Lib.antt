@@ -3,6 +3,7 @@ pub mod Crel
 pub mod Fields
 pub mod Imports
 pub mod Inner
+pub mod Known
 pub mod Needed
 pub mod Relocations
 pub mod Resolved

@@ -2,6 +2,7 @@
 
 ghost use Rattle.std.specs.Prelude.{◌≡◌, ◌≤◌, ◌<◌, ◌/◌, ℕ, List, length, slice_index, IfErr};
 ghost use Rattle.std.specs.Prelude.{IfOk, IfSome, IfNone};
+ghost use Rattle.linker_section.specs.Inner.Quick.{IsHighValue};
 ghost use Rattle.linker_section.specs.Inner.Steps.{IsFront, IsLastOf, IsQuickStep, IsSlowStep};
 ghost use Rattle.linker_section.specs.Inner.Steps.{IsStopped, AreWrittenBelow, AreWrittenOrKept};
 ghost use Rattle.linker_section.specs.Inner.Steps.{IsFirstRun};
@@ -12,7 +13,7 @@ use crate::conditions::begins_with;
 use crate::facts::Addresses;
 use crate::fields::Field;
 use crate::order::are_runs_apart;
-use crate::quick::{HighPart, high_after};
+use crate::quick::{HighPart, high_after, quick_value};
 use crate::relocations::{
     RELA_LEN, Rela, offset_at, relocation_in, relocation_of, relocations_from, relocations_len,
 };
@@ -44,10 +45,10 @@ fn write_quickly<S: Symbols>(
     requires room { length relocations.now / 24 ≤ length memory.old }
     requires is { relocation.now ≡ relocation_in relocations.now index }
     requires high { IfSome high
-        (S.has_high symbols architecture addresses.now relocations.now) }
+        (IsHighValue architecture addresses.now relocations.now (S.knowledge symbols)) }
     ensures len { length memory.new ≡ length memory.old }
     ensures high { IfSome result (λ next. IfSome (next.1)
-        (S.has_high symbols architecture addresses.now relocations.now)) }
+        (IsHighValue architecture addresses.now relocations.now (S.knowledge symbols))) }
     ensures kept { (k : ℕ) → k < index → slice_index memory.new k ≡ slice_index memory.old k }
     ensures none { IfNone result (section.new ≡ section.old) }
     ensures some { IfSome result (λ next. IsQuickStep architecture addresses.now relocations.now
@@ -68,10 +69,11 @@ fn write_quickly<S: Symbols>(
     }
     // stored before the value is found, so that the word takes no register
     memory[index] = word;
-    let Some(value) = symbols.quick_value(
+    let Some(value) = quick_value(
         architecture,
         addresses,
         relocations,
+        symbols,
         &row,
         index,
         relocation,

@@ -1,19 +1,21 @@
 //! What has to hold of a section's relocation besides that it has a value.
 
 ghost use Rattle.std.specs.Prelude.{◌≡◌, ◌↔◌, ◌<◌, ◌≤◌, ◌/◌, ◌^◌, ◌==◌, ℕ, IsTrue, slice_index};
-ghost use Rattle.std.specs.Prelude.{◌||◌, not, length, true, false};
+ghost use Rattle.std.specs.Prelude.{◌||◌, not, length, true, false, option_map};
 ghost use Rattle.linker_elf.specs.Facts.{length_of};
 ghost use Rattle.linker_elf.specs.Relocate.{size_len, window_len};
 ghost use Rattle.linker_section.specs.Relocations.{relocation_in};
 ghost use Rattle.linker_section.specs.Conditions.{HasLength, changes_toc, is_filled, is_padded};
-ghost use Rattle.linker_section.specs.Conditions.{is_stated, keeps_toc, lacks_stub, needed};
+ghost use Rattle.linker_section.specs.Conditions.{is_stated, keeps_toc, needed};
 ghost use Rattle.linker_section.specs.Conditions.{shows, is_thread_based, holds_offset};
 ghost use Rattle.linker_section.specs.Conditions.{upper_r_type, is_placed, is_upper, needs_upper};
 ghost use Rattle.linker_section.specs.Conditions.{HasUpper, HoldsOffset, IsInReach};
 ghost use Rattle.linker_section.specs.Inner.Facts.{shows_lengths, word_shows};
+ghost use Rattle.linker_section.specs.Known.{lacks_known_stub};
 
 use crate::facts::{Addresses, Symbol};
 use crate::relocations::{Rela, first_from, relocation_in, relocations_len};
+use crate::symbols::Known;
 use linker_base::utils::u32_from_slice;
 use linker_elf::elf::{
     AnyForm, Architecture, Length, LoongArch64Instruction, RelocationKind, RiscVInstruction, Row,
@@ -26,7 +28,7 @@ use linker_elf::riscv64::RiscVRelocation;
 /// Whether a symbol is a function of the output that may return with another TOC pointer, and has
 /// no stub that keeps the caller's.
 #[inline(always)]
-pub(crate) fn changes_toc(symbol: &Symbol) -> bool
+fn changes_toc(symbol: &Symbol) -> bool
     ensures { result ≡ changes_toc symbol.now }
 {
     symbol.stub == 0 && !symbol.is_undefined_weak && symbol.other / 32 == 1
@@ -34,7 +36,7 @@ pub(crate) fn changes_toc(symbol: &Symbol) -> bool
 
 /// Whether a relocation is a call that keeps its TOC pointer.
 #[inline(always)]
-pub(crate) fn keeps_toc(architecture: Architecture, relocation: &Rela) -> bool
+fn keeps_toc(architecture: Architecture, relocation: &Rela) -> bool
     ensures { result ≡ keeps_toc architecture relocation.now }
 {
     matches!(architecture, Architecture::Ppc64)
@@ -43,14 +45,18 @@ pub(crate) fn keeps_toc(architecture: Architecture, relocation: &Rela) -> bool
 
 /// Whether a relocation is such a call, of such a symbol.
 #[inline(always)]
-pub(crate) fn lacks_stub(architecture: Architecture, symbols: &[Symbol], relocation: &Rela) -> bool
-    ensures { result ≡ lacks_stub architecture symbols.now relocation.now }
+pub(crate) fn lacks_stub<K: Known>(
+    architecture: Architecture,
+    relocation: &Rela,
+    known: Option<K>,
+) -> bool
+    ensures { result ≡ lacks_known_stub architecture relocation.now (option_map K.known known) }
 {
     if !keeps_toc(architecture, relocation) {
         return false;
     }
-    match symbols.get(relocation.symbol as usize) {
-        Some(symbol) => changes_toc(symbol),
+    match known {
+        Some(known) => changes_toc(known.symbol()),
         None => false,
     }
 }

@@ -3,14 +3,17 @@
 //! Few tests find them, so that a section's values take little more time than the formulas. Where
 //! these return nothing, `value_of` says what the value is, and why there is none.
 
-ghost use Rattle.std.specs.Prelude.{◌≡◌, ◌⊎◌, ◌&&◌, not, true, false, Some, IfSome};
+ghost use Rattle.std.specs.Prelude.{◌≡◌, ◌⊎◌, ◌<◌, ◌/◌, ◌&&◌, not, true, false, Some, IfSome};
+ghost use Rattle.std.specs.Prelude.{length};
 ghost use Rattle.linker_section.specs.Conditions.{needs_upper};
 ghost use Rattle.linker_section.specs.Inner.Facts.{class_by, entry_by, is_high, is_plain};
 ghost use Rattle.linker_section.specs.Inner.Facts.{is_offset_way, is_plain_way};
 ghost use Rattle.linker_section.specs.Inner.Facts.{SaysBranch, SaysNeeds, SaysWay};
-ghost use Rattle.linker_section.specs.Inner.Quick.{IsHighValue, HasHighValue};
-ghost use Rattle.linker_section.specs.Inner.Quick.{IsPlainValue, IsQuickValue, IsValueAt};
+ghost use Rattle.linker_section.specs.Inner.Quick.{IsHighValue, IsPlainValue, IsQuickValue};
+ghost use Rattle.linker_section.specs.Inner.Quick.{IsValueAt};
+ghost use Rattle.linker_section.specs.Known.{known_operands};
 ghost use Rattle.linker_section.specs.Needed.{entry_of};
+ghost use Rattle.linker_section.specs.Relocations.{relocation_in};
 ghost use Rattle.linker_section.specs.Values.{address_of, entry_address, is_of_got};
 ghost use Rattle.linker_section.specs.Values.{operands_with, target_of};
 ghost use Rattle.linker_elf.specs.Architectures.{IsRow};
@@ -19,6 +22,7 @@ use crate::conditions::{lacks_stub, needs_upper};
 use crate::facts::{Addresses, Symbol};
 use crate::needed::entry_by;
 use crate::relocations::Rela;
+use crate::symbols::{Known, Symbols};
 use crate::values::{entry_address, is_of_got, local_entry, target_of};
 use linker_elf::elf::{Architecture, EntryUse, Operands, Row, RowFacts, Way};
 
@@ -52,15 +56,20 @@ fn address_of_entry(
 
 /// The address of the entry that a relocation requires; 0 where it requires none.
 #[inline(always)]
-fn required_address(addresses: &Addresses, symbol: &Symbol, row: &Row, addend: i64) -> Option<u64>
+pub(crate) fn required_address(
+    addresses: &Addresses,
+    symbol: &Symbol,
+    row: &Row,
+    relocation: &Rela,
+) -> Option<u64>
     requires { SaysNeeds row.now }
     ensures { result ≡ entry_address addresses.now symbol.now
-        (entry_of row.now addend symbol.now.is_thread_local) }
+        (entry_of row.now relocation.now.addend symbol.now.is_thread_local) }
 {
     if matches!(row.facts().entry, EntryUse::Without) {
         Some(0)
     } else {
-        address_of_entry(addresses, symbol, row.facts(), addend)
+        address_of_entry(addresses, symbol, row.facts(), relocation.addend)
     }
 }
 
@@ -114,7 +123,7 @@ fn quick_target(
 
 /// The operands of a plain relocation's formula, with the address of the entry that it requires.
 #[inline(always)]
-pub(crate) fn plain_operands(
+fn plain_operands(
     architecture: Architecture,
     addresses: &Addresses,
     row: &Row,
@@ -146,51 +155,33 @@ pub(crate) fn plain_operands(
     }
 }
 
-/// The value of a plain relocation; none where its symbol or its entry isn't there.
+/// The value of a plain relocation; none where its entry isn't there.
 #[inline(always)]
-fn plain_value(
+fn plain_value<K: Known>(
     architecture: Architecture,
     addresses: &Addresses,
-    symbols: &[Symbol],
     row: &Row,
     relocation: &Rela,
+    known: &K,
 ) -> Option<i64>
     requires needs { SaysNeeds row.now }
     requires way { SaysWay architecture row.now }
     requires plain { is_plain row.now ≡ true }
     requires symbol { is_of_got architecture relocation.now.r_type ≡ false }
-    ensures { IfSome result (IsPlainValue architecture addresses.now symbols.now row.now
-        relocation.now) }
+    ensures { IfSome result (IsPlainValue (known_operands architecture addresses.now row.now
+        relocation.now (Some (K.known known.now))) row.now) }
 {
-    let Some(symbol) = symbols.get(relocation.symbol as usize) else {
+    let Some(entry) = known.entry(addresses, row, relocation) else {
         return None;
     };
-    let Some(entry) = required_address(addresses, symbol, row, relocation.addend) else {
-        return None;
-    };
+    let symbol = known.symbol();
     let operands = plain_operands(architecture, addresses, row, symbol, relocation, entry);
     row.formula_value(&operands)
 }
 
-/// The value of a low part, if it is that of a high part.
-#[inline(always)]
-fn value_of_high(
-    addresses: &Addresses,
-    symbols: &[Symbol],
-    relocation: &Rela,
-    high: Option<HighPart>,
-) -> Option<i64>
-    ensures { IfSome result (HasHighValue addresses.now symbols.now relocation.now high) }
-{
-    let Some(label) = symbols.get(relocation.symbol as usize) else {
-        return None;
-    };
-    value_at(label.address.wrapping_sub(addresses.section), high)
-}
-
 /// The value of a high part, if it is at an offset.
 #[inline(always)]
-pub(crate) fn value_at(at: u64, high: Option<HighPart>) -> Option<i64>
+fn value_at(at: u64, high: Option<HighPart>) -> Option<i64>
     ensures { IfSome result (IsValueAt at high) }
 {
     let Some(high) = high else {
@@ -206,7 +197,7 @@ pub(crate) fn value_at(at: u64, high: Option<HighPart>) -> Option<i64>
 /// Whether the value is that of the row's own formula: of a high part only on RISC-V, and of an
 /// offset in a TLS block only where the output has one.
 #[inline(always)]
-pub(crate) fn has_plain_way(architecture: Architecture, addresses: &Addresses, way: Way) -> bool
+fn has_plain_way(architecture: Architecture, addresses: &Addresses, way: Way) -> bool
     ensures plain { result ≡ true → is_plain_way way ≡ true }
     ensures origin { result ≡ true
         → (is_offset_way way && not addresses.now.has_tls) ≡ false }
@@ -219,63 +210,82 @@ pub(crate) fn has_plain_way(architecture: Architecture, addresses: &Addresses, w
     }
 }
 
-/// The value of a relocation; none where it isn't found so. Only the contract uses `_relocations`.
+/// The value of a relocation of whose symbol something is known; none where it isn't found so.
+/// Only the contract uses `_relocations`, `_symbols` and `_index`.
 #[inline(always)]
-fn found_value(
+fn found_value<S: Symbols>(
     architecture: Architecture,
     addresses: &Addresses,
     _relocations: &[u8],
-    symbols: &[Symbol],
+    _symbols: S,
     row: &Row,
+    _index: usize,
     relocation: &Rela,
+    known: &S::Found,
     high: Option<HighPart>,
 ) -> Option<i64>
+    requires within { _index < length _relocations.now / 24 }
+    requires is { relocation.now ≡ relocation_in _relocations.now _index }
     requires row { IsRow architecture relocation.now.r_type (Some row.now) }
+    requires known { S.knowledge _symbols _index relocation.now
+        ≡ Some (S.Found.known known.now) }
     requires high { IfSome high
-        (IsHighValue architecture addresses.now _relocations.now symbols.now) }
+        (IsHighValue architecture addresses.now _relocations.now (S.knowledge _symbols)) }
     ensures { IfSome result (λ v. needs_upper architecture relocation.now v ≡ false
-        → IsQuickValue architecture addresses.now _relocations.now symbols.now relocation.now
-        row.now v) }
+        → IsQuickValue architecture addresses.now _relocations.now (S.values _symbols)
+        (S.knowledge _symbols) _index row.now v) }
 {
-    if lacks_stub(architecture, symbols, relocation) || is_of_got(architecture, relocation.r_type) {
+    if known.is_left_out()
+        || lacks_stub(architecture, relocation, Some(*known))
+        || is_of_got(architecture, relocation.r_type)
+    {
         return None;
     }
     let way = row.facts().way;
     if has_plain_way(architecture, addresses, way) {
-        return plain_value(architecture, addresses, symbols, row, relocation);
+        return plain_value(architecture, addresses, row, relocation, known);
     }
     match way {
         Way::Low if matches!(architecture, Architecture::RiscV) => {
-            value_of_high(addresses, symbols, relocation, high)
+            let label = known.symbol().address;
+            value_at(label.wrapping_sub(addresses.section), high)
         }
         _ => None,
     }
 }
 
-/// The same, of a value that its own instructions reach.
+/// The value of a relocation, if it is found with few tests, and its own instructions reach it.
 #[inline(always)]
-pub(crate) fn quick_value(
+pub(crate) fn quick_value<S: Symbols>(
     architecture: Architecture,
     addresses: &Addresses,
     relocations: &[u8],
-    symbols: &[Symbol],
+    symbols: S,
     row: &Row,
+    index: usize,
     relocation: &Rela,
     high: Option<HighPart>,
 ) -> Option<i64>
+    requires within { index < length relocations.now / 24 }
+    requires is { relocation.now ≡ relocation_in relocations.now index }
     requires row { IsRow architecture relocation.now.r_type (Some row.now) }
     requires high { IfSome high
-        (IsHighValue architecture addresses.now relocations.now symbols.now) }
-    ensures { IfSome result (IsQuickValue architecture addresses.now relocations.now symbols.now
-        relocation.now row.now) }
+        (IsHighValue architecture addresses.now relocations.now (S.knowledge symbols)) }
+    ensures { IfSome result (IsQuickValue architecture addresses.now relocations.now
+        (S.values symbols) (S.knowledge symbols) index row.now) }
 {
+    let Some(known) = symbols.find(index, relocation) else {
+        return None;
+    };
     let Some(value) = found_value(
         architecture,
         addresses,
         relocations,
         symbols,
         row,
+        index,
         relocation,
+        &known,
         high,
     ) else {
         return None;

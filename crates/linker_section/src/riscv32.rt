@@ -15,6 +15,7 @@ ghost use Rattle.linker_section.specs.RiscV32.{AreWrapped};
 
 use crate::facts::{Addresses, Symbol};
 use crate::relocations::{RELA_LEN, Rela, relocation_in, relocations_len, set_relocation, u32_at};
+use crate::symbols::{ByIndex, Symbols};
 use crate::values::{names_label, own_value};
 use linker_base::utils::u32_from_slice;
 use linker_elf::elf::{Architecture, Row};
@@ -135,7 +136,8 @@ fn wrap_addend(addresses: &Addresses, symbols: &[Symbol], relocation: &Rela) -> 
     let Some(least) = held_from(&row) else {
         return *relocation;
     };
-    match own_value(Architecture::RiscV, addresses, symbols, &row, relocation) {
+    let known = ByIndex { symbols }.find(0, relocation);
+    match own_value(Architecture::RiscV, addresses, &row, relocation, known) {
         Ok(Some(value)) => with_value(relocation, value, wrapped(least, value)),
         _ => *relocation,
     }

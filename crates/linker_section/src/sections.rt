@@ -1,17 +1,18 @@
 //! The values of a section's relocations, written.
 
 ghost use Rattle.std.specs.Prelude.{◌≡◌, ◌≤◌, ◌<◌, ◌+◌, ◌/◌, ℕ, List, length, drop, IfErr, IfSome};
-ghost use Rattle.std.specs.Prelude.{IfNone, OnOk, IsOk, take, true, ◌↔◌, Some, None};
+ghost use Rattle.std.specs.Prelude.{IfNone, OnOk, IsOk, take, true, ◌↔◌, Some, None, option_map};
 ghost use Rattle.linker_section.specs.Conditions.{HasLength, HoldsOffset};
 ghost use Rattle.linker_section.specs.Fields.{uleb_len, begins_pair, IsField, field_len};
 ghost use Rattle.linker_section.specs.Relocations.{relocation_in};
-ghost use Rattle.linker_section.specs.Sections.{IsWrittenAt, IsRowValue, IsNumberOfPair};
+ghost use Rattle.linker_section.specs.Sections.{IsWrittenAt, IsNumberOfPair};
 ghost use Rattle.linker_section.specs.Sections.{first_role};
 ghost use Rattle.linker_section.specs.Sections.{IsNumberWrittenAt, AreAllRelocated};
 ghost use Rattle.linker_section.specs.Sections.{IsFirstRejected, BeginsPair};
 ghost use Rattle.linker_section.specs.Sections.{AreAllRelocatedBy, IsFirstRejectedBy, IsValued};
 ghost use Rattle.linker_section.specs.Inner.Steps.{IsLimit, IsStopped, IsSecond, IsInOrder};
-ghost use Rattle.linker_section.specs.Inner.Steps.{IsAlone, IsLeftOut};
+ghost use Rattle.linker_section.specs.Inner.Steps.{IsAlone, IsLeftOut, IsOutcome};
+ghost use Rattle.linker_section.specs.Known.{is_left_out, is_skipped, left_out};
 ghost use Rattle.linker_section.specs.Inner.Steps.{clear_in, field_of_row};
 ghost use Rattle.linker_section.specs.Inner.Saved.{Restores};
 ghost use Rattle.linker_section.specs.Inner.Steps.{IsPairOutcome, Reached, IsStep};
@@ -27,7 +28,7 @@ use crate::fields::{Field, begins_pair, ends_pair, is_of_pair, uleb_len};
 use crate::order::{field_in, first_overlap};
 use crate::relocations::{Rela, is_ascending, relocation_in, relocations_len};
 use crate::saved::{restore, word_at};
-use crate::symbols::{ByIndex, Symbols};
+use crate::symbols::{ByIndex, Known, Symbols};
 use crate::values::{ValueError, value_of};
 use linker_base::utils::{self, Uleb128Error};
 use linker_elf::elf::architecture::pair_number;
@@ -93,20 +94,55 @@ fn write_at(row: &Row, value: i64, offset: u64, section: &mut [u8]) -> Result<()
     write_held_at(row, value, offset, section)
 }
 
-/// The row and the value of a relocation among those of its section.
-pub(crate) fn row_value(
+/// Whether the value of a relocation isn't written, by what is known of its symbol.
+#[inline(always)]
+fn is_known_left_out<K: Known>(known: Option<K>) -> bool
+    ensures { result ≡ is_left_out (option_map K.known known) }
+{
+    match known {
+        Some(known) => known.is_left_out(),
+        None => false,
+    }
+}
+
+/// Whether the value of the relocation with an index isn't written.
+#[inline(always)]
+fn is_left_out<S: Symbols>(symbols: S, relocations: &[u8], index: usize) -> bool
+    requires { index < length relocations.now / 24 }
+    ensures { result ≡ left_out (S.knowledge symbols) relocations.now index }
+{
+    is_known_left_out(symbols.find(index, &relocation_in(relocations, index)))
+}
+
+/// Whether the value of a relocation with a row isn't written.
+#[inline(always)]
+fn is_skipped<K: Known>(row: &Row, known: Option<K>) -> bool
+    ensures { result ≡ is_skipped (Some row.now) (option_map K.known known) }
+{
+    is_known_left_out(known) && !is_of_pair(&row.info())
+}
+
+/// The row and the value of the relocation with an index. None of one without a value, and of one
+/// that is left out, except for those of a pair at a ULEB128 number.
+fn row_value<S: Symbols>(
     architecture: Architecture,
     addresses: &Addresses,
     relocations: &[u8],
-    symbols: &[Symbol],
+    symbols: S,
+    index: usize,
     relocation: &Rela,
 ) -> Result<Option<(Row, i64)>, ValueError>
-    ensures { IsRowValue architecture addresses.now relocations.now symbols.now relocation.now
-        result }
+    requires is { relocation.now ≡ relocation_in relocations.now index }
+    ensures { IsOutcome architecture addresses.now relocations.now (S.values symbols)
+        (left_out (S.knowledge symbols) relocations.now) index result }
 {
     let Some(row) = architecture.row(relocation.r_type) else {
         return Err(ValueError::UnknownType);
     };
+    let known = symbols.find(index, relocation);
+    if is_skipped(&row, known) {
+        return Ok(None);
+    }
     match value_of(
         architecture,
         addresses,
@@ -114,9 +150,10 @@ pub(crate) fn row_value(
         symbols,
         &row,
         relocation,
+        known,
     ) {
         Ok(Some(value)) => {
-            if lacks_stub(architecture, symbols, relocation) {
+            if lacks_stub(architecture, relocation, known) {
                 Err(ValueError::NeedsStub)
             } else if !is_in_reach(architecture, relocations, relocation, value) {
                 Err(ValueError::OutOfReach)
@@ -303,10 +340,11 @@ fn relocate_pair<S: Symbols>(
     ensures { IsPairOutcome architecture addresses.now relocations.now (S.values symbols) index
         section.old section.new result }
 {
-    let (row, subtracted) = match symbols.row_value(
+    let (row, subtracted) = match row_value(
         architecture,
         addresses,
         relocations,
+        symbols,
         index + 1,
         second,
     ) {
@@ -411,16 +449,17 @@ pub(crate) fn write_one<S: Symbols>(
 {
     let relocation = relocation_in(relocations, index);
     memory[index] = word_at(section, relocation.offset);
-    let (row, value) = match symbols.row_value(
+    let (row, value) = match row_value(
         architecture,
         addresses,
         relocations,
+        symbols,
         index,
         &relocation,
     ) {
         Ok(Some(found)) => found,
         Ok(None) => {
-            if symbols.is_left_out(relocations, index) {
+            if is_left_out(symbols, relocations, index) {
                 return leave_out(architecture, relocations, limit, index, last, section);
             }
             let index = index + 1;

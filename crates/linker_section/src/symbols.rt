@@ -1,76 +1,88 @@
-//! How the values of a section's relocations are found.
+//! What is known of the symbols that a section's relocations name, by a table or by a look-up.
 
-ghost use Rattle.std.specs.Prelude.{◌≡◌, ◌<◌, ◌/◌, ℕ, List, Bool, true, false, length, Some};
-ghost use Rattle.std.specs.Prelude.{IfSome};
-ghost use Rattle.linker_elf.specs.Architectures.{IsRow};
+ghost use Rattle.std.specs.Prelude.{◌≡◌, ℕ, List, Option, option_map};
 ghost use Rattle.linker_elf.specs.declared.elf.architecture.Architecture.{Architecture as machine};
-ghost use Rattle.linker_section.specs.Inner.Facts.{is_high};
-ghost use Rattle.linker_section.specs.Inner.Quick.{IsHighValue, IsQuickAt};
-ghost use Rattle.linker_section.specs.Inner.Steps.{IsOutcome};
-ghost use Rattle.linker_section.specs.Relocations.{relocation_in};
-ghost use Rattle.linker_section.specs.Sections.{Values, by_index};
+ghost use Rattle.linker_section.specs.Inner.Facts.{SaysNeeds};
+ghost use Rattle.linker_section.specs.Inner.Tables.{by_index_is, known_in, known_symbol};
+ghost use Rattle.linker_section.specs.Known.{Known as about, Knowledge, by_known};
+ghost use Rattle.linker_section.specs.Needed.{entry_of};
+ghost use Rattle.linker_section.specs.Sections.{Outcome, Values, by_index};
 ghost use Rattle.linker_section.specs.declared.facts.Addresses.{Addresses as output};
-ghost use Rattle.linker_section.specs.declared.quick.HighPart.{HighPart as part};
 
 use crate::facts::{Addresses, Symbol};
-use crate::quick::{HighPart, quick_value};
+use crate::quick::required_address;
 use crate::relocations::Rela;
-use crate::sections::row_value;
-use crate::values::ValueError;
-use linker_elf::elf::{Architecture, Row};
+use linker_elf::elf::Row;
 
-/// What finds the value of each of a section's relocations.
+/// What is known of the symbol of a relocation.
+pub(crate) trait Known: Copy {
+    /// The same in a contract.
+    ghost known: { Self → about };
+
+    /// The symbol. Its entries aren't read.
+    fn symbol(&self) -> &Symbol
+        ensures { result.now ≡ (known self.now).symbol };
+
+    /// The address of the entry that a relocation of a row requires; 0 where it requires none, and
+    /// none where there isn't one.
+    fn entry(&self, addresses: &Addresses, row: &Row, relocation: &Rela) -> Option<u64>
+        requires { SaysNeeds row.now }
+        ensures { result ≡ (known self.now).entry addresses.now
+            (entry_of row.now relocation.now.addend (known self.now).symbol.is_thread_local) };
+
+    /// Whether the value isn't written.
+    fn is_left_out(&self) -> bool
+        ensures { result ≡ (known self.now).is_left_out };
+}
+
+/// What finds the symbol of each of a section's relocations.
 pub(crate) trait Symbols: Copy {
+    /// What is known of a relocation's symbol.
+    type Found: Known;
+
+    /// What is known of the symbol of the relocation with an index, in a contract.
+    ghost knowledge: { Self → Knowledge };
+
     /// The row and the value of the relocation with an index, or none, or why there is none, in a
     /// contract.
     ghost values: { Self → Values };
 
-    /// Whether the value of the relocation with an index isn't written, in a contract.
-    ghost left_out: { Self → List ℕ → ℕ → Bool };
+    /// What is known of the symbol of the relocation with an index. None if there is no such
+    /// symbol.
+    fn find(self, index: usize, relocation: &Rela) -> Option<Self::Found>
+        ensures { option_map Self.Found.known result ≡ knowledge self index relocation.now };
 
-    /// That a high part of RISC-V has a value, which low parts take, in a contract.
-    ghost has_high: { Self → machine → output → List ℕ → part → Type 0 };
+    // the values are those by what is known
+    ghost are_values: { (symbols : Self) (architecture : machine) (addresses : output)
+        (bytes : List ℕ) (i : ℕ) (outcome : Outcome)
+        → by_known (knowledge symbols) architecture addresses bytes i outcome
+        → values symbols architecture addresses bytes i outcome };
+}
 
-    /// Whether the value of the relocation with an index isn't written.
-    fn is_left_out(self, relocations: &[u8], index: usize) -> bool
-        requires { index < length relocations.now / 24 }
-        ensures { result ≡ left_out self relocations.now index };
+/// A symbol of a table.
+#[derive(Clone, Copy)]
+pub(crate) struct Listed<'a> {
+    /// The symbol.
+    pub(crate) symbol: &'a Symbol,
+}
 
-    /// The row and the value of the relocation with an index. None of one without a value, and of
-    /// one that is left out, except for those of a pair at a ULEB128 number.
-    fn row_value(
-        self,
-        architecture: Architecture,
-        addresses: &Addresses,
-        relocations: &[u8],
-        index: usize,
-        relocation: &Rela,
-    ) -> Result<Option<(Row, i64)>, ValueError>
-        requires within { index < length relocations.now / 24 }
-        requires is { relocation.now ≡ relocation_in relocations.now index }
-        ensures { IsOutcome architecture addresses.now relocations.now (values self)
-            (left_out self relocations.now) index result };
+impl Known for Listed<'_> {
+    ghost known = { λ s. known_symbol s.symbol.now };
 
-    /// The value of a relocation, if it is found with few tests.
-    fn quick_value(
-        self,
-        architecture: Architecture,
-        addresses: &Addresses,
-        relocations: &[u8],
-        row: &Row,
-        index: usize,
-        relocation: &Rela,
-        high: Option<HighPart>,
-    ) -> Option<i64>
-        requires within { index < length relocations.now / 24 }
-        requires is { relocation.now ≡ relocation_in relocations.now index }
-        requires row { IsRow architecture relocation.now.r_type (Some row.now) }
-        requires high { IfSome high (has_high self architecture addresses.now relocations.now) }
-        ensures value { IfSome result (IsQuickAt architecture addresses.now relocations.now
-            (values self) index row.now) }
-        ensures high { IfSome result (λ v. is_high row.now ≡ true
-            → has_high self architecture addresses.now relocations.now
-            (record { offset = relocation.now.offset; value = v })) };
+    #[inline(always)]
+    fn symbol(&self) -> &Symbol {
+        self.symbol
+    }
+
+    #[inline(always)]
+    fn entry(&self, addresses: &Addresses, row: &Row, relocation: &Rela) -> Option<u64> {
+        required_address(addresses, self.symbol, row, relocation)
+    }
+
+    #[inline(always)]
+    fn is_left_out(&self) -> bool {
+        false
+    }
 }
 
 /// A table of symbols at the indexes that relocations name.
@@ -80,56 +92,20 @@ pub(crate) struct ByIndex<'a> {
     pub(crate) symbols: &'a [Symbol],
 }
 
-impl Symbols for ByIndex<'_> {
+impl<'a> Symbols for ByIndex<'a> {
+    type Found = Listed<'a>;
+
+    ghost knowledge = { λ s. known_in s.symbols.now };
+
     ghost values = { λ s. by_index s.symbols.now };
 
-    ghost left_out = { λ s bytes index. false };
-
-    ghost has_high = { λ s architecture addresses bytes. IsHighValue architecture addresses bytes
-        s.symbols.now };
-
     #[inline(always)]
-    fn is_left_out(self, _relocations: &[u8], _index: usize) -> bool {
-        false
+    fn find(self, _index: usize, relocation: &Rela) -> Option<Listed<'a>> {
+        match self.symbols.get(relocation.symbol as usize) {
+            Some(symbol) => Some(Listed { symbol }),
+            None => None,
+        }
     }
 
-    #[inline(always)]
-    fn row_value(
-        self,
-        architecture: Architecture,
-        addresses: &Addresses,
-        relocations: &[u8],
-        _index: usize,
-        relocation: &Rela,
-    ) -> Result<Option<(Row, i64)>, ValueError> {
-        row_value(
-            architecture,
-            addresses,
-            relocations,
-            self.symbols,
-            relocation,
-        )
-    }
-
-    #[inline(always)]
-    fn quick_value(
-        self,
-        architecture: Architecture,
-        addresses: &Addresses,
-        relocations: &[u8],
-        row: &Row,
-        _index: usize,
-        relocation: &Rela,
-        high: Option<HighPart>,
-    ) -> Option<i64> {
-        quick_value(
-            architecture,
-            addresses,
-            relocations,
-            self.symbols,
-            row,
-            relocation,
-            high,
-        )
-    }
+    ghost are_values = { λ s. by_index_is s.symbols.now };
 }

@@ -1,4 +1,4 @@
-use Rattle.linker_section.proofs.Imports.{AreWrittenBelow, IfSome, IsFront, drop, length, ◌*◌, ◌-◌, ◌/◌, ◌≡◌, ◌≤◌}
+use Rattle.linker_section.proofs.Imports.{AreWrittenBelow, IfSome, IsFront, IsHighValue, drop, length, ◌*◌, ◌-◌, ◌/◌, ◌≡◌, ◌≤◌}
 use Rattle.linker_section.proofs.ascending.write_ascending.Given as goal
 
 abbrev pub invariant-loop-entry : goal.invariant-loop-entry
@@ -10,7 +10,7 @@ invariant-loop-entry g l = record {
   rest : l.rest ≡ drop (l.index * 24) l.relocations;
   within : l.index ≤ length l.relocations / 24;
   following : l.step.index ≤ l.index;
-  high : IfSome l.high (g.S.Symbols.has_high l.symbols l.architecture l.addresses l.relocations);
+  high : IfSome l.high (IsHighValue l.architecture l.addresses l.relocations (g.S.Symbols.knowledge l.symbols));
 }
 
 abbrev pub decreases-loop-entry : goal.decreases-loop-entry

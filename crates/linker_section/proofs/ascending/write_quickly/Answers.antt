@@ -1,4 +1,4 @@
-use Rattle.linker_section.proofs.Imports.{FitsSigned, IfSome, IsRow, IsSavedAt, IsWrittenAt, ap, arith, cases_Bool, drop, from_le_bytes, get_or-drop, inl, inr, length, length_of, not, of_z, offset_at, refl, rules, shows_lengths, slice_index, subst, sym, to_z, to_z-of_z, w64, word_shows, ℕ, ◌+◌, ◌<◌, ◌^◌, ◌||◌, ◌∙◌, ◌≡◌}
+use Rattle.linker_section.proofs.Imports.{FitsSigned, IfSome, IsHighValue, IsRow, IsSavedAt, IsWrittenAt, ap, arith, cases_Bool, drop, from_le_bytes, get_or-drop, inl, inr, length, length_of, not, of_z, offset_at, refl, rules, shows_lengths, slice_index, subst, sym, to_z, to_z-of_z, w64, word_shows, ℕ, ◌+◌, ◌<◌, ◌^◌, ◌||◌, ◌∙◌, ◌≡◌}
 use Rattle.linker_section.proofs.RowFacts.{says_way}
 use Rattle.linker_section.proofs.Lengths.{unthreaded_holds, word_says}
 use Rattle.linker_section.proofs.Local.{one_local}
@@ -28,7 +28,7 @@ write_held_at-requires-clause-length g c inside long =
 
 pub write_held_at-requires-clause-offset : goal.write_held_at-requires-clause-offset
 write_held_at-requires-clause-offset g c inside long =
-    unthreaded_holds c.in-Some.row (to_z w64 (of_z w64 c.in-Some-quick_value.value)) (drop c.args.relocation.now.offset c.args.section.now) c.in-Some-quick_value.ensures.value.unthreaded
+    unthreaded_holds c.in-Some.row (to_z w64 (of_z w64 c.in-Some-quick_value.value)) (drop c.args.relocation.now.offset c.args.section.now) c.in-Some-quick_value.ensures.at.unthreaded
 
 pub overflow_add-result : goal.overflow_add-result
 overflow_add-result g c =
@@ -55,7 +55,7 @@ returns-clause-some g c =
     record {
       row = row;
       v = v;
-      value = c.in-Some-quick_value.ensures.value;
+      value = c.in-Some-quick_value.ensures.at;
       word = word;
       saved = subst (λ r. IsSavedAt r.offset section word) same c.in-Some-whole_word_at.ensures.some;
       kept_is = refl;
@@ -71,7 +71,7 @@ returns-clause-high g c =
     let a = c.args in
     let v = c.in-Some-quick_value.value in
     let fits : FitsSigned w64 v = search rules in
-    let Has = g.S.Symbols.has_high a.symbols a.architecture a.addresses.now a.relocations.now in
+    let Has = IsHighValue a.architecture a.addresses.now a.relocations.now (g.S.Symbols.knowledge a.symbols) in
     elim c.high_after-high.ensures [
       | inl kept ↦ subst (λ x. IfSome x Has) (sym kept) c.requires.high
       | inr new ↦

@@ -1,4 +1,4 @@
-use Rattle.linker_section.proofs.Imports.{AreWrittenBelow, IfSome, List, length, ℕ, ◌-◌, ◌/◌, ◌≡◌, ◌≤◌}
+use Rattle.linker_section.proofs.Imports.{AreWrittenBelow, IfSome, IsHighValue, List, length, ℕ, ◌-◌, ◌/◌, ◌≡◌, ◌≤◌}
 use Rattle.linker_section.proofs.ascending.write_second_run.Given as goal
 
 abbrev pub invariant-loop-index : goal.invariant-loop-index
@@ -8,7 +8,7 @@ invariant-loop-index g l = record {
       → AreWrittenBelow l.architecture l.addresses l.relocations (g.S.Symbols.values l.symbols) before l.section l.memory l.index;
   room : length l.memory ≡ length l.fn.memory;
   within : l.index ≤ length l.relocations / 24;
-  high : IfSome l.high (g.S.Symbols.has_high l.symbols l.architecture l.addresses l.relocations);
+  high : IfSome l.high (IsHighValue l.architecture l.addresses l.relocations (g.S.Symbols.knowledge l.symbols));
 }
 
 abbrev pub decreases-loop-index : goal.decreases-loop-index

@@ -1,4 +1,4 @@
-use Rattle.linker_section.proofs.Imports.{Addresses, Architecture, BeginsPair, FitsSigned, IsNumberOfPair, IsNumberWrittenAt, IsOutcome, IsPair, IsUlebCause, IsUlebWritten, IsValued, List, Ok, RowInfo, Values, ap, begins_pair, drop, ends_pair, inr, length, of_z, or_right, refl, relocation_in, rules, subst, sym, take, to_z, to_z-of_z, true, true≢false, w64, ℕ, ℤ, ◌++◌, ◌+◌, ◌∙◌, ◌≡◌, ◌≤◌}
+use Rattle.linker_section.proofs.Imports.{Addresses, Architecture, BeginsPair, FitsSigned, IsNumberOfPair, IsNumberWrittenAt, IsOutcome, IsPair, IsUlebCause, IsUlebWritten, IsValued, List, Ok, RowInfo, Values, ap, begins_pair, drop, ends_pair, inr, left_out, length, of_z, or_right, refl, relocation_in, rules, subst, sym, take, to_z, to_z-of_z, true, true≢false, w64, ℕ, ℤ, ◌++◌, ◌+◌, ◌∙◌, ◌≡◌, ◌≤◌}
 use Rattle.linker_section.proofs.Rows.{one_info}
 use Rattle.linker_section.proofs.sections.relocate_pair.Goals as goal
 
@@ -6,7 +6,7 @@ pub returns-in-Ok-None : goal.returns-in-Ok-None
 returns-in-Ok-None g c =
     let a = c.args in
     let pair = c.requires.pair in
-    let none = subst (IsOutcome a.architecture a.addresses.now a.relocations.now (g.S.Symbols.values a.symbols) (g.S.Symbols.left_out a.symbols a.relocations.now) (a.index + 1)) (c.in-Ok-None.is ∙ ap Ok c.in-Ok-None.field-0-is) c.row_value.ensures in
+    let none = subst (IsOutcome a.architecture a.addresses.now a.relocations.now (g.S.Symbols.values a.symbols) (left_out (g.S.Symbols.knowledge a.symbols) a.relocations.now) (a.index + 1)) (c.in-Ok-None.is ∙ ap Ok c.in-Ok-None.field-0-is) c.row_value.ensures in
     absurd (true≢false (sym (or_right (begins_pair pair.other.size pair.other.kind) (ends_pair pair.other.size pair.other.kind) pair.ends)
     ∙ none.alone pair.other pair.is_other))
 
@@ -40,7 +40,7 @@ returns-in-Ok g c =
     let found = c.in-Ok-Some.found in
     let written = subst (IsNumberWrittenAt n a.second.now.offset a.section.now c.write_number_at.new.section) c.in-Ok.is c.write_number_at.ensures in
     let offset : a.second.now.offset ≡ (relocation_in a.relocations.now a.index).offset = ap (λ r. r.offset) c.requires.second ∙ c.requires.pair.same_offset in
-    let has_other = subst (IsOutcome a.architecture a.addresses.now a.relocations.now (g.S.Symbols.values a.symbols) (g.S.Symbols.left_out a.symbols a.relocations.now) (a.index + 1)) (c.in-Ok-Some.is ∙ ap Ok c.in-Ok-Some.field-0-is) c.row_value.ensures in
+    let has_other = subst (IsOutcome a.architecture a.addresses.now a.relocations.now (g.S.Symbols.values a.symbols) (left_out (g.S.Symbols.knowledge a.symbols) a.relocations.now) (a.index + 1)) (c.in-Ok-Some.is ∙ ap Ok c.in-Ok-Some.field-0-is) c.row_value.ensures in
     let kind : IsNumberOfPair found.0.kind (drop a.second.now.offset a.section.now) (to_z w64 (of_z w64 a.value)) (to_z w64 (of_z w64 (found.1))) n =
     subst (λ k. IsNumberOfPair k (drop a.second.now.offset a.section.now) (to_z w64 (of_z w64 a.value)) (to_z w64 (of_z w64 (found.1))) n) c.kind.ensures c.number_of_pair-number.ensures in
     let fits : FitsSigned w64 (found.1) = search rules in
@@ -64,7 +64,7 @@ returns-in-Err-write_number_at g c =
     let why = c.in-Err-write_number_at.error in
     let written = subst (IsNumberWrittenAt n a.second.now.offset a.section.now c.write_number_at.new.section) c.in-Err-write_number_at.is c.write_number_at.ensures in
     let offset : a.second.now.offset ≡ (relocation_in a.relocations.now a.index).offset = ap (λ r. r.offset) c.requires.second ∙ c.requires.pair.same_offset in
-    let has_other = subst (IsOutcome a.architecture a.addresses.now a.relocations.now (g.S.Symbols.values a.symbols) (g.S.Symbols.left_out a.symbols a.relocations.now) (a.index + 1)) (c.in-Ok-Some.is ∙ ap Ok c.in-Ok-Some.field-0-is) c.row_value.ensures in
+    let has_other = subst (IsOutcome a.architecture a.addresses.now a.relocations.now (g.S.Symbols.values a.symbols) (left_out (g.S.Symbols.knowledge a.symbols) a.relocations.now) (a.index + 1)) (c.in-Ok-Some.is ∙ ap Ok c.in-Ok-Some.field-0-is) c.row_value.ensures in
     let kind : IsNumberOfPair found.0.kind (drop a.second.now.offset a.section.now) (to_z w64 (of_z w64 a.value)) (to_z w64 (of_z w64 (found.1))) n =
     subst (λ k. IsNumberOfPair k (drop a.second.now.offset a.section.now) (to_z w64 (of_z w64 a.value)) (to_z w64 (of_z w64 (found.1))) n) c.kind.ensures c.number_of_pair-number.ensures in
     let fits : FitsSigned w64 (found.1) = search rules in

@@ -1,4 +1,4 @@
-use Rattle.linker_section.proofs.Imports.{AreRelocated, AreWrittenBelow, BeginsPair, Err, FitsSigned, HasLength, IfNone, IfSome, IsFirstRejectedBy, IsInOrder, IsInside, IsOutcome, IsPairOutcome, IsSavedAt, IsStopped, IsUnvalued, IsValued, IsWrittenAt, List, Ok, OtherLength, Overlaps, Reached, Value, Write, ap, arith, clear_in, field_of_row, has_value, inl, inr, length, next_field, of_z, offset_at, refl, relocation_in, rules, set, subst, sum_64, sym, to_z, to_z-of_z, true, true≢false, w64, ℕ, ◌+◌, ◌<◌, ◌^◌, ◌∙◌, ◌≡◌, ◌≤◌}
+use Rattle.linker_section.proofs.Imports.{AreRelocated, AreWrittenBelow, BeginsPair, Err, FitsSigned, HasLength, IfNone, IfSome, IsFirstRejectedBy, IsInOrder, IsInside, IsOutcome, IsPairOutcome, IsSavedAt, IsStopped, IsUnvalued, IsValued, IsWrittenAt, List, Ok, OtherLength, Overlaps, Reached, Value, Write, ap, arith, clear_in, field_of_row, has_value, inl, inr, left_out, length, next_field, of_z, offset_at, refl, relocation_in, rules, set, subst, sum_64, sym, to_z, to_z-of_z, true, true≢false, w64, ℕ, ◌+◌, ◌<◌, ◌^◌, ◌∙◌, ◌≡◌, ◌≤◌}
 use Rattle.linker_section.proofs.Lengths.{length_of, other_length}
 use Rattle.linker_section.proofs.Local.{pair_local}
 use Rattle.linker_section.proofs.Stepping.{left_step, mark_order, no_field, mark_restores, one_order, one_restores, pair_order, pair_restores, apart_now, apart_next, overlap_now, stop, stop_at, set_above}
@@ -19,7 +19,7 @@ known g c =
     let bytes = a.relocations.now in
     let row = c.in-Ok-Some.found.0 in
     let has : IsValued a.architecture a.addresses.now bytes (g.S.Symbols.values a.symbols) a.index row c.in-Ok-Some.found.1 =
-    subst (IsOutcome a.architecture a.addresses.now bytes (g.S.Symbols.values a.symbols) (g.S.Symbols.left_out a.symbols bytes) a.index) (c.in-Ok-Some.is ∙ ap Ok c.in-Ok-Some.field-0-is) c.row_value.ensures in
+    subst (IsOutcome a.architecture a.addresses.now bytes (g.S.Symbols.values a.symbols) (left_out (g.S.Symbols.knowledge a.symbols) bytes) a.index) (c.in-Ok-Some.is ∙ ap Ok c.in-Ok-Some.field-0-is) c.row_value.ensures in
     record {
       has = has;
       some = has.valued;
@@ -33,10 +33,10 @@ clear g c =
     ∙ (sym c.is_clear.ensures ∙ c.if-not-is_clear.false)
 
 -- nothing is written of a relocation without a value
-unvalued : (g : Over) (c : In-Ok-None g) → IsUnvalued c.args.architecture c.args.addresses.now c.args.relocations.now (g.S.Symbols.values c.args.symbols) (g.S.Symbols.left_out c.args.symbols c.args.relocations.now) c.args.index
+unvalued : (g : Over) (c : In-Ok-None g) → IsUnvalued c.args.architecture c.args.addresses.now c.args.relocations.now (g.S.Symbols.values c.args.symbols) (left_out (g.S.Symbols.knowledge c.args.symbols) c.args.relocations.now) c.args.index
 unvalued g c =
     let a = c.args in
-    subst (IsOutcome a.architecture a.addresses.now a.relocations.now (g.S.Symbols.values a.symbols) (g.S.Symbols.left_out a.symbols a.relocations.now) a.index) (c.in-Ok-None.is ∙ ap Ok c.in-Ok-None.field-0-is) c.row_value.ensures
+    subst (IsOutcome a.architecture a.addresses.now a.relocations.now (g.S.Symbols.values a.symbols) (left_out (g.S.Symbols.knowledge a.symbols) a.relocations.now) a.index) (c.in-Ok-None.is ∙ ap Ok c.in-Ok-None.field-0-is) c.row_value.ensures
 
 record IsPassed (g : Over) (c : In-Ok-None g) (before : List ℕ) : Type 0 where
   below : AreWrittenBelow c.args.architecture c.args.addresses.now c.args.relocations.now (g.S.Symbols.values c.args.symbols) before c.args.section.now (set c.args.memory.now c.args.index c.word_at.result) (c.args.index + 1)
@@ -129,7 +129,7 @@ returns-in-Err-clause-step g c before inv =
     let a = c.args in
     let bytes = a.relocations.now in
     let why = c.in-Err.error in
-    let value = subst (IsOutcome a.architecture a.addresses.now bytes (g.S.Symbols.values a.symbols) (g.S.Symbols.left_out a.symbols bytes) a.index) c.in-Err.is c.row_value.ensures in
+    let value = subst (IsOutcome a.architecture a.addresses.now bytes (g.S.Symbols.values a.symbols) (left_out (g.S.Symbols.knowledge a.symbols) bytes) a.index) c.in-Err.is c.row_value.ensures in
     stop_at a.limit a.architecture a.addresses.now bytes before a.section.now a.memory.now (g.S.Symbols.values a.symbols) a.index c.word_at.result a.last (Value why) inv c.requires.within value
 
 pub returns-then-not-is_clear-clause-step : goal.returns-then-not-is_clear-clause-step

@@ -1,5 +1,5 @@
 use Rattle.linker_section.proofs.Imports.{IsNoHighPart, relocation_in, ℕ, ◌<◌}
-use Rattle.linker_section.proofs.values.indexed_high_part.Given as goal
+use Rattle.linker_section.proofs.values.high_part.Given as goal
 
 abbrev pub invariant-loop-index : goal.invariant-loop-index
 invariant-loop-index l =

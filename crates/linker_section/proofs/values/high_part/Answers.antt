@@ -1,5 +1,5 @@
 use Rattle.linker_section.proofs.Imports.{IfNone, IsNoHighPart, below_more, relocation_in, subst}
-use Rattle.linker_section.proofs.values.indexed_high_part.Goals as goal
+use Rattle.linker_section.proofs.values.high_part.Goals as goal
 
 pub loop-index-preserved : goal.loop-index-preserved
 loop-index-preserved c k below =
