@@ -124,7 +124,7 @@ fn is_skipped<K: Known>(row: &Row, known: Option<K>) -> bool
 
 /// The row and the value of the relocation with an index. None of one without a value, and of one
 /// that is left out, except for those of a pair at a ULEB128 number.
-fn row_value<S: Symbols>(
+pub(crate) fn row_value<S: Symbols>(
     architecture: Architecture,
     addresses: &Addresses,
     relocations: &[u8],
