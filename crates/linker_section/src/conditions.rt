@@ -56,7 +56,7 @@ pub(crate) fn lacks_stub<K: Known>(
         return false;
     }
     match known {
-        Some(known) => changes_toc(known.symbol()),
+        Some(known) => changes_toc(&known.symbol()),
         None => false,
     }
 }

@@ -88,46 +88,49 @@ fn own_address(architecture: Architecture, row: &Row, symbol: &Symbol) -> u64
 
 /// `target_of`, where a symbol has a stub or may be undefined. By itself, since most have none.
 #[inline(never)]
-fn other_target(
+fn other_target<K: Known>(
     architecture: Architecture,
     addresses: &Addresses,
     row: &Row,
-    symbol: &Symbol,
+    known: &K,
     place: u64,
 ) -> u64
     requires { SaysNeeds row.now }
-    ensures { result ≡ target_of architecture addresses.now row.now symbol.now place }
+    ensures { result ≡ target_of architecture addresses.now row.now (K.known known.now).symbol
+        place }
 {
-    target_of(architecture, addresses, row, symbol, place)
+    target_of(architecture, addresses, row, &known.symbol(), place)
 }
 
 /// The same of any symbol.
 #[inline(always)]
-fn quick_target(
+fn quick_target<K: Known>(
     architecture: Architecture,
     addresses: &Addresses,
     row: &Row,
-    symbol: &Symbol,
+    known: &K,
     place: u64,
 ) -> u64
     requires needs { SaysNeeds row.now }
     requires branch { SaysBranch architecture row.now }
-    ensures { result ≡ target_of architecture addresses.now row.now symbol.now place }
+    ensures { result ≡ target_of architecture addresses.now row.now (K.known known.now).symbol
+        place }
 {
+    let symbol = known.symbol();
     if symbol.stub != 0 || symbol.is_undefined_weak {
-        other_target(architecture, addresses, row, symbol, place)
+        other_target(architecture, addresses, row, known, place)
     } else {
-        own_address(architecture, row, symbol)
+        own_address(architecture, row, &symbol)
     }
 }
 
 /// The operands of a plain relocation's formula, with the address of the entry that it requires.
 #[inline(always)]
-fn plain_operands(
+fn plain_operands<K: Known>(
     architecture: Architecture,
     addresses: &Addresses,
     row: &Row,
-    symbol: &Symbol,
+    known: &K,
     relocation: &Rela,
     entry: u64,
 ) -> Operands
@@ -135,11 +138,11 @@ fn plain_operands(
     requires way { SaysWay architecture row.now }
     requires plain { is_plain row.now ≡ true }
     requires symbol { is_of_got architecture relocation.now.r_type ≡ false }
-    ensures { result
-        ≡ operands_with architecture addresses.now row.now symbol.now relocation.now entry }
+    ensures { result ≡ operands_with architecture addresses.now row.now
+        (K.known known.now).symbol relocation.now entry }
 {
     let place = addresses.section.wrapping_add(relocation.offset);
-    let target = quick_target(architecture, addresses, row, symbol, place);
+    let target = quick_target(architecture, addresses, row, known, place);
     Operands {
         symbol: target,
         addend: relocation.addend,
@@ -147,7 +150,7 @@ fn plain_operands(
         got_entry: entry,
         got_base: addresses.got_base,
         plt_entry: target,
-        symbol_size: symbol.size,
+        symbol_size: known.symbol().size,
         tls_base: addresses.module_origin,
         has_got_entry: true,
         has_plt_entry: true,
@@ -174,8 +177,7 @@ fn plain_value<K: Known>(
     let Some(entry) = known.entry(addresses, row, relocation) else {
         return None;
     };
-    let symbol = known.symbol();
-    let operands = plain_operands(architecture, addresses, row, symbol, relocation, entry);
+    let operands = plain_operands(architecture, addresses, row, known, relocation, entry);
     row.formula_value(&operands)
 }
 

@@ -3,7 +3,7 @@
 
 ghost use Rattle.std.specs.Prelude.{◌≡◌, ◌≤◌, ◌/◌, ℕ, Option, IfErr, OnOk};
 ghost use Rattle.std.specs.Prelude.{IsOk, ◌↔◌, length};
-ghost use Rattle.linker_section.specs.Resolved.{by_lookup, by_relocation, entry_at, known_by};
+ghost use Rattle.linker_section.specs.Resolved.{by_lookup, by_relocation, known_by, known_of};
 ghost use Rattle.linker_section.specs.Resolved.{symbol_of};
 ghost use Rattle.linker_section.specs.Sections.{AreAllRelocatedBy, IsFirstRejectedBy};
 ghost use Rattle.linker_section.specs.WrittenFields.{AreWrittenBy, CanBeWrittenBy, IsFirstFaultBy};
@@ -94,32 +94,17 @@ fn symbol_of(resolved: &Resolved) -> Symbol
     }
 }
 
-/// What a look-up found of a symbol.
-#[derive(Clone, Copy)]
-pub(crate) struct FoundSymbol {
-    /// The symbol, whose entries aren't read.
-    symbol: Symbol,
-    /// The address of the entry that the relocation requires; 0 if there is none.
-    entry: u64,
-    /// Whether the value isn't written.
-    is_left_out: bool,
-}
-
-impl Known for FoundSymbol {
-    ghost known = { λ s. record {
-      symbol = s.symbol;
-      entry = λ addresses. entry_at s.entry;
-      is_left_out = s.is_left_out;
-    } };
+impl Known for Resolved {
+    ghost known = { known_of };
 
     #[inline(always)]
-    fn symbol(&self) -> &Symbol {
-        &self.symbol
+    fn symbol(&self) -> Symbol {
+        symbol_of(self)
     }
 
     #[inline(always)]
     fn entry(&self, _addresses: &Addresses, row: &Row, relocation: &Rela) -> Option<u64> {
-        match required(row, relocation, &self.symbol) {
+        match required(row, relocation, &self.symbol()) {
             None => Some(0),
             Some(_) => {
                 if self.entry == 0 {
@@ -145,22 +130,15 @@ pub(crate) struct ByLookup<L> {
 }
 
 impl<L: Lookup> Symbols for ByLookup<L> {
-    type Found = FoundSymbol;
+    type Found = Resolved;
 
     ghost knowledge = { λ s. known_by (L.resolved s.lookup) };
 
     ghost values = { λ s. by_lookup (L.resolved s.lookup) };
 
     #[inline(always)]
-    fn find(self, index: usize, relocation: &Rela) -> Option<FoundSymbol> {
-        match self.lookup.resolved(index, relocation) {
-            Some(resolved) => Some(FoundSymbol {
-                symbol: symbol_of(&resolved),
-                entry: resolved.entry,
-                is_left_out: resolved.is_left_out,
-            }),
-            None => None,
-        }
+    fn find(self, index: usize, relocation: &Rela) -> Option<Resolved> {
+        self.lookup.resolved(index, relocation)
     }
 
     ghost are_values = { λ s architecture addresses bytes i outcome is. is };

@@ -20,8 +20,8 @@ pub(crate) trait Known: Copy {
     ghost known: { Self → about };
 
     /// The symbol. Its entries aren't read.
-    fn symbol(&self) -> &Symbol
-        ensures { result.now ≡ (known self.now).symbol };
+    fn symbol(&self) -> Symbol
+        ensures { result ≡ (known self.now).symbol };
 
     /// The address of the entry that a relocation of a row requires; 0 where it requires none, and
     /// none where there isn't one.
@@ -70,8 +70,8 @@ impl Known for Listed<'_> {
     ghost known = { λ s. known_symbol s.symbol.now };
 
     #[inline(always)]
-    fn symbol(&self) -> &Symbol {
-        self.symbol
+    fn symbol(&self) -> Symbol {
+        *self.symbol
     }
 
     #[inline(always)]

@@ -296,7 +296,7 @@ fn operands_of<K: Known>(
     match known.entry(addresses, row, relocation) {
         Some(entry) => {
             let symbol = known.symbol();
-            Ok(operands_with(architecture, addresses, row, symbol, relocation, entry))
+            Ok(operands_with(architecture, addresses, row, &symbol, relocation, entry))
         }
         None => Err(ValueError::NoEntry),
     }
@@ -329,10 +329,10 @@ pub(crate) fn own_value<K: Known>(
     if !has_value(row.kind()) {
         return Ok(None);
     }
-    let Some(known) = known else {
+    let Some(known) = &known else {
         return Err(ValueError::NoSymbol);
     };
-    match operands_of(architecture, addresses, row, relocation, &known) {
+    match operands_of(architecture, addresses, row, relocation, known) {
         Ok(operands) => {
             let is_undefined = known.symbol().is_undefined_weak;
             if row.kind().is_offset() && !addresses.has_tls && !is_undefined {

@@ -1,15 +1,17 @@
-use Rattle.linker_section.proofs.Imports.{arith, eqb-true, false, not-false, sym, ◌∙◌, ◌≡◌}
+use Rattle.linker_section.proofs.Imports.{arith, eqb-true, false, not-false, subst, sym, target_of, ◌∙◌, ◌≡◌}
 use Rattle.linker_section.proofs.QuickValues.{own_target}
 use Rattle.linker_section.proofs.quick.quick_target.Goals.{then-symbol-ne0, else-symbol-ne0}
 use Rattle.linker_section.proofs.quick.quick_target.Goals as goal
 
 pub returns-else-symbol : goal.returns-else-symbol
-returns-else-symbol c =
+returns-else-symbol g c =
     let a = c.args in
-    elim c.if-symbol-ne0.branch [
+    let symbol = c.symbol.result in
+    subst (λ s. c.own_address.result ≡ target_of a.architecture a.addresses.now a.row.now s a.place) c.symbol.ensures
+    (elim c.if-symbol-ne0.branch [
       | then-symbol-ne0 w ↦
-          absurd (omega (arith, eqb-true a.symbol.now.stub 0 (not-false _ (sym w.value-is ∙ c.if-symbol.false))))
+          absurd (omega (arith, eqb-true symbol.stub 0 (not-false _ (sym w.value-is ∙ c.if-symbol.false))))
       | else-symbol-ne0 w ↦
-          let none : a.symbol.now.stub ≡ 0 = omega arith in
-          c.own_address.ensures ∙ sym (own_target a.architecture a.addresses.now a.row.now a.symbol.now a.place none (sym w.value-is ∙ c.if-symbol.false))
-    ]
+          let none : symbol.stub ≡ 0 = omega arith in
+          c.own_address.ensures ∙ sym (own_target a.architecture a.addresses.now a.row.now symbol a.place none (sym w.value-is ∙ c.if-symbol.false))
+    ])
