@@ -76,6 +76,7 @@ returns-clause-high g c =
       | inl kept ↦ subst (λ x. IfSome x Has) (sym kept) c.requires.high
       | inr new ↦
           subst (λ x. IfSome x Has) (sym (new.1))
-          (subst (λ x. Has (record { offset = a.relocation.now.offset; value = x })) (sym (to_z-of_z w64 v fits))
-          (c.in-Some-quick_value.ensures.high (new.0)))
+          (subst (λ r. Has (record { offset = r.offset; value = to_z w64 (of_z w64 v) })) (sym c.requires.is)
+          (subst (λ x. Has (record { offset = offset_at a.relocations.now a.index; value = x })) (sym (to_z-of_z w64 v fits))
+          (c.in-Some-quick_value.ensures.high (new.0))))
     ]
