@@ -5,14 +5,13 @@ use Rattle.std.proofs.Common.{ap, subst, sym, ◌∙◌}
 use Rattle.linker_section.specs.Imports.{Addresses, Architecture, IsRow, Rela, RowInfo, Symbol}
 use Rattle.linker_section.specs.Imports.{ValueError, is_offset}
 use Rattle.linker_section.specs.Conditions.{changes_toc_if, keeps_toc, lacks_stub}
-use Rattle.linker_section.specs.Known.{IsLabelResolved, IsLowResolved, IsResolvedBy, IsResolvedIn}
-use Rattle.linker_section.specs.Known.{IsResolvedUnless, IsUnresolved, Knowledge, Known, by_high}
+use Rattle.linker_section.specs.Known.{IsLabelResolved, IsResolvedBy, IsResolvedIn}
+use Rattle.linker_section.specs.Known.{IsResolvedUnless, Knowledge, Known, by_high}
 use Rattle.linker_section.specs.Known.{by_known, is_skipped, known_operands, known_value}
 use Rattle.linker_section.specs.Known.{lacks_known_stub, stubless, too_far, unfilled, valueless}
 use Rattle.linker_section.specs.Known.{without}
 use Rattle.linker_section.specs.Relocations.{relocation_in}
-use Rattle.linker_section.specs.Sections.{IsRowValue, IsValueless, Outcome, beyond, by_index}
-use Rattle.linker_section.specs.Sections.{no_stub, no_value, not_filled}
+use Rattle.linker_section.specs.Sections.{IsRowValue, IsValueless, Outcome, by_index}
 use Rattle.linker_section.specs.Values.{IsLowValue, IsValueBy, IsValueIn, entry_address, has_value}
 use Rattle.linker_section.specs.Values.{is_defined, low_by, names_label, operands_in, own_value}
 use Rattle.linker_section.specs.Values.{value_by}

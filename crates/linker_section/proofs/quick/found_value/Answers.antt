@@ -1,4 +1,4 @@
-use Rattle.linker_section.proofs.Imports.{IsPlainValue, IsRow, IsValueAt, Ok, Some, ap, difference_64, is_low_way, is_offset_way, is_plain_way, known_operands, lacks_known_stub, needs_upper, not, subst, sym, true, ◌&&◌, ◌∙◌}
+use Rattle.linker_section.proofs.Imports.{IsPlainValue, IsRow, IsValueAt, Ok, Some, ap, difference_64, is_low_way, is_offset_way, is_plain_way, known_operands, lacks_known_stub, needs_upper, not, subst, sym, ◌&&◌, ◌∙◌}
 use Rattle.linker_section.proofs.QuickValues.{if_some, low_quick, plain_quick}
 use Rattle.linker_section.proofs.RowFacts.{says, says_way}
 use Rattle.linker_section.proofs.quick.found_value.Goals as goal
@@ -51,5 +51,5 @@ returns-in-Low g c =
     (sym c.is_left_out.ensures ∙ c.if-is_left_out.false) keeps (ap (λ r. needs_upper a.architecture r v) (sym is) ∙ reached)
     (g.S.Symbols.values a._symbols) (g.met.S.Symbols.are_values a._symbols a.architecture a.addresses.now a._relocations.now a._index (Ok (Some (row, v))))
     (ap is_low_way (sym (ap (λ f. f.way) c.facts.ensures) ∙ c.in-Low.is)) a.high c.requires.high
-    (subst (λ s. IsValueAt (difference_64 s.address a.addresses.now.section) a.high v) c.symbol.ensures value))
+    (subst (λ s. IsValueAt (difference_64 s.address a.addresses.now.section) a.high v) c.symbol-label.ensures value))
     c.value_at.ensures

@@ -47,7 +47,7 @@ returns-in_default-high_part g c =
     let bytes = a.relocations.now in
     let row = a.row.now in
     let knowledge = g.S.Symbols.knowledge a.symbols in
-    let at = difference_64 c.symbol.result.now.address a.addresses.now.section in
+    let at = difference_64 c.symbol.result.address a.addresses.now.section in
     let here = (goal.at.returns-in_default-high_part g c).In-Some in
     let none = subst (λ k. IsHighPartAt a.architecture bytes k at None) c.kind-2.ensures
     (subst (λ x. IfNone x (IsHighPartAt a.architecture bytes c.kind-2.result at None)) c.in_default-high_part.is c.high_part.ensures.none) in
