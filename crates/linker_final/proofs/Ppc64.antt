@@ -9,8 +9,7 @@ use Rattle.linker_elf.specs.declared.ppc64.forms.Ppc64Form.TheVariants.{Branch24
 use Rattle.linker_elf.specs.declared.ppc64.relocations.Ppc64Relocation.{Ppc64Relocation}
 use Rattle.linker_final.proofs.SectionRuns.{AreIn, IsIn, each_or, is_linked, without_label}
 use Rattle.linker_final.proofs.Written.{IsOfInstruction, IsRowOf, apart_with, applied_after, by_name, entry_is_there, first_same, left_within, made_there, mapped, of_bits, outside_of, rela, rela_at, relocation_is, relocation_left, second_same, small_byte, spared, stays, unwritten_but, unwritten_without, window_byte, window_length, word_same}
-use Rattle.linker_laws.specs.Ppc64Groups.{AreGroup, Code, Groups, Has, IsPrefixed, Law, Left, Sort, Stands, applied, law, law_of, name_of, none, of_call, to_second}
-use Rattle.linker_laws.specs.Ppc64RewriteLaws.{IsRelocated, IsRewritten}
+use Rattle.linker_laws.specs.Ppc64Groups.{AreGroup, Code, Groups, Has, IsPrefixed, Law, Left, Sort, Stands, applied, law, law_of, name_of, none, of_call, to_second, IsRelocated, IsRewritten}
 use Rattle.linker_utils.specs.Ppc64Rewrites.{Conditions, HasTest, HasTwo, Ppc64Applies, addis_of_thread, by_displacement, by_word_displacement, called_to_initial_exec, called_to_local_exec, called_to_module, direct, is_add_of_thread, is_addi, is_addis_of_toc, is_addis_over, is_call, is_indexed, is_indexed_any, is_indexed_word, is_ld, is_pla, is_pld, nop, over_base, paddi, paddi_of_thread, pld, ppc64_entries, ppc64_matches, ppc64_rewrite, registers_of, restores_toc, rewrites_call, rewrites_marked, rewrites_word, rt_of, to_distance, to_initial_exec, to_local_exec, to_local_exec_words, to_module, to_move, to_near_initial_exec, to_prefixed_initial_exec, to_prefixed_local_exec, to_toc_distance, two_words, without_high_offset, without_high_part}
 use Rattle.linker_utils.specs.declared.ppc64.rewrites.RewriteKind.{RewriteKind}
 use Rattle.linker_elf.specs.declared.ppc64.relocations.Ppc64Relocation.TheVariants as names

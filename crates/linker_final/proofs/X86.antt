@@ -1,6 +1,6 @@
 -- x86-64: each rewrite of a section has a law, so that what it takes is a group.
 use Rattle.linker_final.proofs.Imports.{Absolute, Addresses, All-append, All-drop, All-take, AllHold, Applies, AreAddresses, AreBytes, Bool, CanRewrite, Choice, Composes, Consumed, Decision, HaveSameWindow, IsApplied, IsArchitectureChoice, IsDone, IsField, IsFirst, IsLinked, IsMade, IsNameOf, IsNamed, IsOutside, IsRewritable, IsRow, IsScopeIn, IsSomeAnd, IsTrue, IsWithin, IsWritten, Kept, Kinds, Labelled, LinkFacts, Linked, List, None, Ok, Operands, Option, Phase, Rela, Relative, Relaxation, RelocationKind, Rewrite, RewritesAreGroups, Rewritten, RewrittenWithSymbol, RowInfo, Scope, Some, State, Symbol, ThreadOffset, TpOff, UntouchedByOthers, UntouchedBytes, X86_64, [], accepted_same, and_from, and_parts, ap, append_assoc, arith, begins_pair, bit_and, bit_bounds, bytes_row, cases_eq, cases_lt, cast_is, cast_signed, cast_unsigned, choice, chosen_at, cond, cond-false, continues, count, decision_at, difference_64, difference_below, drop, drop-cons, drop-drop, drop_at, ends_pair, entry_address, entry_of, eqb, ext_get_or, false, field_end, field_len, from_le_bytes, get_or, get_or-drop, inl, inr, int_rem_euclid, ints, is_labelled, is_of_got, leb, leb-true, length, length-drop, length-take-le, loads_plt_word, low_bytes, neg_ℤ, negsuc, number_of_bytes, number_written, of_number, of_pair, of_z-to_z, offset_after, offset_at, offset_of, one_info, operands_after, operands_by, operands_in, operands_of, operands_with, or_cases, or_left, or_right, pos, r_type_of, refl, relaxation_no_op, relaxation_rewrite, relocation_in, replaces, rewrite_window, rewritten, signed_row, size_len, slice_get, subst, suc, sum_64, sym, symbol_term, take, take-append-drop, take_more, target_of, true, unsigned_row, unwrap_or, value_of, w64, window_len, window_of_rewrite, x86_64_none, ℕ, ℤ, ⊤, ◌%◌, ◌*◌, ◌++◌, ◌+◌, ◌-◌, ◌/◌, ◌<◌, ◌^◌, ◌||◌, ◌∙◌, ◌∷◌, ◌≡◌, ◌≤◌, ◌⊎◌}
-use Rattle.linker_laws.specs.X86Groups.{AddsOffset, BlockOffsets, IsModuleCall, IsThreadCall, LeaToEntry, LeaToOffset, LeadToTheSame, reg_after_rex, reg_after_rex2, Code, Groups, Rewritten as IsRewrittenGroup, Stands, seen}
+use Rattle.linker_laws.specs.X86Groups.{AddsOffset, BlockOffsets, IsModuleCall, IsThreadCall, LeaToEntry, LeaToOffset, LeadToTheSame, reg_after_rex, reg_after_rex2, Code, Groups, Rewritten as IsRewrittenGroup, Stands, seen, IsBefore, IsRelocated, IsRelocatedBy, address, thread_offset}
 use Rattle.linker_final.specs.X86Section.{AreBy, EntryHolds, Form, HasFinal, HasObject, IsGroupOf, IsObject, LawOf, LeadsToTheSame, Makes, Offsets, Window, block, call, in_got, lea, put_back, rewriting, sequence_of, variable, window, window_of}
 use Rattle.linker_section.specs.Sections.{IsInNoField}
 use Rattle.linker_base.proofs.Tests.{never}
@@ -12,7 +12,6 @@ use Rattle.linker_final.proofs.SectionRuns.{AreIn, IsIn, each_or, final_in, is_l
 use Rattle.linker_final.proofs.Written.{none_written, AreLowest, IsPlain, IsRowOf, UntouchedField, back_inside, back_outside, back_rewritten, by_name, byte_left, eight_bytes, entry_is_there, four_bytes, last_as_many, last_length, last_within, left, len_is, no_field, outside_of, plain, put_back_is, rela, rela_at, relocation_is, relocation_left, row_in, same_windows, small_byte, spared}
 use Rattle.linker_laws.proofs.X86Fields.{block_row, long_block_row, long_thread_row, thread_row, tls_got_row, tls_module_row}
 use Rattle.linker_laws.specs.X86Machine.{extended}
-use Rattle.linker_laws.specs.X86RewriteLaws.{IsBefore, IsRelocated, IsRelocatedBy, address, thread_offset}
 use Rattle.linker_utils.specs.X86RelocationsAfter.{immediate_of, x86_64_relocation_after}
 use Rattle.linker_utils.specs.X86Rewrites.{HasPattern, Original, Table, X86Entry, absolute, any_entry, begins, descriptor_table, general_dynamic_table, is_at, is_one_at, lea_of_descriptor, legacy, local_dynamic_table, module_by, opcode_at, operand, original, prefixed_operand, puts, rex2_w, rex_mov, rex_w, unrelocated_by, with_rex, with_rex2, x86_64_after, x86_64_matches, x86_64_originals, x86_64_rewrite, x86_64_table}
 use Rattle.linker_utils.specs.declared.x86_64.rewrites.RewriteKind.{RewriteKind}

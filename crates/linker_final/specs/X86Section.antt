@@ -15,7 +15,7 @@ use Rattle.linker_laws.specs.X86Groups.{AddsOffset, Code, IsCall, IsDescriptorCa
 use Rattle.linker_laws.specs.X86Groups.{IsLea, IsModuleCall, IsThreadCall, LoadsNumber, MakesOffset}
 use Rattle.linker_laws.specs.X86Groups.{Stands, link, reg_after_rex, reg_after_rex2}
 use Rattle.linker_laws.specs.X86Machine.{extended}
-use Rattle.linker_laws.specs.X86RewriteLaws.{IsRelocated, address, thread_offset}
+use Rattle.linker_laws.specs.X86Groups.{IsRelocated, address, thread_offset}
 use Rattle.linker_elf.specs.declared.x86_64.relocations.X86_64Relocation.TheVariants as names
 use Rattle.linker_utils.specs.declared.architecture.Relaxation.TheVariants as relaxations
 use Rattle.linker_utils.specs.declared.x86_64.rewrites.RewriteKind.TheVariants as kinds

@@ -1,6 +1,6 @@
 -- LoongArch's groups.
-use Rattle.linker_laws.proofs.Imports.{Agree, AreAddresses, AreOf, Bool, Branch26, ChangesOpen, Group, InstructionWritten, IsAddress, IsWithin, Kind, Kinds, List, LoongArch64, LoongArch64Relocation, Operands, OthersAgree, Relocated, RowIsWithin, Shift10, Shift5, Some, State, ValueIsWithin, anything, ap, ap₂, arith, cast_signed, cond-false, difference_64, drop, entry_and_addend, eq-eqb, false, field, go_to, half, if◌then◌else◌, loaded, loongarch_form, loongarch_row, ne_eqb, not, of_link, of_place, or_shifted, page, pcalau12i, plt_address, pos, put, refl, run, same, signed, subst, suc, sum_64, sym, symbol_address, thread_offset, tls_base, true, w64, with_register, word_of, wrapped, ℕ, ℤ, ◌*ℤ◌, ◌*◌, ◌+ℤ◌, ◌+◌, ◌-◌, ◌/◌, ◌<◌, ◌==◌, ◌^◌, ◌∙◌, ◌≡◌, ◌≢◌}
-use Rattle.linker_utils.specs.LoongArchRewrites.{IsCall, IsLowOfDescriptor, rj_of, signed_12, signed_32, IsAddi, IsCallOfDescriptor, IsLd, IsLoadOfDescriptor, IsPcalau12i, rd_of, unsigned_12}
+use Rattle.linker_laws.proofs.Imports.{Agree, AreAddresses, AreOf, Bool, Branch26, ChangesOpen, Group, InstructionWritten, IsAddress, IsTrue, IsWithin, ⊤, Kind, Kinds, List, LoongArch64, LoongArch64Relocation, Operands, OthersAgree, Relocated, RowIsWithin, Shift10, Shift5, Some, State, ValueIsWithin, anything, ap, ap₂, arith, cast_signed, cond-false, difference_64, drop, entry_and_addend, eq-eqb, false, field, go_to, half, if◌then◌else◌, loaded, loongarch_form, loongarch_row, ne_eqb, not, of_link, of_place, or_shifted, page, pcalau12i, plt_address, pos, put, refl, run, same, signed, subst, suc, sum_64, sym, symbol_address, thread_offset, tls_base, true, w64, with_register, word_of, wrapped, ℕ, ℤ, ◌*ℤ◌, ◌*◌, ◌+ℤ◌, ◌+◌, ◌-◌, ◌/◌, ◌<◌, ◌==◌, ◌^◌, ◌∙◌, ◌≡◌, ◌≢◌}
+use Rattle.linker_utils.specs.LoongArchRewrites.{IsAddTp, IsCall, IsLu12i, adds_low12, IsLowOfDescriptor, rj_of, signed_12, signed_32, IsAddi, IsCallOfDescriptor, IsLd, IsLoadOfDescriptor, IsPcalau12i, rd_of, unsigned_12}
 use Rattle.linker_elf.specs.declared.loongarch64.relocations.LoongArch64Relocation.TheVariants as names
 use Rattle.linker_laws.specs.LoongArchGroups as groups
 use Rattle.linker_laws.specs.LoongArchGroups.{AreBefore, AreDeleted, Code, HighHalf, IsFollowed, LowHalfIf, LowOfDescriptor, Processor, Stands, executed, left, link, machine, seen, uses, put_unless_zero, register, with_unless_zero}
@@ -239,7 +239,8 @@ high_half_made name page x y pcala lu12i of is made b =
     high_half name names.R_LARCH_TLS_LE_HI20 high_offset x y pcala of (λ old. page x pcala old is)
     (λ fits t here. high_goes y pcala lu12i of made b fits t)
 
-pub are_descriptor_pages : groups.PageOfDescriptor
+pub are_descriptor_pages : (x y : Operands) (pcala of : List ℕ) → IsPcalau12i (word_of pcala)
+    → IsRelocated names.R_LARCH_TLS_IE_PC_HI20 y pcala of → groups.HighEntry pcala of x y
 are_descriptor_pages x y pcala of is b small =
     high_half names.R_LARCH_TLS_DESC_PC_HI20 names.R_LARCH_TLS_IE_PC_HI20 near_entry x y pcala of
     (λ old. page_of_descriptor x pcala old is)
@@ -250,7 +251,7 @@ are_descriptor_pages x y pcala of is b small =
 nop_is : (before nop : List ℕ) → IsRewritten kinds.ReplaceWithNop before nop → word_of nop ≡ 0x03400000
 nop_is before nop made = word_made (λ _. 0x03400000) before nop (omega arith) made
 
-pub no_high_half : (name : LoongArch64Relocation) → ArePages name → groups.HighHalfToNop name
+pub no_high_half : (name : LoongArch64Relocation) → ArePages name → groups.BecomesNop IsPcalau12i (groups.HighHalfGoes name)
 no_high_half name page pcala nop is made c x k s gone small at fits old =
     let n = rd_of (word_of pcala) in
     let m = page x pcala old.relocated is small fits old.applied in
@@ -258,7 +259,7 @@ no_high_half name page pcala nop is made c x k s gone small at fits old =
     (ap (loaded 4 c.old) at ∙ old.stands) gone.1 (nop_is pcala nop made)
     (page_step x n (word_of old.relocated) (near_entry x) (seen c.processor s) m.is at m.page)
 
-pub are_deleted_descriptor_high_halves : groups.HighHalfIsDeleted names.R_LARCH_TLS_DESC_PC_HI20
+pub are_deleted_descriptor_high_halves : groups.IsDeleted IsPcalau12i (groups.HighHalfGoes names.R_LARCH_TLS_DESC_PC_HI20)
 are_deleted_descriptor_high_halves pcala is c x k s d small at fits old =
     let n = rd_of (word_of pcala) in
     let m = page_of_descriptor x pcala old.relocated is small fits old.applied in
@@ -286,7 +287,7 @@ low_half Holds x y ld after is new c k s small at one holds page held old stands
     ∙ ap (λ v. Some (leaves n v u)) holds)
     (λ t agree here. new c k s t agree held) one
 
-pub are_low_halves : groups.LowHalfToOri
+pub are_low_halves : groups.Becomes IsLd kinds.LowToOri names.R_LARCH_TLS_LE_LO12 groups.LowHalf
 are_low_halves x y ld ori of is made b =
     let n = rd_of (word_of ld) in
     let j = rj_of (word_of ld) in
@@ -316,7 +317,8 @@ short_or y n low ori of into made fits b t =
     (or_shifted 0 12 f (omega arith) ∙ (let z : 0 * 2 ^ 12 + f ≡ f = omega arith in z)
     ∙ ori_bits y ori of b ∙ (let z : field d 0 12 ≡ d = omega arith in z) ∙ offset_is y)
 
-pub are_short_low_halves : groups.LowHalfToOriZero
+pub are_short_low_halves : groups.Becomes IsLd kinds.LowToOriZero names.R_LARCH_TLS_LE_LO12
+    (groups.OfShortOffset (LowHalfIf (λ c k s. ⊤)))
 are_short_low_halves x y ld ori of is made b fits =
     low_half _ x y ld of is
     (λ c k s t agree held. short_or y (rd_of (word_of ld)) ld ori of refl made fits b (seen c.processor t))
@@ -335,7 +337,8 @@ low_of_descriptor Makes x y addi after is new c h k s small at page old_is makes
     (λ t agree here. new c k s t (c.new_half h) agree makes)
     (both_true (e == c.old_half h) (c.new_half h == c.new_half h) (eq-eqb _ _ (sym old_is)) (eq-eqb _ _ refl))
 
-pub are_descriptor_low_halves : groups.LowOfDescriptorToOri
+pub are_descriptor_low_halves : groups.Becomes IsLowOfDescriptor kinds.LowToOri names.R_LARCH_TLS_LE_LO12
+    (LowOfDescriptor groups.MakesOffset)
 are_descriptor_low_halves x y addi ori of is made b =
     let word = word_made (λ x. 0x03800000 + field x 0 10) addi ori (omega arith) made in
     let op : word_of ori / 2 ^ 22 ≡ 0x00e = omega arith in
@@ -347,14 +350,16 @@ are_descriptor_low_halves x y addi ori of is made b =
     (low_after 0x00e 4 4 _ ori of b.written op (rd ∙ is.1) (rj ∙ is.2))
     (or_value y 4 (word_of of) (seen c.processor t) (makes.0 t agree) (ori_bits y ori of b) ∙ makes.1))
 
-pub are_short_descriptor_low_halves : groups.LowOfDescriptorToOriZero
+pub are_short_descriptor_low_halves : groups.Becomes IsLowOfDescriptor kinds.LowToOriZero
+    names.R_LARCH_TLS_LE_LO12 (groups.OfShortOffset (LowOfDescriptor (λ c k s y number. thread_offset y ≡ number)))
 are_short_descriptor_low_halves x y addi ori of is made b fits =
     low_of_descriptor (λ c k s y number. thread_offset y ≡ number) x y addi of is
     (λ c k s t number agree makes.
     short_or y 4 addi ori of is.1 made fits b (seen c.processor t)
     ∙ ap (λ v. Some (leaves 4 v (seen c.processor t))) makes)
 
-pub are_descriptor_entry_loads : groups.LowOfDescriptorToLoad
+pub are_descriptor_entry_loads : groups.Becomes IsLowOfDescriptor kinds.AddiToLd names.R_LARCH_TLS_IE_PC_LO12
+    (LowOfDescriptor groups.LoadsOffset)
 are_descriptor_entry_loads x y addi ld of is made b =
     let e = entry_and_addend y in
     let word = word_made (λ x. 0x28c00000 + field x 0 22) addi ld (omega arith) made in
@@ -374,12 +379,12 @@ load_sets p s ld is small =
     let u = seen p s in
     ap (λ w. step w u) is ∙ ap (λ a. Some (leaves 1 (loaded 8 s.memory a) u)) (whole (s.registers 4) small)
 
-pub are_descriptor_loads : groups.LoadOfDescriptorToNop
+pub are_descriptor_loads : groups.BecomesNop IsLoadOfDescriptor groups.LoadGoes
 are_descriptor_loads ld nop is made c k s gone small old =
     old_sets c k s 1 (loaded 8 s.memory (s.registers 4)) (word_of ld) (word_of nop) gone.0 (omega arith) old gone.1
     (nop_is ld nop made) (load_sets c.processor s ld is small)
 
-pub are_deleted_descriptor_loads : groups.LoadOfDescriptorIsDeleted
+pub are_deleted_descriptor_loads : groups.IsDeleted IsLoadOfDescriptor groups.LoadGoes
 are_deleted_descriptor_loads ld is c k s d small old =
     nothing_left c k s 1 (loaded 8 s.memory (s.registers 4)) (word_of ld) d (omega arith) old (load_sets c.processor s ld is small)
 
@@ -411,7 +416,7 @@ module _ (c : Code) (s : State) (jirl : List ℕ) (is : IsCallOfDescriptor (word
       (agree_put_old (link c) k (go_to back s) (go_to next t) 4 same offset back
       (agree_go (link c) k s t back next agree (sum_below s.pc 4) at) (sum_below s.pc 4) at (sym has)) changes
 
-pub are_descriptor_calls : groups.CallOfDescriptorToNop
+pub are_descriptor_calls : groups.BecomesNop IsCallOfDescriptor groups.CallGoes
 are_descriptor_calls jirl nop is made c offset executes k k' s s' gone small held old returns changes =
     let after = sum_64 (c.moved s.pc) 4 in
     group_of (link c) 0 executes (called c s jirl is offset executes k k' s' small old returns) (λ t agree.
@@ -419,7 +424,7 @@ are_descriptor_calls jirl nop is made c offset executes k k' s s' gone small hel
     (passes c.processor c.new t (c.moved s.pc) (word_of nop) agree.pc gone.1 (nop_is jirl nop made))
     (agreed c s jirl is offset executes k k' s' small t agree (held t agree) changes after gone.0))
 
-pub are_deleted_descriptor_calls : groups.CallOfDescriptorIsDeleted
+pub are_deleted_descriptor_calls : groups.IsDeleted IsCallOfDescriptor groups.CallGoes
 are_deleted_descriptor_calls jirl is c offset executes k k' s s' d small held old returns changes =
     let below = d.small in
     let next : sum_64 s.pc 4 ≡ s.pc + 4 = omega (arith, below) in
@@ -435,7 +440,7 @@ are_deleted_descriptor_calls jirl is c offset executes k k' s s' d small held ol
 
 -- ---- local-exec
 
-pub are_high_offsets : groups.OffsetLu12iIsDeleted
+pub are_high_offsets : groups.IsDeleted IsLu12i groups.OffsetGoes
 are_high_offsets lu12i is c x k s d small at fits old =
     let n = rd_of (word_of lu12i) in
     let w = word_of old.relocated in
@@ -443,7 +448,7 @@ are_high_offsets lu12i is c x k s d small at fits old =
     (high_step n w 0 (seen c.processor s) (high_after 12 0x0a n _ lu12i old.relocated old.applied.written is refl)
     (no_high_part x lu12i old.relocated small fits old.applied))
 
-pub are_sums : groups.SumIsDeleted
+pub are_sums : groups.IsDeleted IsAddTp groups.SumGoes
 are_sums add is c k s d none wide stands =
     let w = word_of add in
     let n = rd_of w in
@@ -455,7 +460,8 @@ are_sums add is c k s d none wide stands =
     nothing_left c k s n (s.registers 2) w d (below_32 w) stands
     (ap (λ i. execute i w u) (decodes_add w is) ∙ ap (λ v. Some (leaves n v u)) number)
 
-pub are_low_offsets : groups.LowPartFromThreadPointer
+pub are_low_offsets : groups.Becomes (λ word. IsTrue (adds_low12 (word / 2 ^ 22))) kinds.BaseToTp
+    names.R_LARCH_TLS_LE_LO12_R groups.LowPart
 are_low_offsets x y low base of is made b c k k' s at one fits there held old stands keeps =
     let p = c.processor in
     let n = rd_of (word_of low) in
@@ -608,7 +614,8 @@ near_sum c x y k s pcala addi pcaddi high low near u v {a} {b} {d} pair made wa 
     near_goes c.new c.processor y t n v near (near_after n d pcala pcaddi near one.register made wd) some
     (below_32 (word_of addi)) here stands_near leads_near)
 
-pub are_near_sums : relocation_laws.RelativeAddresses → relocation_laws.Branches → groups.AddressToPcaddi
+pub are_near_sums : relocation_laws.RelativeAddresses → relocation_laws.Branches → groups.SumToPcaddi names.R_LARCH_PCALA_HI20
+    names.R_LARCH_PCALA_LO12 names.R_LARCH_PCREL20_S2 kinds.Delete symbol_address
 are_near_sums relative_laws branches c x y k s pcala addi pcaddi pair l made small near =
     let op = pair.second_is in
     let a = l.high.applied in

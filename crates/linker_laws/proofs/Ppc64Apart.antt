@@ -2,7 +2,7 @@
 use Rattle.linker_laws.proofs.Imports.{AreAddresses, D, Ds, IsRelocated, List, Operands, Ppc64Relocation, Some, addis_of_thread, ap, arith, cond-false, consecutive_bits_sum, eqb, ints, moved, ne_eqb, opcode_of, place_sum, pos, ppc64_form, ra_of, refl, replaced, rt_of, signed, sum_64, symbol_address, thread_offset, word_of, ℕ, ℤ, ◌%◌, ◌*ℤ◌, ◌*◌, ◌+ℤ◌, ◌+◌, ◌/◌, ◌<◌, ◌^◌, ◌∙◌, ◌≡◌, ◌≢◌}
 use Rattle.linker_elf.specs.declared.ppc64.relocations.Ppc64Relocation.TheVariants as names
 use Rattle.linker_laws.specs.Ppc64RelocationLaws as relocation_laws
-use Rattle.linker_laws.specs.Ppc64RewriteLaws as laws
+use Rattle.linker_laws.specs.Ppc64Groups as laws
 use Rattle.linker_laws.specs.Ppc64Machine.{State, Formats, base, step, go_on}
 use Rattle.linker_laws.proofs.Ppc64Words.{HasParts, sum_from}
 use Rattle.linker_laws.proofs.Sums.{sum_below, wrapped_is}

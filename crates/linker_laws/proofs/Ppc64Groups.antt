@@ -6,7 +6,7 @@ use Rattle.linker_laws.specs.Ppc64Groups.{AreHalves, Code, Has, Leaves, Processo
 use Rattle.linker_laws.specs.Ppc64Machine as ppc64_machine
 use Rattle.linker_laws.specs.Ppc64Machine.{Formats, base, by_opcode, go_on, shifted_sum, step, step_prefixed, write}
 use Rattle.linker_laws.specs.Ppc64RelocationLaws as relocation_laws
-use Rattle.linker_laws.specs.Ppc64RewriteLaws as laws
+use Rattle.linker_laws.specs.Ppc64Groups as laws
 use Rattle.linker_laws.proofs.AArch64Pairs.{word_is, word_made}
 use Rattle.linker_laws.proofs.Agreement.{agree_go, agree_put, agree_put_old, both_true, group_of, last_counts, others_agree, unchanged as nothing_changes, value_group}
 use Rattle.linker_laws.proofs.CoveredRuns.{holds_of, run_first}

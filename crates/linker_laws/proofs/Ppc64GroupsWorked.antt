@@ -1,9 +1,8 @@
 -- The worked program of PowerPC64.
 use Rattle.linker_laws.proofs.Imports.{Agree, D, Ds, Group, IsRelocated, IsSomeAnd, Kinds, List, LowHalfLeads, Operands, Ppc64Relocation, State, [], all_same, and_parts, anything, ap, ends, entry_from_toc, eqb-true, false, from_thread, from_toc, group, half, is_add_of_thread, is_addi, lit<, loaded, of_link, place_sum, pos, put, refl, run, same, subst, sym, true, with_register, word_of, words, ℕ, ◌==◌, ◌∷◌, ◌≡◌}
 use Rattle.linker_elf.specs.declared.ppc64.relocations.Ppc64Relocation.TheVariants as names
-use Rattle.linker_laws.specs.Ppc64Groups.{Groups, Leaves, Low, NewLeads, execute, high_part, instruction_at, link, machine, used, Has}
+use Rattle.linker_laws.specs.Ppc64Groups.{Groups, Leaves, Low, NewLeads, execute, high_part, instruction_at, link, machine, used, Has, adds}
 use Rattle.linker_laws.specs.Ppc64GroupsWorked.{IsWorked, code, new, old, starting}
-use Rattle.linker_laws.specs.Ppc64RewriteLaws.{adds}
 use Rattle.linker_utils.specs.declared.ppc64.rewrites.RewriteKind.TheVariants as kinds
 use Rattle.linker_laws.proofs.Relocated.{applied, small}
 use Rattle.linker_laws.proofs.Ppc64Groups.{sum_keeps}

@@ -4,7 +4,7 @@ use Rattle.linker_elf.specs.declared.ppc64.relocations.Ppc64Relocation.TheVarian
 use Rattle.linker_utils.specs.declared.ppc64.rewrites.RewriteKind.TheVariants as kinds
 use Rattle.linker_laws.specs.Ppc64RelocationLaws as relocation_laws
 use Rattle.linker_laws.specs.Ppc64Groups as groups
-use Rattle.linker_laws.specs.Ppc64RewriteLaws as laws
+use Rattle.linker_laws.specs.Ppc64Groups as laws
 use Rattle.linker_laws.specs.Ppc64Machine.{State, Formats, base, go_on, accessed, access_with}
 use Rattle.linker_laws.proofs.AArch64Pairs.{word_made}
 use Rattle.linker_laws.proofs.Ppc64Accesses.{step_access, d_access_parts, ds_parts, step_word}

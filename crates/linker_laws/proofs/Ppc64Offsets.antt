@@ -2,7 +2,7 @@
 use Rattle.linker_laws.proofs.Imports.{D, Ds, IsRelocated, IsRewritten, List, Operands, Ppc64Relocation, RewriteKind, Some, access_of, ap, arith, by_displacement, by_word_displacement, is_add_of_thread, is_indexed, is_indexed_word, moved, opcode_of, ppc64_form, ra_of, refl, registers_of, rt_of, sum_64, sym, true, word_of, ℕ, ◌+◌, ◌==◌, ◌∙◌, ◌≡◌}
 use Rattle.linker_utils.specs.declared.ppc64.rewrites.RewriteKind.TheVariants as kinds
 use Rattle.linker_elf.specs.declared.ppc64.relocations.Ppc64Relocation.TheVariants as names
-use Rattle.linker_laws.specs.Ppc64RewriteLaws as laws
+use Rattle.linker_laws.specs.Ppc64Groups as laws
 use Rattle.linker_laws.specs.Ppc64Machine.{State, Formats, go_on, accessed, access_with, word_access_with}
 use Rattle.linker_laws.proofs.AArch64Pairs.{word_made}
 use Rattle.linker_laws.proofs.Ppc64Accesses.{step_access, step_indexed, indexed_parts, indexed_word_parts, is_direct, step_indexed_word, below, step_word}

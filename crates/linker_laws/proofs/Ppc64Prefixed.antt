@@ -4,7 +4,7 @@ use Rattle.linker_utils.specs.declared.ppc64.rewrites.RewriteKind.TheVariants as
 use Rattle.linker_elf.specs.declared.ppc64.relocations.Ppc64Relocation.TheVariants as names
 use Rattle.linker_laws.specs.Ppc64RelocationLaws as relocation_laws
 use Rattle.linker_laws.specs.Ppc64Groups as groups
-use Rattle.linker_laws.specs.Ppc64RewriteLaws as laws
+use Rattle.linker_laws.specs.Ppc64Groups as laws
 use Rattle.linker_laws.specs.Ppc64Machine.{State, Formats, base, step_prefixed, write, go_to}
 use Rattle.linker_laws.proofs.AArch64Words.{field_kept}
 use Rattle.linker_laws.proofs.Words.{back_word, two_words}

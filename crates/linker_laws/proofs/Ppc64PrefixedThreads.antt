@@ -6,8 +6,8 @@ use Rattle.linker_utils.specs.Ppc64Rewrites.{nop, direct}
 use Rattle.linker_utils.specs.declared.ppc64.rewrites.RewriteKind.TheVariants as kinds
 use Rattle.linker_laws.specs.Ppc64Machine.{State, Formats, Access, accessed, access_with, write, by_opcode, execute, go_on, step, word_access_with}
 use Rattle.linker_laws.specs.Ppc64RelocationLaws as relocation_laws
-use Rattle.linker_laws.specs.Ppc64RewriteLaws.{adds}
-use Rattle.linker_laws.specs.Ppc64RewriteLaws as laws
+use Rattle.linker_laws.specs.Ppc64Groups.{adds}
+use Rattle.linker_laws.specs.Ppc64Groups as laws
 use Rattle.linker_laws.proofs.AArch64Pairs.{word_made}
 use Rattle.linker_laws.proofs.Ppc64Accesses.{step_access, indexed_parts, below, indexed_word_parts, is_direct, step_word}
 use Rattle.linker_laws.proofs.Ppc64Apart.{Does, base_some}

@@ -1,7 +1,7 @@
 -- RISC-V's groups.
 use Rattle.linker_laws.proofs.Imports.{Absolute, AbsoluteAddresses, Action, Agree, AreAddresses, AreBytes, AreOf, Bool, CjType, CluiType, DescriptorAddresses, EntryAddresses, GotRelative, GotTpOff, Group, Hart, IType, Instruction, IsApplied, IsCallPair, IsLoadFromGot, IsLow12, IsSomeAnd, IsTrue, IsWithin, JType, Kind, Kinds, Law, List, LoadFromGot, LowPartOf, Operands, Option, OthersAgree, PltRelative, Program, Relative, RelativeAddresses, RelativeRiscVLow12, RelocationKind, RowInfo, SType, Some, State, ThreadAddresses, TlsDesc, TpOff, UType, UiType, [], action_at, action_of, add-one, adds, adds_word, after_rewrite, anything, ap, ap₂, arith, auipc, cast_signed, continued, difference_64, drop, drop-take, entry_and_addend, even, false, field, from_le_bytes, go_to, goes_to, i_type, if◌then◌else◌, int_rem_euclid, ints, jal, jumps, le_refl, left, length, load_number, loaded, loads, loads_float, low_12_bounds, low_row, lui, moved, ne_eqb, of_entry, of_half, of_link, of_word, offset_row, option_map, pair_row, place_sum, plt_address, pos, put, refl, rewritten, riscv_form, riscv_places, rs1_of, rs2_of, run, s_type, same, signed, stores, stores_float, subst, suc, suc-add, sum, sum_64, sums, sym, symbol_address, t0, take, take-take, thread_offset, true, upper, upper_from, uses, w16, w32, w64, with_action, with_integer, with_register, word_of, word_of_front, wrapped, zero, ℕ, ℤ, ⊤, ◌%◌, ◌*◌, ◌+ℤ◌, ◌+◌, ◌-ℤ◌, ◌-◌, ◌<◌, ◌==◌, ◌^◌, ◌∙◌, ◌∷◌, ◌≡◌, ◌≢◌, ◌≤◌}
 use Rattle.linker_riscv64.specs.RiscVFields.{funct3_of, opcode_of, rd_of}
-use Rattle.linker_utils.specs.RiscVRewrites.{rewrites_word, with_rs1, a0, adds_low12, call_to_jal, clui_to_cli, half_at, hi20_to_clui, IsLui, load_to_addi, of_destination, riscv_matches, tail_to_cj, tail_to_jal}
+use Rattle.linker_utils.specs.RiscVRewrites.{IsAddTp, tp, rewrites_word, with_rs1, a0, adds_low12, call_to_jal, clui_to_cli, half_at, hi20_to_clui, IsLui, load_to_addi, of_destination, riscv_matches, tail_to_cj, tail_to_jal}
 use Rattle.linker_laws.specs.RiscVGroups.{AreBefore, AreDeleted, Code, Has, Stands, bytes_at, instruction_at, link, machine, seen}
 use Rattle.linker_laws.specs.RiscVMachine.{add, executed, register, step, used}
 use Rattle.linker_laws.proofs.AArch64Moves.{distance_is}
@@ -148,13 +148,13 @@ lui_goes_away kind number of c x k s bytes d is low h =
     nothing_left c k s rd 0 d
     (lui_goes c.others c.old s kind x bytes h.relocated s.pc _ rd refl next h.stands refl 0 a is none)
 
-pub are_high_parts : groups.LuiIsDeleted
+pub are_high_parts : groups.DeletedLui kinds.Hi20Delete names.R_RISCV_HI20 IsLow12
 are_high_parts bytes m is c x k s d = lui_goes_away Absolute symbol_address of_address c x k s bytes d is
 
-pub are_high_offsets : groups.OffsetLuiIsDeleted
+pub are_high_offsets : groups.DeletedLui kinds.Delete names.R_RISCV_TPREL_HI20 groups.IsLowOffset
 are_high_offsets bytes m is c x k s d = lui_goes_away TpOff thread_offset of_offset c x k s bytes d is
 
-pub are_sums : groups.SumIsDeleted
+pub are_sums : (add : List ℕ) → IsAddTp (word_of add) → groups.SumGoes (λ c. AreDeleted c 4) add
 are_sums bytes is c k s d none wide stands =
     let word = word_of bytes in
     let rd = rd_of word in
@@ -443,12 +443,12 @@ offset_rows (stores f) = refl
 offset_rows (loads_float f) = refl
 offset_rows (stores_float f) = refl
 
-pub are_low_parts : groups.LowPartFromZero
+pub are_low_parts : groups.LowPart kinds.Lo12Rs1ToZero low_row symbol_address (λ s. 0) (λ k. ⊤)
 are_low_parts low m =
     low_parts_of Absolute symbol_address of_address low_row absolute_rows kinds.Lo12Rs1ToZero 0 (omega arith) over_zero
     (λ s. 0) (λ k. ⊤) (λ c k s t known agree. refl) low m.0 m.1
 
-pub are_low_offsets : groups.LowPartFromThreadPointer
+pub are_low_offsets : groups.LowPart kinds.BaseToTp offset_row thread_offset (λ s. s.registers tp) (λ k. k.registers tp ≡ same)
 are_low_offsets low m =
     low_parts_of TpOff thread_offset of_offset offset_row offset_rows kinds.BaseToTp 4 (omega arith) over_tp
     (λ s. s.registers 4) (λ k. k.registers 4 ≡ same)
@@ -634,10 +634,12 @@ long_group y call sy pair some c x k s sx at target old new =
       pair_goes c.others c.new y t call sy here pair some new,
     ))
 
-pub are_calls : groups.Calls
+pub are_calls : groups.CallTo names.R_RISCV_CALL 4 names.R_RISCV_JAL groups.IsJal
+    × groups.CallTo names.R_RISCV_CALL_PLT 4 names.R_RISCV_JAL groups.IsJal
 are_calls = (jal_group, jal_group)
 
-pub are_short_tail_calls : groups.ShortTailCalls
+pub are_short_tail_calls : groups.CallTo names.R_RISCV_CALL 2 names.R_RISCV_RVC_JUMP groups.IsCj
+    × groups.CallTo names.R_RISCV_CALL_PLT 2 names.R_RISCV_RVC_JUMP groups.IsCj
 are_short_tail_calls = (cj_group, cj_group)
 
 pub are_long_calls : groups.CallStays names.R_RISCV_CALL × groups.CallStays names.R_RISCV_CALL_PLT

@@ -2,7 +2,7 @@
 use Rattle.linker_laws.proofs.Imports.{IsBefore, IsSomeAnd, IsTrue, List, None, Operands, Operation, Option, Original, Prefix, Some, X86_64Relocation, [], ap, ap₂, arith, bit_at, cond-false, cond-true, decode, decode_modrm, decode_opcode, decode_relative, drop, eqb, execute, from_le_bytes, get_or, immediate, immediate_operation, is_one_at, is_register, is_relative, is_rex, length, load, number_of_bytes, offset_after, on_immediate, operands_after, operate, refl, reg_of, register, replicate, rewritten, rex2_prefix, rex_prefix, sets_flags, sized, subst, suc, suc-add, sum_64, take, true, w64, x86_64_matches, x86_64_relocation_after, x86_64_rewrite, zero, ℕ, ◌++◌, ◌+◌, ◌-◌, ◌∙◌, ◌∷◌, ◌≡◌}
 use Rattle.linker_utils.specs.X86Rewrites as x86
 use Rattle.linker_laws.specs.X86Machine.{Instruction, State}
-use Rattle.linker_laws.specs.X86RewriteLaws.{IsRelocated}
+use Rattle.linker_laws.specs.X86Groups.{IsRelocated}
 use Rattle.linker_laws.proofs.X86Bytes.{IsMoved}
 use Rattle.linker_utils.specs.declared.x86_64.rewrites.RewriteKind.{RewriteKind}
 

@@ -6,7 +6,7 @@ use Rattle.linker_utils.specs.declared.x86_64.rewrites.RewriteKind.{RewriteKind}
 use Rattle.linker_utils.specs.declared.x86_64.rewrites.RewriteKind.TheVariants as kinds
 use Rattle.linker_laws.proofs.Relocated.{addresses as are_addresses}
 use Rattle.linker_laws.proofs.Sums.{difference_below, sum_zero}
-use Rattle.linker_laws.specs.X86RewriteLaws.{IsRelocated, thread_offset}
+use Rattle.linker_laws.specs.X86Groups.{IsRelocated, thread_offset}
 use Rattle.linker_laws.specs.X86Machine.{State}
 use Rattle.linker_laws.proofs.X86Bytes.{begin_with, IsRex, IsRex2, rex_byte, rex2_byte, below, implied, same_byte, on_relative, modrm_byte}
 use Rattle.linker_laws.proofs.X86Codes.{pattern_there, rex_lea_codes, rex2_lea_codes, rex_immediate_codes, rex2_immediate_codes}

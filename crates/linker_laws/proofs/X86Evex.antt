@@ -2,7 +2,7 @@
 use Rattle.linker_laws.proofs.Imports.{ADC, ADD, AND, All-drop, Bool, IsBefore, IsRelocatedBy, IsRewritable, IsTrue, List, OR, Operand, Operands, Operation, Original, Prefix, SBB, Some, XOR, [], absolute, and_parts, ap, arith, bit_and, bit_at, bit_or, cond-false, cond-true, decode, destination_of, drop, eqb, eqb-true, evex_any_v, evex_modrm, evex_new_destination, evex_no_v, evex_operand, evex_prefix, evex_same_destination, extended, false, field, has_no_index, has_zeros, immediate, immediate_operation, inl, inr, into, is_at, is_evex, is_in_map_4, is_map_4, is_one_at, is_register, is_relative, is_without_flags, legacy_or_evex, load, not, number_of_bytes, on_evex, operate_into, operation_of, or-false, or_cases, refl, reg_of, register, relative, rewritten, rm_of, sum_64, sym, take, true, v_register, with_evex, ℕ, ◌%◌, ◌&&◌, ◌*◌, ◌++◌, ◌+◌, ◌-◌, ◌<◌, ◌^◌, ◌||◌, ◌∙◌, ◌∷◌, ◌≡◌, ◌≤◌}
 use Rattle.linker_utils.specs.X86Rewrites as x86
 use Rattle.linker_laws.proofs.Sums.{difference_below}
-use Rattle.linker_laws.specs.X86RewriteLaws.{thread_offset}
+use Rattle.linker_laws.specs.X86Groups.{thread_offset}
 use Rattle.linker_laws.specs.X86Machine.{State}
 use Rattle.linker_laws.proofs.X86Bytes.{IsEvexByte, all_below, below, implied, moved_test, modrm_byte, IsAfterEvex, after_evex, is_false}
 use Rattle.linker_laws.proofs.X86Codes.{pattern_there, evex_codes}

@@ -1,10 +1,9 @@
 -- x86-64's groups.
 use Rattle.linker_laws.proofs.Imports.{Agree, AreOf, AreStored, Bool, CallOfDescriptor, Decoded, Group, IsApart, IsJump, IsKnownAfter, IsLea, IsSomeAnd, KeepsRegisters, Kind, Kinds, LeaOfDescriptor, LeaToEntry, LeaToOffset, List, LoadsNumber, MOV, MakesOffset, Memory, Operands, Original, Program, Reads, SkipTlsDescCall, Some, State, TlsDescToInitialExec, TlsDescToLocalExec, X86_64Relocation, [], and_parts, ap, ap₂, arith, bit_of, byte_at, bytes_at, call, cond-false, cond-true, decode, difference_64, direct, does, drop, eq-eqb, eqb-true, execute, false, flag, get_or, go_to, half, if◌then◌else◌, indirect, inl, inr, is_flag, jump, le-ltb, lea, length, lit≤, load, lt-ltb, nat_lt, of_link, operate, put, refl, reg_after_rex, reg_after_rex2, register, rewritten, same, store_8, subst, suc, sum_64, sym, take, through, true, with_register, x86_64_relocation_after, x86_64_rewrite, zero, ℕ, ◌&&◌, ◌*◌, ◌+◌, ◌-◌, ◌<◌, ◌==◌, ◌^◌, ◌∙◌, ◌∷◌, ◌≡◌, ◌≤◌}
 use Rattle.linker_laws.specs.Machine as shared
-use Rattle.linker_laws.specs.X86Groups.{Code, IsCall, Stands, called, executed, left, link, machine, seen}
+use Rattle.linker_laws.specs.X86Groups.{Code, IsCall, Stands, called, executed, left, link, machine, seen, thread_offset}
 use Rattle.linker_laws.specs.X86Machine as x86_machine
 use Rattle.linker_laws.specs.X86Machine.{nop}
-use Rattle.linker_laws.specs.X86RewriteLaws.{thread_offset}
 use Rattle.linker_elf.specs.declared.x86_64.relocations.X86_64Relocation.TheVariants as names
 use Rattle.linker_utils.specs.declared.x86_64.rewrites.RewriteKind.{RewriteKind}
 use Rattle.linker_laws.proofs.Agreement.{agree_go, agree_open, agree_put, agree_put_old, both_true, group_of}

@@ -2,7 +2,7 @@
 use Rattle.linker_laws.proofs.Imports.{ADC, ADD, AND, All-drop, AreAddresses, CMP, IsApplied, IsBefore, IsRelocatedBy, IsRewritable, IsTrue, List, MOV, OR, Operands, Operation, Original, Prefix, Rewrite, RowInfo, SBB, SUB, Some, TEST, XOR, [], absolute, ap, arith, cast_unsigned, cond, decode, decode_opcode, difference_64, drop, drop-cons, eqb, execute, extended, get_or, immediate, immediate_operation, inl, inr, is_arithmetic, is_one_at, is_relative, length, load, no_prefix, number_of_bytes, operand, operand_value, operate, original, plain, pos, prefixed_operand, refl, reg_of, register, relative, rewritten, rex, rex2, rex2_prefix, rex_prefix, rip_operand, sets_flags, sized, subst, suc, sum_64, sym, take, true, w64, with_rex, with_rex2, ℕ, ◌%◌, ◌*◌, ◌++◌, ◌+◌, ◌-◌, ◌<◌, ◌^◌, ◌∙◌, ◌∷◌, ◌≡◌}
 use Rattle.linker_utils.specs.X86Rewrites as x86
 use Rattle.linker_laws.proofs.Sums.{difference_below, sum_zero}
-use Rattle.linker_laws.specs.X86RewriteLaws.{thread_offset}
+use Rattle.linker_laws.specs.X86Groups.{thread_offset}
 use Rattle.linker_laws.specs.X86Machine.{State, Instruction}
 use Rattle.linker_laws.proofs.X86Bytes.{on_relative, after_rex, all_below, moved_test, modrm_byte, after_rex2}
 use Rattle.linker_laws.proofs.X86Codes.{pattern_there, immediate_codes, wide_codes, rex_immediate_codes, rex2_immediate_codes}

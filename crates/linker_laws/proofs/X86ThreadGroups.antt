@@ -1,8 +1,7 @@
 -- x86-64's groups of general- and local-dynamic TLS.
-use Rattle.linker_laws.proofs.Imports.{ADD, Agree, AreAddresses, AreOf, AreStored, GeneralDynamic, Group, HasPointer, HasThreadPointer, IsApplied, IsBefore, IsRelocatedBy, Kind, Kinds, Link, List, LocalDynamic, ModuleCall, Operands, Some, State, ToInitialExec, ToLocalExec, ToLocalExecLarge, [], anything, ap, ap₂, arith, byte, bytes_at, cases_Bool, cast_unsigned, cond-false, decode, difference_64, drop, eq-eqb, execute, extended, field4, get_or, go_to, half, inl, inr, is_at, is_flag, lea, lea_from, lea_rdi, length, lit≤, load, load_thread, number_of_bytes, of_link, operate, or-false, original as original_at, pos, put, puts, refl, register, relative, rewritten, run, same, subst, suc, sum_64, sym, take, w64, with_register, x86_64_rewrite, zero, ℕ, ◌%◌, ◌++◌, ◌+◌, ◌-◌, ◌<◌, ◌==◌, ◌^◌, ◌∙◌, ◌∷◌, ◌≡◌, ◌≤◌, ◌⊎◌}
-use Rattle.linker_laws.specs.X86Groups.{Code, Returns, Stands, left, link, machine, seen}
+use Rattle.linker_laws.proofs.Imports.{ADD, AddsOffset, Agree, ThreadCall, ⊤, AreAddresses, AreOf, AreStored, GeneralDynamic, Group, HasPointer, HasThreadPointer, IsApplied, IsBefore, IsRelocatedBy, Kind, Kinds, Link, List, LocalDynamic, ModuleCall, Operands, Some, State, [], anything, ap, ap₂, arith, byte, bytes_at, cases_Bool, cast_unsigned, cond-false, decode, difference_64, drop, eq-eqb, execute, extended, field4, get_or, go_to, half, inl, inr, is_at, is_flag, lea, lea_from, lea_rdi, length, lit≤, load, load_thread, number_of_bytes, of_link, operate, or-false, original as original_at, pos, put, puts, refl, register, relative, rewritten, run, same, subst, suc, sum_64, sym, take, w64, with_register, x86_64_rewrite, zero, ℕ, ◌%◌, ◌++◌, ◌+◌, ◌-◌, ◌<◌, ◌==◌, ◌^◌, ◌∙◌, ◌∷◌, ◌≡◌, ◌≤◌, ◌⊎◌}
+use Rattle.linker_laws.specs.X86Groups.{Code, Returns, Stands, left, link, machine, seen, thread_offset}
 use Rattle.linker_laws.specs.X86Machine.{nop}
-use Rattle.linker_laws.specs.X86RewriteLaws.{thread_offset}
 use Rattle.linker_laws.proofs.Agreement.{agree_open, agree_put, both_true, group_of, last_counts}
 use Rattle.linker_laws.proofs.CoveredRuns.{holds_of, run_first, run_on}
 use Rattle.linker_laws.proofs.Relocated.{addresses as are_addresses}
@@ -327,7 +326,7 @@ to_variable offset rest c s t stands leads small here thread equal =
     (offset_from fs (extended f') offset (ap (λ f. extended f % 2 ^ 64) b.field ∙ leads)
     ∙ ap (λ fs. sum_64 fs offset) equal) (sum_on s.pc 9 7)))
 
-to_local_exec : ToLocalExec
+to_local_exec : ThreadCall 4 16 2 kinds.TlsGdToLocalExec (λ operands. operands) (λ c k s k' o. ⊤)
 to_local_exec c s section old new o operands before there matches was is at at' k k' s' pointer any returns =
     let offset = thread_offset operands in
     let address = sum_64 (s.registers 38) offset in
@@ -354,7 +353,7 @@ to_local_exec c s section old new o operands before there matches was is at at' 
     })
 
 -- and a NOP
-to_local_exec_large : ToLocalExecLarge
+to_local_exec_large : ThreadCall 3 22 3 kinds.TlsGdToLocalExecLarge (λ operands. operands) (λ c k s k' o. ⊤)
 to_local_exec_large c s section old new o operands before there matches was is at at' k k' s' pointer any
     returns =
     let offset = thread_offset operands in
@@ -394,7 +393,8 @@ to_local_exec_large c s section old new o operands before there matches was is a
       registers = λ r. inr refl;
     })
 
-to_initial_exec : ToInitialExec
+to_initial_exec : (entry : ℕ) → entry < 2 ^ 64
+    → ThreadCall 4 16 2 kinds.TlsGdToInitialExec (λ operands. record operands { got_entry = entry }) (AddsOffset entry)
 to_initial_exec entry small c s section old new o operands before there matches was is at at' k k' s' pointer
     holds returns =
     let offset = thread_offset operands in

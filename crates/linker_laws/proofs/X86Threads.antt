@@ -1,6 +1,6 @@
 -- General-dynamic and local-exec TLS.
 use Rattle.linker_laws.proofs.Imports.{All, All-drop, HasThreadPointer, IsApplied, IsBefore, IsTrue, List, Operands, Original, Some, [], and_parts, ap, arith, begins, byte, cast_unsigned, difference_64, drop, extended, false, field4, general_dynamic, inl, inr, is_at, is_one_at, lea_rdi, leb, leb-true, load, map, number_of_bytes, or-false, or_cases, original, pos, puts, rewritten, sum_64, sym, take, true, w64, ℕ, ℤ, ◌%◌, ◌&&◌, ◌++◌, ◌+◌, ◌-◌, ◌<◌, ◌^◌, ◌||◌, ◌∙◌, ◌∷◌, ◌≡◌, ◌≤◌}
-use Rattle.linker_laws.specs.X86RewriteLaws.{thread_offset}
+use Rattle.linker_laws.specs.X86Groups.{thread_offset}
 use Rattle.linker_laws.specs.X86Machine.{State}
 use Rattle.linker_laws.proofs.X86Bytes.{begin_with}
 use Rattle.linker_laws.proofs.X86Codes.{inside}

@@ -15,8 +15,6 @@ pub mod Ppc64Groups
 pub mod Ppc64GroupsWorked
 pub mod Ppc64Machine
 pub mod Ppc64RelocationLaws
-pub mod Ppc64RewriteLaws
-pub mod RiscVExamples
 pub mod RiscVGroups
 pub mod RiscVGroupsWorked
 pub mod RiscVMachine
@@ -29,4 +27,3 @@ pub mod X86Groups
 pub mod X86GroupsWorked
 pub mod X86Machine
 pub mod X86RelocationLaws
-pub mod X86RewriteLaws

@@ -170,8 +170,8 @@ with_unless_zero r kind k = if r == 0 then k else with_register r kind k
 
 -- A group of an instruction that leaves a number in a register, which may be anything then. New
 -- has n instructions.
-abbrev pub IsLeftOut : ℕ → Code → Kinds → State → ℕ → ℕ → Type 0
-IsLeftOut n c k s r number =
+abbrev pub LeavesAnything : ℕ → Code → Kinds → State → ℕ → ℕ → Type 0
+LeavesAnything n c k s r number =
     Group (of_link (link c)) n k s (with_unless_zero r anything k)
     (put_unless_zero r number (sum_64 s.pc 4) s)
 
@@ -235,11 +235,6 @@ SumToPcaddi name low_name after deletes address =
     → IsRewritten kinds.PcalaToPcaddi pcala pcaddi → AreAddresses y → Has c.new after y pcaddi
     → Makes 1 (8 - deleted_by deletes) address c x y k s addi
 
-abbrev pub AddressToPcaddi : Type 0
-AddressToPcaddi =
-    SumToPcaddi names.R_LARCH_PCALA_HI20 names.R_LARCH_PCALA_LO12 names.R_LARCH_PCREL20_S2
-    kinds.Delete symbol_address
-
 abbrev pub EntriesToPcaddi : Type 0
 EntriesToPcaddi =
     SumToPcaddi names.R_LARCH_TLS_LD_PC_HI20 names.R_LARCH_GOT_PC_LO12
@@ -259,14 +254,15 @@ InstructionLaw = List ℕ → List ℕ → Operands → Operands → Type 0
 
 -- It is said of an instruction with P after a rewrite and a relocation.
 abbrev pub Becomes : (ℕ → Type 0) → RewriteKind → LoongArch64Relocation → InstructionLaw → Type 0
-Becomes P kind name Law =
+Becomes P kind name Holds =
     (x y : Operands) (before rewritten after : List ℕ) → P (word_of before)
-    → IsRewritten kind before rewritten → IsRelocated name y rewritten after → Law before after x y
+    → IsRewritten kind before rewritten → IsRelocated name y rewritten after
+    → Holds before after x y
 
 -- where new's offset has 12 bits
 abbrev pub OfShortOffset : InstructionLaw → InstructionLaw
-OfShortOffset Law before after x y =
-    RowIsWithin (loongarch_row names.R_LARCH_TLS_LE_LO12) unsigned_12 y → Law before after x y
+OfShortOffset Holds before after x y =
+    RowIsWithin (loongarch_row names.R_LARCH_TLS_LE_LO12) unsigned_12 y → Holds before after x y
 
 -- What is said of an instruction of old, in whose place new has n instructions that do nothing.
 abbrev pub GoneLaw : Type 1
@@ -277,16 +273,16 @@ abbrev pub HasNop : List ℕ → Code → State → Type 0
 HasNop nop c s = IsFollowed c 4 4 s × Stands c.new (c.moved s.pc) nop
 
 abbrev pub BecomesNop : (ℕ → Type 0) → GoneLaw → Type 0
-BecomesNop P Law =
+BecomesNop P Holds =
     (before nop : List ℕ) → P (word_of before) → IsRewritten kinds.ReplaceWithNop before nop
-    → Law 1 (HasNop nop) before
+    → Holds 1 (HasNop nop) before
 
 -- or none
 abbrev pub IsGone : Code → State → Type 0
 IsGone c = AreDeleted c (deleted_by kinds.Delete)
 
 abbrev pub IsDeleted : (ℕ → Type 0) → GoneLaw → Type 0
-IsDeleted P Law = (before : List ℕ) → P (word_of before) → Law 0 IsGone before
+IsDeleted P Holds = (before : List ℕ) → P (word_of before) → Holds 0 IsGone before
 
 -- old's number and new's of index h
 abbrev pub AreHalves : Code → ℕ → ℕ → ℕ → Type 0
@@ -317,23 +313,12 @@ HighEntry before after x y =
     → HighHalf names.R_LARCH_TLS_DESC_PC_HI20 names.R_LARCH_TLS_IE_PC_HI20 near_entry
     before after x y
 
-abbrev pub PageOfDescriptor : Type 0
-PageOfDescriptor =
-    (x y : Operands) (pcala pcala_of : List ℕ) → IsPcalau12i (word_of pcala)
-    → IsRelocated names.R_LARCH_TLS_IE_PC_HI20 y pcala pcala_of → HighEntry pcala pcala_of x y
-
 -- where the offset has 12 bits: `nop`, or nothing
 abbrev pub HighHalfGoes : LoongArch64Relocation → GoneLaw
 HighHalfGoes name n Goes pcala =
     (c : Code) (x : Operands) (k : Kinds) (s : State) → Goes c s → AreAddresses x → s.pc ≡ x.place
     → Fits32 name x → Has c.old name x pcala
-    → IsLeftOut n c k s (rd_of (word_of pcala)) (near_entry x)
-
-abbrev pub HighHalfToNop : LoongArch64Relocation → Type 0
-HighHalfToNop name = BecomesNop IsPcalau12i (HighHalfGoes name)
-
-abbrev pub HighHalfIsDeleted : LoongArch64Relocation → Type 0
-HighHalfIsDeleted name = IsDeleted IsPcalau12i (HighHalfGoes name)
+    → LeavesAnything n c k s (rd_of (word_of pcala)) (near_entry x)
 
 -- `ld.d rd, rj` of initial-exec, where rj has the entry's page and the entry holds the offset. The
 -- instruction after leaves the offset too, where a premise holds.
@@ -352,15 +337,6 @@ abbrev pub LowHalf : InstructionLaw
 LowHalf before after x y =
     LowHalfIf (λ c k s. NewHas c k s (rj_of (word_of before)) (high_offset y)) before after x y
 
-abbrev pub LowHalfToOri : Type 0
-LowHalfToOri = Becomes IsLd kinds.LowToOri names.R_LARCH_TLS_LE_LO12 LowHalf
-
--- `ori rd, zero`, where the offset has 12 bits
-abbrev pub LowHalfToOriZero : Type 0
-LowHalfToOriZero =
-    Becomes IsLd kinds.LowToOriZero names.R_LARCH_TLS_LE_LO12
-    (OfShortOffset (LowHalfIf (λ c k s. ⊤)))
-
 -- ---- TLS descriptors, each instruction alone
 
 -- `addi.d a0, a0`, where `a0` has the page, makes the descriptor's address. The instruction after
@@ -378,26 +354,11 @@ LowOfDescriptor NewMakes before after x y =
 abbrev pub MakesOffset : Code → Kinds → State → Operands → ℕ → Type 0
 MakesOffset c k s y number = NewHas c k s 4 (high_offset y) × (thread_offset y ≡ number)
 
-abbrev pub LowOfDescriptorToOri : Type 0
-LowOfDescriptorToOri =
-    Becomes IsLowOfDescriptor kinds.LowToOri names.R_LARCH_TLS_LE_LO12 (LowOfDescriptor MakesOffset)
-
--- `ori a0, zero` leaves it, where it has 12 bits.
-abbrev pub LowOfDescriptorToOriZero : Type 0
-LowOfDescriptorToOriZero =
-    Becomes IsLowOfDescriptor kinds.LowToOriZero names.R_LARCH_TLS_LE_LO12
-    (OfShortOffset (LowOfDescriptor (λ c k s y number. thread_offset y ≡ number)))
-
 -- `a0` has the page of an entry of initial-exec, and `ld.d a0, a0` loads what that holds.
 abbrev pub LoadsOffset : Code → Kinds → State → Operands → ℕ → Type 0
 LoadsOffset c k s y number =
     NewHas c k s 4 (near_entry y)
     × ((t : State) → Agree (link c) k s t → loaded 8 t.memory (entry_and_addend y) ≡ number)
-
-abbrev pub LowOfDescriptorToLoad : Type 0
-LowOfDescriptorToLoad =
-    Becomes IsLowOfDescriptor kinds.AddiToLd names.R_LARCH_TLS_IE_PC_LO12
-    (LowOfDescriptor LoadsOffset)
 
 -- `ld.d ra, a0, 0` loads the function's address, and new has a `nop`, or nothing.
 abbrev pub LoadGoes : GoneLaw
@@ -406,12 +367,6 @@ LoadGoes n Goes ld =
     → Stands c.old s.pc ld
     → Group (of_link (link c)) n k s (with_register 1 anything k)
     (put 1 (loaded 8 s.memory (s.registers 4)) (sum_64 s.pc 4) s)
-
-abbrev pub LoadOfDescriptorToNop : Type 0
-LoadOfDescriptorToNop = BecomesNop IsLoadOfDescriptor LoadGoes
-
-abbrev pub LoadOfDescriptorIsDeleted : Type 0
-LoadOfDescriptorIsDeleted = IsDeleted IsLoadOfDescriptor LoadGoes
 
 -- `jirl ra, ra, 0` calls the function, which leaves an offset in `a0`. New has the offset there,
 -- and a `nop`, or nothing. What else the function changes may be anything then, as is `ra`. By the
@@ -425,12 +380,6 @@ CallGoes n Goes jirl =
     → ChangesOpen (with_register 4 same k) (put 4 offset (sum_64 s.pc 4) s) k' s'
     → Group (of_link (link c)) n k s k' s'
 
-abbrev pub CallOfDescriptorToNop : Type 0
-CallOfDescriptorToNop = BecomesNop IsCallOfDescriptor CallGoes
-
-abbrev pub CallOfDescriptorIsDeleted : Type 0
-CallOfDescriptorIsDeleted = IsDeleted IsCallOfDescriptor CallGoes
-
 -- ---- local-exec, where the offset has 12 bits
 
 -- `lu12i.w rd` leaves 0.
@@ -439,20 +388,14 @@ OffsetGoes n Goes lu12i =
     (c : Code) (x : Operands) (k : Kinds) (s : State) → Goes c s → AreAddresses x → s.pc ≡ x.place
     → RowIsWithin (loongarch_row names.R_LARCH_TLS_LE_LO12_R) signed_12 x
     → Has c.old names.R_LARCH_TLS_LE_HI20_R x lu12i
-    → IsLeftOut n c k s (rd_of (word_of lu12i)) 0
-
-abbrev pub OffsetLu12iIsDeleted : Type 0
-OffsetLu12iIsDeleted = IsDeleted IsLu12i OffsetGoes
+    → LeavesAnything n c k s (rd_of (word_of lu12i)) 0
 
 -- `add.d rd, rj, tp`, where rj has 0
 abbrev pub SumGoes : GoneLaw
 SumGoes n Goes add =
     (c : Code) (k : Kinds) (s : State) → Goes c s → register s (rj_of (word_of add)) ≡ 0
     → s.registers tp < 2 ^ 64 → Stands c.old s.pc add
-    → IsLeftOut n c k s (rd_of (word_of add)) (s.registers tp)
-
-abbrev pub SumIsDeleted : Type 0
-SumIsDeleted = IsDeleted IsAddTp SumGoes
+    → LeavesAnything n c k s (rd_of (word_of add)) (s.registers tp)
 
 -- what an instruction does with a sum
 abbrev pub uses : Processor → Action → ℕ → ℕ → State → State
@@ -472,11 +415,6 @@ LowPart before after x y =
     (sum_64 (s.registers tp) (thread_offset x)) in
     ((t : State) → Agree (link c) k s t → Agree (link c) k' (after_use s) (after_use t))
     → Group (of_link (link c)) 1 k s k' (after_use s)
-
-abbrev pub LowPartFromThreadPointer : Type 0
-LowPartFromThreadPointer =
-    Becomes (λ word. IsTrue (adds_low12 (word / 2 ^ 22))) kinds.BaseToTp
-    names.R_LARCH_TLS_LE_LO12_R LowPart
 
 -- ---- calls
 
@@ -505,26 +443,38 @@ Calls =
 pub record Groups : Type 0 where
   pub got : GotToAddress
   pub near_got : GotToPcaddi
-  pub address : AddressToPcaddi
+  pub address : SumToPcaddi names.R_LARCH_PCALA_HI20 names.R_LARCH_PCALA_LO12
+      names.R_LARCH_PCREL20_S2 kinds.Delete symbol_address
   pub near_entries : EntriesToPcaddi
   pub high_halves : HighHalfToLu12i names.R_LARCH_TLS_IE_PC_HI20
-  pub no_high_halves : HighHalfToNop names.R_LARCH_TLS_IE_PC_HI20
-  pub low_halves : LowHalfToOri
-  pub short_low_halves : LowHalfToOriZero
+  pub no_high_halves : BecomesNop IsPcalau12i (HighHalfGoes names.R_LARCH_TLS_IE_PC_HI20)
+  pub low_halves : Becomes IsLd kinds.LowToOri names.R_LARCH_TLS_LE_LO12 LowHalf
+  -- `ori rd, zero`, where the offset has 12 bits
+  pub short_low_halves : Becomes IsLd kinds.LowToOriZero names.R_LARCH_TLS_LE_LO12
+      (OfShortOffset (LowHalfIf (λ c k s. ⊤)))
   pub descriptor_high_halves : HighHalfToLu12i names.R_LARCH_TLS_DESC_PC_HI20
-  pub no_descriptor_high_halves : HighHalfToNop names.R_LARCH_TLS_DESC_PC_HI20
-  pub deleted_descriptor_high_halves : HighHalfIsDeleted names.R_LARCH_TLS_DESC_PC_HI20
-  pub descriptor_entries : PageOfDescriptor
-  pub descriptor_low_halves : LowOfDescriptorToOri
-  pub short_descriptor_low_halves : LowOfDescriptorToOriZero
-  pub descriptor_entry_loads : LowOfDescriptorToLoad
-  pub descriptor_loads : LoadOfDescriptorToNop
-  pub deleted_descriptor_loads : LoadOfDescriptorIsDeleted
-  pub descriptor_calls : CallOfDescriptorToNop
-  pub deleted_descriptor_calls : CallOfDescriptorIsDeleted
-  pub high_offsets : OffsetLu12iIsDeleted
-  pub sums : SumIsDeleted
-  pub low_offsets : LowPartFromThreadPointer
+  pub no_descriptor_high_halves :
+      BecomesNop IsPcalau12i (HighHalfGoes names.R_LARCH_TLS_DESC_PC_HI20)
+  pub deleted_descriptor_high_halves :
+      IsDeleted IsPcalau12i (HighHalfGoes names.R_LARCH_TLS_DESC_PC_HI20)
+  pub descriptor_entries : (x y : Operands) (pcala pcala_of : List ℕ) → IsPcalau12i (word_of pcala)
+      → IsRelocated names.R_LARCH_TLS_IE_PC_HI20 y pcala pcala_of → HighEntry pcala pcala_of x y
+  pub descriptor_low_halves : Becomes IsLowOfDescriptor kinds.LowToOri names.R_LARCH_TLS_LE_LO12
+      (LowOfDescriptor MakesOffset)
+  -- `ori a0, zero` leaves the offset, where it has 12 bits.
+  pub short_descriptor_low_halves : Becomes IsLowOfDescriptor kinds.LowToOriZero
+      names.R_LARCH_TLS_LE_LO12
+      (OfShortOffset (LowOfDescriptor (λ c k s y number. thread_offset y ≡ number)))
+  pub descriptor_entry_loads : Becomes IsLowOfDescriptor kinds.AddiToLd
+      names.R_LARCH_TLS_IE_PC_LO12 (LowOfDescriptor LoadsOffset)
+  pub descriptor_loads : BecomesNop IsLoadOfDescriptor LoadGoes
+  pub deleted_descriptor_loads : IsDeleted IsLoadOfDescriptor LoadGoes
+  pub descriptor_calls : BecomesNop IsCallOfDescriptor CallGoes
+  pub deleted_descriptor_calls : IsDeleted IsCallOfDescriptor CallGoes
+  pub high_offsets : IsDeleted IsLu12i OffsetGoes
+  pub sums : IsDeleted IsAddTp SumGoes
+  pub low_offsets : Becomes (λ word. IsTrue (adds_low12 (word / 2 ^ 22))) kinds.BaseToTp
+      names.R_LARCH_TLS_LE_LO12_R LowPart
   pub calls : Calls
   -- other instructions
   pub others : (c : Code) → OthersAgree (does c.processor) (link c)

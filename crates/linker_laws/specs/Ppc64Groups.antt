@@ -1,31 +1,140 @@
 -- PowerPC64: rewritten instructions are groups of the simulation, each by itself, whatever stands
 -- before it. No code moves.
-use Rattle.std.specs.Prelude.{◌≡◌, ℕ, zero, suc, ◌+◌, ◌-◌, ◌*◌, ◌^◌, ◌<◌, ◌==◌, ◌&&◌, nat_lt, Bool}
-use Rattle.std.specs.Prelude.{if◌then◌else◌, List, drop, Option, Some, None, IsTrue, ⊤}
-use Rattle.linker_laws.specs.Imports.{Branch24, D, Ds, Operands, Ppc64Form, Ppc64Relocation}
-use Rattle.linker_laws.specs.Imports.{ppc64_form, sum_64}
+use Rattle.std.specs.Prelude.{◌≡◌, ℕ, zero, suc, ◌+◌, ◌-◌, ◌*◌, ◌^◌, ◌<◌, ◌==◌, ◌&&◌, not, nat_lt}
+use Rattle.std.specs.Prelude.{Bool, if◌then◌else◌, List, drop, Option, Some, None, IsTrue, IsSomeAnd}
+use Rattle.std.specs.Prelude.{⊤}
+use Rattle.linker_laws.specs.Imports.{Branch24, D, Ds, IsApplied, Operands, Ppc64Form}
+use Rattle.linker_laws.specs.Imports.{Ppc64Relocation, difference_64, field, from_le_bytes}
+use Rattle.linker_laws.specs.Imports.{ppc64_form, ppc64_reads, sum_64, w64}
 use Rattle.linker_utils.specs.Ppc64Rewrites.{access_of, opcode_of, ppc64_rewrite, ra_of, rt_of}
 use Rattle.linker_utils.specs.Ppc64Rewrites.{is_add_of_thread, is_addi, is_addi_of_toc}
 use Rattle.linker_utils.specs.Ppc64Rewrites.{is_addis_of_entry, is_addis_of_toc, is_addis_over}
-use Rattle.linker_utils.specs.Ppc64Rewrites.{is_bl, is_call, is_ds_access, is_indexed}
+use Rattle.linker_utils.specs.Ppc64Rewrites.{is_bl, is_call, is_d_access, is_ds_access, is_indexed}
 use Rattle.linker_utils.specs.Ppc64Rewrites.{is_indexed_any, is_indexed_word, is_ld, is_pla, is_pld}
 use Rattle.linker_utils.specs.Ppc64Rewrites.{is_vector_access}
+use Rattle.linker_elf.specs.Ppc64Relocations.{ppc64_row}
 use Rattle.linker_elf.specs.declared.ppc64.relocations.Ppc64Relocation.TheVariants as names
 use Rattle.linker_laws.specs.Changes.{ChangesOpen, OthersAgree, go_to, put, with_register}
-use Rattle.linker_laws.specs.Machine.{loaded, moved}
+use Rattle.linker_laws.specs.Machine.{BeginsRewritten, loaded, moved}
 use Rattle.linker_laws.specs.Ppc64Machine as ppc64_machine
-use Rattle.linker_laws.specs.Ppc64Machine.{Formats, access_with, go_on, shifted_sum, step}
-use Rattle.linker_laws.specs.Ppc64Machine.{step_prefixed, word_access_with}
-use Rattle.linker_laws.specs.Ppc64RewriteLaws.{HaveSameAccess, IsRelocated, IsRewritten, Leads}
-use Rattle.linker_laws.specs.Ppc64RewriteLaws.{address_read, is_over_base, LowHalfLeads, Use}
-use Rattle.linker_laws.specs.Ppc64RewriteLaws.{accesses, adds, ds_access, entry_from_toc, four_on}
-use Rattle.linker_laws.specs.Ppc64RewriteLaws.{from_thread, from_toc, indexed_access, is_d_over}
-use Rattle.linker_laws.specs.Ppc64RewriteLaws.{prefixed_target, thread_offset, word_of}
+use Rattle.linker_laws.specs.Ppc64Machine.{Access, Formats, access_with, accessed, base, go_on}
+use Rattle.linker_laws.specs.Ppc64Machine.{loads, loads_signed, shifted_sum, step, step_prefixed}
+use Rattle.linker_laws.specs.Ppc64Machine.{stores, word_access_with, write}
 use Rattle.linker_laws.specs.Schemes.{AreAddresses, symbol_address}
 use Rattle.linker_laws.specs.Simulation.{State, Program, Machine, Link, Kind, Kinds, Agree, Group}
 use Rattle.linker_laws.specs.Simulation.{anything, half, of_link, run, same}
 use Rattle.linker_utils.specs.declared.ppc64.rewrites.RewriteKind.{RewriteKind}
 use Rattle.linker_utils.specs.declared.ppc64.rewrites.RewriteKind.TheVariants as kinds
+pub use Rattle.linker_laws.specs.Machine.{word_of}
+pub use Rattle.linker_laws.specs.Schemes.{thread_offset}
+
+-- ---- instructions as bytes
+
+-- A relocation is applied to an instruction's bytes.
+abbrev pub IsRelocated : Ppc64Relocation → Operands → List ℕ → List ℕ → Type 0
+IsRelocated name o before after = IsSomeAnd (ppc64_row name) (λ row. IsApplied row o before after)
+
+abbrev pub IsRewritten : RewriteKind → List ℕ → List ℕ → Type 0
+IsRewritten kind before after = IsSomeAnd (ppc64_rewrite kind) (λ r. BeginsRewritten r before after)
+
+-- the operands of an instruction at another place
+abbrev pub at_place : ℕ → Operands → Operands
+at_place at o = record o { place = at }
+
+-- the number of the 8 bytes of a prefixed instruction
+abbrev pub prefixed_of : List ℕ → ℕ
+prefixed_of bytes = from_le_bytes w64 bytes
+
+-- the register that such an instruction writes
+abbrev pub prefixed_target : List ℕ → ℕ
+prefixed_target insn = rt_of (word_of (drop 4 insn))
+
+-- ---- addresses
+
+-- S + A, by its distance from what the formula subtracts, where a register has the number of that:
+-- register 2 has the TOC pointer, and register 13 the thread pointer
+abbrev pub from_toc : Operands → ℕ → ℕ
+from_toc o toc = sum_64 (difference_64 (symbol_address o) o.got_base) toc
+
+abbrev pub from_thread : Operands → ℕ → ℕ
+from_thread o thread = sum_64 (thread_offset o) thread
+
+-- the address of the GOT entry
+abbrev pub entry_from_toc : Operands → ℕ → ℕ
+entry_from_toc o toc = sum_64 (difference_64 o.got_entry o.got_base) toc
+
+-- S + A of an instruction 4 bytes on, with 4 more in its addend
+abbrev pub four_on : Operands → Operands
+four_on o = record o { place = sum_64 o.place 4; symbol = sum_64 o.symbol 4 }
+
+-- Instructions with the low half of an address lead from a number to a target, wherever they are.
+abbrev pub Leads : Ppc64Relocation → Ppc64Form → Operands → ℕ → ℕ → Type 0
+Leads low form o number target =
+    (there : ℕ) (insn over : List ℕ) → IsRelocated low (at_place there o) insn over
+    → moved number (ppc64_reads form (word_of over)) ≡ target
+
+-- The low half of a variable's address from a number in a register: in `addi`, `lwz` and so on, and
+-- in `ld`, `std` and `lwa`.
+abbrev pub LowHalfLeads : Operands → ℕ → ℕ → Type 0
+LowHalfLeads o number target =
+    Leads names.R_PPC64_TPREL16_LO D o number target
+    × Leads names.R_PPC64_TPREL16_LO_DS Ds o number target
+
+-- ---- accesses
+
+-- a load or a store, by its opcode less 32
+abbrev pub access_number : ℕ → ℕ
+access_number word = field word 26 31
+
+-- an access over a register
+abbrev pub is_over_base : (ℕ → Bool) → ℕ → Bool
+is_over_base is_access word = is_access word && not (ra_of word == 0)
+
+-- what `ld`, `lwa` and `std` access
+abbrev pub ds_access : ℕ → Access
+ds_access word =
+    if opcode_of word == 62 then stores 8 else (
+    if field word 0 2 == 0 then loads 8 else loads_signed 4)
+
+-- the base and the displacement
+abbrev pub address_read : ℕ → ppc64_machine.State → ℕ
+address_read word s = moved (base (ra_of word) s) (ppc64_reads Ds word)
+
+-- Words have the same opcode and the same register to load or store.
+pub record HaveSameAccess (x y : ℕ) : Type 0 where
+  pub opcode : opcode_of x ≡ opcode_of y
+  pub register : rt_of x ≡ rt_of y
+
+-- what any indexed load or store accesses
+abbrev pub indexed_access : ℕ → Access
+indexed_access word =
+    if field word 0 6 == 0x2e then access_with (access_of word)
+    else word_access_with (access_of word)
+
+-- ---- what an instruction does with an address
+
+-- Instructions: the test of their words, and what they do with an address.
+pub record Use : Type 0 where
+  pub test : ℕ → Bool
+  pub does : Formats → ℕ → ℕ → ppc64_machine.State → ppc64_machine.State
+
+-- those that put it in rT, and those that access it
+abbrev pub adds : (ℕ → Bool) → Use
+adds test =
+    record {
+      test = test;
+      does = λ f word address. write (rt_of word) address;
+    }
+
+abbrev pub accesses : (ℕ → Bool) → (ℕ → Access) → Use
+accesses test access =
+    record {
+      test = test;
+      does = λ f word address. accessed f (access word) (rt_of word) address;
+    }
+
+abbrev pub is_d_over : Use
+is_d_over = accesses (is_over_base is_d_access) (λ word. access_with (access_number word))
 
 -- ---- the machine
 
@@ -435,8 +544,9 @@ RestoresToc name after nop ld =
 
 -- ---- what becomes of the instructions of each relocation
 
--- Instructions that are rewritten: those of one word, or of two, that pass a test, or any; an
--- `addis` that stays; the `nop` after a call; none.
+-- The instructions that a law is of. `word`: those of one word that passes a test. `both`: those of
+-- two words that pass one. `any`: all instructions. `kept`: an `addis` that isn't rewritten.
+-- `after_call`: the `nop` after a call. `none_at_all`: no instruction.
 pub data Sort : Type 0 where
   word : (ℕ → Bool) → Sort
   both : (ℕ → ℕ → Bool) → Sort

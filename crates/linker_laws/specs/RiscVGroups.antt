@@ -175,21 +175,13 @@ DeletedLui kind name IsLow =
     (lui : List ℕ) → riscv_matches kind lui 0 → IsLui (word_of lui)
     → ZeroLuiGoes name IsLow (λ c. AreDeleted c 4) lui
 
-abbrev pub LuiIsDeleted : Type 0
-LuiIsDeleted = DeletedLui kinds.Hi20Delete names.R_RISCV_HI20 IsLow12
-
-abbrev pub OffsetLuiIsDeleted : Type 0
-OffsetLuiIsDeleted = DeletedLui kinds.Delete names.R_RISCV_TPREL_HI20 IsLowOffset
-
--- So does an `add` of the thread pointer to a register that has 0 go.
+-- In old an `add` of the thread pointer to a register that has 0 leaves the thread pointer. New has
+-- nothing of it, where it is gone.
 abbrev pub SumGoes : (Code → State → Type 0) → List ℕ → Type 0
 SumGoes IsGone add =
     (c : Code) (k : Kinds) (s : State) → IsGone c s
     → register (seen s) (rs1_of (word_of add)) ≡ 0 → s.registers tp < 2 ^ 64
     → Stands 4 c.old s.pc add → IsLeftOut c k s (rd_of (word_of add)) (s.registers tp)
-
-abbrev pub SumIsDeleted : Type 0
-SumIsDeleted = (add : List ℕ) → IsAddTp (word_of add) → SumGoes (λ c. AreDeleted c 4) add
 
 -- ---- low parts
 
@@ -240,16 +232,6 @@ LowPart kind row number base IsKnown =
     (low : List ℕ) → riscv_matches kind low 0
     → IsSomeAnd (action_at low 0) (LowPartOf kind row number base IsKnown low)
 
--- x0 in place of a register that has 0
-abbrev pub LowPartFromZero : Type 0
-LowPartFromZero = LowPart kinds.Lo12Rs1ToZero low_row symbol_address (λ s. 0) (λ k. ⊤)
-
--- the thread pointer in place of a register that has its number
-abbrev pub LowPartFromThreadPointer : Type 0
-LowPartFromThreadPointer =
-    LowPart kinds.BaseToTp offset_row thread_offset (λ s. s.registers tp)
-    (λ k. k.registers tp ≡ same)
-
 -- ---- calls
 
 -- the address of a place of code
@@ -275,7 +257,7 @@ CallBecomes call y n m target NewHas name =
     → target ≡ c.moved (even plt_address x) → (old : Has 8 c.old x.place (riscv_row name) x call)
     → NewHas c → IsCall c m x k s call old.relocated
 
--- They become a jump of n bytes that links rY.
+-- The `auipc` and the `jalr` become a jump of n bytes that links rY.
 abbrev pub CallTo : RiscVRelocation → ℕ → RiscVRelocation → (List ℕ → ℕ → Type 0) → Type 0
 CallTo name n new_name IsJump =
     (y : Operands) (call jump : List ℕ) → AreAddresses y
@@ -284,7 +266,7 @@ CallTo name n new_name IsJump =
     → CallBecomes call y n 1 (symbol_address y)
     (λ c. Has n c.new y.place (riscv_row new_name) y jump) name
 
--- They stay, with the value of their relocation in each layout.
+-- The `auipc` and the `jalr` stay, with the value of their relocation in each layout.
 abbrev pub CallStays : RiscVRelocation → Type 0
 CallStays name =
     (y : Operands) (call : List ℕ) → AreAddresses y
@@ -298,16 +280,6 @@ IsJal jump rd = word_of jump ≡ 0x6f + rd * 2 ^ 7
 
 abbrev pub IsCj : List ℕ → ℕ → Type 0
 IsCj jump rd = (rd ≡ 0) × (from_le_bytes w16 jump ≡ 0xa001)
-
-abbrev pub Calls : Type 0
-Calls =
-    CallTo names.R_RISCV_CALL 4 names.R_RISCV_JAL IsJal
-    × CallTo names.R_RISCV_CALL_PLT 4 names.R_RISCV_JAL IsJal
-
-abbrev pub ShortTailCalls : Type 0
-ShortTailCalls =
-    CallTo names.R_RISCV_CALL 2 names.R_RISCV_RVC_JUMP IsCj
-    × CallTo names.R_RISCV_CALL_PLT 2 names.R_RISCV_RVC_JUMP IsCj
 
 -- Such a jump is what rewrites leave of a call.
 abbrev pub CallsAreRewritten : Type 0
@@ -404,8 +376,8 @@ pub record LoadFromGot (c : Code) (x : Operands) (s : State) (auipc ld : List �
   pub low :
       Has 4 c.old (sum_64 x.place 4) (riscv_row names.R_RISCV_PCREL_LO12_I) (of_entry x) ld
 
--- They are a group, in whose place new has n instructions. What is said of new's operands holds.
--- Then rY has the address in both, which are of a kind.
+-- The `auipc` and the `ld` are a group, in whose place new has n instructions. What is said of new's
+-- operands holds. Then rY has the address in both, and the two addresses are of a kind.
 abbrev pub LoadBecomes : ℕ → (Operands → Type 0) → (Operands → Code → Type 0) → List ℕ → List ℕ
     → Type 0
 LoadBecomes n Said NewHas auipc ld =
@@ -503,8 +475,7 @@ pub record Descriptor (c : Code) (x : Operands) (offset : ℕ) (k : Kinds) (s : 
       (put a0 offset (sum_64 x.place 16) s) k' s'
 
 -- In new n nops are where the first instructions were, one after the other. Each other one is
--- deleted.
--- So the last m instructions are at an address.
+-- deleted, so the last m instructions are at an address.
 pub record AreNops (c : Code) (n m : ℕ) (x : Operands) (at : ℕ) : Type 0 where
   pub small : c.moved x.place < 2 ^ 64
   pub nops :
@@ -560,14 +531,19 @@ DescriptorToInitialExec =
 pub record Groups : Type 0 where
   pub short_high_parts : LuiBecomesClui
   pub short_zeros : CluiBecomesCli
-  pub no_high_parts : LuiIsDeleted
-  pub high_offsets : OffsetLuiIsDeleted
-  pub sums : SumIsDeleted
-  pub low_parts : LowPartFromZero
-  pub low_offsets : LowPartFromThreadPointer
+  pub no_high_parts : DeletedLui kinds.Hi20Delete names.R_RISCV_HI20 IsLow12
+  pub high_offsets : DeletedLui kinds.Delete names.R_RISCV_TPREL_HI20 IsLowOffset
+  pub sums : (add : List ℕ) → IsAddTp (word_of add) → SumGoes (λ c. AreDeleted c 4) add
+  -- x0 in place of a register that has 0
+  pub low_parts : LowPart kinds.Lo12Rs1ToZero low_row symbol_address (λ s. 0) (λ k. ⊤)
+  -- the thread pointer in place of a register that has its number
+  pub low_offsets : LowPart kinds.BaseToTp offset_row thread_offset (λ s. s.registers tp)
+      (λ k. k.registers tp ≡ same)
   pub accesses : AccessesAgree
-  pub calls : Calls
-  pub short_tail_calls : ShortTailCalls
+  pub calls : CallTo names.R_RISCV_CALL 4 names.R_RISCV_JAL IsJal
+      × CallTo names.R_RISCV_CALL_PLT 4 names.R_RISCV_JAL IsJal
+  pub short_tail_calls : CallTo names.R_RISCV_CALL 2 names.R_RISCV_RVC_JUMP IsCj
+      × CallTo names.R_RISCV_CALL_PLT 2 names.R_RISCV_RVC_JUMP IsCj
   pub long_calls : CallStays names.R_RISCV_CALL × CallStays names.R_RISCV_CALL_PLT
   pub rewritten_calls : CallsAreRewritten
   pub got : GotToAddress

@@ -2,8 +2,8 @@
 -- Relocations" and "ELF Handling For Thread-Local Storage"). No code moves.
 use Rattle.std.specs.Prelude.{◌≡◌, ℕ, zero, suc, ◌+◌, ◌-◌, ◌^◌, ◌<◌, ◌≤◌, ◌==◌, ◌&&◌, ◌⊎◌, Bool}
 use Rattle.std.specs.Prelude.{true, false, not, nat_le, nat_lt, if◌then◌else◌, List, [], ◌∷◌, take}
-use Rattle.std.specs.Prelude.{drop, Option, Some, None, IsSomeAnd, IsTrue, ⊤}
-use Rattle.linker_laws.specs.Imports.{IsApplied, Operands, X86_64Relocation, difference_64}
+use Rattle.std.specs.Prelude.{◌++◌, neg_ℤ, pos, drop, Option, Some, None, IsSomeAnd, IsTrue, ⊤}
+use Rattle.linker_laws.specs.Imports.{IsApplied, Operands, RowInfo, X86_64Relocation, difference_64}
 use Rattle.linker_laws.specs.Imports.{number_of_bytes, offset_after, rewritten, sum_64, x86_64_row}
 use Rattle.linker_elf.specs.Choices.{operands_after}
 use Rattle.std.specs.List.{All}
@@ -17,12 +17,42 @@ use Rattle.linker_laws.specs.X86Machine as x86_machine
 use Rattle.linker_laws.specs.X86Machine.{Flags, Operation, Instruction, Decoded, MOV, operate}
 use Rattle.linker_laws.specs.X86Machine.{operate_into, bit_of, decode, execute, load, store_8}
 use Rattle.linker_laws.specs.X86Machine.{extended, reg_of, rex2_prefix, rex_prefix}
-use Rattle.linker_laws.specs.X86RewriteLaws.{IsBefore, IsRelocated, address, thread_offset}
 use Rattle.linker_utils.specs.X86RelocationsAfter.{x86_64_relocation_after}
 use Rattle.linker_utils.specs.X86Rewrites.{Original, is_one_at, lea_of_descriptor, legacy}
 use Rattle.linker_utils.specs.X86Rewrites.{x86_64_matches, x86_64_originals, x86_64_rewrite}
 use Rattle.linker_utils.specs.declared.x86_64.rewrites.RewriteKind.{RewriteKind}
 use Rattle.linker_utils.specs.declared.x86_64.rewrites.RewriteKind.TheVariants as kinds
+
+-- ---- the bytes of code, as rewrites and relocations leave them
+
+-- A relocation at an offset of a section is applied.
+pub record IsRelocatedBy (row : RowInfo) (operands : Operands) (o : ℕ)
+    (before after : List ℕ) : Type 0 where
+  -- the bytes from the offset on
+  pub rest : List ℕ
+  pub applied : IsApplied row operands (drop o before) rest
+  pub whole : after ≡ take o before ++ rest
+
+abbrev pub IsRelocated : X86_64Relocation → Operands → ℕ → List ℕ → List ℕ → Type 0
+IsRelocated name operands o before after =
+    IsSomeAnd (x86_64_row name) (λ row. IsRelocatedBy row operands o before after)
+
+-- the state before an instruction that begins n bytes before the field at an offset
+pub record IsBefore (n : ℕ) (section : List ℕ) (o : ℕ) (operands : Operands)
+    (s : x86_machine.State) : Type 0 where
+  pub bytes : All (λ b. b < 2 ^ 8) section
+  pub offset : o < 2 ^ 64
+  pub addresses : AreAddresses operands
+  pub addend : operands.addend ≡ neg_ℤ (pos 4)
+  pub ip : s.ip ≡ difference_64 operands.place n
+
+-- the symbol's address
+abbrev pub address : Operands → ℕ
+address o = o.symbol
+
+-- the symbol's offset from the thread pointer
+abbrev pub thread_offset : Operands → ℕ
+thread_offset o = difference_64 o.symbol o.tls_base
 
 -- ---- the machine
 
@@ -332,32 +362,18 @@ IsThreadCall m n count Premise c o s =
     → Returns c o m n same (sum_64 (s.registers 38) (thread_offset o)) k s k' s'
     → Group (of_link (link c)) count k s k' s'
 
--- `mov %fs:0, %rax` and `lea x@tpoff(%rax), %rax`
-abbrev pub ToLocalExec : Type 0
-ToLocalExec =
-    Rewritten 4 16 (x86_64_originals kinds.TlsGdToLocalExec) names.R_X86_64_TLSGD
-    kinds.TlsGdToLocalExec (λ operands. operands) (IsThreadCall 8 16 2 (λ c k s k' o. ⊤))
+-- New's n bytes begin m before the field.
+abbrev pub ThreadCall : ℕ → ℕ → ℕ → RewriteKind → (Operands → Operands)
+    → (Code → Kinds → State → Kinds → Operands → Type 0) → Type 0
+ThreadCall m n count kind relocated Premise =
+    Rewritten m n (x86_64_originals kind) names.R_X86_64_TLSGD kind relocated
+    (IsThreadCall (m + 4) n count Premise)
 
 -- The GOT entry at an address holds the offset. The flags may be anything then.
 abbrev pub AddsOffset : ℕ → Code → Kinds → State → Kinds → Operands → Type 0
 AddsOffset entry c k s k' o =
     LoadsNumber entry c k s o (thread_offset o)
     × ((r : ℕ) → IsTrue (is_flag r) → k'.registers r ≡ anything)
-
--- `mov %fs:0, %rax` and `add x@gottpoff(%rip), %rax`
-abbrev pub ToInitialExec : Type 0
-ToInitialExec =
-    (entry : ℕ) → entry < 2 ^ 64
-    → Rewritten 4 16 (x86_64_originals kinds.TlsGdToInitialExec) names.R_X86_64_TLSGD
-    kinds.TlsGdToInitialExec (λ operands. record operands { got_entry = entry })
-    (IsThreadCall 8 16 2 (AddsOffset entry))
-
--- In the large code model the call is by `movabs`, `add` and `call *%rax`, and a NOP is the third
--- instruction.
-abbrev pub ToLocalExecLarge : Type 0
-ToLocalExecLarge =
-    Rewritten 3 22 (x86_64_originals kinds.TlsGdToLocalExecLarge) names.R_X86_64_TLSGD
-    kinds.TlsGdToLocalExecLarge (λ operands. operands) (IsThreadCall 7 22 3 (λ c k s k' o. ⊤))
 
 -- It returns the address of the module's block. New executes `mov %fs:0, %rax`, with prefixes or
 -- after a NOP, by n bytes, and has the thread pointer in RAX.
@@ -378,8 +394,15 @@ ModuleCall n count kind =
     → Stands c.new s.pc n (drop (o - 3) (rewritten (x86_64_rewrite kind) section o))
     → IsModuleCall n count c operands s)
 
+-- `mov %fs:0, %rax` with `lea x@tpoff(%rax), %rax` or with `add x@gottpoff(%rip), %rax`. In the large
+-- code model the call is by `movabs`, `add` and `call *%rax`, and a NOP is the third instruction.
 abbrev pub GeneralDynamic : Type 0
-GeneralDynamic = ToLocalExec × ToInitialExec × ToLocalExecLarge
+GeneralDynamic =
+    ThreadCall 4 16 2 kinds.TlsGdToLocalExec (λ operands. operands) (λ c k s k' o. ⊤)
+    × ((entry : ℕ) → entry < 2 ^ 64
+    → ThreadCall 4 16 2 kinds.TlsGdToInitialExec
+    (λ operands. record operands { got_entry = entry }) (AddsOffset entry))
+    × ThreadCall 3 22 3 kinds.TlsGdToLocalExecLarge (λ operands. operands) (λ c k s k' o. ⊤)
 
 abbrev pub LocalDynamic : Type 0
 LocalDynamic =

@@ -31,7 +31,7 @@ pub use Rattle.linker_laws.proofs.X86Fields.{place_field, signed_field}
 pub use Rattle.linker_laws.specs.AArch64RelocationLaws.{Fields, RelativeAddresses, page_and_offset}
 pub use Rattle.linker_laws.specs.Machine.{AreBytes, Memory, Relocated, loaded, moved, stored, wrapped}
 pub use Rattle.linker_laws.specs.Ppc64RelocationLaws.{Branches, Prefixes, TocAddresses}
-pub use Rattle.linker_laws.specs.Ppc64RewriteLaws.{prefixed_of, word_of}
+pub use Rattle.linker_laws.specs.Ppc64Groups.{prefixed_of, word_of}
 pub use Rattle.linker_laws.specs.Schemes.{AreAddresses, IsAddress, entry_and_addend, symbol_address}
 pub use Rattle.linker_output.specs.AArch64Output.{aarch64_output}
 pub use Rattle.linker_output.specs.Inner.Placement.{AreLists, ArePlaces, AreServed, AreStubsOf, HasNoneAt, HasOwner, IsAt, IsLostBy, IsNear, IsNearIn, IsNew, IsNewNear, IsOutAfter, IsOutAhead, IsOutThere, IsServedBy, IsState, IsStubAt, IsStubOf, IsStuckIn, IsWay, SameStubs, StaysUnshared, Visited, level, level_of, list_at, new_stub, new_way, way_at, with_one}

@@ -6,7 +6,7 @@ use Rattle.std.specs.Prelude.{take}
 use Rattle.linker_output.specs.Imports.{Formats, Ppc64, State, base, go_on, go_to, loaded, moved}
 use Rattle.linker_output.specs.Imports.{next_pc, opcode_of, rt_of, step, step_prefixed, store}
 use Rattle.linker_output.specs.Imports.{sum_64, word_of, write}
-use Rattle.linker_laws.specs.Ppc64RewriteLaws.{prefixed_of}
+use Rattle.linker_laws.specs.Ppc64Groups.{prefixed_of}
 use Rattle.linker_output.specs.LazyRuns.{words, continue_by, run_by}
 use Rattle.linker_output.specs.Ppc64Output.{ppc64_output}
 use Rattle.linker_output.specs.Stubs.{IsStub, StubCode}

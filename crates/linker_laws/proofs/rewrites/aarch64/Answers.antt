@@ -38,7 +38,3 @@ sections AdrpAddToNopAdr section o = in_section _ section o (λ window. refl)
 
 pub returns-clause-sections : goal.returns-clause-sections
 returns-clause-sections c = sections
-
-pub returns-clause-runs : goal.returns-clause-runs
-unfolding place_sum
-returns-clause-runs c = (refl, refl, refl)

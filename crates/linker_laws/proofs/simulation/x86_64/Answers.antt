@@ -1,7 +1,6 @@
 use Rattle.linker_laws.proofs.Imports.{IsLoad, Operands, Reads, TakesImmediate, TakesImmediateByEvex, X86_64Relocation, address, bytes_at, does, legacy, lit≤, refl, x86_64_originals, ℕ, ◌+◌, ◌≤◌}
 use Rattle.linker_elf.specs.declared.x86_64.relocations.X86_64Relocation.TheVariants as names
-use Rattle.linker_laws.specs.X86Groups.{link, seen}
-use Rattle.linker_laws.specs.X86RewriteLaws.{thread_offset}
+use Rattle.linker_laws.specs.X86Groups.{link, seen, thread_offset}
 use Rattle.linker_laws.proofs.Agreement.{others_agree}
 use Rattle.linker_laws.proofs.X86Branches as by
 use Rattle.linker_laws.proofs.X86Decoding.{Replaced}
