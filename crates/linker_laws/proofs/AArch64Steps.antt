@@ -1,7 +1,7 @@
 -- Steps of AArch64's instructions.
-use Rattle.linker_laws.proofs.Imports.{IsAddress, JumpCall, LdSt, List, None, Operands, Some, [], aarch64_form, add, added, adr, adr_address, adrp, adrp_address, ap, arith, blr, branch_target, cond-false, cond-true, continue, eq-eqb, eqb, in_64_bits, ints, ldr, load_64, movk_64, ne_eqb, next_pc, plt_address, pos, rd_of, read_x, rn_of, step, sym, unsigned_abs, with_moved, write_x, write_x_or_sp, ℕ, ℤ, ◌%◌, ◌*ℤ◌, ◌+ℤ◌, ◌+◌, ◌^◌, ◌∙◌, ◌∷◌, ◌≡◌, ◌≢◌}
+use Rattle.linker_laws.proofs.Imports.{IsAddress, JumpCall, LdSt, Operands, Some, aarch64_form, add, added, adr, adr_address, adrp, adrp_address, ap, arith, blr, branch_target, cond-false, cond-true, eq-eqb, eqb, in_64_bits, ints, ldr, load_64, movk_64, ne_eqb, next_pc, plt_address, pos, rd_of, read_x, rn_of, step, sym, unsigned_abs, with_moved, write_x, write_x_or_sp, ℕ, ℤ, ◌%◌, ◌*ℤ◌, ◌+ℤ◌, ◌+◌, ◌^◌, ◌∙◌, ◌≡◌, ◌≢◌}
 use Rattle.linker_laws.proofs.Sums.{lift, lifted_is}
-use Rattle.linker_laws.specs.AArch64Machine.{State, run, decode, go_on, execute, loaded, movn_or_movz, moved, go_to}
+use Rattle.linker_laws.specs.AArch64Machine.{State, decode, go_on, execute, loaded, movn_or_movz, moved, go_to}
 
 -- ---- sums
 
@@ -86,18 +86,6 @@ step_blr x n s is rn named =
 -- what is read of the register that was written
 pub read_back : (n v r : ℕ) (s : State) → r ≡ n → (set n v s).registers r ≡ v
 read_back n v r s same = cond-true (eqb r n) v (s.registers r) (eq-eqb r n same)
-
--- ---- sequences
-
-pub run_more : (x y : ℕ) (words : List ℕ) (s t u : State) → step x s ≡ Some t → t.pc ≡ next_pc s
-    → run (y ∷ words) t ≡ Some u → run (x ∷ y ∷ words) s ≡ Some u
-run_more x y words s t u first on rest =
-    ap (continue (next_pc s) (λ r. run (y ∷ words) r)) first
-    ∙ cond-true (eqb t.pc (next_pc s)) (run (y ∷ words) t) None (eq-eqb t.pc (next_pc s) on) ∙ rest
-
-pub run_pair : (x y : ℕ) (s t u : State) → step x s ≡ Some t → t.pc ≡ next_pc s → step y t ≡ Some u
-    → run (x ∷ y ∷ []) s ≡ Some u
-run_pair x y s t u first on second = run_more x y [] s t u first on second
 
 -- ---- sums of a pair
 

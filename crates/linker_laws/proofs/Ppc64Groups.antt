@@ -769,9 +769,9 @@ low_over r kind sum access insn over made =
     (over_base r kind _ _ _ _ _ sum insn over made, over_base r kind _ _ _ _ _ access insn over made)
 
 branch_to_nop : groups.Holds groups.any kinds.BranchToNop
-    (groups.CallTo 1 groups.keep_number names.R_PPC64_TLSGD names.R_PPC64_NONE)
+    (groups.CallTo 1 (λ number thread. number) names.R_PPC64_TLSGD names.R_PPC64_NONE)
 branch_to_nop =
-    call_of_one kinds.BranchToNop groups.keep_number
+    call_of_one kinds.BranchToNop (λ number thread. number)
     (λ p code t bl made number is stands has.
     passes p code t (word_of made) stands (word_is nop made (omega arith) is)
     ∙ ap Some (sym (unchanged 3 number (sum_64 t.pc 4) t has)))
@@ -862,7 +862,7 @@ module _ (toc : relocation_laws.TocAddresses) (entries : relocation_laws.EntryAd
   rewrites names.R_PPC64_GOT_TLSLD_PCREL34 kinds.PaddiToPaddi4096 = are_prefixed_blocks prefixes
   rewrites names.R_PPC64_TLSLD kinds.BranchToNop = branch_to_nop
   rewrites names.R_PPC64_TLSLD kinds.CallToAddi4096 =
-      call_of_two kinds.CallToAddi4096 groups.add_block 0x38631000
+      call_of_two kinds.CallToAddi4096 (λ number thread. sum_64 number 0x1000) 0x38631000
       (λ bl made is. record {
         blank = first_made made nop 0x38631000 (omega arith) (omega arith) is;
         last = second_made made nop 0x38631000 (omega arith) (omega arith) is;

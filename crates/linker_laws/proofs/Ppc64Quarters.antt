@@ -1,5 +1,5 @@
 -- Numbers of 64 bits of PowerPC64 by parts of 16 bits.
-use Rattle.linker_laws.proofs.Imports.{AllowedRange, Bool, D, DUnsigned, IsApplied, Law, List, Operands, Option, PageMask, Ppc64, Ppc64Form, RelocationKind, Some, [], adjusted_quarters, ap, arith, cast_signed, consecutive_bits_sum, field, mod_below, none, place_sum, pos, pow_pos, ppc64_form, ppc64_reads, refl, replaced, subst, sum_64, sym, unadjusted_quarters, upper_parts, value_of, w64, window_of, ℕ, ◌%◌, ◌*◌, ◌+◌, ◌-◌, ◌/◌, ◌<◌, ◌^◌, ◌∙◌, ◌∷◌, ◌≡◌}
+use Rattle.linker_laws.proofs.Imports.{AllowedRange, Bool, D, DUnsigned, IsApplied, Law, List, Operands, Option, PageMask, Ppc64, Ppc64Form, RelocationKind, Some, [], by_quarters, ap, arith, cast_signed, consecutive_bits_sum, field, mod_below, none, place_sum, pos, pow_pos, ppc64_form, ppc64_reads, refl, replaced, subst, sum_64, sym, low_half, upper_parts, value_of, w64, window_of, ℕ, ◌%◌, ◌*◌, ◌+◌, ◌-◌, ◌/◌, ◌<◌, ◌^◌, ◌∙◌, ◌∷◌, ◌≡◌}
 use Rattle.linker_laws.proofs.Ppc64Halves.{ReadsLow, adjusted_low, d_field}
 use Rattle.linker_laws.proofs.Rounded.{IsRounded}
 use Rattle.linker_laws.proofs.Instructions.{FirstHasNumber, HasNumber, IsNumber, first_step, row_of, field_sum, step_of}
@@ -85,7 +85,7 @@ module _ {kind : RelocationKind} {mask : Option PageMask} {range : AllowedRange}
       ∷ step_of (row_of kind2 32 48 (Ppc64 DUnsigned) mask2 range2 a2 bias2 thunkable2 implicit2) operands2 none
       ∷ step_of (row_of kind3 16 32 (Ppc64 DUnsigned) mask3 range3 a3 bias3 thunkable3 implicit3) operands3 none
       ∷ step_of (row_of kind4 0 16 (Ppc64 D) mask4 range4 a4 bias4 thunkable4 implicit4) operands4 none
-      ∷ []) (unadjusted_quarters begin) target
+      ∷ []) (by_quarters begin low_half) target
   quarters {begin} {target} {number} leads operands2 operands3 operands4 e e2 e3 e4 =
       λ o small at before after step any at2 before2 after2 step2 any2 at3 before3 after3 step3 any3
       at4 before4 after4 step4 any4.
@@ -117,7 +117,7 @@ module _ {kind : RelocationKind} {mask : Option PageMask} {range : AllowedRange}
       ∷ step_of (row_of kind2 32 48 (Ppc64 DUnsigned) mask2 range2 a2 bias2 thunkable2 implicit2) operands2 none
       ∷ step_of (row_of kind3 16 32 (Ppc64 DUnsigned) mask3 range3 a3 bias3 thunkable3 implicit3) operands3 none
       ∷ step_of (row_of kind4 0 16 (Ppc64 f) mask4 range4 a4 bias4 thunkable4 implicit4) operands4 none
-      ∷ []) (adjusted_quarters begin f) target
+      ∷ []) (by_quarters begin (ppc64_reads f)) target
   quarters_adjusted {begin} {target} {number} {rounded} leads rounds {f} low operands2 operands3
       operands4 e e2 e3 e4 =
       λ o small at before after step any at2 before2 after2 step2 any2 at3 before3 after3 step3 any3

@@ -1,5 +1,5 @@
 -- Relocations of a program that is given: by computation, what they write is what their rows say.
-use Rattle.linker_laws.proofs.Imports.{All, All-cons, All-nil, AllowedRange, AnyForm, AreAddresses, BitRange, BitsWritten, Bool, HoldsBits, ImmediateBit, InstructionWritten, IsAccepted, IsApplied, IsEncoded, IsMultiple, IsReached, IsWithin, List, None, Operands, Option, PageMask, RelocationKind, RowInfo, Some, [], and_parts, arith, bit_at, bit_at_above, bit_for, bits_at, bits_taken, byte_len, cond-false, drop, entry, eq-eqb, eqb-true, false, inl, inr, insn_at, int_lt, is_32_bit_move, is_placed, is_supported, le_yes, leb, leb-false, leb-true, length, ltb-true, nat_le, nat_lt, number_placed, placed_bit, places_cleared, pos, reach_of, refl, relocation_form, subst, suc, sym, true, true≢false, value_at, value_of, window_len, window_of, with_bit_31_if, zero, ℕ, ℤ, ◌&&◌, ◌*◌, ◌+◌, ◌-◌, ◌<◌, ◌==◌, ◌^◌, ◌||◌, ◌∙◌, ◌∷◌, ◌≡◌, ◌≢◌, ◌≤◌, ◌⊎◌}
+use Rattle.linker_laws.proofs.Imports.{All, All-cons, All-nil, AllowedRange, AnyForm, AreAddresses, BitRange, BitsWritten, Bool, HoldsBits, ImmediateBit, InstructionWritten, IsAccepted, IsApplied, IsEncoded, IsMultiple, IsReached, IsWithin, List, None, Operands, Option, PageMask, RelocationKind, RowInfo, Some, [], and_parts, arith, bit_at, bit_at_above, bit_for, bits_at, bits_taken, byte_len, drop, eq-eqb, eqb-true, false, inl, inr, insn_at, int_lt, is_32_bit_move, is_placed, is_supported, le_yes, leb, leb-false, leb-true, length, ltb-true, nat_lt, number_placed, placed_bit, places_cleared, pos, reach_of, refl, relocation_form, subst, suc, sym, true, true≢false, value_at, value_of, window_len, window_of, with_bit_31_if, zero, ℕ, ℤ, ◌&&◌, ◌*◌, ◌-◌, ◌<◌, ◌==◌, ◌^◌, ◌||◌, ◌∙◌, ◌∷◌, ◌≡◌, ◌≢◌, ◌≤◌, ◌⊎◌}
 use Rattle.std.proofs.lemmas.Float.{T_from_true}
 use Rattle.std.specs.Int.Signed.{le_z, lt_z, lt_z_yes}
 use Rattle.linker_laws.proofs.Instructions.{row_of}
@@ -232,11 +232,3 @@ small o e =
   where
     below : (n : ℕ) (b : Bool) → (nat_lt n (2 ^ 64) && b) ≡ true → n < 2 ^ 64
     below n b e = ltb-true n (2 ^ 64) (and_parts (nat_lt n (2 ^ 64)) b e).0
-
--- ---- memory
-
--- nothing is below an entry
-pub nothing : (first number a : ℕ) → a < first → entry first number a ≡ 0
-nothing first number a below =
-    let none : (nat_le first a && nat_lt a (first + 8)) ≡ false = grind (arith, below) in
-    cond-false (nat_le first a && nat_lt a (first + 8)) _ 0 none

@@ -1,13 +1,12 @@
 -- Programs of AArch64 with groups, of which every premise holds, and both runs computed to the end.
 use Rattle.std.specs.Prelude.{◌≡◌, ℕ, ◌+◌, ◌-◌, ◌/◌, ◌%◌, ◌^◌, ◌==◌, Bool, nat_le, ◌&&◌}
-use Rattle.std.specs.Prelude.{if◌then◌else◌, List, [], ◌∷◌, Some, None, ◌*◌, IsSomeAnd}
+use Rattle.std.specs.Prelude.{if◌then◌else◌, List, [], ◌∷◌, Some, None}
 use Rattle.linker_laws.specs.Imports.{sum_64}
 use Rattle.linker_laws.specs.AArch64Groups.{Code, link}
 use Rattle.linker_laws.specs.Changes.{go_to, put}
 use Rattle.linker_laws.specs.Simulation.{Kinds, Program, State, anything, same}
 use Rattle.linker_laws.specs.SimulationWorked as worked
 use Rattle.linker_laws.specs.SimulationWorked.{of_byte, words_from}
-use Rattle.linker_laws.specs.AArch64Machine as machine
 
 abbrev pub words : List ℕ → ℕ → ℕ
 words = words_from 0x400000

@@ -1,7 +1,7 @@
 -- AArch64: what the instructions of a rewrite's sequences do (Arm Architecture Reference Manual for
 -- A-profile, DDI 0487, C6.2). None of them changes memory, the thread pointer or the flags.
 use Rattle.std.specs.Prelude.{ℕ, ℤ, pos, ◌+ℤ◌, ◌*ℤ◌, ◌/◌, ◌^◌, ◌==◌, ◌&&◌, if◌then◌else◌, Bool, ◌∷◌}
-use Rattle.std.specs.Prelude.{[], List, Option, Some, None, unsigned_abs}
+use Rattle.std.specs.Prelude.{[], Option, Some, None, unsigned_abs}
 use Rattle.linker_laws.specs.Imports.{Add, Adr, JumpCall, LdSt, Movnz, bit_at, field, from_le_bytes}
 use Rattle.linker_laws.specs.Imports.{int_rem_euclid, page, sum_64, w64}
 use Rattle.linker_elf.specs.AArch64.{aarch64_form, shift_of, opcode_of, movn_opcode, movz_opcode}
@@ -149,17 +149,3 @@ execute other word s = None
 
 abbrev pub step : ℕ → State → Option State
 step word s = execute (decode word) word s
-
--- ---- sequences
-
--- what a run is after its first instruction, if that goes on to the next
-abbrev pub continue : ℕ → (State → Option State) → Option State → Option State
-continue next rest None = None
-continue next rest (Some s) = if s.pc == next then rest s else None
-
--- Words that stand one after the other from the state's address up are executed, each after the one
--- before it, and then the last, which may go anywhere.
-abbrev pub run : List ℕ → State → Option State
-run [] s = Some s
-run (word ∷ []) s = step word s
-run (word ∷ words) s = continue (next_pc s) (run words) (step word s)

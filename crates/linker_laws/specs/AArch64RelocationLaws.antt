@@ -171,6 +171,12 @@ Moves begin target move first rest name below =
     Law (first shift name ∷ rest below)
     (λ o x. after_moves (begin o) (move shift x) (rest below)) target
 
+-- moves of the first, the second and the third 16 bits, each with the moves of those below
+abbrev pub OfThree : (AArch64Relocation → List AArch64Relocation → Type 0)
+    → (g2 g1 g1_nc g0 g0_nc : AArch64Relocation) → Type 0
+OfThree Move g2 g1 g1_nc g0 g0_nc =
+    Move g0 [] × Move g1 (g0_nc ∷ []) × Move g2 (g1_nc ∷ g0_nc ∷ [])
+
 abbrev pub UnsignedMove : AArch64Relocation → List AArch64Relocation → Type 0
 UnsignedMove = Moves zero symbol_address movz (λ shift. row_here) (map row_anywhere)
 
@@ -198,11 +204,9 @@ SignedMove begin target =
 
 abbrev pub SignedMoves : Type 0
 SignedMoves =
-    SignedMove zero symbol_address names.R_AARCH64_MOVW_SABS_G0 []
-    × SignedMove zero symbol_address names.R_AARCH64_MOVW_SABS_G1
-    (names.R_AARCH64_MOVW_UABS_G0_NC ∷ [])
-    × SignedMove zero symbol_address names.R_AARCH64_MOVW_SABS_G2
-    (names.R_AARCH64_MOVW_UABS_G1_NC ∷ names.R_AARCH64_MOVW_UABS_G0_NC ∷ [])
+    OfThree (SignedMove zero symbol_address) names.R_AARCH64_MOVW_SABS_G2
+    names.R_AARCH64_MOVW_SABS_G1 names.R_AARCH64_MOVW_UABS_G1_NC names.R_AARCH64_MOVW_SABS_G0
+    names.R_AARCH64_MOVW_UABS_G0_NC
 
 -- moves each 4 bytes after the one before
 abbrev pub from_place : ℕ → List AArch64Relocation → List Step
@@ -242,20 +246,14 @@ GotMoves =
     × GotMove names.R_AARCH64_TLSDESC_OFF_G1 (names.R_AARCH64_TLSDESC_OFF_G0_NC ∷ [])
 
 -- offsets of TLS
-abbrev pub OffsetMoves : (g2 g1 g1_nc g0 g0_nc : AArch64Relocation) → Type 0
-OffsetMoves g2 g1 g1_nc g0 g0_nc =
-    SignedMove tls_base symbol_address g0 []
-    × SignedMove tls_base symbol_address g1 (g0_nc ∷ [])
-    × SignedMove tls_base symbol_address g2 (g1_nc ∷ g0_nc ∷ [])
-
 abbrev pub ThreadMoves : Type 0
 ThreadMoves =
-    OffsetMoves names.R_AARCH64_TLSLE_MOVW_TPREL_G2 names.R_AARCH64_TLSLE_MOVW_TPREL_G1
-    names.R_AARCH64_TLSLE_MOVW_TPREL_G1_NC names.R_AARCH64_TLSLE_MOVW_TPREL_G0
-    names.R_AARCH64_TLSLE_MOVW_TPREL_G0_NC
-    × OffsetMoves names.R_AARCH64_TLSLD_MOVW_DTPREL_G2 names.R_AARCH64_TLSLD_MOVW_DTPREL_G1
-    names.R_AARCH64_TLSLD_MOVW_DTPREL_G1_NC names.R_AARCH64_TLSLD_MOVW_DTPREL_G0
-    names.R_AARCH64_TLSLD_MOVW_DTPREL_G0_NC
+    OfThree (SignedMove tls_base symbol_address) names.R_AARCH64_TLSLE_MOVW_TPREL_G2
+    names.R_AARCH64_TLSLE_MOVW_TPREL_G1 names.R_AARCH64_TLSLE_MOVW_TPREL_G1_NC
+    names.R_AARCH64_TLSLE_MOVW_TPREL_G0 names.R_AARCH64_TLSLE_MOVW_TPREL_G0_NC
+    × OfThree (SignedMove tls_base symbol_address) names.R_AARCH64_TLSLD_MOVW_DTPREL_G2
+    names.R_AARCH64_TLSLD_MOVW_DTPREL_G1 names.R_AARCH64_TLSLD_MOVW_DTPREL_G1_NC
+    names.R_AARCH64_TLSLD_MOVW_DTPREL_G0 names.R_AARCH64_TLSLD_MOVW_DTPREL_G0_NC
 
 -- ---- fields of data
 

@@ -449,12 +449,6 @@ CallTo n result name after before made =
     → k.registers 13 ≡ same → NewHas c k s 3 (λ x. x ≡ number) → Stands n c.new s.pc made
     → Group (of_link (link c)) n k s k' s'
 
-abbrev pub add_block : ℕ → ℕ → ℕ
-add_block number thread = sum_64 number 0x1000
-
-abbrev pub keep_number : ℕ → ℕ → ℕ
-keep_number number thread = number
-
 -- ---- prefixed instructions
 
 -- Two words of 32 bits are of a sort.
@@ -647,7 +641,7 @@ law_of names.R_PPC64_GOT_TLSGD_PCREL34 kinds.PaddiToPaddiThread =
     (MakesVariable (λ o s number. number ≡ o.got_entry))
 law_of names.R_PPC64_GOT_TLSGD_PCREL34 kinds.PaddiToPld =
     law (both is_pla) (applied names.R_PPC64_GOT_TPREL_PCREL34) ArgumentToLoad
-law_of names.R_PPC64_TLSGD kinds.BranchToNop = law any none (CallTo 1 keep_number)
+law_of names.R_PPC64_TLSGD kinds.BranchToNop = law any none (CallTo 1 (λ number thread. number))
 law_of names.R_PPC64_TLSGD kinds.BranchToAdd = law any none (CallTo 1 sum_64)
 law_of names.R_PPC64_TLSGD kinds.CallToAddi =
     law any (to_second names.R_PPC64_TPREL16_LO) CallToLowHalf
@@ -660,8 +654,9 @@ law_of names.R_PPC64_GOT_TLSLD16_LO kinds.AddiToAddisThread =
 law_of names.R_PPC64_GOT_TLSLD16 kinds.AddiToAddisThread = law (word is_addi) none ArgumentToThread
 law_of names.R_PPC64_GOT_TLSLD_PCREL34 kinds.PaddiToPaddi4096 =
     law (both is_pla) none ArgumentToBlock
-law_of names.R_PPC64_TLSLD kinds.BranchToNop = law any none (CallTo 1 keep_number)
-law_of names.R_PPC64_TLSLD kinds.CallToAddi4096 = law any none (CallTo 2 add_block)
+law_of names.R_PPC64_TLSLD kinds.BranchToNop = law any none (CallTo 1 (λ number thread. number))
+law_of names.R_PPC64_TLSLD kinds.CallToAddi4096 =
+    law any none (CallTo 2 (λ number thread. sum_64 number 0x1000))
 -- nothing else is rewritten
 law_of name kind = law none_at_all none (λ name after before made. ⊥)
 

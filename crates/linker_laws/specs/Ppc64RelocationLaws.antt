@@ -92,50 +92,42 @@ RelativeAddresses =
 abbrev pub upper_parts : ℕ → ℕ → ℕ → ℕ
 upper_parts x y z = 2 ^ 48 * field x 0 16 + 2 ^ 32 * field y 0 16 + 2 ^ 16 * field z 0 16
 
--- with an `ori`, which takes the low half without a sign
-abbrev pub unadjusted_quarters : (Operands → ℕ) → Operands → ℕ → ℕ → ℕ → ℕ → ℤ
-unadjusted_quarters begin o x y z u = pos (begin o + upper_parts x y z) +ℤ pos (field u 0 16)
+-- what is read of the low half, added to them
+abbrev pub by_quarters : (Operands → ℕ) → (ℕ → ℤ) → Operands → ℕ → ℕ → ℕ → ℕ → ℤ
+by_quarters begin reads o x y z u = pos (begin o + upper_parts x y z) +ℤ reads u
 
-abbrev pub Quarters : (Operands → ℕ) → Ppc64Relocation → Ppc64Relocation → Ppc64Relocation
-    → Ppc64Relocation → (Operands → ℕ) → Type 0
-Quarters begin highest higher high low target =
+abbrev pub Quarters : (Operands → ℕ) → (highest higher high low : Ppc64Relocation) → (ℕ → ℤ)
+    → (Operands → ℕ) → Type 0
+Quarters begin highest higher high low reads target =
     Law
     (here (ppc64_row highest) ∷ anywhere (ppc64_row higher) ∷ anywhere (ppc64_row high)
     ∷ anywhere (ppc64_row low) ∷ [])
-    (unadjusted_quarters begin) target
+    (by_quarters begin reads) target
 
--- with an instruction that adds the low half in two's complement
-abbrev pub adjusted_quarters : (Operands → ℕ) → Ppc64Form → Operands → ℕ → ℕ → ℕ → ℕ → ℤ
-adjusted_quarters begin f o x y z u = pos (begin o + upper_parts x y z) +ℤ ppc64_reads f u
-
-abbrev pub AdjustedQuarters : (Operands → ℕ) → Ppc64Relocation → Ppc64Relocation → Ppc64Relocation
-    → Ppc64Relocation → Ppc64Form → (Operands → ℕ) → Type 0
-AdjustedQuarters begin highest higher high low f target =
-    Law
-    (here (ppc64_row highest) ∷ anywhere (ppc64_row higher) ∷ anywhere (ppc64_row high)
-    ∷ anywhere (ppc64_row low) ∷ [])
-    (adjusted_quarters begin f) target
+-- An `ori` takes the low half without a sign, and another instruction adds it in two's complement.
+abbrev pub low_half : ℕ → ℤ
+low_half u = pos (field u 0 16)
 
 abbrev pub FarAddresses : Type 0
 FarAddresses =
     Quarters zero names.R_PPC64_ADDR16_HIGHEST names.R_PPC64_ADDR16_HIGHER
-    names.R_PPC64_ADDR16_HIGH names.R_PPC64_ADDR16_LO symbol_address
-    × AdjustedQuarters zero names.R_PPC64_ADDR16_HIGHESTA names.R_PPC64_ADDR16_HIGHERA
-    names.R_PPC64_ADDR16_HIGHA names.R_PPC64_ADDR16_LO D symbol_address
-    × AdjustedQuarters zero names.R_PPC64_ADDR16_HIGHESTA names.R_PPC64_ADDR16_HIGHERA
-    names.R_PPC64_ADDR16_HIGHA names.R_PPC64_ADDR16_LO_DS Ds symbol_address
+    names.R_PPC64_ADDR16_HIGH names.R_PPC64_ADDR16_LO low_half symbol_address
+    × Quarters zero names.R_PPC64_ADDR16_HIGHESTA names.R_PPC64_ADDR16_HIGHERA
+    names.R_PPC64_ADDR16_HIGHA names.R_PPC64_ADDR16_LO (ppc64_reads D) symbol_address
+    × Quarters zero names.R_PPC64_ADDR16_HIGHESTA names.R_PPC64_ADDR16_HIGHERA
+    names.R_PPC64_ADDR16_HIGHA names.R_PPC64_ADDR16_LO_DS (ppc64_reads Ds) symbol_address
     × Quarters tls_base names.R_PPC64_TPREL16_HIGHEST names.R_PPC64_TPREL16_HIGHER
-    names.R_PPC64_TPREL16_HIGH names.R_PPC64_TPREL16_LO symbol_address
-    × AdjustedQuarters tls_base names.R_PPC64_TPREL16_HIGHESTA names.R_PPC64_TPREL16_HIGHERA
-    names.R_PPC64_TPREL16_HIGHA names.R_PPC64_TPREL16_LO D symbol_address
-    × AdjustedQuarters tls_base names.R_PPC64_TPREL16_HIGHESTA names.R_PPC64_TPREL16_HIGHERA
-    names.R_PPC64_TPREL16_HIGHA names.R_PPC64_TPREL16_LO_DS Ds symbol_address
+    names.R_PPC64_TPREL16_HIGH names.R_PPC64_TPREL16_LO low_half symbol_address
+    × Quarters tls_base names.R_PPC64_TPREL16_HIGHESTA names.R_PPC64_TPREL16_HIGHERA
+    names.R_PPC64_TPREL16_HIGHA names.R_PPC64_TPREL16_LO (ppc64_reads D) symbol_address
+    × Quarters tls_base names.R_PPC64_TPREL16_HIGHESTA names.R_PPC64_TPREL16_HIGHERA
+    names.R_PPC64_TPREL16_HIGHA names.R_PPC64_TPREL16_LO_DS (ppc64_reads Ds) symbol_address
     × Quarters tls_base names.R_PPC64_DTPREL16_HIGHEST names.R_PPC64_DTPREL16_HIGHER
-    names.R_PPC64_DTPREL16_HIGH names.R_PPC64_DTPREL16_LO symbol_address
-    × AdjustedQuarters tls_base names.R_PPC64_DTPREL16_HIGHESTA names.R_PPC64_DTPREL16_HIGHERA
-    names.R_PPC64_DTPREL16_HIGHA names.R_PPC64_DTPREL16_LO D symbol_address
-    × AdjustedQuarters tls_base names.R_PPC64_DTPREL16_HIGHESTA names.R_PPC64_DTPREL16_HIGHERA
-    names.R_PPC64_DTPREL16_HIGHA names.R_PPC64_DTPREL16_LO_DS Ds symbol_address
+    names.R_PPC64_DTPREL16_HIGH names.R_PPC64_DTPREL16_LO low_half symbol_address
+    × Quarters tls_base names.R_PPC64_DTPREL16_HIGHESTA names.R_PPC64_DTPREL16_HIGHERA
+    names.R_PPC64_DTPREL16_HIGHA names.R_PPC64_DTPREL16_LO (ppc64_reads D) symbol_address
+    × Quarters tls_base names.R_PPC64_DTPREL16_HIGHESTA names.R_PPC64_DTPREL16_HIGHERA
+    names.R_PPC64_DTPREL16_HIGHA names.R_PPC64_DTPREL16_LO_DS (ppc64_reads Ds) symbol_address
 
 -- ---- one instruction
 

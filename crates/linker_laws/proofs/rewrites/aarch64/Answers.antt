@@ -1,5 +1,5 @@
 -- The laws of AArch64.
-use Rattle.linker_laws.proofs.Imports.{AddToAdr, AdrpAddToNopAdr, AdrpToAdr, AdrpX0, BeginsRewrittenAt, LdrToAdd, LdrToAdr, LdrX0, List, MovkX0, MovkXn, MovzX0Lsl16, MovzXnLsl16, NoOp, ReplaceWithNop, Rewrite, Some, ap, append_assoc, arith, drop, drop-append_seam, length, length-take-le, place_sum, refl, rewrite_window, subst, take, take-append_seam, ℕ, ◌++◌, ◌+◌, ◌-◌, ◌∙◌, ◌≡◌}
+use Rattle.linker_laws.proofs.Imports.{AddToAdr, AdrpAddToNopAdr, AdrpToAdr, AdrpX0, BeginsRewrittenAt, LdrToAdd, LdrToAdr, LdrX0, List, MovkX0, MovkXn, MovzX0Lsl16, MovzXnLsl16, NoOp, ReplaceWithNop, Rewrite, Some, ap, append_assoc, arith, drop, drop-append_seam, length, length-take-le, refl, rewrite_window, subst, take, take-append_seam, ℕ, ◌++◌, ◌+◌, ◌-◌, ◌∙◌, ◌≡◌}
 use Rattle.linker_laws.specs.AArch64Groups as aarch64_laws
 use Rattle.linker_laws.proofs.rewrites.aarch64.Goals as goal
 
