@@ -1,6 +1,6 @@
 -- What two relocations of one place leave there.
 use Rattle.linker_laws.proofs.Imports.{AbsoluteAddition, AbsoluteAdditionWord6, AbsoluteSet, AbsoluteSetWord6, AbsoluteSubtraction, AbsoluteSubtractionWord6, AllowedRange, Bool, IsAddress, IsApplied, List, Operands, Option, PageMask, RowInfo, Some, ap, arith, cases_lt, cast_negative, cast_signed, cast_unsigned, difference_64, field, inl, inr, int_rem_euclid, ints, mod_mod, negsuc, number_of_bytes, pos, refl, rem_rem, suc, sum_64, sym, symbol_address, to_z_pos, unsigned_abs, value_of, w64, zero, zero-add, ℕ, ◌%◌, ◌*◌, ◌+ℤ◌, ◌+◌, ◌-ℤ◌, ◌-◌, ◌<◌, ◌^◌, ◌∙◌, ◌≡◌, ◌≤◌}
-use Rattle.linker_laws.specs.Differences.{AddsDistance, AddsDistance6, SetsDistance, SetsDistance6}
+use Rattle.linker_laws.specs.Schemes.{AddsDistance, AddsDistance6, SetsDistance, SetsDistance6}
 use Rattle.linker_laws.proofs.Fields.{bytes_of, held}
 use Rattle.linker_laws.proofs.Instructions.{absolute}
 use Rattle.linker_laws.proofs.Sums.{goes, cast_low, lifted_is, sum_below}

@@ -2,7 +2,7 @@
 use Rattle.linker_laws.proofs.Imports.{AreAddresses, D, Ds, IsRelocated, List, Operands, Ppc64Relocation, Some, addis_of_thread, ap, arith, cond-false, consecutive_bits_sum, eqb, ints, moved, ne_eqb, opcode_of, place_sum, pos, ppc64_form, ra_of, refl, replaced, rt_of, signed, sum_64, symbol_address, thread_offset, word_of, ℕ, ℤ, ◌%◌, ◌*ℤ◌, ◌*◌, ◌+ℤ◌, ◌+◌, ◌/◌, ◌<◌, ◌^◌, ◌∙◌, ◌≡◌, ◌≢◌}
 use Rattle.linker_elf.specs.declared.ppc64.relocations.Ppc64Relocation.TheVariants as names
 use Rattle.linker_laws.specs.Ppc64RelocationLaws as relocation_laws
-use Rattle.linker_laws.specs.Ppc64Groups as laws
+use Rattle.linker_laws.specs.Ppc64Groups as groups
 use Rattle.linker_laws.specs.Ppc64Machine.{State, Formats, base, step, go_on}
 use Rattle.linker_laws.proofs.Ppc64Words.{HasParts, sum_from}
 use Rattle.linker_laws.proofs.Sums.{sum_below, wrapped_is}
@@ -34,8 +34,8 @@ High name address Low =
     → Low o (moved n ((ppc64_form D).machine (word_of after) *ℤ pos (2 ^ 16))) (address o n)
 
 pub toc_leads : relocation_laws.TocAddresses
-    → High names.R_PPC64_TOC16_HA laws.from_toc
-    (λ o n a. laws.Leads names.R_PPC64_TOC16_LO D o n a × laws.Leads names.R_PPC64_TOC16_LO_DS Ds o n a)
+    → High names.R_PPC64_TOC16_HA groups.from_toc
+    (λ o n a. groups.Leads names.R_PPC64_TOC16_LO D o n a × groups.Leads names.R_PPC64_TOC16_LO_DS Ds o n a)
 toc_leads toc o small n addis after a = (
   λ there insn over l. sum_from o.got_base (symbol_address o) n _ _ small.got_base (sum_below o.symbol _)
       (toc.0 o small o.place addis after a tt there insn over l tt),
@@ -44,25 +44,25 @@ toc_leads toc o small n addis after a = (
 )
 
 pub got_leads : relocation_laws.GotAddresses
-    → High names.R_PPC64_GOT16_HA laws.entry_from_toc (laws.Leads names.R_PPC64_GOT16_LO_DS Ds)
+    → High names.R_PPC64_GOT16_HA groups.entry_from_toc (groups.Leads names.R_PPC64_GOT16_LO_DS Ds)
 got_leads got o small n addis after a there insn over l =
     sum_from o.got_base o.got_entry n _ _ small.got_base small.got_entry
     (got.0 o small o.place addis after a tt there insn over l tt)
 
 pub offset_leads : relocation_laws.EntryAddresses
-    → High names.R_PPC64_GOT_TPREL16_HA laws.entry_from_toc (laws.Leads names.R_PPC64_GOT_TPREL16_LO_DS Ds)
+    → High names.R_PPC64_GOT_TPREL16_HA groups.entry_from_toc (groups.Leads names.R_PPC64_GOT_TPREL16_LO_DS Ds)
 offset_leads entries o small n addis after a there insn over l =
     sum_from o.got_base o.got_entry n _ _ small.got_base small.got_entry
     (entries.0 o small o.place addis after a tt there insn over l tt)
 
 pub general_leads : relocation_laws.EntryAddresses
-    → High names.R_PPC64_GOT_TLSGD16_HA laws.entry_from_toc (laws.Leads names.R_PPC64_GOT_TLSGD16_LO D)
+    → High names.R_PPC64_GOT_TLSGD16_HA groups.entry_from_toc (groups.Leads names.R_PPC64_GOT_TLSGD16_LO D)
 general_leads entries o small n addis after a there insn over l =
     sum_from o.got_base o.got_entry n _ _ small.got_base small.got_entry
     (entries.1 o small o.place addis after a tt there insn over l tt)
 
 pub module_leads : relocation_laws.EntryAddresses
-    → High names.R_PPC64_GOT_TLSLD16_HA laws.entry_from_toc (laws.Leads names.R_PPC64_GOT_TLSLD16_LO D)
+    → High names.R_PPC64_GOT_TLSLD16_HA groups.entry_from_toc (groups.Leads names.R_PPC64_GOT_TLSLD16_LO D)
 module_leads entries o small n addis after a there insn over l =
     sum_from o.got_base o.got_entry n _ _ small.got_base small.got_entry
     (entries.2 o small o.place addis after a tt there insn over l tt)
@@ -71,8 +71,8 @@ module_leads entries o small n addis after a there insn over l =
 
 -- the low halves lead to the variable from what it leaves
 pub thread_halves : relocation_laws.ThreadAddresses → (o : Operands) → AreAddresses o → (n : ℕ) (addis after : List ℕ)
-    → laws.IsRelocated names.R_PPC64_TPREL16_HA o addis after
-    → laws.LowHalfLeads o (moved n ((ppc64_form D).machine (word_of after) *ℤ pos (2 ^ 16))) (sum_64 (thread_offset o) n)
+    → groups.IsRelocated names.R_PPC64_TPREL16_HA o addis after
+    → groups.LowHalfLeads o (moved n ((ppc64_form D).machine (word_of after) *ℤ pos (2 ^ 16))) (sum_64 (thread_offset o) n)
 thread_halves thread o small n addis after a = (
   λ there insn over d. sum_from o.tls_base (symbol_address o) n _ _ small.tls_base (sum_below o.symbol _)
       (thread.0 o small o.place addis after a tt there insn over d tt),

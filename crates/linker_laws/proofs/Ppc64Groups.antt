@@ -6,7 +6,6 @@ use Rattle.linker_laws.specs.Ppc64Groups.{AreHalves, Code, Has, Leaves, Processo
 use Rattle.linker_laws.specs.Ppc64Machine as ppc64_machine
 use Rattle.linker_laws.specs.Ppc64Machine.{Formats, base, by_opcode, go_on, shifted_sum, step, step_prefixed, write}
 use Rattle.linker_laws.specs.Ppc64RelocationLaws as relocation_laws
-use Rattle.linker_laws.specs.Ppc64Groups as laws
 use Rattle.linker_laws.proofs.AArch64Pairs.{word_is, word_made}
 use Rattle.linker_laws.proofs.Agreement.{agree_go, agree_put, agree_put_old, both_true, group_of, last_counts, others_agree, unchanged as nothing_changes, value_group}
 use Rattle.linker_laws.proofs.CoveredRuns.{holds_of, run_first}
@@ -286,7 +285,7 @@ ld_sets f low o s ld ld_of rt ra number keeps parts zero some a takes =
 -- a sum with a low half
 addi_sets : (f : Formats) (low : Ppc64Relocation) (o : Operands) (s : State) (addi addi_of : List ℕ) (rt ra number : ℕ)
     → Keeps low → HasParts 14 rt ra (word_of addi) → ra ≢ 0 → IsRelocated low o addi addi_of
-    → laws.Leads low D o (s.registers ra) number → step f (word_of addi_of) (seen s) ≡ Some (set rt number (seen s))
+    → groups.Leads low D o (s.registers ra) number → step f (word_of addi_of) (seen s) ≡ Some (set rt number (seen s))
 addi_sets f low o s addi addi_of rt ra number keeps parts some a leads =
     let w = word_of addi_of in
     step_addi f w rt ra (seen s) (same_parts parts.opcode_is parts.rt_is parts.ra_is (keeps o addi addi_of a))
@@ -333,8 +332,8 @@ uses c how word address k s x y old new first second k' keeps =
 
 -- A sum keeps agreement.
 pub sum_keeps : (c : Code) (k : Kinds) (s t : State) (test : ℕ → Bool) (word address : ℕ) → Agree (link c) k s t
-    → Agree (link c) (with_register (rt_of word) same k) (used c.processor (laws.adds test) word address s)
-    (used c.processor (laws.adds test) word address t)
+    → Agree (link c) (with_register (rt_of word) same k) (used c.processor (groups.adds test) word address s)
+    (used c.processor (groups.adds test) word address t)
 sum_keeps c k s t test word address agree =
     let r = rt_of word in
     subst₂ (Agree (link c) (with_register r same k)) (sym (wrote s r address (sum_64 s.pc 4) (below_32 word)))
@@ -763,7 +762,7 @@ are_toc call restored is made c k s old new holds =
 -- ---- all
 
 low_over : (r : ℕ) (kind : RewriteKind) {low whole : Ppc64Relocation} {address : Operands → ℕ → ℕ}
-    → OverSteps r kind low whole D address (laws.adds is_addi) → OverSteps r kind low whole D address laws.is_d_over
+    → OverSteps r kind low whole D address (groups.adds is_addi) → OverSteps r kind low whole D address groups.is_d_over
     → groups.Holds groups.any kind (groups.LowOverBase r address low whole)
 low_over r kind sum access insn over made =
     (over_base r kind _ _ _ _ _ sum insn over made, over_base r kind _ _ _ _ _ access insn over made)
@@ -779,10 +778,11 @@ branch_to_nop =
 module _ (toc : relocation_laws.TocAddresses) (entries : relocation_laws.EntryAddresses)
     (got : relocation_laws.GotAddresses) (thread : relocation_laws.ThreadAddresses)
     (prefixes : relocation_laws.Prefixes) (near : relocation_laws.Displacements) where
-  rewrites : (name : Ppc64Relocation) (kind : RewriteKind) → groups.LawHolds name kind (groups.law_of name kind)
+  rewrites : (name : Ppc64Relocation) (kind : RewriteKind)
+      → let l = groups.law_of name kind in groups.Holds l.sort kind (l.IsGroup name (groups.name_of l.left))
   rewrites names.R_PPC64_REL24 kinds.NopToRestoreToc = are_toc
   rewrites names.R_PPC64_TOC16_HA kinds.AddisToNop =
-      to_nop 2 kinds.AddisToNop names.R_PPC64_TOC16_HA laws.from_toc (λ o n a. laws.Leads names.R_PPC64_TOC16_LO D o n a × laws.Leads names.R_PPC64_TOC16_LO_DS Ds o n a)
+      to_nop 2 kinds.AddisToNop names.R_PPC64_TOC16_HA groups.from_toc (λ o n a. groups.Leads names.R_PPC64_TOC16_LO D o n a × groups.Leads names.R_PPC64_TOC16_LO_DS Ds o n a)
       (λ s. refl) (λ addis blank made. word_is nop blank (omega arith) made) (λ o x y a. d_after _ _ x y a.written) (toc_leads toc)
   rewrites names.R_PPC64_TOC16_LO kinds.BaseToToc =
       low_over 2 kinds.BaseToToc (addi_over 2 _ _ _ _ (toc_d near)) (access_over 2 _ _ _ _ (toc_d near))
@@ -792,7 +792,7 @@ module _ (toc : relocation_laws.TocAddresses) (entries : relocation_laws.EntryAd
         vector_over 2 _ _ _ _ (toc_ds near) insn over made,
       )
   rewrites names.R_PPC64_TPREL16_HA kinds.AddisThreadToNop =
-      to_nop 13 kinds.AddisThreadToNop names.R_PPC64_TPREL16_HA laws.from_thread LowHalfLeads
+      to_nop 13 kinds.AddisThreadToNop names.R_PPC64_TPREL16_HA groups.from_thread LowHalfLeads
       (λ s. refl) (λ addis blank made. word_is nop blank (omega arith) made) (λ o x y a. d_after _ _ x y a.written) (thread_halves thread)
   rewrites names.R_PPC64_TPREL16_LO kinds.BaseToThread =
       low_over 13 kinds.BaseToThread (addi_over 13 _ _ _ _ (thread_d near)) (access_over 13 _ _ _ _ (thread_d near))
@@ -803,12 +803,12 @@ module _ (toc : relocation_laws.TocAddresses) (entries : relocation_laws.EntryAd
       )
   rewrites names.R_PPC64_GOT_PCREL34 kinds.PldToPaddi = are_prefixed prefixes
   rewrites names.R_PPC64_GOT16_HA kinds.KeepAddis =
-      kept_high names.R_PPC64_GOT16_HA names.R_PPC64_TOC16_HA laws.entry_from_toc laws.from_toc
-      (laws.Leads names.R_PPC64_GOT16_LO_DS Ds) (laws.Leads names.R_PPC64_TOC16_LO D) (λ o x y a. d_after _ _ x y a.written) (λ o x y a. d_after _ _ x y a.written)
+      kept_high names.R_PPC64_GOT16_HA names.R_PPC64_TOC16_HA groups.entry_from_toc groups.from_toc
+      (groups.Leads names.R_PPC64_GOT16_LO_DS Ds) (groups.Leads names.R_PPC64_TOC16_LO D) (λ o x y a. d_after _ _ x y a.written) (λ o x y a. d_after _ _ x y a.written)
       (got_leads got) (λ o small n addis after a. (toc_leads toc o small n addis after a).0)
   rewrites names.R_PPC64_GOT16_LO_DS kinds.LdToAddi = are_loads
   rewrites names.R_PPC64_GOT_TPREL16_HA kinds.AddisToNop =
-      to_nop 2 kinds.AddisToNop names.R_PPC64_GOT_TPREL16_HA laws.entry_from_toc (laws.Leads names.R_PPC64_GOT_TPREL16_LO_DS Ds)
+      to_nop 2 kinds.AddisToNop names.R_PPC64_GOT_TPREL16_HA groups.entry_from_toc (groups.Leads names.R_PPC64_GOT_TPREL16_LO_DS Ds)
       (λ s. refl) (λ addis blank made. word_is nop blank (omega arith) made) (λ o x y a. d_after _ _ x y a.written) (offset_leads entries)
   rewrites names.R_PPC64_GOT_TPREL16_LO_DS kinds.LdToAddisThread =
       offsets thread names.R_PPC64_GOT_TPREL16_LO_DS (λ o x y a. ds_after _ _ x y a.written)
@@ -821,11 +821,11 @@ module _ (toc : relocation_laws.TocAddresses) (entries : relocation_laws.EntryAd
   rewrites names.R_PPC64_TLS kinds.AddToMove = over_variable _ _ sum_to_move
   rewrites names.R_PPC64_TLS kinds.IndexedToDirect = over_variable _ _ access_to_direct
   rewrites names.R_PPC64_GOT_TLSGD16_HA kinds.AddisToNop =
-      to_nop 2 kinds.AddisToNop names.R_PPC64_GOT_TLSGD16_HA laws.entry_from_toc (laws.Leads names.R_PPC64_GOT_TLSGD16_LO D)
+      to_nop 2 kinds.AddisToNop names.R_PPC64_GOT_TLSGD16_HA groups.entry_from_toc (groups.Leads names.R_PPC64_GOT_TLSGD16_LO D)
       (λ s. refl) (λ addis blank made. word_is nop blank (omega arith) made) (λ o x y a. d_after _ _ x y a.written) (general_leads entries)
   rewrites names.R_PPC64_GOT_TLSGD16_HA kinds.KeepAddis =
-      kept_high names.R_PPC64_GOT_TLSGD16_HA names.R_PPC64_GOT_TPREL16_HA laws.entry_from_toc laws.entry_from_toc
-      (laws.Leads names.R_PPC64_GOT_TLSGD16_LO D) (laws.Leads names.R_PPC64_GOT_TPREL16_LO_DS Ds) (λ o x y a. d_after _ _ x y a.written) (λ o x y a. d_after _ _ x y a.written)
+      kept_high names.R_PPC64_GOT_TLSGD16_HA names.R_PPC64_GOT_TPREL16_HA groups.entry_from_toc groups.entry_from_toc
+      (groups.Leads names.R_PPC64_GOT_TLSGD16_LO D) (groups.Leads names.R_PPC64_GOT_TPREL16_LO_DS Ds) (λ o x y a. d_after _ _ x y a.written) (λ o x y a. d_after _ _ x y a.written)
       (general_leads entries) (offset_leads entries)
   rewrites names.R_PPC64_GOT_TLSGD16_LO kinds.AddiToAddisThread =
       arguments thread names.R_PPC64_GOT_TLSGD16_LO (λ o x y a. d_after _ _ x y a.written)
@@ -853,7 +853,7 @@ module _ (toc : relocation_laws.TocAddresses) (entries : relocation_laws.EntryAd
       })
       adds_thread
   rewrites names.R_PPC64_GOT_TLSLD16_HA kinds.AddisToNop =
-      to_nop 2 kinds.AddisToNop names.R_PPC64_GOT_TLSLD16_HA laws.entry_from_toc (laws.Leads names.R_PPC64_GOT_TLSLD16_LO D)
+      to_nop 2 kinds.AddisToNop names.R_PPC64_GOT_TLSLD16_HA groups.entry_from_toc (groups.Leads names.R_PPC64_GOT_TLSLD16_LO D)
       (λ s. refl) (λ addis blank made. word_is nop blank (omega arith) made) (λ o x y a. d_after _ _ x y a.written) (module_leads entries)
   rewrites names.R_PPC64_GOT_TLSLD16_LO kinds.AddiToAddisThread =
       module_arguments names.R_PPC64_GOT_TLSLD16_LO (λ o x y a. d_after _ _ x y a.written)

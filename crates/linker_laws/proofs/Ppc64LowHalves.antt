@@ -4,7 +4,6 @@ use Rattle.linker_elf.specs.declared.ppc64.relocations.Ppc64Relocation.TheVarian
 use Rattle.linker_utils.specs.declared.ppc64.rewrites.RewriteKind.TheVariants as kinds
 use Rattle.linker_laws.specs.Ppc64RelocationLaws as relocation_laws
 use Rattle.linker_laws.specs.Ppc64Groups as groups
-use Rattle.linker_laws.specs.Ppc64Groups as laws
 use Rattle.linker_laws.specs.Ppc64Machine.{State, Formats, base, go_on, accessed, access_with}
 use Rattle.linker_laws.proofs.AArch64Pairs.{word_made}
 use Rattle.linker_laws.proofs.Ppc64Accesses.{step_access, d_access_parts, ds_parts, step_word}
@@ -52,9 +51,9 @@ KeepsLow name =
 
 -- The steps of instructions by a low half over any register, and of those over r.
 pub record OverSteps (r : ℕ) (kind : RewriteKind) (low whole : Ppc64Relocation) (form : Ppc64Form)
-    (address : Operands → ℕ → ℕ) (how : laws.Use) : Type 0 where
+    (address : Operands → ℕ → ℕ) (how : groups.Use) : Type 0 where
   pub old : (f : Formats) (o : Operands) (s : State) (insn insn_of : List ℕ) (target at : ℕ)
-      → how.test (word_of insn) ≡ true → laws.Leads low form o (s.registers (ra_of (word_of insn))) target
+      → how.test (word_of insn) ≡ true → groups.Leads low form o (s.registers (ra_of (word_of insn))) target
       → IsRelocated low (at_place at o) insn insn_of
       → Does f (how.does f (word_of insn) target) (word_of insn_of) s
   pub new : (f : Formats) (o : Operands) (t : State) (insn over over_of : List ℕ) → AreAddresses o
@@ -62,7 +61,7 @@ pub record OverSteps (r : ℕ) (kind : RewriteKind) (low whole : Ppc64Relocation
       → Does f (how.does f (word_of insn) (address o (t.registers r))) (word_of over_of) t
 
 pub addi_over : (r : ℕ) (kind : RewriteKind) (low whole : Ppc64Relocation) (address : Operands → ℕ → ℕ)
-    → IsOver r kind low whole D address → OverSteps r kind low whole D address (laws.adds is_addi)
+    → IsOver r kind low whole D address → OverSteps r kind low whole D address (groups.adds is_addi)
 addi_over r kind low whole address e =
     record {
       old = λ f o s insn insn_of target at is leads l.
@@ -112,7 +111,7 @@ access_over r kind low whole address e =
 
 pub word_access_over : (r : ℕ) (kind : RewriteKind) (low whole : Ppc64Relocation) (address : Operands → ℕ → ℕ)
     → IsOver r kind low whole Ds address → KeepsLow low → KeepsLow whole
-    → OverSteps r kind low whole Ds address (laws.accesses (is_over_base is_ds_access) ds_access)
+    → OverSteps r kind low whole Ds address (groups.accesses (is_over_base is_ds_access) ds_access)
 word_access_over r kind low whole address e low_bits whole_bits =
     record {
       old = λ f o s insn insn_of target at is leads l.
@@ -154,25 +153,23 @@ vector_over r kind low whole address e insn over made o s t small is leads insn_
     let parts = over_base_parts r x (word_of over) e.small (e.made insn over made) in
     let before = e.low_keeps o insn insn_of l in
     let after = e.whole_keeps o over over_of d in
-    let old : laws.address_read w s ≡ address o (t.registers r) =
+    let old : groups.address_read w s ≡ address o (t.registers r) =
     ap (λ k. moved (base k s) (ppc64_reads Ds w)) before.ra_is
     ∙ ap (λ n. moved n (ppc64_reads Ds w)) (base_some (ra_of x) s (some_of (ra_of x) both.1))
     ∙ leads o.place insn insn_of l in
-    let new : laws.address_read y t ≡ address o (t.registers r) =
+    let new : groups.address_read y t ≡ address o (t.registers r) =
     ap (λ k. moved (base k t) (ppc64_reads Ds y)) (after.ra_is ∙ parts.ra_is)
     ∙ ap (λ n. moved n (ppc64_reads Ds y)) (e.is_base t)
     ∙ e.leads o small (t.registers r) over over_of d in (
       old ∙ sym new,
-      record {
-        opcode = before.opcode_is ∙ sym (after.opcode_is ∙ parts.opcode_is);
-        register = before.rt_is ∙ sym (after.rt_is ∙ parts.rt_is);
-      },
+      before.opcode_is ∙ sym (after.opcode_is ∙ parts.opcode_is),
+      before.rt_is ∙ sym (after.rt_is ∙ parts.rt_is),
     )
 
 -- ---- near the TOC pointer and the thread pointer
 
 pub toc_d : relocation_laws.Displacements
-    → IsOver 2 kinds.BaseToToc names.R_PPC64_TOC16_LO names.R_PPC64_TOC16 D laws.from_toc
+    → IsOver 2 kinds.BaseToToc names.R_PPC64_TOC16_LO names.R_PPC64_TOC16 D groups.from_toc
 toc_d near =
     record {
       small = omega arith;
@@ -186,7 +183,7 @@ toc_d near =
     }
 
 pub toc_ds : relocation_laws.Displacements
-    → IsOver 2 kinds.BaseToToc names.R_PPC64_TOC16_LO_DS names.R_PPC64_TOC16_DS Ds laws.from_toc
+    → IsOver 2 kinds.BaseToToc names.R_PPC64_TOC16_LO_DS names.R_PPC64_TOC16_DS Ds groups.from_toc
 toc_ds near =
     record {
       small = omega arith;
@@ -200,7 +197,7 @@ toc_ds near =
     }
 
 pub thread_d : relocation_laws.Displacements
-    → IsOver 13 kinds.BaseToThread names.R_PPC64_TPREL16_LO names.R_PPC64_TPREL16 D laws.from_thread
+    → IsOver 13 kinds.BaseToThread names.R_PPC64_TPREL16_LO names.R_PPC64_TPREL16 D groups.from_thread
 thread_d near =
     record {
       small = omega arith;
@@ -214,7 +211,7 @@ thread_d near =
     }
 
 pub thread_ds : relocation_laws.Displacements
-    → IsOver 13 kinds.BaseToThread names.R_PPC64_TPREL16_LO_DS names.R_PPC64_TPREL16_DS Ds laws.from_thread
+    → IsOver 13 kinds.BaseToThread names.R_PPC64_TPREL16_LO_DS names.R_PPC64_TPREL16_DS Ds groups.from_thread
 thread_ds near =
     record {
       small = omega arith;

@@ -2,7 +2,7 @@
 use Rattle.linker_laws.proofs.Imports.{D, Ds, IsRelocated, IsRewritten, List, Operands, Ppc64Relocation, RewriteKind, Some, access_of, ap, arith, by_displacement, by_word_displacement, is_add_of_thread, is_indexed, is_indexed_word, moved, opcode_of, ppc64_form, ra_of, refl, registers_of, rt_of, sum_64, sym, true, word_of, ℕ, ◌+◌, ◌==◌, ◌∙◌, ◌≡◌}
 use Rattle.linker_utils.specs.declared.ppc64.rewrites.RewriteKind.TheVariants as kinds
 use Rattle.linker_elf.specs.declared.ppc64.relocations.Ppc64Relocation.TheVariants as names
-use Rattle.linker_laws.specs.Ppc64Groups as laws
+use Rattle.linker_laws.specs.Ppc64Groups as groups
 use Rattle.linker_laws.specs.Ppc64Machine.{State, Formats, go_on, accessed, access_with, word_access_with}
 use Rattle.linker_laws.proofs.AArch64Pairs.{word_made}
 use Rattle.linker_laws.proofs.Ppc64Accesses.{step_access, step_indexed, indexed_parts, indexed_word_parts, is_direct, step_indexed_word, below, step_word}
@@ -11,20 +11,20 @@ use Rattle.linker_laws.proofs.Ppc64Apart.{Does, base_some}
 use Rattle.linker_laws.proofs.Ppc64Words.{HasParts, d_after, ds_after, set, step_addi, step_add}
 
 -- The steps of instructions by the sum of an offset and the thread pointer.
-pub record SumSteps (how : laws.Use) : Type 0 where
+pub record SumSteps (how : groups.Use) : Type 0 where
   pub old : (f : Formats) (s : State) (insn : List ℕ) (offset : ℕ) → how.test (word_of insn) ≡ true
       → s.registers (ra_of (word_of insn)) ≡ offset
       → Does f (how.does f (word_of insn) (sum_64 offset (s.registers 13))) (word_of insn) s
 
-pub record OffsetSteps (kind : RewriteKind) (low : Ppc64Relocation) (how : laws.Use) : Type 0 where
+pub record OffsetSteps (kind : RewriteKind) (low : Ppc64Relocation) (how : groups.Use) : Type 0 where
   pub sum : SumSteps how
   pub new : (f : Formats) (o : Operands) (t : State) (insn direct direct_of : List ℕ) (target at : ℕ)
       → how.test (word_of insn) ≡ true → IsRewritten kind insn direct
-      → laws.LowHalfLeads o (t.registers (ra_of (word_of insn))) target
-      → IsRelocated low (laws.at_place at o) direct direct_of
+      → groups.LowHalfLeads o (t.registers (ra_of (word_of insn))) target
+      → IsRelocated low (groups.at_place at o) direct direct_of
       → Does f (how.does f (word_of insn) target) (word_of direct_of) t
 
-pub adds_sum : SumSteps (laws.adds is_add_of_thread)
+pub adds_sum : SumSteps (groups.adds is_add_of_thread)
 adds_sum =
     record {
       old = λ f s insn offset is has.
@@ -35,7 +35,7 @@ adds_sum =
           ∙ ap (λ n. Some (set (rt_of x) (sum_64 n (s.registers 13)) s)) has;
     }
 
-pub accesses_sum : SumSteps (laws.accesses is_indexed (λ word. access_with (access_of word)))
+pub accesses_sum : SumSteps (groups.accesses is_indexed (λ word. access_with (access_of word)))
 accesses_sum =
     record {
       old = λ f s insn offset is has.
@@ -46,7 +46,7 @@ accesses_sum =
           (base_some (ra_of x) s p.over_some ∙ has);
     }
 
-pub words_sum : SumSteps (laws.accesses is_indexed_word (λ word. word_access_with (access_of word)))
+pub words_sum : SumSteps (groups.accesses is_indexed_word (λ word. word_access_with (access_of word)))
 words_sum =
     record {
       old = λ f s insn offset is has.
@@ -57,7 +57,7 @@ words_sum =
           (base_some (ra_of x) s p.over_some ∙ has);
     }
 
-pub adds_offset : OffsetSteps kinds.AddToAddi names.R_PPC64_TPREL16_LO (laws.adds is_add_of_thread)
+pub adds_offset : OffsetSteps kinds.AddToAddi names.R_PPC64_TPREL16_LO (groups.adds is_add_of_thread)
 adds_offset =
     record {
       sum = adds_sum;
@@ -77,7 +77,7 @@ adds_offset =
     }
 
 pub accesses_offset : OffsetSteps kinds.IndexedToD names.R_PPC64_TPREL16_LO
-    (laws.accesses is_indexed (λ word. access_with (access_of word)))
+    (groups.accesses is_indexed (λ word. access_with (access_of word)))
 accesses_offset =
     record {
       sum = accesses_sum;
@@ -99,7 +99,7 @@ accesses_offset =
     }
 
 pub words_offset : OffsetSteps kinds.IndexedToDs names.R_PPC64_TPREL16_LO_DS
-    (laws.accesses is_indexed_word (λ word. word_access_with (access_of word)))
+    (groups.accesses is_indexed_word (λ word. word_access_with (access_of word)))
 words_offset =
     record {
       sum = words_sum;

@@ -4,7 +4,6 @@ use Rattle.linker_utils.specs.declared.ppc64.rewrites.RewriteKind.TheVariants as
 use Rattle.linker_elf.specs.declared.ppc64.relocations.Ppc64Relocation.TheVariants as names
 use Rattle.linker_laws.specs.Ppc64RelocationLaws as relocation_laws
 use Rattle.linker_laws.specs.Ppc64Groups as groups
-use Rattle.linker_laws.specs.Ppc64Groups as laws
 use Rattle.linker_laws.specs.Ppc64Machine.{State, Formats, base, step_prefixed, write, go_to}
 use Rattle.linker_laws.proofs.AArch64Words.{field_kept}
 use Rattle.linker_laws.proofs.Words.{back_word, two_words}
@@ -88,7 +87,7 @@ step_paddi_over f both rt ra s h =
 
 pub pld_parts : (pld : List ℕ) → word_of pld < 2 ^ 32 → word_of (drop 4 pld) < 2 ^ 32
     → is_pld (word_of pld) (word_of (drop 4 pld)) ≡ true
-    → HasPrefixedParts 0x104 57 (laws.prefixed_target pld) 0 (prefixed_of pld)
+    → HasPrefixedParts 0x104 57 (groups.prefixed_target pld) 0 (prefixed_of pld)
 pld_parts pld low high is =
     let w = word_of (drop 4 pld) in
     let first = and_parts (field (word_of pld) 18 32 == 0x104 && opcode_of w == 57) (ra_of w == 0) is in
@@ -98,11 +97,11 @@ pld_parts pld low high is =
 
 -- `pld rT` of the GOT entry
 pub pld_sets : relocation_laws.Prefixes → (f : Formats) (o : Operands) (s : State) (pld pld_of : List ℕ) (number : ℕ)
-    → AreAddresses o → s.pc ≡ o.place → groups.IsPrefixed is_pld pld → laws.IsRelocated names.R_PPC64_GOT_PCREL34 o pld pld_of
+    → AreAddresses o → s.pc ≡ o.place → groups.IsPrefixed is_pld pld → groups.IsRelocated names.R_PPC64_GOT_PCREL34 o pld pld_of
     → loaded 8 s.memory o.got_entry ≡ number
-    → step_prefixed f (prefixed_of pld_of) s ≡ Some (set_8 (laws.prefixed_target pld) number s)
+    → step_prefixed f (prefixed_of pld_of) s ≡ Some (set_8 (groups.prefixed_target pld) number s)
 pld_sets prefixes f o s pld pld_of number small at p a holds =
-    let rt = laws.prefixed_target pld in
+    let rt = groups.prefixed_target pld in
     let x = prefixed_of pld_of in
     let m = (ppc64_form Prefixed).machine x in
     step_pld f x rt s
@@ -112,10 +111,10 @@ pld_sets prefixes f o s pld pld_of number small at p a holds =
     (ap (λ t. moved t m) at ∙ times_one o.place m ∙ address_is _ _ (prefixes.1 o small o.place pld pld_of a tt))
     ∙ holds)
 
-pub paddi_parts : (pld paddi : List ℕ) → laws.IsRewritten kinds.PldToPaddi pld paddi
-    → HasPrefixedParts 0x184 14 (laws.prefixed_target pld) 0 (prefixed_of paddi)
+pub paddi_parts : (pld paddi : List ℕ) → groups.IsRewritten kinds.PldToPaddi pld paddi
+    → HasPrefixedParts 0x184 14 (groups.prefixed_target pld) 0 (prefixed_of paddi)
 paddi_parts pld paddi made =
-    let rt = laws.prefixed_target pld in
+    let rt = groups.prefixed_target pld in
     let turned : li_of rt < 2 ^ 32 = omega arith in
     let made_words = made ∙ ap (λ w. both_words 0x06100000 (li_of (rt_of w))) (back_word pld) in
     let p1 = first_made paddi 0x06100000 (li_of rt) (omega arith) turned made_words in
@@ -126,11 +125,11 @@ paddi_parts pld paddi made =
 
 -- `paddi rT` of the address
 pub paddi_sets : relocation_laws.Prefixes → (f : Formats) (o : Operands) (s : State) (pld paddi paddi_of : List ℕ)
-    → AreAddresses o → s.pc ≡ o.place → laws.IsRewritten kinds.PldToPaddi pld paddi
-    → laws.IsRelocated names.R_PPC64_PCREL34 o paddi paddi_of
-    → step_prefixed f (prefixed_of paddi_of) s ≡ Some (set_8 (laws.prefixed_target pld) (symbol_address o) s)
+    → AreAddresses o → s.pc ≡ o.place → groups.IsRewritten kinds.PldToPaddi pld paddi
+    → groups.IsRelocated names.R_PPC64_PCREL34 o paddi paddi_of
+    → step_prefixed f (prefixed_of paddi_of) s ≡ Some (set_8 (groups.prefixed_target pld) (symbol_address o) s)
 paddi_sets prefixes f o s pld paddi paddi_of small at made a =
-    let rt = laws.prefixed_target pld in
+    let rt = groups.prefixed_target pld in
     let m = (ppc64_form Prefixed).machine (prefixed_of paddi_of) in
     step_paddi f (prefixed_of paddi_of) rt s
     (prefixed_after _ _ paddi paddi_of 0x184 14 rt 0 a.written (paddi_parts pld paddi made))

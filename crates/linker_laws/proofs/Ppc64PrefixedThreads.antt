@@ -7,7 +7,7 @@ use Rattle.linker_utils.specs.declared.ppc64.rewrites.RewriteKind.TheVariants as
 use Rattle.linker_laws.specs.Ppc64Machine.{State, Formats, Access, accessed, access_with, write, by_opcode, execute, go_on, step, word_access_with}
 use Rattle.linker_laws.specs.Ppc64RelocationLaws as relocation_laws
 use Rattle.linker_laws.specs.Ppc64Groups.{adds}
-use Rattle.linker_laws.specs.Ppc64Groups as laws
+use Rattle.linker_laws.specs.Ppc64Groups as groups
 use Rattle.linker_laws.proofs.AArch64Pairs.{word_made}
 use Rattle.linker_laws.proofs.Ppc64Accesses.{step_access, indexed_parts, below, indexed_word_parts, is_direct, step_word}
 use Rattle.linker_laws.proofs.Ppc64Apart.{Does, base_some}
@@ -24,7 +24,7 @@ use Rattle.linker_laws.proofs.Sums.{sum_below, wrapped_is}
 
 pub pla_parts : (paddi : List ℕ) → word_of paddi < 2 ^ 32 → word_of (drop 4 paddi) < 2 ^ 32
     → is_pla (word_of paddi) (word_of (drop 4 paddi)) ≡ true
-    → HasPrefixedParts 0x184 14 (laws.prefixed_target paddi) 0 (prefixed_of paddi)
+    → HasPrefixedParts 0x184 14 (groups.prefixed_target paddi) 0 (prefixed_of paddi)
 pla_parts paddi low high is =
     let w = word_of (drop 4 paddi) in
     let first = and_parts (field (word_of paddi) 18 32 == 0x184 && opcode_of w == 14) (ra_of w == 0) is in
@@ -47,9 +47,9 @@ pub record IsOverThread (n : ℕ) (rt : ℕ) (over : List ℕ) : Type 0 where
 
 pub over_thread : (n : ℕ) (before over : List ℕ) → n < 2 ^ 16
     → take 8 over ≡ both_words 0x06000000 (addi_of_thread n (rt_of (word_of (drop 4 (take 8 before)))))
-    → IsOverThread n (laws.prefixed_target before) over
+    → IsOverThread n (groups.prefixed_target before) over
 over_thread n before over small made =
-    let rt = laws.prefixed_target before in
+    let rt = groups.prefixed_target before in
     let register : rt < 32 = omega arith in
     let word : addi_of_thread n rt < 2 ^ 32 = omega (arith, small, register) in
     let is = made_words over 0x06000000 (addi_of_thread n rt) (omega arith) word
@@ -62,9 +62,9 @@ over_thread n before over small made =
 
 pub loads_thread : (before pld : List ℕ)
     → take 8 pld ≡ both_words 0x04100000 (ld_of (rt_of (word_of (drop 4 (take 8 before)))))
-    → HasPrefixedParts 0x104 57 (laws.prefixed_target before) 0 (prefixed_of pld)
+    → HasPrefixedParts 0x104 57 (groups.prefixed_target before) 0 (prefixed_of pld)
 loads_thread before pld made =
-    let rt = laws.prefixed_target before in
+    let rt = groups.prefixed_target before in
     let register : rt < 32 = omega arith in
     let word : ld_of rt < 2 ^ 32 = omega (arith, register) in
     let is = made_words pld 0x04100000 (ld_of rt) (omega arith) word
@@ -142,10 +142,10 @@ kept n v t is = λ i. record t { registers = λ m. by m i }
     ]
 
 -- The steps of instructions that become the same without the thread pointer.
-pub record VariableSteps (kind : RewriteKind) (how : laws.Use) : Type 0 where
+pub record VariableSteps (kind : RewriteKind) (how : groups.Use) : Type 0 where
   pub sum : SumSteps how
   pub new : (f : Formats) (t : State) (insn direct : List ℕ) (a b : ℕ) → how.test (word_of insn) ≡ true
-      → laws.IsRewritten kind insn direct → t.registers (ra_of (word_of insn)) ≡ sum_64 a b
+      → groups.IsRewritten kind insn direct → t.registers (ra_of (word_of insn)) ≡ sum_64 a b
       → Does f (how.does f (word_of insn) (sum_64 a b)) (word_of direct) t
 
 pub sum_to_move : VariableSteps kinds.AddToMove (adds is_add_of_thread)
@@ -155,7 +155,7 @@ sum_to_move =
       new = λ f t insn direct a b is made has. by f t insn direct (sum_64 a b) made has;
     }
   where
-    by : (f : Formats) (t : State) (insn direct : List ℕ) (target : ℕ) → laws.IsRewritten kinds.AddToMove insn direct
+    by : (f : Formats) (t : State) (insn direct : List ℕ) (target : ℕ) → groups.IsRewritten kinds.AddToMove insn direct
         → t.registers (ra_of (word_of insn)) ≡ target
         → step f (word_of direct) t ≡ Some (set (rt_of (word_of insn)) target t)
     by f t insn direct target made has =
@@ -222,16 +222,16 @@ module _ (f : Formats) (insn : List ℕ) where
   abbrev n : ℕ
   n = access_of x
 
-  is_short : is_indexed x ≡ true → laws.indexed_access x ≡ access_with n
+  is_short : is_indexed x ≡ true → groups.indexed_access x ≡ access_with n
   is_short is = cond-true (field x 0 6 == 0x2e) (access_with n) (word_access_with n) (eq-eqb _ _ (indexed_parts x is).low)
 
-  is_whole : is_indexed_word x ≡ true → laws.indexed_access x ≡ word_access_with n
+  is_whole : is_indexed_word x ≡ true → groups.indexed_access x ≡ word_access_with n
   is_whole is =
       cond-false (field x 0 6 == 0x2e) (access_with n) (word_access_with n)
       (ap (λ k. k == 0x2e) (indexed_word_parts x is).low)
 
-  of_access : (a : Access) (y address : ℕ) (s : State) → laws.indexed_access x ≡ a
-      → Does f (accessed f a (rt_of x) address) y s → Does f (accessed f (laws.indexed_access x) (rt_of x) address) y s
+  of_access : (a : Access) (y address : ℕ) (s : State) → groups.indexed_access x ≡ a
+      → Does f (accessed f a (rt_of x) address) y s → Does f (accessed f (groups.indexed_access x) (rt_of x) address) y s
   of_access a y address s is goes = subst (λ b. Does f (accessed f b (rt_of x) address) y s) (sym is) goes
 
   module _ (new : List ℕ) (t : State) (a b : ℕ) (made : word_of new ≡ direct x)
@@ -266,7 +266,7 @@ module _ (f : Formats) (insn : List ℕ) where
         ∙ nothing_added a b ((ppc64_form Ds).machine y)
         (no_word_displacement y (whole_words x y (n == 4) (n == 10) word)))
 
-pub access_to_direct : VariableSteps kinds.IndexedToDirect (accesses is_indexed_any laws.indexed_access)
+pub access_to_direct : VariableSteps kinds.IndexedToDirect (accesses is_indexed_any groups.indexed_access)
 access_to_direct =
     record {
       sum = record {

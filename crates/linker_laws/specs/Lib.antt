@@ -4,7 +4,6 @@ pub mod AArch64Machine
 pub mod AArch64RelocationLaws
 pub mod Chains
 pub mod Changes
-pub mod Differences
 pub mod Imports
 pub mod LoongArchGroups
 pub mod LoongArchGroupsWorked

@@ -8,10 +8,10 @@ use Rattle.linker_elf.specs.declared.loongarch64.relocations.LoongArch64Relocati
 use Rattle.linker_elf.specs.declared.elf.Sign.TheVariants.{Signed}
 use Rattle.linker_elf.specs.declared.loongarch64.forms.LoongArch64Instruction.{LoongArch64Instruction}
 use Rattle.linker_elf.specs.declared.loongarch64.relocations.LoongArch64Relocation.TheVariants as names
-use Rattle.linker_laws.specs.Differences.{AddsDistance, AddsDistance6}
-use Rattle.linker_laws.specs.Schemes.{HoldsDistance, without_low, Step, here, anywhere, next}
-use Rattle.linker_laws.specs.Schemes.{of_bits, of_words, Law, Adds, symbol_address, plt_address}
-use Rattle.linker_laws.specs.Schemes.{entry_and_addend, zero, place, tls_base}
+use Rattle.linker_laws.specs.Schemes.{Adds, AddsDistance, AddsDistance6, HoldsDistance, Law, Step}
+use Rattle.linker_laws.specs.Schemes.{anywhere, entry_and_addend, here, next, of_bits, of_words}
+use Rattle.linker_laws.specs.Schemes.{place, plt_address, symbol_address, tls_base, without_low}
+use Rattle.linker_laws.specs.Schemes.{zero}
 
 abbrev pub row_here : LoongArch64Relocation → Step
 row_here name = here (loongarch_row name)

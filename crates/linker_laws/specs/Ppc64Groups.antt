@@ -1,8 +1,8 @@
 -- PowerPC64: rewritten instructions are groups of the simulation, each by itself, whatever stands
 -- before it. No code moves.
 use Rattle.std.specs.Prelude.{◌≡◌, ℕ, zero, suc, ◌+◌, ◌-◌, ◌*◌, ◌^◌, ◌<◌, ◌==◌, ◌&&◌, not, nat_lt}
-use Rattle.std.specs.Prelude.{Bool, if◌then◌else◌, List, drop, Option, Some, None, IsTrue, IsSomeAnd}
-use Rattle.std.specs.Prelude.{⊤}
+use Rattle.std.specs.Prelude.{Bool, if◌then◌else◌, List, drop, Option, Some, None, IsTrue}
+use Rattle.std.specs.Prelude.{IsSomeAnd, ⊤}
 use Rattle.linker_laws.specs.Imports.{Branch24, D, Ds, IsApplied, Operands, Ppc64Form}
 use Rattle.linker_laws.specs.Imports.{Ppc64Relocation, difference_64, field, from_le_bytes}
 use Rattle.linker_laws.specs.Imports.{ppc64_form, ppc64_reads, sum_64, w64}
@@ -99,11 +99,6 @@ ds_access word =
 -- the base and the displacement
 abbrev pub address_read : ℕ → ppc64_machine.State → ℕ
 address_read word s = moved (base (ra_of word) s) (ppc64_reads Ds word)
-
--- Words have the same opcode and the same register to load or store.
-pub record HaveSameAccess (x y : ℕ) : Type 0 where
-  pub opcode : opcode_of x ≡ opcode_of y
-  pub register : rt_of x ≡ rt_of y
 
 -- what any indexed load or store accesses
 abbrev pub indexed_access : ℕ → Access
@@ -324,7 +319,8 @@ LowOverBase register address low whole insn over =
     OverBase register D address (adds is_addi) low whole insn over
     × OverBase register D address is_d_over low whole insn over
 
--- `lq` and accesses of vector registers, which the machine doesn't have: of one address
+-- `lq` and accesses of vector registers, which the machine doesn't have: of one address and of one
+-- register, by the same opcode
 abbrev pub VectorOverBase : ℕ → (Operands → ℕ → ℕ) → AreGroup
 VectorOverBase register address low whole insn over =
     (o : Operands) (s t : ppc64_machine.State) → AreAddresses o
@@ -332,7 +328,8 @@ VectorOverBase register address low whole insn over =
     → Leads low Ds o (s.registers (ra_of (word_of insn))) (address o (t.registers register))
     → (low_of whole_of : List ℕ) → IsRelocated low o insn low_of → IsRelocated whole o over whole_of
     → (address_read (word_of low_of) s ≡ address_read (word_of whole_of) t)
-    × HaveSameAccess (word_of low_of) (word_of whole_of)
+    × (opcode_of (word_of low_of) ≡ opcode_of (word_of whole_of))
+    × (rt_of (word_of low_of) ≡ rt_of (word_of whole_of))
 
 -- loads and stores of whole words, and these
 abbrev pub WordOverBase : ℕ → (Operands → ℕ → ℕ) → AreGroup
@@ -678,12 +675,9 @@ Holds after_call kind AreSo =
     → AreSo (drop 4 call) (drop 4 restored)
 Holds none_at_all kind AreSo = ⊤
 
-abbrev pub LawHolds : Ppc64Relocation → RewriteKind → Law → Type 0
-LawHolds name kind l = Holds l.sort kind (l.IsGroup name (name_of l.left))
-
 pub record Groups : Type 0 where
   pub rewrites : (name : Ppc64Relocation) (kind : RewriteKind)
-      → LawHolds name kind (law_of name kind)
+      → let l = law_of name kind in Holds l.sort kind (l.IsGroup name (name_of l.left))
   pub entries : TocAtEntry
   pub near_entries : NearEntries
   pub others :

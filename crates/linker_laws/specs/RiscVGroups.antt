@@ -376,8 +376,8 @@ pub record LoadFromGot (c : Code) (x : Operands) (s : State) (auipc ld : List �
   pub low :
       Has 4 c.old (sum_64 x.place 4) (riscv_row names.R_RISCV_PCREL_LO12_I) (of_entry x) ld
 
--- The `auipc` and the `ld` are a group, in whose place new has n instructions. What is said of new's
--- operands holds. Then rY has the address in both, and the two addresses are of a kind.
+-- The `auipc` and the `ld` are a group, in whose place new has n instructions. What is said of
+-- new's operands holds. Then rY has the address in both, and the two addresses are of a kind.
 abbrev pub LoadBecomes : ℕ → (Operands → Type 0) → (Operands → Code → Type 0) → List ℕ → List ℕ
     → Type 0
 LoadBecomes n Said NewHas auipc ld =

@@ -6,9 +6,9 @@ use Rattle.linker_laws.specs.Imports.{RiscVRelocation, RowInfo, SType, UType, Ui
 use Rattle.linker_laws.specs.Imports.{int_rem_euclid, riscv_form, riscv_relocation, riscv_row}
 use Rattle.linker_elf.specs.declared.riscv64.forms.RiscVInstruction.{RiscVInstruction}
 use Rattle.linker_elf.specs.declared.riscv64.relocations.RiscVRelocation.TheVariants as names
-use Rattle.linker_laws.specs.Differences.{AddsDistance, SetsDistance, SetsDistance6}
-use Rattle.linker_laws.specs.Schemes.{Computed, HoldsDistance, Law, Step, entry_and_addend, here}
-use Rattle.linker_laws.specs.Schemes.{place, plt_address, symbol_address, tls_base, zero}
+use Rattle.linker_laws.specs.Schemes.{AddsDistance, Computed, HoldsDistance, Law, SetsDistance}
+use Rattle.linker_laws.specs.Schemes.{SetsDistance6, Step, entry_and_addend, here, place}
+use Rattle.linker_laws.specs.Schemes.{plt_address, symbol_address, tls_base, zero}
 
 -- ---- an upper and a low part ("LUI", "AUIPC", "ADDI"; psABI, "Absolute Addresses", "PC-Relative
 -- Symbol Addresses", "Local Exec", "Initial Exec", "Global Dynamic", "TLS Descriptors")

@@ -394,8 +394,9 @@ ModuleCall n count kind =
     → Stands c.new s.pc n (drop (o - 3) (rewritten (x86_64_rewrite kind) section o))
     → IsModuleCall n count c operands s)
 
--- `mov %fs:0, %rax` with `lea x@tpoff(%rax), %rax` or with `add x@gottpoff(%rip), %rax`. In the large
--- code model the call is by `movabs`, `add` and `call *%rax`, and a NOP is the third instruction.
+-- `mov %fs:0, %rax` with `lea x@tpoff(%rax), %rax` or with `add x@gottpoff(%rip), %rax`. In the
+-- large code model the call is by `movabs`, `add` and `call *%rax`, and a NOP is the third
+-- instruction.
 abbrev pub GeneralDynamic : Type 0
 GeneralDynamic =
     ThreadCall 4 16 2 kinds.TlsGdToLocalExec (λ operands. operands) (λ c k s k' o. ⊤)

@@ -36,5 +36,5 @@ sections LdrToAdr section o = in_section _ section o (λ window. refl)
 sections LdrToAdd section o = in_section _ section o (λ window. refl)
 sections AdrpAddToNopAdr section o = in_section _ section o (λ window. refl)
 
-pub returns-clause-sections : goal.returns-clause-sections
-returns-clause-sections c = sections
+pub returns : goal.returns
+returns c = record { sections = sections }
