@@ -1,7 +1,7 @@
 -- Addresses of LoongArch in parts.
 use Rattle.linker_laws.proofs.Sums.{high_sum, halves_sum, page_halves_sum, signed_12, sum_below, goes, difference_below, once}
-use Rattle.linker_laws.proofs.Imports.{AgreesInReach, AllowedRange, AreAddresses, BitRange, Bool, Call36, IsApplied, IsWithin, Law, List, LoongArch64, Operands, Option, PageMask, Premise, PremiseHolds, RelocationKind, Shift10, Shift5, Signed, Some, [], ap, arith, bit_bounds, bits_from, cast_signed, difference_64, false, field, first_of_five, five_from, high_distance, high_of_five, inl, inr, int_rem_euclid, int_rem_euclid_is, ints, is_jirl, is_low_jump, loongarch_form, made, mod_below, none, of_values, of_words, page, page_and_distance, place, plain_written, pos, pow_pos, reach, refl, shift10_low_field, shift10_low_sum, shift5_sum, signed, signed_cases, subst, sum_64, sym, taken_below, true, value_of, w64, window_of, without_low, ℕ, ℤ, ◌%◌, ◌*ℤ◌, ◌*◌, ◌+ℤ◌, ◌+◌, ◌-ℤ◌, ◌-◌, ◌/◌, ◌<◌, ◌^◌, ◌∙◌, ◌∷◌, ◌≡◌}
-use Rattle.linker_laws.specs.LoongArchRelocationLaws.{five, four, page_and_jump, page_and_low, upper_and_or}
+use Rattle.linker_laws.proofs.Imports.{AgreesInReach, AllowedRange, AreAddresses, BitRange, Bool, Call36, IsApplied, IsWithin, Law, List, LoongArch64, Operands, Option, PageMask, Premise, PremiseHolds, RelocationKind, Shift10, Shift5, Signed, Some, [], ap, arith, bit_bounds, bits_from, cast_signed, difference_64, false, field, first_of_five, five_from, high_distance, high_of_five, inl, inr, int_rem_euclid, int_rem_euclid_is, ints, is_jirl, is_low_jump, loongarch_form, made, mod_below, none, of_values, of_words, page, page_and_distance, pcalau12i, place, plain_written, pos, pow_pos, reach, refl, shift10_low_field, shift10_low_sum, shift5_sum, signed, signed_cases, subst, sum_64, sym, taken_below, true, value_of, w64, window_of, without_low, ℕ, ℤ, ◌%◌, ◌*ℤ◌, ◌*◌, ◌+ℤ◌, ◌+◌, ◌-ℤ◌, ◌-◌, ◌/◌, ◌<◌, ◌^◌, ◌∙◌, ◌∷◌, ◌≡◌}
+use Rattle.linker_laws.specs.LoongArchRelocationLaws.{five, four, page_and_low, upper_and_or}
 use Rattle.linker_laws.proofs.Applied.{holds, reads, value_is, taken_bits}
 use Rattle.linker_laws.proofs.Rounded.{IsRounded}
 use Rattle.linker_laws.proofs.Instructions.{FirstHasNumber, HasNumber, IsNumber, IsSmall, absolute, first_step, row_of, reads_bits, field_sum, step_of, unbiased}
@@ -199,7 +199,7 @@ module _ {kind : RelocationKind} {mask : Option PageMask} {range : AllowedRange}
       → Law
       (first_step (row_of kind 12 32 (LoongArch64 Shift5) mask range a bias thunkable implicit) (of_values (bit_bounds 32 Signed))
       ∷ step_of (row_of kind2 0 12 (LoongArch64 Shift10) mask2 range2 a2 bias2 thunkable2 implicit2) operands (of_words is_jirl) ∷ [])
-      page_and_jump target
+      (λ o x y. pcalau12i o.place x +ℤ ((loongarch_form Shift10).machine y *ℤ pos 4)) target
   page_jumps {target} to operands e e2 agrees jumps =
       λ o small at before after step within at2 before2 after2 step2 jump.
       let m = page_distance target o in

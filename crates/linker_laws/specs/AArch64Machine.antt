@@ -72,31 +72,24 @@ pub data Instruction : Type 0 where
 abbrev pub is_adr : ℕ → ℕ → Bool
 is_adr bit_31 word = field word 24 29 == 0x10 && bit_at word 31 == bit_31
 
--- ADD (immediate) of 64 bits, whose immediate isn't shifted
-abbrev pub is_add64 : ℕ → Bool
-is_add64 word = field word 22 32 == 0x244
-
-abbrev pub is_blr : ℕ → Bool
-is_blr word = word / 2 ^ 10 == 0x358fc0 && rd_of word == 0
-
 abbrev pub is_bl : ℕ → Bool
 is_bl word = word / 2 ^ 26 == 0x25
 
 abbrev pub is_b : ℕ → Bool
 is_b word = word / 2 ^ 26 == 0x5
 
--- The loads and the moves are those of 64 bits.
+-- The loads, the moves and ADD (immediate) are those of 64 bits, and the immediate isn't shifted.
 abbrev pub decode : ℕ → Instruction
 decode word =
     if is_adr 1 word then adrp else (
     if is_adr 0 word then adr else (
-    if is_add64 word then add else (
+    if field word 22 32 == 0x244 then add else (
     if is_ldr64 word then ldr else (
     if opcode_of word == movn_opcode then movn_or_movz else (
     if opcode_of word == movz_opcode then movn_or_movz else (
     if opcode_of word == movk_opcode then movk_64 else (
     if word == nop then no_operation else (
-    if is_blr word then blr else (
+    if word / 2 ^ 10 == 0x358fc0 && rd_of word == 0 then blr else (
     if is_bl word then bl else (
     if is_b word then b else other))))))))))
 

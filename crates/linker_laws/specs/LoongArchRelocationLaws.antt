@@ -48,16 +48,12 @@ RelativeAddresses =
 
 -- `pcalau12i`, and a `jirl` that jumps by its 16 bits in two's complement, in units of 4 bytes
 -- ("JIRL")
-abbrev pub page_and_jump : Operands → ℕ → ℕ → ℤ
-page_and_jump o x y =
-    pcalau12i o.place x +ℤ ((loongarch_form Shift10).machine y *ℤ pos 4)
-
 abbrev pub PageJumps : Type 0
 PageJumps =
     Law
     (of_bits 32 Signed (row_here names.R_LARCH_PCALA_HI20)
     ∷ record (row_anywhere names.R_LARCH_PCALA_LO12) { premise = of_words is_jirl } ∷ [])
-    page_and_jump symbol_address
+    (λ o x y. pcalau12i o.place x +ℤ ((loongarch_form Shift10).machine y *ℤ pos 4)) symbol_address
 
 -- ---- addresses in 64 bits ("LU32I.D", "LU52I.D"; psABI, "Extreme code model")
 
@@ -125,11 +121,7 @@ AbsoluteAddresses =
     × Four zero names.R_LARCH_TLS_IE_HI20 names.R_LARCH_TLS_IE_LO12 names.R_LARCH_TLS_IE64_LO20
     names.R_LARCH_TLS_IE64_HI12 entry_and_addend
 
--- an offset is added to the thread pointer
-abbrev pub rounded_offset : Operands → ℕ → ℕ → ℤ
-rounded_offset o x y =
-    (pos o.tls_base +ℤ (signed 20 (field x 5 25) *ℤ pos 4096)) +ℤ signed 12 (field y 10 22)
-
+-- An offset is added to the thread pointer. The last is by `lu12i.w` and a low part with a sign.
 abbrev pub ThreadAddresses : Type 0
 ThreadAddresses =
     Two tls_base names.R_LARCH_TLS_LE_HI20 names.R_LARCH_TLS_LE_LO12 symbol_address
@@ -137,7 +129,10 @@ ThreadAddresses =
     names.R_LARCH_TLS_LE64_LO20 names.R_LARCH_TLS_LE64_HI12 symbol_address
     × Law
     (of_bits 32 Signed (row_here names.R_LARCH_TLS_LE_HI20_R)
-    ∷ row_anywhere names.R_LARCH_TLS_LE_LO12_R ∷ []) rounded_offset symbol_address
+    ∷ row_anywhere names.R_LARCH_TLS_LE_LO12_R ∷ [])
+    (λ o x y.
+    (pos o.tls_base +ℤ (signed 20 (field x 5 25) *ℤ pos 4096)) +ℤ signed 12 (field y 10 22))
+    symbol_address
 
 -- ---- high parts, of which no row is a low part ("LU12I.W", "PCADDU12I")
 

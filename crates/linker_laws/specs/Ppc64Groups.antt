@@ -262,15 +262,6 @@ ToNop register LowHalvesLead name after addis blank =
     LowHalvesLead o number (s.registers register)
     × Leaves 4 c k s (rt_of (word_of addis)) anything number
 
--- the low half of an address near the TOC pointer, and of one near the thread pointer
-abbrev pub TocLeads : Operands → ℕ → ℕ → Type 0
-TocLeads o n base =
-    Low names.R_PPC64_TOC16_LO D from_toc o n base
-    × Low names.R_PPC64_TOC16_LO_DS Ds from_toc o n base
-
-abbrev pub ThreadLeads : Operands → ℕ → ℕ → Type 0
-ThreadLeads o n base = LowHalfLeads o n (from_thread o base)
-
 -- `addis rX,2` stays, with another relocation. Both are half h.
 abbrev pub Kept : (OldLeads NewLeads : Operands → ℕ → ℕ → Type 0) → AreGroup
 Kept OldLeads NewLeads name after addis addis_after =
@@ -370,14 +361,6 @@ OverOffset how name low insn direct =
     → Uses c how (word_of insn) (from_thread o (s.registers 13)) k s
 
 -- ---- arguments of `__tls_get_addr`
-
--- From the address of the TOC the whole distances of GOT entries lead to these.
-abbrev pub NearEntries : Type 0
-NearEntries =
-    (o : Operands) → AreAddresses o
-    → Leads names.R_PPC64_GOT_TPREL16_DS Ds o o.got_base o.got_entry
-    × Leads names.R_PPC64_GOT_TLSGD16 D o o.got_base o.got_entry
-    × Leads names.R_PPC64_GOT_TLSLD16 D o o.got_base o.got_entry
 
 -- `addi rT` of a GOT entry
 pub record IsArgument (low : Ppc64Relocation) (c : Code) (o : Operands) (entry : ℕ) (s : State)
@@ -573,14 +556,17 @@ abbrev pub law_of : Ppc64Relocation → RewriteKind → Law
 law_of names.R_PPC64_REL24 kinds.NopToRestoreToc = law after_call of_call RestoresToc
 -- near the TOC pointer
 law_of names.R_PPC64_TOC16_HA kinds.AddisToNop =
-    law (word (is_addis_over 2)) none (ToNop 2 TocLeads)
+    law (word (is_addis_over 2)) none
+    (ToNop 2 (λ o n base. Low names.R_PPC64_TOC16_LO D from_toc o n base
+    × Low names.R_PPC64_TOC16_LO_DS Ds from_toc o n base))
 law_of names.R_PPC64_TOC16_LO kinds.BaseToToc =
     law any (applied names.R_PPC64_TOC16) (LowOverBase 2 from_toc)
 law_of names.R_PPC64_TOC16_LO_DS kinds.BaseToToc =
     law any (applied names.R_PPC64_TOC16_DS) (WordOverBase 2 from_toc)
 -- near the thread pointer
 law_of names.R_PPC64_TPREL16_HA kinds.AddisThreadToNop =
-    law (word (is_addis_over 13)) none (ToNop 13 ThreadLeads)
+    law (word (is_addis_over 13)) none
+    (ToNop 13 (λ o n base. LowHalfLeads o n (from_thread o base)))
 law_of names.R_PPC64_TPREL16_LO kinds.BaseToThread =
     law any (applied names.R_PPC64_TPREL16) (LowOverBase 13 from_thread)
 law_of names.R_PPC64_TPREL16_LO_DS kinds.BaseToThread =
@@ -679,6 +665,11 @@ pub record Groups : Type 0 where
   pub rewrites : (name : Ppc64Relocation) (kind : RewriteKind)
       → let l = law_of name kind in Holds l.sort kind (l.IsGroup name (name_of l.left))
   pub entries : TocAtEntry
-  pub near_entries : NearEntries
+  -- From the address of the TOC the whole distances of GOT entries lead to these.
+  pub near_entries :
+      (o : Operands) → AreAddresses o
+      → Leads names.R_PPC64_GOT_TPREL16_DS Ds o o.got_base o.got_entry
+      × Leads names.R_PPC64_GOT_TLSGD16 D o o.got_base o.got_entry
+      × Leads names.R_PPC64_GOT_TLSLD16 D o o.got_base o.got_entry
   pub others :
       (c : Code) → OthersAgree (λ code at. execute c.processor (instruction_at code at)) (link c)

@@ -3,7 +3,7 @@
 -- written, and code is apart from memory.
 use Rattle.std.specs.Prelude.{◌≡◌, ℕ, zero, suc, ◌+◌, ◌-◌, ◌*◌, ◌%◌, ◌^◌, ◌==◌, ◌&&◌, ◌||◌, nat_lt}
 use Rattle.std.specs.Prelude.{nat_le, if◌then◌else◌, List, length, drop, ℤ, pos, Option, Some, None}
-use Rattle.std.specs.Prelude.{option_map, Bool, not}
+use Rattle.std.specs.Prelude.{option_map, not}
 use Rattle.linker_laws.specs.Imports.{CjType, CluiType, IType, JType, SType, UType, difference_64}
 use Rattle.linker_laws.specs.Imports.{field, from_le_bytes, riscv_form, signed, sum_64, w16, w32}
 use Rattle.linker_riscv64.specs.RiscVFields.{funct3_of, rd_of, opcode_of}
@@ -92,17 +92,14 @@ with_action word (Some (stores f)) = s_type (stores f) word
 with_action word (Some (stores_float f)) = s_type (stores_float f) word
 with_action word (Some action) = i_type action word
 
--- `add`: the opcode, and both functions, are those ("Integer Register-Register Operations")
-abbrev pub is_add : ℕ → Bool
-is_add word = opcode_of word == 0x33 && (funct3_of word == 0 && field word 25 32 == 0)
-
 -- the instruction of a word of 32 bits, if it is one of these ("RV32/64G Instruction Set Listings")
 abbrev pub of_word : ℕ → Option Instruction
 of_word word =
     if opcode_of word == 0x37 then Some (lui (rd_of word) ((riscv_form UType).machine word))
     else (if opcode_of word == 0x17 then Some (auipc (rd_of word) ((riscv_form UType).machine word))
     else (if opcode_of word == 0x6f then Some (jal (rd_of word) ((riscv_form JType).machine word))
-    else (if is_add word then Some (add (rd_of word) (rs1_of word) (rs2_of word))
+    else (if opcode_of word == 0x33 && (funct3_of word == 0 && field word 25 32 == 0)
+    then Some (add (rd_of word) (rs1_of word) (rs2_of word))
     else with_action word (action_of (opcode_of word) (funct3_of word)))))
 
 abbrev pub of_clui : ℕ → ℤ → Option Instruction
