@@ -10,7 +10,7 @@ use Rattle.linker_elf.specs.Ppc64.{pair}
 use Rattle.linker_elf.specs.declared.aarch64.forms.AArch64Instruction.TheVariants.{Add}
 use Rattle.linker_laws.specs.AArch64RelocationLaws.{page_and_offset}
 use Rattle.linker_laws.specs.LoongArchRelocationLaws.{four, page_and_low, upper_and_or}
-use Rattle.linker_laws.specs.Ppc64RelocationLaws.{unadjusted, unadjusted_quarters}
+use Rattle.linker_laws.specs.Ppc64RelocationLaws.{by_quarters, low_half, unadjusted}
 
 abbrev pub word : ℕ → ℕ → ℕ
 word k words = field words (32 * k) (32 * k + 32)
@@ -58,7 +58,7 @@ unadjusted_number words = unadjusted zero (at 0) (word 0 words) (word 1 words)
 -- `lis` and `ori`, `sldi` by 32, `oris` and `ori`
 abbrev pub quarters_number : ℕ → ℤ
 quarters_number words =
-    unadjusted_quarters zero (at 0) (word 0 words) (word 1 words) (word 3 words) (word 4 words)
+    by_quarters zero low_half (at 0) (word 0 words) (word 1 words) (word 3 words) (word 4 words)
 
 -- `movz` and three `movk`
 abbrev pub moves_number : ℕ → ℤ
