@@ -111,7 +111,7 @@ def page():
     crates = [line.split(":")[0].split()[0] for line in (ROOT / "crates.txt").read_text().split("\n") if line]
     uses = {}
     for source in sorted(ROOT.glob("crates/*/src/**/*.rt")):
-        if source.name == "emulated.rt":
+        if "emulated" in (source.stem, source.parent.name):
             continue
         text = source.read_text()
         imports = [(crate, module, {name.split(" as ")[0].strip() for name in names.split(",")})

@@ -1,6 +1,7 @@
 -- RV32: values once addends are wrapped, and its instructions by RV64's laws: a sum modulo 2^64 is
 -- one modulo 2^32.
-use Rattle.linker_final.proofs.Imports.{Addends, Addresses, AreAddresses, BType, BitMasking, Bool, Bounds, Branches, ByteSize, CbType, CjType, CluiType, Computed, Err, FitsSigned, HasWrappedAddend, HoldsDistance, IType, IsHighPartAt, IsLowValue, IsNoHighPart, IsRow, IsSame32, IsValue, IsValueBy, IsValueIn, IsWithin, IsWrappedValue, IsWrappedWithin, JType, Law, Law32, List, NoSymbol, None, Ok, Operands, Option, PairsReachAll, Reaches32, Rela, RelativeAddresses, RelocationKind, Result, RiscV, RiscVRelocation, RowInfo, RowSize, SType, Some, Step, Symbol, UType, UiType, ValueError, Values, Word, Words, [], and_parts, ap, arith, cast_signed, cast_unsigned, clui_row, cond-true, difference_64, entry_address, entry_and_addend, entry_of, even, false, formula, has_value, here, if◌then◌else◌, int_rem_euclid, ints, is_high_part, is_offset, lacks_origin, length, loads_plt_word, low_by, low_load, low_operands, low_value, lt-ltb, ltb, names_label, neg_ℤ, negsuc, number_at, number_of_bytes, of_z-to_z, one_row, operands_by, operands_in, operands_of, operands_with, own_value, place, plt_address, pos, reach_of, refl, relocation_at, relocation_in, riscv_form, riscv_pair_bounds, riscv_relocation, riscv_row, slice_get, subst, suc, sum_64, sym, symbol_address, tls_base, to_z-of_z, true, unsigned_abs, upper_and_low, value_by, value_of, w64, without_bit_0, ℕ, ℤ, ◌%◌, ◌&&◌, ◌*ℤ◌, ◌+ℤ◌, ◌+◌, ◌-◌, ◌/◌, ◌<ℤ◌, ◌<◌, ◌==◌, ◌^◌, ◌∙◌, ◌∷◌, ◌≡◌, ◌≤ℤ◌}
+use Rattle.linker_final.proofs.Imports.{Addresses, AreAddresses, BType, BitMasking, Bool, Bounds, ByteSize, CbType, CjType, CluiType, Computed, Err, FitsSigned, HoldsDistance, IType, IsHighPartAt, IsLowValue, IsNoHighPart, IsRow, IsValue, IsValueBy, IsValueIn, IsWithin, JType, Law, List, NoSymbol, None, Ok, Operands, Option, Rela, RelocationKind, Result, RiscV, RiscVRelocation, RowInfo, RowSize, SType, Some, Step, Symbol, UType, UiType, ValueError, [], and_parts, ap, arith, cast_signed, cast_unsigned, clui_row, cond-true, difference_64, entry_address, entry_and_addend, entry_of, even, false, formula, has_value, here, if◌then◌else◌, int_rem_euclid, ints, is_high_part, is_offset, lacks_origin, length, loads_plt_word, low_by, low_load, low_operands, low_value, lt-ltb, ltb, names_label, neg_ℤ, negsuc, number_at, number_of_bytes, of_z-to_z, one_row, operands_by, operands_in, operands_of, operands_with, own_value, place, plt_address, pos, reach_of, refl, relocation_at, relocation_in, riscv_form, riscv_pair_bounds, riscv_relocation, riscv_row, slice_get, subst, suc, sum_64, sym, symbol_address, tls_base, to_z-of_z, true, unsigned_abs, upper_and_low, value_by, value_of, w64, without_bit_0, ℕ, ℤ, ◌%◌, ◌&&◌, ◌*ℤ◌, ◌+ℤ◌, ◌+◌, ◌-◌, ◌/◌, ◌<ℤ◌, ◌<◌, ◌==◌, ◌^◌, ◌∙◌, ◌∷◌, ◌≡◌, ◌≤ℤ◌}
+use Rattle.linker_final.specs.RiscV32.{Addends, Branches, HasWrappedAddend, IsSame32, IsWrappedValue, IsWrappedWithin, Law32, PairsReachAll, Reaches32, RelativeAddresses, Values, Word, Words}
 use Rattle.linker_laws.specs.Schemes.{Reaches, zero}
 use Rattle.linker_laws.proofs.Sums.{sum_below}
 use Rattle.linker_elf.proofs.Agreement.{le_yes, rem_rem}

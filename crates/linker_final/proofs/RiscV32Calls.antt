@@ -1,7 +1,9 @@
 -- RV32's calls, by what RV64's instructions do.
-use Rattle.linker_final.proofs.Imports.{Bool, Calls, CjType, HasCalled, IType, IsApplied, IsSame32, IsSomeAnd, List, LongCall, Operands, PackedCall, PltRelative, RiscVRelocation, ShortCall, Some, UType, UiType, address_is, address_of, after_rewrite, ap, ap₂, arith, call as long_one, call_to_cjal, drop, eq-eqb, even, executed_32, false, fetched_32, fetched_word, field, from_le_bytes, if◌then◌else◌, ints, is_cjal, jump as word_one, jump_row, le-leb, length, length-drop, lift, modulo_32, moved, nat_le, ne_eqb, negsuc, pair_row, plt_address, pos, put_there, rd_of, refl, riscv_form, riscv_row, same_low_two, short_jump as half_one, step_32, subst, sum_64, sym, symbol_address, true, w16, w32, word_of, wrapped_is, ℕ, ℤ, ◌%◌, ◌&&◌, ◌+ℤ◌, ◌+◌, ◌-◌, ◌==◌, ◌^◌, ◌∙◌, ◌≡◌, ◌≢◌, ◌≤◌}
+use Rattle.linker_final.proofs.Imports.{Bool, CjType, IType, IsApplied, IsSomeAnd, List, Operands, PltRelative, RiscVRelocation, Some, UType, UiType, [], address_is, address_of, after_rewrite, ap, ap₂, arith, call as long_one, call_to_cjal, drop, eq-eqb, even, false, fetched_word, field, from_le_bytes, if◌then◌else◌, ints, jump as word_one, jump_row, le-leb, length, length-drop, lift, lit<, lit≤, moved, nat_le, ne_eqb, negsuc, pair_row, place_sum, plt_address, pos, put_there, rd_of, refl, riscv_form, riscv_row, same_low_two, short_jump as half_one, subst, sum_64, sym, symbol_address, true, w16, w32, word_of, wrapped_is, ℕ, ℤ, ◌%◌, ◌&&◌, ◌+ℤ◌, ◌+◌, ◌-◌, ◌==◌, ◌^◌, ◌∙◌, ◌∷◌, ◌≡◌, ◌≢◌, ◌≤◌}
+use Rattle.linker_final.specs.RiscV32.{CallIsMade, Calls, CallsAreMade, HasCalled, IsSame32, LongCall, PackedCall, ShortCall, executed_32, fetched_32, is_cjal, modulo_32, short_call, step_32}
 use Rattle.linker_laws.specs.RiscVMachine.{Hart, Instruction, auipc, executed, fetched, goes_on, goes_to, jal, jumps, of_word, rs1_of, sums, with_integer, register}
 use Rattle.linker_final.proofs.RiscV32.{symbol_32, with_addend_sum}
+use Rattle.linker_laws.proofs.Relocated.{all_small, applied, are_bytes, small}
 use Rattle.linker_laws.proofs.RiscVJumps.{high_decodes, high_long, low_decodes, low_long, pair_base, pair_leads, pair_link, pair_register, short_jump_function, short_jump_leads, short_jump_low}
 use Rattle.linker_elf.specs.declared.riscv64.relocations.RiscVRelocation.TheVariants as names
 use Rattle.linker_utils.specs.declared.riscv64.rewrites.RewriteKind.TheVariants as kinds
@@ -81,24 +83,24 @@ called code place target j h at is leads =
       memory = refl;
     })
 
-short_call : ShortCall
-short_call o addend small same call code matches relocated h at =
-    let p : Operands = record o { addend = addend } in
+short_is : ShortCall
+short_is o call code m h at =
+    let p : Operands = record o { addend = m.addend } in
     let jump = after_rewrite kinds.CallToCJal call 0 in
     let half = from_le_bytes w16 code in
     let j = (riscv_form CjType).machine half in
-    let inside = matches.inside in
+    let inside = m.matches.inside in
     let there : from_le_bytes w16 jump ≡ 0x2001 = ap (from_le_bytes w16) (put_there call 0 2 call_to_cjal (omega arith)) in
     let quadrant : field (from_le_bytes w16 jump) 0 2 ≡ 1 = omega (arith, there) in
     let function : field (from_le_bytes w16 jump) 13 16 ≡ 1 = omega (arith, there) in
-    let applied : IsApplied (jump_row 16 CjType (negsuc 2047, pos 2047)) p jump code = relocated.applied in
+    let applied : IsApplied (jump_row 16 CjType (negsuc 2047, pos 2047)) p jump code = m.relocated.applied in
     let long = applied.accepted.long in
-    let len = relocated.len in
+    let len = m.relocated.len in
     let is = fetched_cjal code (omega (arith, long, len))
     (short_jump_low p jump code applied len quadrant function)
     (short_jump_function p jump code applied len quadrant function) in
     called code o.place (symbol_address o) j h at is
-    (ap (λ m. m % 2 ^ 32) (short_jump_leads p jump code applied len quadrant function (with_addend_sum o addend small)) ∙ symbol_32 o addend same)
+    (ap (λ m. m % 2 ^ 32) (short_jump_leads p jump code applied len quadrant function (with_addend_sum o m.addend m.addresses)) ∙ symbol_32 o m.addend m.same)
 
 packed_call : PackedCall
 packed_call s site code (half_one len short cj) two link h at =
@@ -111,14 +113,14 @@ packed_call s site code (long_one len far) two link h at = absurd (omega (arith,
 -- ---- `auipc` and `jalr`
 
 long_call : (name : RiscVRelocation) → riscv_row name ≡ Some (pair_row PltRelative 64 UiType) → LongCall name
-long_call name row_is o addend small same call code matches relocated h at =
-    let p : Operands = record o { addend = addend } in
-    let applied = subst (λ r. IsSomeAnd r (λ row. IsApplied row p call code)) row_is relocated.applied in
-    let old = relocated.old_bytes in
-    let new = relocated.bytes in
-    let len = relocated.len in
-    let pair = matches.pair in
-    let inside = matches.inside in
+long_call name row_is o call code m h at =
+    let p : Operands = record o { addend = m.addend } in
+    let applied = subst (λ r. IsSomeAnd r (λ row. IsApplied row p call code)) row_is m.relocated.applied in
+    let old = m.relocated.old_bytes in
+    let new = m.relocated.bytes in
+    let len = m.relocated.len in
+    let pair = m.matches.pair in
+    let inside = m.matches.inside in
     let low = word_of code in
     let high = word_of (drop 4 code) in
     let base = rd_of (word_of call) in
@@ -126,10 +128,10 @@ long_call name row_is o addend small same call code matches relocated h at =
     let i = (riscv_form IType).machine high in
     let middle = modulo_32 (executed 4 (auipc (rd_of low) u) h) in
     let base_is : rd_of low ≡ base = pair_register p call code applied old new len pair in
-    let link_is : rd_of high ≡ 1 = pair_link p call code applied old new len pair ∙ matches.links in
+    let link_is : rd_of high ≡ 1 = pair_link p call code applied old new len pair ∙ m.matches.links in
     let v : register middle (rs1_of high) ≡ moved o.place u % 2 ^ 32 =
     ap (register middle) (pair_base p call code applied old new len pair ∙ sym base_is)
-    ∙ written_32 (rd_of low) (moved h.pc u) h (λ zero. matches.base (sym base_is ∙ zero))
+    ∙ written_32 (rd_of low) (moved h.pc u) h (λ zero. m.matches.base (sym base_is ∙ zero))
     ∙ ap (λ a. moved a u % 2 ^ 32) at in
     let second : Hart = modulo_32 (goes_to (moved (moved o.place u % 2 ^ 32) i - moved (moved o.place u % 2 ^ 32) i % 2)
     (with_integer 1 (sum_64 middle.pc 4) middle)) in
@@ -142,7 +144,7 @@ long_call name row_is o addend small same call code matches relocated h at =
     (high_long p call code applied old new len pair) (let after = length-drop 4 code in omega (arith, after, inside, len))
     (high_decodes p call code applied old new len pair))
     ∙ ap₂ (λ m r. Some (modulo_32 (goes_to (moved m i - moved m i % 2) (with_integer r (sum_64 middle.pc 4) middle)))) v link_is in
-    let leads = pair_leads p call code applied old new len pair (with_addend_sum o addend small) in
+    let leads = pair_leads p call code applied old new len pair (with_addend_sum o m.addend m.addresses) in
     subst (λ s. IsSomeAnd s (λ m. (m.pc ≡ (o.place + 4) % 2 ^ 32)
     × IsSomeAnd (step_32 (drop 4 code) m) (HasCalled 8 o.place (even plt_address o) base h)))
     (sym first_is) (
@@ -150,7 +152,7 @@ long_call name row_is o addend small same call code matches relocated h at =
           ∙ (let e : sum_64 o.place 4 % 2 ^ 32 ≡ (o.place + 4) % 2 ^ 32 = omega arith in e),
       subst (λ s. IsSomeAnd s (HasCalled 8 o.place (even plt_address o) base h)) (sym second_is)
           (record {
-            goes = even_32 _ _ (moved_32 (moved o.place u) i) ∙ ap (λ m. m % 2 ^ 32) leads ∙ plt_32 o addend same;
+            goes = even_32 _ _ (moved_32 (moved o.place u) i) ∙ ap (λ m. m % 2 ^ 32) leads ∙ plt_32 o m.addend m.same;
             links = ap (λ a. sum_64 (sum_64 a 4 % 2 ^ 32) 4 % 2 ^ 32) at
                 ∙ (let e : sum_64 (sum_64 o.place 4 % 2 ^ 32) 4 % 2 ^ 32 ≡ (o.place + 8) % 2 ^ 32 = omega arith in e);
             others = λ r link isnt. kept (r == 0) (r == 1) (sum_64 middle.pc 4) (middle.integers r) (h.integers r) (ne_eqb r 1 link)
@@ -163,4 +165,70 @@ long_call name row_is o addend small same call code matches relocated h at =
     )
 
 pub calls : Calls
-calls = (long_call names.R_RISCV_CALL refl, long_call names.R_RISCV_CALL_PLT refl, short_call, packed_call)
+calls = (long_call names.R_RISCV_CALL refl, long_call names.R_RISCV_CALL_PLT refl, short_is, packed_call)
+
+-- ---- the premises
+
+-- with the addend of the file
+abbrev around_zero : Operands
+around_zero =
+    record {
+      symbol = 0xffffff00;
+      addend = pos 0;
+      place = 0;
+      got_entry = 0;
+      got_base = 0;
+      plt_entry = 0xffffff00;
+      symbol_size = 0;
+      tls_base = 0;
+      has_got_entry = false;
+      has_plt_entry = false;
+      has_tls_base = false;
+    }
+
+abbrev long_bytes : List ℕ
+long_bytes = 0x97 ∷ 0x00 ∷ 0x00 ∷ 0x00 ∷ 0xe7 ∷ 0x80 ∷ 0x00 ∷ 0x00 ∷ []
+
+is_made : (name : RiscVRelocation) (made : List ℕ → List ℕ) (code : List ℕ)
+    → IsSomeAnd (riscv_row name) (λ row.
+    IsApplied row (record around_zero { addend = negsuc 0xffffffff }) (made long_bytes) code)
+    → length code ≡ length (made long_bytes) → all_small (made long_bytes) ≡ true → all_small code ≡ true
+    → CallIsMade name made
+is_made name made code applied len small_before small_after =
+    record {
+      o = around_zero;
+      call = long_bytes;
+      code = code;
+      is_made = record {
+        addend = negsuc 0xffffffff;
+        addresses = small around_zero refl;
+        same = refl;
+        matches = record {
+          inside = lit≤ tt;
+          pair = record { auipc_opcode = refl; jalr_opcode = refl; jalr_function = refl; base = refl };
+          base = λ e. cc;
+          links = refl;
+        };
+        relocated = record {
+          applied = applied;
+          len = len;
+          old_bytes = are_bytes (made long_bytes) small_before;
+          bytes = are_bytes code small_after;
+        };
+      };
+      other = λ e. cc;
+    }
+
+abbrev long_code : List ℕ
+long_code = 0x97 ∷ 0x00 ∷ 0x00 ∷ 0x00 ∷ 0xe7 ∷ 0x80 ∷ 0x00 ∷ 0xf0 ∷ []
+
+pub calls_are_made : CallsAreMade
+unfolding place_sum
+calls_are_made = (
+  is_made names.R_RISCV_CALL (λ call. call) long_code
+      (applied (negsuc 255) 0x80e700000097 refl (refl, tt, λ e. refl) refl (lit< tt) tt refl refl) refl refl refl,
+  is_made names.R_RISCV_CALL_PLT (λ call. call) long_code
+      (applied (negsuc 255) 0x80e700000097 refl (refl, tt, λ e. refl) refl (lit< tt) tt refl refl) refl refl refl,
+  is_made names.R_RISCV_RVC_JUMP short_call (0x01 ∷ 0x37 ∷ 0x00 ∷ 0x00 ∷ 0xe7 ∷ 0x80 ∷ 0x00 ∷ 0x00 ∷ [])
+      (applied (negsuc 255) 0x2001 refl (refl, tt, λ e. refl) refl (lit< tt) tt refl refl) refl refl refl,
+)

@@ -15,6 +15,7 @@ pub mod Ppc64Section
 pub mod Ppc64Steps
 pub mod Ppc64Table
 pub mod RiscV32
+pub mod RiscV32Executed
 pub mod RiscV32Steps
 pub mod RiscVExecuted
 pub mod RiscVSection

@@ -182,14 +182,20 @@ pub record HasCalled (n place target base : ℕ) (before after : Hart) : Type 0 
   pub floats : after.floats ≡ before.floats
   pub memory : after.memory ≡ before.memory
 
--- What stands where such a call was, with the value of a relocation whose addend is the file's
--- modulo 2^32, does so.
+-- What is made of a call has the value of a relocation, whose addend is the file's modulo 2^32.
+pub record IsMadeOf (name : RiscVRelocation) (made : List ℕ → List ℕ) (o : Operands)
+    (call code : List ℕ) : Type 0 where
+  pub addend : ℤ
+  pub addresses : AreAddresses o
+  pub same : IsSame32 addend o.addend
+  pub matches : riscv_matches kinds.CallToCJal call 0
+  pub relocated : Relocated (riscv_row name) (record o { addend = addend }) (made call) code
+
+-- what stands so where such a call was does something
 abbrev pub CallDoes : RiscVRelocation → (List ℕ → List ℕ) → (Operands → List ℕ → List ℕ → Hart → Type 0)
     → Type 0
 CallDoes name made Does =
-    (o : Operands) (addend : ℤ) → AreAddresses o → IsSame32 addend o.addend
-    → (call code : List ℕ) → riscv_matches kinds.CallToCJal call 0
-    → Relocated (riscv_row name) (record o { addend = addend }) (made call) code
+    (o : Operands) (call code : List ℕ) → IsMadeOf name made o call code
     → (h : Hart) → h.pc ≡ o.place → Does o call code h
 
 -- `auipc` and `jalr`, which links ra, go to the target without its bit 0
@@ -201,10 +207,13 @@ LongCall name =
     × IsSomeAnd (step_32 (drop 4 code) middle)
     (HasCalled 8 o.place (even plt_address o) (rd_of (word_of call)) h)))
 
+abbrev pub short_call : List ℕ → List ℕ
+short_call call = after_rewrite kinds.CallToCJal call 0
+
 -- So does the `c.jal` in their place, to the target as it is, and with the base as it was.
 abbrev pub ShortCall : Type 0
 ShortCall =
-    CallDoes names.R_RISCV_RVC_JUMP (λ call. after_rewrite kinds.CallToCJal call 0)
+    CallDoes names.R_RISCV_RVC_JUMP short_call
     (λ o call code h. IsSomeAnd (step_32 code h) (HasCalled 2 o.place (symbol_address o) 1 h))
 
 -- So do the two bytes that `pack_run` leaves of a call that links ra: they are a `c.jal`, too.
@@ -217,3 +226,18 @@ PackedCall =
 
 abbrev pub Calls : Type 0
 Calls = LongCall names.R_RISCV_CALL × LongCall names.R_RISCV_CALL_PLT × ShortCall × PackedCall
+
+-- ---- the premises of a call's law
+
+-- a call is made with an addend that isn't the file's
+pub record CallIsMade (name : RiscVRelocation) (made : List ℕ → List ℕ) : Type 0 where
+  pub o : Operands
+  pub call : List ℕ
+  pub code : List ℕ
+  pub is_made : IsMadeOf name made o call code
+  pub other : is_made.addend ≢ o.addend
+
+abbrev pub CallsAreMade : Type 0
+CallsAreMade =
+    CallIsMade names.R_RISCV_CALL (λ call. call) × CallIsMade names.R_RISCV_CALL_PLT (λ call. call)
+    × CallIsMade names.R_RISCV_RVC_JUMP short_call

@@ -1,15 +1,13 @@
--- RISC-V: the instructions of `linker_laws`, those of lazy PLTs in `linker_output`, and those of
--- RV32, compared with an emulator. Registers 32 to 63 are those of floating-point numbers, which
--- have 64 bits in the emulator.
+-- RISC-V: the instructions of `linker_laws`, and those of lazy PLTs in `linker_output`, compared
+-- with an emulator. Registers 32 to 63 are those of floating-point numbers, which have 64 bits in
+-- the emulator.
 use Rattle.std.specs.Prelude.{Bool, List, None, Option, Some, false, nat_lt, take, ℕ, ◌+◌, ◌-◌, ◌%◌}
-use Rattle.std.specs.Prelude.{◌^◌, ◌==◌, if◌then◌else◌, ◌*◌}
+use Rattle.std.specs.Prelude.{◌^◌, ◌==◌, if◌then◌else◌}
 use Rattle.linker_final.specs.Imports.{Hart, register, step, to_le_bytes, w32}
 use Rattle.linker_final.specs.RiscVSteps.{riscv_groups}
-use Rattle.linker_final.specs.Steps.{AllPass, Executed, Group, Numbers, at, bytes_from, is_left, m0}
-use Rattle.linker_final.specs.Steps.{made_high, memory_in, noise, pc}
+use Rattle.linker_final.specs.Steps.{AllPass, Executed, Group, Numbers, at, bytes_from, is_left}
+use Rattle.linker_final.specs.Steps.{made_high, memory_in, pc}
 use Rattle.linker_output.specs.RiscVLazyPlt.{further}
-use Rattle.linker_final.specs.RiscV32.{step_32}
-use Rattle.linker_final.specs.RiscV32Steps.{riscv32_groups}
 
 -- Register 0 is 0.
 abbrev pub made : ℕ → Numbers
@@ -48,21 +46,3 @@ passes g n e = ends_so n e (step (bytes_of e.code) (begun n))
 -- Each instruction leaves what the emulator did.
 abbrev pub Agrees : Type 0
 Agrees = AllPass made passes riscv_groups
-
--- ---- RV32
-
--- Registers and addresses have 32 bits, and register 0 is 0.
-abbrev pub made_32 : ℕ → Numbers
-made_32 row place =
-    let number = noise 64 (256 * row + place) in
-    if place == 0 then 0 else (
-    if place == pc then 3 * 2 ^ 28 + 2 * (number % 2 ^ 26) else (
-    if place == at then 2 ^ 30 + number % 2 ^ 26 else (
-    if nat_lt place m0 then number % 2 ^ 32 else number)))
-
-abbrev pub passes_32 : Group → Numbers → Executed → Bool
-passes_32 g n e = is_some_hart n e (step_32 (bytes_of e.code) (begun n))
-
--- Each instruction leaves what the emulator did.
-abbrev pub Agrees32 : Type 0
-Agrees32 = AllPass made_32 passes_32 riscv32_groups

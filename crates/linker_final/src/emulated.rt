@@ -15,6 +15,8 @@ ghost use Rattle.linker_final.specs.RiscVExecuted as riscv_executed;
 ghost use Rattle.linker_final.specs.RiscVTable as riscv_table;
 ghost use Rattle.linker_final.specs.X86Executed as x86_executed;
 
+pub mod riscv32;
+
 /// AArch64: offsets of loads and stores, `adr` and `adrp`, moves, additions, branches, a
 /// number by four moves, and `adrp` with `add`; and what the instructions of
 /// `linker_laws`, and BR, STP and BTI, do.
@@ -29,11 +31,6 @@ pub fn aarch64()
 pub fn riscv64()
     ensures agrees { riscv_table.Agrees }
     ensures steps { riscv_executed.Agrees }
-{}
-
-/// RV32: what `lui`, `auipc`, `jal`, `addi`, `jalr`, `add`, `c.j`, `c.jal`, `c.lui` and `c.li` do.
-pub fn riscv32()
-    ensures steps { riscv_executed.Agrees32 }
 {}
 
 /// LoongArch: immediates of 20, 16 and 12 bits, branches, `pcaddu18i` with `jirl`, numbers by two

@@ -7,10 +7,10 @@ ghost use Rattle.linker_final.specs.AArch64Section as aarch64_section;
 ghost use Rattle.linker_final.specs.Final as final_bytes;
 ghost use Rattle.linker_final.specs.LoongArchSection as loongarch64_section;
 ghost use Rattle.linker_final.specs.Ppc64Section as ppc64_section;
-ghost use Rattle.linker_final.specs.RiscV32 as riscv32;
 ghost use Rattle.linker_final.specs.RiscVSection as riscv64_section;
 ghost use Rattle.linker_final.specs.X86Section as x86_64_section;
-ghost use Rattle.linker_laws.specs.RiscVRelocationLaws as riscv_laws;
+
+pub mod riscv32;
 
 /// All architectures: what no rewrite took. Each byte that neither a rewrite nor a field has is the
 /// object's. Each relocation that is neither rewritten nor taken along is the object's, and its
@@ -99,43 +99,6 @@ pub fn riscv64_global_pointer()
     ensures values { riscv64_section.ValuesAreDistances }
     ensures lui { riscv64_section.LuiGoes }
     ensures auipc { riscv64_section.AuipcGoes }
-{
-    linker_laws::relocations::riscv64();
-}
-
-/// RV32: what `wrap_addends` makes of a section's relocations. Only addends change, by multiples of
-/// 2^32. Each value is that of before modulo 2^32, which is the psABI's formula with the addend of
-/// the file. It is within its row's reach if any number that is the same modulo 2^32 is. So no
-/// distance is too far for a pair of instructions. An error stays, and so does what has no value.
-pub fn riscv32_values()
-    ensures addends { riscv32.Addends }
-    ensures values { riscv32.Values }
-    ensures pairs { riscv32.PairsReachAll }
-{}
-
-/// RV32: what instructions and words compute whose relocations are applied with an addend that is
-/// the file's modulo 2^32, as each of `wrap_addends` is (`riscv32_values`). It is the target with
-/// the file's addend, modulo 2^32, as RV32's registers and addresses are. These are `lui`, `c.lui`
-/// or `auipc` with a low part, also through the GOT and for each model of TLS, calls, jumps,
-/// branches, and words of 4 bytes. By `worked::riscv32` the premises of a pair can hold.
-pub fn riscv32_instructions()
-    ensures absolute { riscv_laws.AbsoluteAddresses riscv32.Law32 }
-    ensures relative { riscv32.RelativeAddresses }
-    ensures descriptors { riscv_laws.DescriptorAddresses riscv32.Law32 }
-    ensures thread { riscv_laws.ThreadAddresses riscv32.Law32 }
-    ensures branches { riscv32.Branches }
-    ensures words { riscv32.Words }
-{
-    linker_laws::relocations::riscv64();
-}
-
-/// RV32: a call by `auipc` and `jalr`, and the `c.jal` that `CallToCJal` makes of it, each with the
-/// value of its relocation, whose addend is the file's modulo 2^32. Both go to their targets, by
-/// `jalr` without bit 0, and leave in ra the address after their bytes: pc + 8 and pc + 2. All else
-/// stays, but for the register of the `auipc`. The same holds of the `c.jal` that `pack_run` leaves
-/// of a call which links ra.
-pub fn riscv32_calls()
-    ensures { riscv32.Calls }
 {
     linker_laws::relocations::riscv64();
 }

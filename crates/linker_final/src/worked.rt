@@ -9,13 +9,14 @@ ghost use Rattle.std.specs.Prelude.{IsTrue, IfOk};
 ghost use Rattle.linker_final.specs.Worked.{HasGroups, IsLinkedAs, IsOfCalls, IsOfShorterCalls};
 ghost use Rattle.linker_final.specs.Worked.{IsRewrittenAs, halves};
 ghost use Rattle.linker_section.specs.WrittenFields.{AreWritten};
-ghost use Rattle.linker_final.specs.RiscV32.{PairIsApplied};
 ghost use Rattle.linker_final.specs.AArch64Section as aarch64_section;
 ghost use Rattle.linker_final.specs.Ppc64Section as ppc64_section;
 ghost use Rattle.linker_final.specs.X86Section as x86_64_section;
 ghost use Rattle.linker_laws.specs.Ppc64GroupsWorked as ppc64_worked;
 ghost use Rattle.linker_laws.specs.RiscVGroupsWorked as riscv_worked;
 ghost use Rattle.linker_laws.specs.X86GroupsWorked as x86_worked;
+
+pub mod riscv32;
 
 use crate::sections::link_section_in_two_phases;
 use linker_base::relaxation::{DeltaSlice, OutOfMemory};
@@ -491,25 +492,6 @@ pub fn riscv64(alloc: Global) -> Result<bool, OutOfMemory>
         ..known
     };
     Ok(is_relocated(&final_known, &relocations, &mut packed, &new))
-}
-
-/// RV32: whether `lui` and `addi` can have the address 0x8000_1000, which RV64's can't. The addend
-/// is the one that `wrap_addends` makes of 0.
-pub fn riscv32() -> bool
-    ensures { IsTrue result → PairIsApplied }
-{
-    let operands = Operands::new(0x8000_1000, -0x1_0000_0000, 0);
-    let (mut lui, mut addi) = ([0x37, 0x05, 0x00, 0x00], [0x13, 0x05, 0x05, 0x00]);
-    let Some(high) = Architecture::RiscV.row(26) else {
-        return false;
-    };
-    let Some(low) = Architecture::RiscV.row(27) else {
-        return false;
-    };
-    if !high.apply_formula(&operands, &mut lui) {
-        return false;
-    }
-    low.apply_formula(&operands, &mut addi)
 }
 
 /// What x86_64-linux-gnu-as 2.40 makes, where a is symbol 2, x is symbol 3 and f is symbol 4.

@@ -1,35 +1,18 @@
 -- Packed sections of a run, in the numbers that C sees.
 use Rattle.std.specs.Prelude.{◌≡◌, ◌≢◌, ◌+◌, ◌^◌, ◌<◌, ◌≤◌, ◌⊎◌, ◌↔◌, ℕ, List, [], ◌∷◌, length}
-use Rattle.std.specs.Prelude.{Option, None, Some, ◌==◌, if◌then◌else◌}
-use Rattle.linker_utils_c.specs.Imports.{Architecture, AreValidDeltas, DeletedOutside}
+use Rattle.linker_utils_c.specs.Imports.{AreValidDeltas, DeletedOutside}
 use Rattle.linker_utils_c.specs.Imports.{DifferentLengths, EndsTooHigh, Item, ItemOutOfSection}
 use Rattle.linker_utils_c.specs.Imports.{ItemsOverlap, Machine, NoShape, NotItsFirstBytes}
 use Rattle.linker_utils_c.specs.Imports.{NotItsInstructions, RelaxDelta, Status, Success}
-use Rattle.linker_utils_c.specs.Imports.{TargetOutOfReach, architecture_of, deletions_of}
-use Rattle.linker_runs.specs.declared.packing.Isa.TheVariants.{Rv32}
-use Rattle.linker_runs.specs.declared.packing.Machine.TheVariants.{RiscV}
+use Rattle.linker_utils_c.specs.Imports.{TargetOutOfReach, deletions_of}
 use Rattle.linker_runs.specs.declared.packing.ItemError.{ItemError}
 use Rattle.linker_runs.specs.declared.packing.ItemError.TheVariants as errors
-use Rattle.linker_runs.specs.Machines.{machine_of}
 use Rattle.linker_runs.specs.Moved.{AreMoved}
 use Rattle.linker_runs.specs.Origins.{HasItsInstructions}
 use Rattle.linker_runs.specs.Packing.{Section, section_of, packed_offset, IsPackedRun}
 use Rattle.linker_runs.specs.Packing.{IsFirstRejected}
+pub use Rattle.linker_utils_c.specs.RiscV32.{packing_machine}
 use Rattle.linker_utils_c.specs.Status.{code, IsOneOf}
-
--- the machine of an architecture whose sections are packed
-abbrev pub packed_as : Option Architecture → Option Machine
-packed_as None = None
-packed_as (Some architecture) = machine_of architecture
-
--- e_machine of RISC-V, and LINKER_UTILS_CLASS32
-abbrev pub riscv32 : ℕ
-riscv32 = 0xf3 + 0x8000
-
--- the same by e_machine, with a number of its own for RV32
-abbrev pub packing_machine : ℕ → Option Machine
-packing_machine machine =
-    if machine == riscv32 then Some (RiscV Rv32) else packed_as (architecture_of machine)
 
 -- the status of why an item isn't written
 abbrev pub item_status : ItemError → Status

@@ -1,10 +1,27 @@
--- Relocations of RV32, in the numbers that C sees.
+-- Relocations of RV32, and the machine of its code, in the numbers that C sees.
 use Rattle.std.specs.Prelude.{◌≡◌, ◌<◌, ◌≤◌, ◌/◌, ℕ, Bool, true, false, List, length, Option}
-use Rattle.std.specs.Prelude.{Some}
-use Rattle.linker_utils_c.specs.Imports.{Addresses, Architecture, RiscV, Success, Symbol, TooShort}
-use Rattle.linker_utils_c.specs.Imports.{UnknownArchitecture}
+use Rattle.std.specs.Prelude.{None, Some, ◌+◌, ◌==◌, if◌then◌else◌}
+use Rattle.linker_utils_c.specs.Imports.{Addresses, Architecture, Machine, RiscV, Success, Symbol}
+use Rattle.linker_utils_c.specs.Imports.{TooShort, UnknownArchitecture, architecture_of}
+use Rattle.linker_runs.specs.Machines.{machine_of}
+use Rattle.linker_runs.specs.declared.packing.Isa.TheVariants.{Rv32}
+use Rattle.linker_runs.specs.declared.packing.Machine.TheVariants as machines
 use Rattle.linker_section.specs.RiscV32.{AreCopied, AreWrapped}
 use Rattle.linker_utils_c.specs.Status.{code}
+
+-- the machine of an architecture whose sections are packed
+abbrev pub packed_as : Option Architecture → Option Machine
+packed_as None = None
+packed_as (Some architecture) = machine_of architecture
+
+-- e_machine of RISC-V, and LINKER_UTILS_CLASS32
+abbrev pub riscv32 : ℕ
+riscv32 = 0xf3 + 0x8000
+
+-- the same by e_machine, with a number of its own for RV32
+abbrev pub packing_machine : ℕ → Option Machine
+packing_machine machine =
+    if machine == riscv32 then Some (machines.RiscV Rv32) else packed_as (architecture_of machine)
 
 -- those whose files of ELFCLASS32 have these relocations
 abbrev pub has_class32 : Option Architecture → Bool

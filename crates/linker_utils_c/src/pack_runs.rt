@@ -9,27 +9,11 @@ ghost use Rattle.linker_utils_c.specs.PackRuns.{packing_machine, item_status, Is
 ghost use Rattle.linker_utils_c.specs.PackRuns.{SaysOfInstructions};
 ghost use Rattle.linker_utils_c.specs.Status.{code, IfFound};
 
+pub(crate) use crate::riscv32::packing_machine;
 use crate::status::{Status, or_return};
 use linker_runs::items::ItemNumbers;
-use linker_runs::packing::{
-    Isa, ItemError, Machine, has_its_instructions, pack_run, packed_run_len,
-};
-use linker_utils::elf::Architecture;
+use linker_runs::packing::{ItemError, Machine, has_its_instructions, pack_run, packed_run_len};
 use linker_utils::relaxation::RelaxDelta;
-
-/// `e_machine` of RISC-V and `LINKER_UTILS_CLASS32`, which is added for files of ELFCLASS32.
-const RISCV32: u16 = 0x80f3;
-
-/// The machine whose code becomes shorter, by `e_machine` and class.
-#[inline]
-pub(crate) fn packing_machine(machine: u16) -> Option<Machine>
-    ensures { result ≡ packing_machine machine }
-{
-    if machine == RISCV32 {
-        return Some(Machine::RiscV(Isa::Rv32));
-    }
-    Machine::of(Architecture::from_machine(machine)?)
-}
 
 #[inline]
 fn status_of(error: ItemError) -> u32

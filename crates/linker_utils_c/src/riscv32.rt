@@ -1,15 +1,30 @@
-//! Relocations of RV32.
+//! Relocations of RV32, and the machine of its code.
 
 ghost use Rattle.std.specs.Prelude.{◌≡◌};
 ghost use Rattle.linker_elf.specs.Machines.{architecture_of};
 ghost use Rattle.linker_utils_c.specs.RiscV32.{has_class32, IsRela32Returned};
-ghost use Rattle.linker_utils_c.specs.RiscV32.{AreWrappedIfKnown};
+ghost use Rattle.linker_utils_c.specs.RiscV32.{AreWrappedIfKnown, packing_machine};
 
 use crate::status::Status;
+use linker_runs::packing::{Isa, Machine};
 use linker_section::facts::{Addresses, Symbol};
 use linker_section::relocations::relocations_len;
 use linker_section::riscv32::{read_rela32, relocations32_len, wrap_addends};
 use linker_utils::elf::Architecture;
+
+/// `e_machine` of RISC-V and `LINKER_UTILS_CLASS32`, which is added for files of ELFCLASS32.
+const RISCV32: u16 = 0x80f3;
+
+/// The machine whose code becomes shorter, by `e_machine` and class.
+#[inline]
+pub(crate) fn packing_machine(machine: u16) -> Option<Machine>
+    ensures { result ≡ packing_machine machine }
+{
+    if machine == RISCV32 {
+        return Some(Machine::RiscV(Isa::Rv32));
+    }
+    Machine::of(Architecture::from_machine(machine)?)
+}
 
 /// Whether a machine has files of ELFCLASS32 whose relocations these are.
 #[inline(always)]

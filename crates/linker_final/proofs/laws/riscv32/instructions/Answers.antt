@@ -1,5 +1,5 @@
 use Rattle.linker_final.proofs.RiscV32.{absolute, branches, descriptors, relative, thread, words}
-use Rattle.linker_final.proofs.laws.riscv32_instructions.Goals as goal
+use Rattle.linker_final.proofs.laws.riscv32.instructions.Goals as goal
 
 pub returns : goal.returns
 returns c =

@@ -1,9 +1,9 @@
 -- The steps of RV32: by computation.
 use Rattle.linker_final.proofs.Imports.{AllPass, Numbers, at, if◌then◌else◌, m0, nat_lt, pc, place_sum, refl, ℕ, ◌%◌, ◌*◌, ◌+◌, ◌==◌, ◌^◌}
-use Rattle.linker_final.specs.RiscVExecuted.{made_32, passes_32}
+use Rattle.linker_final.specs.RiscV32Executed.{made_32, passes_32}
 use Rattle.linker_final.specs.RiscV32Steps.{riscv32_groups}
 use Rattle.linker_final.proofs.Noise.{all_pass, noise_64}
-use Rattle.linker_final.proofs.emulated.riscv32.Goals as goal
+use Rattle.linker_final.proofs.emulated.riscv32.steps.Goals as goal
 
 abbrev quick : ℕ → Numbers
 quick row place =

@@ -1,6 +1,6 @@
 use Rattle.linker_final.proofs.Imports.{IsApplied, IsNamed, IsRow, IsSomeAnd, List, Operands, RiscV, RiscVRelocation, RowInfo, Some, ap, false, lit<, negsuc, pos, r_type_of, refl, riscv_name, riscv_relocation, subst, ℕ, ◌∙◌, ◌≡◌}
 use Rattle.linker_elf.specs.declared.riscv64.relocations.RiscVRelocation.TheVariants as names
-use Rattle.linker_final.proofs.worked.riscv32.Goals as goal
+use Rattle.linker_final.proofs.worked.riscv32.pair.Goals as goal
 
 -- with the addend of the file
 abbrev operands : Operands
