@@ -9,6 +9,7 @@ pub mod Ppc64
 pub mod RiscV
 pub mod RiscV32
 pub mod RiscV32Calls
+pub mod RiscV32Worked
 pub mod RiscVNear
 pub mod RiscVPacked
 pub mod SectionRuns

@@ -1,9 +1,8 @@
 -- RV32's calls, by what RV64's instructions do.
-use Rattle.linker_final.proofs.Imports.{Bool, CjType, IType, IsApplied, IsSomeAnd, List, Operands, PltRelative, RiscVRelocation, Some, UType, UiType, [], address_is, address_of, after_rewrite, ap, ap₂, arith, call as long_one, call_to_cjal, drop, eq-eqb, even, false, fetched_word, field, from_le_bytes, if◌then◌else◌, ints, jump as word_one, jump_row, le-leb, length, length-drop, lift, lit<, lit≤, moved, nat_le, ne_eqb, negsuc, pair_row, place_sum, plt_address, pos, put_there, rd_of, refl, riscv_form, riscv_row, same_low_two, short_jump as half_one, subst, sum_64, sym, symbol_address, true, w16, w32, word_of, wrapped_is, ℕ, ℤ, ◌%◌, ◌&&◌, ◌+ℤ◌, ◌+◌, ◌-◌, ◌==◌, ◌^◌, ◌∙◌, ◌∷◌, ◌≡◌, ◌≢◌, ◌≤◌}
-use Rattle.linker_final.specs.RiscV32.{CallIsMade, Calls, CallsAreMade, HasCalled, IsSame32, LongCall, PackedCall, ShortCall, executed_32, fetched_32, is_cjal, modulo_32, short_call, step_32}
+use Rattle.linker_final.proofs.Imports.{Bool, CjType, IType, IsApplied, IsSomeAnd, List, Operands, PltRelative, RiscVRelocation, Some, UType, UiType, address_is, address_of, after_rewrite, ap, ap₂, arith, call as long_one, call_to_cjal, drop, eq-eqb, even, false, fetched_word, field, from_le_bytes, if◌then◌else◌, ints, jump as word_one, jump_row, le-leb, length, length-drop, lift, moved, nat_le, ne_eqb, negsuc, pair_row, plt_address, pos, put_there, rd_of, refl, riscv_form, riscv_row, same_low_two, short_jump as half_one, subst, sum_64, sym, symbol_address, true, w16, w32, word_of, wrapped_is, ℕ, ℤ, ◌%◌, ◌&&◌, ◌+ℤ◌, ◌+◌, ◌-◌, ◌==◌, ◌^◌, ◌∙◌, ◌≡◌, ◌≢◌, ◌≤◌}
+use Rattle.linker_final.specs.RiscV32.{Calls, HasCalled, IsSame32, LongCall, PackedCall, ShortCall, executed_32, fetched_32, is_cjal, modulo_32, step_32}
 use Rattle.linker_laws.specs.RiscVMachine.{Hart, Instruction, auipc, executed, fetched, goes_on, goes_to, jal, jumps, of_word, rs1_of, sums, with_integer, register}
 use Rattle.linker_final.proofs.RiscV32.{symbol_32, with_addend_sum}
-use Rattle.linker_laws.proofs.Relocated.{all_small, applied, are_bytes, small}
 use Rattle.linker_laws.proofs.RiscVJumps.{high_decodes, high_long, low_decodes, low_long, pair_base, pair_leads, pair_link, pair_register, short_jump_function, short_jump_leads, short_jump_low}
 use Rattle.linker_elf.specs.declared.riscv64.relocations.RiscVRelocation.TheVariants as names
 use Rattle.linker_utils.specs.declared.riscv64.rewrites.RewriteKind.TheVariants as kinds
@@ -166,69 +165,3 @@ long_call name row_is o call code m h at =
 
 pub calls : Calls
 calls = (long_call names.R_RISCV_CALL refl, long_call names.R_RISCV_CALL_PLT refl, short_is, packed_call)
-
--- ---- the premises
-
--- with the addend of the file
-abbrev around_zero : Operands
-around_zero =
-    record {
-      symbol = 0xffffff00;
-      addend = pos 0;
-      place = 0;
-      got_entry = 0;
-      got_base = 0;
-      plt_entry = 0xffffff00;
-      symbol_size = 0;
-      tls_base = 0;
-      has_got_entry = false;
-      has_plt_entry = false;
-      has_tls_base = false;
-    }
-
-abbrev long_bytes : List ℕ
-long_bytes = 0x97 ∷ 0x00 ∷ 0x00 ∷ 0x00 ∷ 0xe7 ∷ 0x80 ∷ 0x00 ∷ 0x00 ∷ []
-
-is_made : (name : RiscVRelocation) (made : List ℕ → List ℕ) (code : List ℕ)
-    → IsSomeAnd (riscv_row name) (λ row.
-    IsApplied row (record around_zero { addend = negsuc 0xffffffff }) (made long_bytes) code)
-    → length code ≡ length (made long_bytes) → all_small (made long_bytes) ≡ true → all_small code ≡ true
-    → CallIsMade name made
-is_made name made code applied len small_before small_after =
-    record {
-      o = around_zero;
-      call = long_bytes;
-      code = code;
-      is_made = record {
-        addend = negsuc 0xffffffff;
-        addresses = small around_zero refl;
-        same = refl;
-        matches = record {
-          inside = lit≤ tt;
-          pair = record { auipc_opcode = refl; jalr_opcode = refl; jalr_function = refl; base = refl };
-          base = λ e. cc;
-          links = refl;
-        };
-        relocated = record {
-          applied = applied;
-          len = len;
-          old_bytes = are_bytes (made long_bytes) small_before;
-          bytes = are_bytes code small_after;
-        };
-      };
-      other = λ e. cc;
-    }
-
-abbrev long_code : List ℕ
-long_code = 0x97 ∷ 0x00 ∷ 0x00 ∷ 0x00 ∷ 0xe7 ∷ 0x80 ∷ 0x00 ∷ 0xf0 ∷ []
-
-pub calls_are_made : CallsAreMade
-unfolding place_sum
-calls_are_made = (
-  is_made names.R_RISCV_CALL (λ call. call) long_code
-      (applied (negsuc 255) 0x80e700000097 refl (refl, tt, λ e. refl) refl (lit< tt) tt refl refl) refl refl refl,
-  is_made names.R_RISCV_CALL_PLT (λ call. call) long_code
-      (applied (negsuc 255) 0x80e700000097 refl (refl, tt, λ e. refl) refl (lit< tt) tt refl refl) refl refl refl,
-  is_made names.R_RISCV_RVC_JUMP short_call (0x01 ∷ 0x37 ∷ 0x00 ∷ 0x00 ∷ 0xe7 ∷ 0x80 ∷ 0x00 ∷ 0x00 ∷ [])
-      (applied (negsuc 255) 0x2001 refl (refl, tt, λ e. refl) refl (lit< tt) tt refl refl) refl refl refl,
-)

@@ -16,8 +16,6 @@ ghost use Rattle.linker_laws.specs.Ppc64GroupsWorked as ppc64_worked;
 ghost use Rattle.linker_laws.specs.RiscVGroupsWorked as riscv_worked;
 ghost use Rattle.linker_laws.specs.X86GroupsWorked as x86_worked;
 
-pub mod riscv32;
-
 use crate::sections::link_section_in_two_phases;
 use linker_base::relaxation::{DeltaSlice, OutOfMemory};
 use linker_rewriting::decisions::{Decision, DecisionNumbers, Deletion};
@@ -36,7 +34,7 @@ use linker_runs::shapes::riscv64::CALL;
 use linker_section::facts::{Addresses, Symbol};
 use linker_section::relocations::{relocation_at, relocations_len};
 use linker_section::sections::relocate_section;
-use linker_utils::elf::{Architecture, Operands};
+use linker_utils::elf::Architecture;
 use std::alloc::Global;
 
 /// The most relocations of a section, and the most symbols.

@@ -1,4 +1,5 @@
-use Rattle.linker_final.proofs.RiscV32Calls.{calls, calls_are_made}
+use Rattle.linker_final.proofs.RiscV32Calls.{calls}
+use Rattle.linker_final.proofs.RiscV32Worked.{calls_are_made}
 use Rattle.linker_final.proofs.laws.riscv32.calls.Goals as goal
 
 pub returns : goal.returns

@@ -1,4 +1,5 @@
 use Rattle.linker_final.proofs.RiscV32.{absolute, branches, descriptors, relative, thread, words}
+use Rattle.linker_final.proofs.RiscV32Worked.{pair_is_applied}
 use Rattle.linker_final.proofs.laws.riscv32.instructions.Goals as goal
 
 pub returns : goal.returns
@@ -11,4 +12,5 @@ returns c =
       thread = thread laws.thread;
       branches = branches laws.calls laws.jumps;
       words = words laws.fields;
+      premises = pair_is_applied;
     }
