@@ -38,12 +38,14 @@ pair_is_applied =
           applied (negsuc 0x7fffefff) 0x537 refl (refl, tt, λ e. refl) refl (lit< tt) tt refl refl,
         ),
         (
-          0,
-          0x13 ∷ 0x05 ∷ 0x05 ∷ 0x00 ∷ [],
-          0x13 ∷ 0x05 ∷ 0x05 ∷ 0x00 ∷ [],
-          applied (negsuc 0x7fffefff) 0x50513 refl (refl, tt, λ e. refl) refl (lit< tt) tt refl refl,
+          (
+            0,
+            0x13 ∷ 0x05 ∷ 0x05 ∷ 0x00 ∷ [],
+            0x13 ∷ 0x05 ∷ 0x05 ∷ 0x00 ∷ [],
+            applied (negsuc 0x7fffefff) 0x50513 refl (refl, tt, λ e. refl) refl (lit< tt) tt refl refl,
+          ),
+          tt,
         ),
-        tt,
       );
     }
 
