@@ -15,5 +15,5 @@ next_on relocations i j next = ⊎_elim
 
 -- and so of what a walk knows
 pub ahead_on : (machine : Machine) (relocations : List Relocation) (i j : ℕ) → IsAhead machine relocations i j → MayBeAhead machine relocations (i + 1) j
-ahead_on (RiscV isa) relocations i j next = next_on relocations i j next
+ahead_on (RiscV _) relocations i j next = next_on relocations i j next
 ahead_on LoongArch64 relocations i j next = inr tt

@@ -55,13 +55,13 @@ unfoldable pub use Rattle.linker_runs.specs.Relaxing.{after_rounds, freed_before
 pub use Rattle.linker_runs.specs.Relocations.{AreMade, AreWellFormed, IsMarked, no_relocation, relocation_at}
 pub use Rattle.linker_runs.specs.Relocations.AreMade.{left_out, made, none}
 pub use Rattle.linker_runs.specs.RewrittenItems.{AreListed, ArePlaced, IsDeleted, deleted_at, deleted_before, deleted_end}
-pub use Rattle.linker_runs.specs.RiscVItems.{Aligns, AreEnoughAt, HasRiscVName, IsCallAt, IsNextAlignment, IsOfCall, IsRiscVFormed, MayBeShort, MayFree, RiscVMakes, has_short_jump, links_short}
+pub use Rattle.linker_runs.specs.RiscVItems.{Aligns, AreEnoughAt, HasRiscVName, IsCallAt, IsNextAlignment, IsOfCall, IsShapesOf, MayBeShort, MayFree, RiscVMakes, has_short_jump}
 pub use Rattle.linker_runs.specs.RiscVSites.{IsJal, IsShortJump, RiscVAccepts, RiscVBecomes, RiscVCause, riscv_template, short_bytes, short_jump}
 pub use Rattle.linker_runs.specs.SectionItems.{Makes}
 pub use Rattle.linker_runs.specs.Sites.{IsInReach, IsOutOfReach, IsRelocated, Template, operands_of}
 pub use Rattle.linker_runs.specs.Writable.{HasShapesOf, IsNear, IsNearAddress, IsNearCall36, IsNearSite, IsShortened, MadeSitesHaveInstructions, MayBePacked, NearAddressesAreWritable, NearCalls36AreWritable, NearCallsAreWritable, NoneIsOutOfReach, ShortSitesAreWritable}
 pub use Rattle.linker_runs.specs.declared.items.Relocation.{Relocation}
-pub use Rattle.linker_runs.specs.declared.packing.Isa.{Isa}
+pub use Rattle.linker_runs.specs.declared.packing.riscv32.Isa.{Isa}
 pub use Rattle.linker_runs.specs.declared.packing.ItemError.{ItemError}
 pub use Rattle.linker_runs.specs.declared.packing.ItemError.TheVariants.{DeletedOutside, NoShape, NotItsFirstBytes, NotItsInstructions, OutOfReach, OutOfSection, Overlaps}
 pub use Rattle.linker_runs.specs.declared.packing.Machine.{Machine}

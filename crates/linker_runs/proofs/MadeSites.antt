@@ -1,5 +1,5 @@
 -- The sites that relocations make are of the section's bytes.
-use Rattle.linker_runs.proofs.Imports.{Aligned, AreMade, CALL, CALL36, HasItsInstructions, HasLoongArchShapes, HasRiscVShapes, IsCall36, IsPcala, IsRiscVFormed, Isa, Item, List, LoongArch64, LoongArchMakes, Machine, MadeSitesHaveInstructions, Makes, MayBeShort, PCALA, Relocation, RiscV, RiscVMakes, Site, TAIL_C, [], ap, arith, cases_lt, get_or-append, inl, inr, item_at, left_out, length, length-append, made, no_item, none, relocation_at, subst, suc, sym, zero, ℕ, ⊎_elim, ◌++◌, ◌+◌, ◌-◌, ◌<◌, ◌∙◌, ◌∷◌, ◌≡◌, ◌≤◌}
+use Rattle.linker_runs.proofs.Imports.{Aligned, AreMade, CALL, CALL36, HasItsInstructions, HasLoongArchShapes, HasRiscVShapes, HasShapes, IsCall36, IsCallAt, IsPcala, IsShapesOf, Item, List, LoongArch64, LoongArchMakes, Machine, MadeSitesHaveInstructions, Makes, MayBeShort, PCALA, Relocation, RiscV, Shapes, Site, TAIL_C, [], ap, arith, cases_lt, get_or-append, inl, inr, item_at, left_out, length, length-append, made, no_item, none, relocation_at, subst, suc, sym, zero, ℕ, ⊎_elim, ◌++◌, ◌+◌, ◌-◌, ◌<◌, ◌∙◌, ◌∷◌, ◌≡◌, ◌≤◌}
 use Rattle.std.proofs.Math.Seq.{get_or-append_seam}
 use Rattle.linker_runs.specs.SectionItems.{IsFormed}
 
@@ -20,20 +20,15 @@ each_made Makes P (suc i) items makers (left_out before not) each j below = each
 each_made Makes P (suc i) all all_makers (made {items = items} {makers = makers} {item = item} before is) each j below =
     pushed P items item (each_made Makes P i items makers before (λ k item h. each k item (omega arith))) (each i item (omega arith) is) j below
 
-riscv_site : (isa : Isa) (section : List ℕ) (base : ℕ) (relocations : List Relocation) (i : ℕ) (item : Item) → IsRiscVFormed section (relocation_at relocations i) → RiscVMakes isa section base relocations i item → HasItsInstructions (RiscV isa) section base item
-riscv_site isa section base relocations i (Aligned alignment) formed makes = tt
-riscv_site isa section base relocations i (Site call) formed makes =
-    let o = (relocation_at relocations i).offset in
-    let place : call.offset ≡ base + o = makes.place in
-    let at : o ≡ call.offset - base = omega (arith, place) in
-    let shapes : HasRiscVShapes isa section o call.shapes = (
-      makes.is_call,
-      ⊎_elim
-          (λ (short : MayBeShort isa section relocations i × (call.shapes ≡ TAIL_C)). inr (short.1, short.0.links))
-          (λ (other : (MayBeShort isa section relocations i → ⊥) × (call.shapes ≡ CALL)). inl other.1)
-          makes.shapes,
-    ) in
-    (makes.len, omega (arith, place), omega (arith, place, (formed.call makes.name)), subst (λ n. HasRiscVShapes isa section n call.shapes) at shapes)
+riscv_shapes : (machine : Machine) (section : List ℕ) (relocations : List Relocation) (i : ℕ) (shapes : Shapes) → IsCallAt section (relocation_at relocations i).offset
+    → IsShapesOf machine section relocations i shapes → HasRiscVShapes machine section (relocation_at relocations i).offset shapes
+riscv_shapes machine section relocations i shapes is_call are = (
+  is_call,
+  ⊎_elim
+      (λ (short : MayBeShort machine section relocations i × (shapes ≡ TAIL_C)). inr (short.1, short.0.links))
+      (λ (other : (MayBeShort machine section relocations i → ⊥) × (shapes ≡ CALL)). inl other.1)
+      are,
+)
 
 loongarch_site : (section : List ℕ) (base : ℕ) (relocations : List Relocation) (i : ℕ) (item : Item) → LoongArchMakes section base relocations i item → HasItsInstructions LoongArch64 section base item
 loongarch_site section base relocations i (Aligned alignment) makes = tt
@@ -48,7 +43,12 @@ loongarch_site section base relocations i (Site here) makes =
     (makes.0.len, omega (arith, place), omega (arith, place, site.0), subst (λ n. HasLoongArchShapes section n here.shapes) at site.1)
 
 pub site : (machine : Machine) (section : List ℕ) (base : ℕ) (relocations : List Relocation) (i : ℕ) (item : Item) → IsFormed machine section (relocation_at relocations i) → Makes machine section base relocations i item → HasItsInstructions machine section base item
-site (RiscV isa) section base relocations i item formed makes = riscv_site isa section base relocations i item formed makes
+site (RiscV _) section base relocations i (Aligned alignment) formed makes = tt
+site (RiscV isa) section base relocations i (Site call) formed makes =
+    let place : call.offset ≡ base + (relocation_at relocations i).offset = makes.place in
+    let at : (relocation_at relocations i).offset ≡ call.offset - base = omega (arith, place) in
+    let shapes = riscv_shapes (RiscV isa) section relocations i call.shapes makes.is_call makes.shapes in
+    (makes.len, omega (arith, place), omega (arith, place, (formed.call makes.name)), subst (λ n. HasShapes (RiscV isa) section n call.shapes) at shapes)
 site LoongArch64 section base relocations i item formed makes = loongarch_site section base relocations i item makes
 
 pub made_sites : MadeSitesHaveInstructions

@@ -1,5 +1,6 @@
 -- Words that are repeated, and nops.
-use Rattle.linker_runs.proofs.Imports.{Isa, List, LoongArch64, Machine, RiscV, [], ap, append-nil, append_assoc, arith, cases_Bool, drop, drop-drop, drop_at, eqb-true, if◌then◌else◌, inl, inr, length, length-append, length-take, nat_tests, nop_len, nops, refl, repeated, suc, sym, take, take-append-drop, take_at, zero, ℕ, ◌%◌, ◌*◌, ◌++◌, ◌+◌, ◌/◌, ◌==◌, ◌∙◌, ◌∷◌, ◌≡◌, ◌≤◌}
+use Rattle.linker_runs.proofs.Imports.{List, LoongArch64, Machine, RiscV, [], ap, append-nil, append_assoc, arith, cases_Bool, drop, drop-drop, drop_at, eqb-true, if◌then◌else◌, inl, inr, length, length-append, length-take, nat_tests, nop_len, nops, refl, repeated, suc, sym, take, take-append-drop, take_at, zero, ℕ, ◌%◌, ◌*◌, ◌++◌, ◌+◌, ◌/◌, ◌==◌, ◌∙◌, ◌∷◌, ◌≡◌, ◌≤◌}
+use Rattle.linker_runs.specs.Machines.{RiscV64}
 
 pub repeated_none : (word : List ℕ) → repeated word 0 ≡ []
 unfolding repeated
@@ -46,7 +47,7 @@ put_nothing xs at =
 -- ---- nops
 
 pub nops_length : (machine : Machine) (n : ℕ) → n % nop_len machine ≡ 0 → length (nops machine n) ≡ n
-nops_length (RiscV isa) n even =
+nops_length (RiscV _) n even =
     let word : List ℕ = 0x13 ∷ 0x00 ∷ 0x00 ∷ 0x00 ∷ [] in
     let short : List ℕ = 0x01 ∷ 0x00 ∷ [] in
     let none : List ℕ = [] in
@@ -58,5 +59,5 @@ nops_length (RiscV isa) n even =
     length-append (repeated word (n / 4)) (if n % 4 == 2 then short else none) ∙ omega (arith, (repeated_length word (n / 4) refl), tail)
 nops_length LoongArch64 n even = repeated_length (0x00 ∷ 0x00 ∷ 0x40 ∷ 0x03 ∷ []) (n / 4) refl ∙ omega arith
 
-pub nops_two : (isa : Isa) (n : ℕ) → n % 4 ≡ 2 → nops (RiscV isa) n ≡ repeated (0x13 ∷ 0x00 ∷ 0x00 ∷ 0x00 ∷ []) (n / 4) ++ 0x01 ∷ 0x00 ∷ []
-nops_two isa n two = ap (λ k. repeated (0x13 ∷ 0x00 ∷ 0x00 ∷ 0x00 ∷ []) (n / 4) ++ (if k == 2 then 0x01 ∷ 0x00 ∷ [] else [])) two
+pub nops_two : (n : ℕ) → n % 4 ≡ 2 → nops RiscV64 n ≡ repeated (0x13 ∷ 0x00 ∷ 0x00 ∷ 0x00 ∷ []) (n / 4) ++ 0x01 ∷ 0x00 ∷ []
+nops_two n two = ap (λ k. repeated (0x13 ∷ 0x00 ∷ 0x00 ∷ 0x00 ∷ []) (n / 4) ++ (if k == 2 then 0x01 ∷ 0x00 ∷ [] else [])) two

@@ -1,20 +1,20 @@
 -- What is written of each item.
-use Rattle.linker_runs.proofs.Imports.{Aligned, AreReady, DeletedOutside, IsApart, IsCause, IsFilledTo, IsInReach, IsInside, IsNotIn, IsPackedRun, IsPieceOf, IsSomeAnd, IsUnwritable, IsWhole, IsWritable, IsWrittenTo, Isa, Item, ItemAccepts, ItemBecomes, ItemCause, ItemError, KeepsGap, List, LoongArch64, LosesItems, Machine, NoShape, NotItsFirstBytes, NotItsInstructions, OutOfReach, OutOfSection, Overlaps, RiscV, RiscVAccepts, RiscVCause, Section, Site, ap, append_assoc, arith, cases_Bool, cases_lt, drop, drop_at, end_of, false, gap_start, get_or, get_or-append_right, get_or-drop, get_or-take, get_or_default, if◌then◌else◌, inl, inr, is_fixed, is_kept, item_at, kept_len, len_of, length, length-append, length-drop, length-take, offset_of, packed_offset, piece_bytes, put_below, rank, rank-mono, rank_kept, rank_steps, refl, riscv_template, same_lists, subst, suc, sym, take, take_at, true, written_len, zero, ℕ, ◌++◌, ◌+◌, ◌-◌, ◌<◌, ◌↔◌, ◌∙◌, ◌≡◌, ◌≤◌}
+use Rattle.linker_runs.proofs.Imports.{Aligned, AreReady, DeletedOutside, IsApart, IsCause, IsFilledTo, IsInReach, IsInside, IsNotIn, IsPackedRun, IsPieceOf, IsSomeAnd, IsUnwritable, IsWhole, IsWritable, IsWrittenTo, Item, ItemAccepts, ItemBecomes, ItemCause, ItemError, KeepsGap, List, LoongArch64, LosesItems, Machine, NoShape, NotItsFirstBytes, NotItsInstructions, OutOfReach, OutOfSection, Overlaps, RiscV, RiscVAccepts, RiscVCause, Section, Site, ap, append_assoc, arith, cases_Bool, cases_lt, drop, drop_at, end_of, false, gap_start, get_or, get_or-append_right, get_or-drop, get_or-take, get_or_default, if◌then◌else◌, inl, inr, is_fixed, is_kept, item_at, kept_len, len_of, length, length-append, length-drop, length-take, offset_of, packed_offset, piece_bytes, put_below, rank, rank-mono, rank_kept, rank_steps, refl, riscv_template, same_lists, subst, suc, sym, take, take_at, true, written_len, zero, ℕ, ◌++◌, ◌+◌, ◌-◌, ◌<◌, ◌↔◌, ◌∙◌, ◌≡◌, ◌≤◌}
 use Rattle.linker_runs.proofs.LoongArch.{loongarch_excludes}
 use Rattle.linker_runs.specs.declared.packing.Piece.{Piece}
 use Rattle.linker_runs.proofs.Sites.{both_some, in_reach}
 
 -- ---- what is accepted isn't rejected
 
-riscv_excludes : (isa : Isa) (section : List ℕ) (o kept place target : ℕ) (error : ItemError) → RiscVAccepts isa section o kept place target → RiscVCause isa section o kept place target error → ⊥
-riscv_excludes isa section o kept place target NotItsInstructions a cause = cause a.call
-riscv_excludes isa section o kept place target NoShape a cause = subst (λ t. IsSomeAnd t (λ t. IsInReach t place target)) cause.1 a.reached
-riscv_excludes isa section o kept place target OutOfReach a cause = both_some (riscv_template isa section o kept) _ _ a.reached cause.1 (λ t p q. in_reach t place target p q)
-riscv_excludes isa section o kept place target other a cause = cause
+riscv_excludes : (machine : Machine) (section : List ℕ) (o kept place target : ℕ) (error : ItemError) → RiscVAccepts machine section o kept place target → RiscVCause machine section o kept place target error → ⊥
+riscv_excludes machine section o kept place target NotItsInstructions a cause = cause a.call
+riscv_excludes machine section o kept place target NoShape a cause = subst (λ t. IsSomeAnd t (λ t. IsInReach t place target)) cause.1 a.reached
+riscv_excludes machine section o kept place target OutOfReach a cause = both_some (riscv_template machine section o kept) _ _ a.reached cause.1 (λ t p q. in_reach t place target p q)
+riscv_excludes machine section o kept place target other a cause = cause
 
 item_excludes : (machine : Machine) (s : Section) (item : Item) (kept : ℕ) (error : ItemError) → ItemAccepts machine s item kept → ItemCause machine s item kept error → ⊥
-item_excludes (RiscV isa) s (Site site) kept NotItsInstructions a cause = riscv_excludes isa _ _ kept _ _ NotItsInstructions a.1 (cause a.0)
-item_excludes (RiscV isa) s (Site site) kept other a cause = riscv_excludes isa _ _ kept _ _ other a.1 cause.1
+item_excludes (RiscV isa) s (Site site) kept NotItsInstructions a cause = riscv_excludes (RiscV isa) _ _ kept _ _ NotItsInstructions a.1 (cause a.0)
+item_excludes (RiscV isa) s (Site site) kept other a cause = riscv_excludes (RiscV isa) _ _ kept _ _ other a.1 cause.1
 item_excludes LoongArch64 s (Site site) kept NotItsInstructions a cause = loongarch_excludes _ _ kept _ _ NotItsInstructions a.1 (cause a.0)
 item_excludes LoongArch64 s (Site site) kept other a cause = loongarch_excludes _ _ kept _ _ other a.1 cause.1
 item_excludes machine s (Aligned alignment) kept NoShape a cause = cause a
@@ -26,7 +26,7 @@ writable_excludes machine s item other w u = item_excludes machine s item _ othe
 
 -- an item in its place that isn't written
 not_own : (machine : Machine) (s : Section) (item : Item) (kept : ℕ) → (ItemCause machine s item kept Overlaps → ⊥) × (ItemCause machine s item kept OutOfSection → ⊥) × (ItemCause machine s item kept DeletedOutside → ⊥)
-not_own (RiscV isa) s (Site site) kept = (λ c. c.1, λ c. c.1, λ c. c.1)
+not_own (RiscV _) s (Site site) kept = (λ c. c.1, λ c. c.1, λ c. c.1)
 not_own LoongArch64 s (Site site) kept = (λ c. c.1, λ c. c.1, λ c. c.1)
 not_own machine s (Aligned alignment) kept = (λ c. c, λ c. c, λ c. c)
 

@@ -1,5 +1,5 @@
 -- What calls of RISC-V become.
-use Rattle.linker_runs.proofs.Imports.{AreAddresses, BitRange, Bool, InstructionWritten, IsAddress, IsApplied, IsJal, IsShortJump, IsSomeAnd, Isa, List, None, OfJalr, Option, RiscVBecomes, Some, Template, agree_below, and_parts, ap, arith, bits_taken, cases_Bool, drop, eqb-true, false, field, from_le_bytes, from_le_bytes-to_le_bytes_4, has_short_jump, if◌then◌else◌, inl, inr, int_lt, is_placed, length, link_register, operands_of, pos, refl, riscv_row, riscv_template, short_bytes, short_jump, subst, take, to_le_bytes, true, w16, w32, w64, whole, window_of, ℕ, ℤ, ◌%◌, ◌&&◌, ◌*ℤ◌, ◌*◌, ◌+ℤ◌, ◌+◌, ◌-◌, ◌<◌, ◌==◌, ◌^◌, ◌∙◌, ◌≡◌}
+use Rattle.linker_runs.proofs.Imports.{AreAddresses, BitRange, Bool, InstructionWritten, IsAddress, IsApplied, IsJal, IsShortJump, IsSomeAnd, List, Machine, None, OfJalr, Option, RiscV, RiscVBecomes, Some, Template, agree_below, and_parts, ap, arith, bits_taken, cases_Bool, drop, eqb-true, false, field, from_le_bytes, from_le_bytes-to_le_bytes_4, has_short_jump, if◌then◌else◌, inl, inr, int_lt, is_placed, length, link_register, operands_of, pos, refl, riscv_row, riscv_template, short_bytes, short_jump, subst, take, to_le_bytes, true, w16, w32, w64, whole, window_of, ℕ, ℤ, ◌%◌, ◌&&◌, ◌*ℤ◌, ◌*◌, ◌+ℤ◌, ◌+◌, ◌-◌, ◌<◌, ◌==◌, ◌^◌, ◌∙◌, ◌≡◌}
 use Rattle.linker_elf.specs.RiscV.{riscv_form}
 use Rattle.linker_elf.specs.declared.elf.AnyForm.TheVariants.{RiscV}
 use Rattle.linker_elf.specs.declared.riscv64.forms.RiscVInstruction.{RiscVInstruction}
@@ -29,7 +29,7 @@ short_fields link = elim (cases_Bool (link == 0)) [
   | inr some ↦ rw some (refl, refl)
 ]
 
-module _ (isa : Isa) (section : List ℕ) (o place target : ℕ) (written : List ℕ) (jumps : Jumps) (calls : Calls)
+module _ (machine : Machine) (section : List ℕ) (o place target : ℕ) (written : List ℕ) (jumps : Jumps) (calls : Calls)
     (p : place < 2 ^ 64) (t : target < 2 ^ 64) where
   small : AreAddresses (operands_of place target)
   small = operands_small place target p t
@@ -65,7 +65,7 @@ module _ (isa : Isa) (section : List ℕ) (o place target : ℕ) (written : List
         (calls.1 (operands_of place target) small place (take 8 (drop o section)) written applied tt);
   }
 
-  pub becomes : (kept : ℕ) → length written ≡ kept → IsRelocated place target written (riscv_template isa section o kept) → RiscVBecomes isa section o place target written
+  pub becomes : (kept : ℕ) → length written ≡ kept → IsRelocated place target written (riscv_template machine section o kept) → RiscVBecomes machine section o place target written
   becomes kept len applied =
       let link = link_register OfJalr section o in
       let cj : Option Template = Some (record { row = riscv_row r.R_RISCV_RVC_JUMP; bytes = short_bytes link }) in
@@ -73,9 +73,9 @@ module _ (isa : Isa) (section : List ℕ) (o place target : ℕ) (written : List
       let far : Option Template = Some (record { row = riscv_row r.R_RISCV_CALL_PLT; bytes = take 8 (drop o section) }) in
       let others : Option Template = if kept == 8 then far else None in
       let longer : Option Template = if kept == 4 then jal else others in
-      elim (cases_Bool (kept == 2 && has_short_jump isa section o)) [
+      elim (cases_Bool (kept == 2 && has_short_jump machine section o)) [
         | inl two ↦
-            let a = and_parts (kept == 2) (has_short_jump isa section o) two in
+            let a = and_parts (kept == 2) (has_short_jump machine section o) two in
             short_jump (len ∙ eqb-true kept 2 a.0) a.1
             (cj_is link (subst (IsRelocated place target written) (ap (λ b. if b then cj else longer) two) applied))
         | inr more ↦

@@ -28,7 +28,7 @@ module _ (bytes : List ℕ) (base : ℕ) (d : List (ℕ × ℕ)) (start : ℕ) w
   code_not : (machine : Machine) (site : sites) (kept k : ℕ) → HasItsInstructions machine bytes base (Site site) → k < site.shapes.count → kept ≡ (short_shape site.shapes k).kept
       → is_reached (short_shape site.shapes k) (rank d site.offset) (rank d site.target) ≡ true
       → (error : ItemError) → CodeCause machine bytes (site.offset - base) kept (sum_64 start (rank d site.offset)) (sum_64 start (rank d site.target)) error → ⊥
-  code_not (RiscV isa) site kept k has short len near = riscv_not isa bytes (site.offset - base) start _ _ kept site.shapes k has.3 short len near
+  code_not (RiscV isa) site kept k has short len near = riscv_not (RiscV isa) bytes (site.offset - base) start _ _ kept site.shapes k has.3 short len near
   code_not LoongArch64 site kept k has short len near = loongarch_not bytes (site.offset - base) start _ _ kept site.shapes k has.3 short len near
 
   -- the same of an item of a run, by its layout

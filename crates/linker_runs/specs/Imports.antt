@@ -11,14 +11,14 @@ pub use Rattle.linker_laws.specs.Schemes.{IsAddress}
 pub use Rattle.linker_riscv64.specs.declared.calls.LinkRegister.TheVariants.{OfJalr}
 pub use Rattle.linker_runs.specs.declared.items.Relocation.{Relocation}
 pub use Rattle.linker_runs.specs.declared.items.rewritten.RewrittenItemsError.TheVariants.{Misplaced, Overlaps}
-pub use Rattle.linker_runs.specs.declared.packing.Isa.{Isa}
-pub use Rattle.linker_runs.specs.declared.packing.Isa.TheVariants.{Rv32, Rv64}
 pub use Rattle.linker_runs.specs.declared.packing.ItemError.{ItemError}
 pub use Rattle.linker_runs.specs.declared.packing.ItemError.TheVariants.{DeletedOutside, NoShape, NotItsFirstBytes, NotItsInstructions, OutOfReach, OutOfSection}
 pub use Rattle.linker_runs.specs.declared.packing.Machine.{Machine}
 pub use Rattle.linker_runs.specs.declared.packing.Machine.TheVariants.{LoongArch64, RiscV}
 pub use Rattle.linker_runs.specs.declared.packing.loongarch64.Kind.{Kind}
 pub use Rattle.linker_runs.specs.declared.packing.loongarch64.Kind.TheVariants.{Address, Call}
+pub use Rattle.linker_runs.specs.declared.packing.riscv32.Isa.{Isa}
+pub use Rattle.linker_runs.specs.declared.packing.riscv32.Isa.TheVariants.{Rv32, Rv64}
 pub use Rattle.linker_runs.specs.declared.relaxation.Alignment.{Alignment}
 pub use Rattle.linker_runs.specs.declared.relaxation.Item.{Item}
 pub use Rattle.linker_runs.specs.declared.relaxation.Item.TheVariants.{Aligned, Site}

@@ -16,6 +16,7 @@ pub mod Relaxing
 pub mod Relocations
 pub mod RewrittenItems
 pub mod RewrittenLaws
+pub mod RiscV32
 pub mod RiscVItems
 pub mod RiscVSites
 pub mod SectionItems

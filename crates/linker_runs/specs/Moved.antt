@@ -16,7 +16,7 @@ use Rattle.linker_section.specs.declared.relocations.Rela.{Rela}
 -- What the type of a relocation becomes at a site whose instructions became one of n bytes:
 -- that of the one instruction. A relocation of another type has none then.
 abbrev pub short_r_type : Machine → ℕ → ℕ → ℕ
-short_r_type (RiscV isa) kept r_type =
+short_r_type (RiscV _) kept r_type =
     if r_type == r_type_of (riscv_name riscv.R_RISCV_CALL)
     || r_type == r_type_of (riscv_name riscv.R_RISCV_CALL_PLT)
     then if kept == 2 then r_type_of (riscv_name riscv.R_RISCV_RVC_JUMP)
@@ -31,7 +31,7 @@ short_r_type LoongArch64 kept r_type =
 
 -- the type of the relocation of an alignment
 abbrev pub align_r_type : Machine → ℕ
-align_r_type (RiscV isa) = r_type_of (riscv_name riscv.R_RISCV_ALIGN)
+align_r_type (RiscV _) = r_type_of (riscv_name riscv.R_RISCV_ALIGN)
 align_r_type LoongArch64 = r_type_of (loongarch_name loongarch.R_LARCH_ALIGN)
 
 -- What the type of a relocation at the begin of an item becomes of which n bytes stay. At a

@@ -95,13 +95,13 @@ repeated word (suc n) = word ++ repeated word n
 
 -- the length of the shortest nop
 abbrev pub nop_len : Machine → ℕ
-nop_len (RiscV isa) = 2
+nop_len (RiscV _) = 2
 nop_len LoongArch64 = 4
 
 -- n bytes of nops: of RISC-V `nop`, and at most one `c.nop` at the end; of LoongArch
 -- `andi zero, zero, 0`
 abbrev pub nops : Machine → ℕ → List ℕ
-nops (RiscV isa) n = repeated (0x13 ∷ 0x00 ∷ 0x00 ∷ 0x00 ∷ []) (n / 4)
+nops (RiscV _) n = repeated (0x13 ∷ 0x00 ∷ 0x00 ∷ 0x00 ∷ []) (n / 4)
     ++ (if n % 4 == 2 then 0x01 ∷ 0x00 ∷ [] else [])
 nops LoongArch64 n = repeated (0x00 ∷ 0x00 ∷ 0x40 ∷ 0x03 ∷ []) (n / 4)
 
@@ -109,7 +109,7 @@ nops LoongArch64 n = repeated (0x00 ∷ 0x00 ∷ 0x40 ∷ 0x03 ∷ []) (n / 4)
 
 -- what a site's instructions become
 abbrev pub SiteBecomes : Machine → Section → site → List ℕ → Type 0
-SiteBecomes (RiscV isa) s site written = RiscVBecomes isa s.bytes (site.offset - s.base)
+SiteBecomes (RiscV isa) s site written = RiscVBecomes (RiscV isa) s.bytes (site.offset - s.base)
     (address_of s site.offset) (address_of s site.target) written
 SiteBecomes LoongArch64 s site written = LoongArchBecomes s.bytes (site.offset - s.base)
     (address_of s site.offset) (address_of s site.target) written
@@ -143,8 +143,8 @@ pub record IsPackedRun (machine : Machine) (s : Section) (items : List Item) (pa
 -- there are instructions for a site in the section of which n bytes stay
 abbrev pub SiteAccepts : Machine → Section → site → ℕ → Type 0
 SiteAccepts (RiscV isa) s site kept =
-    (site.len ≡ 8) × RiscVAccepts isa s.bytes (site.offset - s.base) kept (address_of s site.offset)
-    (address_of s site.target)
+    (site.len ≡ 8) × RiscVAccepts (RiscV isa) s.bytes (site.offset - s.base) kept
+    (address_of s site.offset) (address_of s site.target)
 SiteAccepts LoongArch64 s site kept =
     (site.len ≡ 8) × LoongArchAccepts s.bytes (site.offset - s.base) kept
     (address_of s site.offset) (address_of s site.target)
@@ -169,7 +169,7 @@ pub record CanWrite (machine : Machine) (s : Section) (items : List Item) (i : �
 -- why the instructions at an offset aren't written, of which n bytes stay
 abbrev pub CodeCause : Machine → List ℕ → ℕ → ℕ → ℕ → ℕ → ItemError → Type 0
 CodeCause (RiscV isa) section o kept place target error =
-    RiscVCause isa section o kept place target error
+    RiscVCause (RiscV isa) section o kept place target error
 CodeCause LoongArch64 section o kept place target error =
     LoongArchCause section o kept place target error
 

@@ -1,15 +1,16 @@
 -- The items that RISC-V's relocations make (RISC-V ELF psABI, "Linker Relaxation": "Alignment
 -- Relaxation", "Function Call Relaxation" and "Compressed Tail Call Relaxation").
-use Rattle.linker_runs.specs.Imports.{Aligned, Alignment, Bool, IsNextPowerOfTwo, Isa, Item, List}
-use Rattle.linker_runs.specs.Imports.{None, OfJalr, Relocation, Rv32, Rv64, Shapes, Site, Some}
+use Rattle.linker_runs.specs.Imports.{Aligned, Alignment, Bool, IsNextPowerOfTwo, Item, List}
+use Rattle.linker_runs.specs.Imports.{Machine, None, OfJalr, Relocation, Shapes, Site, Some}
 use Rattle.linker_runs.specs.Imports.{field, length, pos, r_type_of, riscv_name, true, ℕ}
 use Rattle.linker_riscv64.specs.RiscVCalls.{IsCallPair, link_register, word_at}
-use Rattle.std.specs.Prelude.{◌≡◌, ◌≢◌, ◌+◌, ◌%◌, ◌^◌, ◌<◌, ◌≤◌, ◌⊎◌, ◌-◌, ◌==◌, ◌||◌}
+use Rattle.std.specs.Prelude.{◌≡◌, ◌≢◌, ◌+◌, ◌%◌, ◌^◌, ◌<◌, ◌≤◌, ◌⊎◌, ◌-◌}
 use Rattle.linker_elf.specs.declared.riscv64.relocations.RiscVRelocation.{RiscVRelocation}
 use Rattle.linker_elf.specs.declared.riscv64.relocations.RiscVRelocation.TheVariants as r
 use Rattle.linker_runs.specs.declared.shapes.riscv64.TheConstants.{CALL, TAIL_C}
 use Rattle.linker_runs.specs.declared.relaxation.Site.{Site as site}
 use Rattle.linker_runs.specs.Relocations.{relocation_at, IsMarked}
+use Rattle.linker_runs.specs.RiscV32.{links_short}
 
 -- the relocation has the name
 abbrev pub HasRiscVName : RiscVRelocation → Relocation → Type 0
@@ -72,30 +73,25 @@ pub record IsCallAt (section : List ℕ) (o : ℕ) : Type 0 where
   pub pair : IsCallPair (word_at section o) (word_at section (o + 4))
   pub not_zero : field (word_at section o) 7 12 ≢ 0
 
--- the registers that a jump of two bytes links: x0 with `c.j`, and x1 with RV32's `c.jal`
-abbrev pub links_short : Isa → ℕ → Bool
-links_short Rv32 link = link == 0 || link == 1
-links_short Rv64 link = link == 0
-
 -- a jump of two bytes links the register that the call at an offset links
-abbrev pub has_short_jump : Isa → List ℕ → ℕ → Bool
-has_short_jump isa section o = links_short isa (link_register OfJalr section o)
+abbrev pub has_short_jump : Machine → List ℕ → ℕ → Bool
+has_short_jump machine section o = links_short machine (link_register OfJalr section o)
 
 -- Only such a jump is short enough for two bytes. It needs the C extension and frees six bytes.
-pub record MayBeShort (isa : Isa) (section : List ℕ) (relocations : List Relocation) (i : ℕ)
+pub record MayBeShort (machine : Machine) (section : List ℕ) (relocations : List Relocation) (i : ℕ)
     : Type 0 where
   pub c_extension : (relocation_at relocations i).may_compress ≡ true
-  pub links : has_short_jump isa section (relocation_at relocations i).offset ≡ true
+  pub links : has_short_jump machine section (relocation_at relocations i).offset ≡ true
   pub frees : MayFree 6 relocations i
 
 -- what a call can become
-abbrev pub IsShapesOf : Isa → List ℕ → List Relocation → ℕ → Shapes → Type 0
-IsShapesOf isa section relocations i shapes =
-    (MayBeShort isa section relocations i × (shapes ≡ TAIL_C))
-    ⊎ (¬ MayBeShort isa section relocations i × (shapes ≡ CALL))
+abbrev pub IsShapesOf : Machine → List ℕ → List Relocation → ℕ → Shapes → Type 0
+IsShapesOf machine section relocations i shapes =
+    (MayBeShort machine section relocations i × (shapes ≡ TAIL_C))
+    ⊎ (¬ MayBeShort machine section relocations i × (shapes ≡ CALL))
 
 -- `jal` frees four bytes
-pub record IsRiscVSite (isa : Isa) (section : List ℕ) (base : ℕ)
+pub record IsRiscVSite (machine : Machine) (section : List ℕ) (base : ℕ)
     (relocations : List Relocation) (i : ℕ) (call : site) : Type 0 where
   pub name : IsOfCall (relocation_at relocations i)
   pub marked : IsMarked (r_type_of (riscv_name r.R_RISCV_RELAX)) relocations i
@@ -104,15 +100,15 @@ pub record IsRiscVSite (isa : Isa) (section : List ℕ) (base : ℕ)
   pub is_call : IsCallAt section (relocation_at relocations i).offset
   pub len : call.len ≡ 8
   pub target : (relocation_at relocations i).target ≡ Some call.target
-  pub shapes : IsShapesOf isa section relocations i call.shapes
+  pub shapes : IsShapesOf machine section relocations i call.shapes
 
 -- ---- what a relocation makes
 
 -- the item that the relocation at an index makes, where the section begins at an input offset
-abbrev pub RiscVMakes : Isa → List ℕ → ℕ → List Relocation → ℕ → Item → Type 0
-RiscVMakes isa section base relocations i (Site call) =
-    IsRiscVSite isa section base relocations i call
-RiscVMakes isa section base relocations i (Aligned alignment) =
+abbrev pub RiscVMakes : Machine → List ℕ → ℕ → List Relocation → ℕ → Item → Type 0
+RiscVMakes machine section base relocations i (Site call) =
+    IsRiscVSite machine section base relocations i call
+RiscVMakes machine section base relocations i (Aligned alignment) =
     IsRiscVAlignment section base (relocation_at relocations i) alignment
 
 -- A relocation is in the section, the eight bytes of a call are, and an `R_RISCV_ALIGN` has nops.

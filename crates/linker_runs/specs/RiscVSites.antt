@@ -1,7 +1,7 @@
 -- What calls of RISC-V become (RISC-V ELF psABI, "Function Call Relaxation", "Compressed Tail Call
 -- Relaxation"; the instructions by the RISC-V unprivileged ISA).
-use Rattle.linker_runs.specs.Imports.{CjType, IsAddress, IsSomeAnd, Isa, ItemError, JType, List}
-use Rattle.linker_runs.specs.Imports.{NoShape, None, NotItsInstructions, OfJalr, Option, OutOfReach}
+use Rattle.linker_runs.specs.Imports.{CjType, IsAddress, IsSomeAnd, ItemError, JType, List}
+use Rattle.linker_runs.specs.Imports.{Machine, NoShape, None, NotItsInstructions, OfJalr, Option, OutOfReach}
 use Rattle.linker_runs.specs.Imports.{Some, UiType, [], drop, field, from_le_bytes, length, pos}
 use Rattle.linker_runs.specs.Imports.{riscv_row, take, to_le_bytes, true, w16, w32, w64, ℕ}
 use Rattle.linker_elf.specs.Applied.{IsApplied}
@@ -39,16 +39,16 @@ pub record IsFarCall (section : List ℕ) (o place target : ℕ) (written : List
       (target - target % 2)
 
 -- What the call at an offset of a section becomes. Only some become two bytes long.
-pub data RiscVBecomes (isa : Isa) (section : List ℕ) (o place target : ℕ) (written : List ℕ)
+pub data RiscVBecomes (machine : Machine) (section : List ℕ) (o place target : ℕ) (written : List ℕ)
     : Type 0 where
-  short_jump : length written ≡ 2 → has_short_jump isa section o ≡ true
+  short_jump : length written ≡ 2 → has_short_jump machine section o ≡ true
       → IsShortJump (from_le_bytes w16 written) (link_register OfJalr section o) place target
-      → RiscVBecomes isa section o place target written
+      → RiscVBecomes machine section o place target written
   jump : length written ≡ 4
       → IsJal (from_le_bytes w32 written) (link_register OfJalr section o) place target
-      → RiscVBecomes isa section o place target written
+      → RiscVBecomes machine section o place target written
   call : length written ≡ 8 → IsFarCall section o place target written
-      → RiscVBecomes isa section o place target written
+      → RiscVBecomes machine section o place target written
 
 -- ---- what is accepted and rejected
 
@@ -57,9 +57,9 @@ abbrev pub short_bytes : ℕ → List ℕ
 short_bytes link = if link == 0 then 0x01 ∷ 0xa0 ∷ [] else 0x01 ∷ 0x20 ∷ []
 
 -- the instruction of n bytes before its relocation
-abbrev pub riscv_template : Isa → List ℕ → ℕ → ℕ → Option Template
-riscv_template isa section o kept =
-    if kept == 2 && has_short_jump isa section o
+abbrev pub riscv_template : Machine → List ℕ → ℕ → ℕ → Option Template
+riscv_template machine section o kept =
+    if kept == 2 && has_short_jump machine section o
     then Some (record {
       row = riscv_row r.R_RISCV_RVC_JUMP;
       bytes = short_bytes (link_register OfJalr section o);
@@ -77,16 +77,16 @@ riscv_template isa section o kept =
     else None
 
 -- A call is at the offset, and of n bytes there is an instruction that reaches the target.
-pub record RiscVAccepts (isa : Isa) (section : List ℕ) (o kept place target : ℕ) : Type 0 where
+pub record RiscVAccepts (machine : Machine) (section : List ℕ) (o kept place target : ℕ) : Type 0 where
   pub call : IsCallAt section o
-  pub reached : IsSomeAnd (riscv_template isa section o kept) (λ t. IsInReach t place target)
+  pub reached : IsSomeAnd (riscv_template machine section o kept) (λ t. IsInReach t place target)
 
 -- why nothing is written of the eight bytes at an offset of which n stay
-abbrev pub RiscVCause : Isa → List ℕ → ℕ → ℕ → ℕ → ℕ → ItemError → Type 0
-RiscVCause isa section o kept place target NotItsInstructions = ¬ IsCallAt section o
-RiscVCause isa section o kept place target NoShape =
-    IsCallAt section o × (riscv_template isa section o kept ≡ None)
-RiscVCause isa section o kept place target OutOfReach =
+abbrev pub RiscVCause : Machine → List ℕ → ℕ → ℕ → ℕ → ℕ → ItemError → Type 0
+RiscVCause machine section o kept place target NotItsInstructions = ¬ IsCallAt section o
+RiscVCause machine section o kept place target NoShape =
+    IsCallAt section o × (riscv_template machine section o kept ≡ None)
+RiscVCause machine section o kept place target OutOfReach =
     IsCallAt section o
-    × IsSomeAnd (riscv_template isa section o kept) (λ t. IsOutOfReach t place target)
-RiscVCause isa section o kept place target other = ⊥
+    × IsSomeAnd (riscv_template machine section o kept) (λ t. IsOutOfReach t place target)
+RiscVCause machine section o kept place target other = ⊥

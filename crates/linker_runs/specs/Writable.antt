@@ -71,7 +71,7 @@ NearAddressesAreWritable = AreWritable LoongArch64 (λ item k. IsNearAddress ite
 
 -- what a site has to be where it stays long
 abbrev pub IsNearSite : Machine → Item → Type 0
-IsNearSite (RiscV isa) item = IsNear item
+IsNearSite (RiscV _) item = IsNear item
 IsNearSite LoongArch64 item = IsNearCall36 item ⊎ IsNearAddress item
 
 -- The item at an index of the run is an alignment, a site without short shapes, or a site that has

@@ -214,7 +214,7 @@ fn item_at<R: AsRelocation>(
         (Makes machine section.now base (map R.relocation relocations.now) index) }
 {
     match machine {
-        Machine::RiscV(isa) => { riscv64::item_at(isa, section, base, relocations, index, ahead) }
+        Machine::RiscV(_) => { riscv64::item_at(machine, section, base, relocations, index, ahead) }
         Machine::LoongArch64 => loongarch64::item_at(section, base, relocations, index),
     }
 }

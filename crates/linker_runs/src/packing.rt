@@ -23,25 +23,18 @@ ghost use Rattle.linker_runs.specs.Inner.Packing.{AreReady};
 mod code;
 mod loongarch64;
 mod moved;
+mod riscv32;
 mod riscv64;
 
 use crate::items::{ItemList, ItemNumbers, has_bytes};
 use crate::packing::code::Code;
 use crate::packing::moved::move_relocations;
+pub use crate::packing::riscv32::Isa;
 use crate::relaxation::{Item, Site};
 use linker_base::packing::{Position, copy_kept, position_from, position_of};
 use linker_base::relaxation::{DeltaSlice, RelaxDelta};
 use linker_base::rewrite::overwrite;
 use linker_utils::elf::Architecture;
-
-/// The base instruction set of RISC-V code.
-#[derive(Clone, Copy)]
-pub enum Isa {
-    /// RV32, whose C extension has `c.jal`.
-    Rv32,
-    /// RV64.
-    Rv64,
-}
 
 /// The architecture of a section's code.
 #[derive(Clone, Copy)]
@@ -173,8 +166,8 @@ fn code_of_site(
     let place = start.wrapping_add(at.output_offset);
     let target = start.wrapping_add(position_of(deltas, site.target).output_offset);
     match machine {
-        Machine::RiscV(isa) => {
-            riscv64::code_of(isa, section, site.offset - base, kept, place, target)
+        Machine::RiscV(_) => {
+            riscv64::code_of(machine, section, site.offset - base, kept, place, target)
         }
         Machine::LoongArch64 => {
             loongarch64::code_of(section, site.offset - base, kept, place, target)
@@ -409,7 +402,7 @@ fn put_nops(machine: Machine, packed: &mut [u8], at: u64, len: u64)
         → packed.new ≡ take at packed.old ++ nops machine len ++ drop (at + len) packed.old }
 {
     match machine {
-        Machine::RiscV(_isa) => {
+        Machine::RiscV(_) => {
             put_words(packed, at, [0x13, 0x00, 0x00, 0x00], len / 4);
             if len % 4 == 2 {
                 put_bytes(packed, at.wrapping_add(len - 2), &[0x01, 0x00]);
@@ -513,7 +506,7 @@ pub fn has_its_instructions(machine: Machine, section: &[u8], base: u64, item: &
     }
     let offset = site.offset - base;
     match machine {
-        Machine::RiscV(isa) => riscv64::has_shapes(isa, section, offset, &site.shapes),
+        Machine::RiscV(_) => riscv64::has_shapes(machine, section, offset, &site.shapes),
         Machine::LoongArch64 => loongarch64::has_shapes(section, offset, &site.shapes),
     }
 }

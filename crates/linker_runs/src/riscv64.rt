@@ -8,14 +8,14 @@ ghost use Rattle.linker_riscv64.specs.RiscVCalls.{link_register};
 ghost use Rattle.linker_riscv64.specs.declared.calls.LinkRegister.TheVariants.{OfJalr};
 ghost use Rattle.linker_runs.specs.Relocations.{relocation_at};
 ghost use Rattle.linker_runs.specs.RiscVItems.{HasRiscVName, IsNextAlignment, IsRiscVFormed};
-ghost use Rattle.linker_runs.specs.RiscVItems.{AreRiscVNops, links_short, AreEnoughAt, IsRiscVSite};
+ghost use Rattle.linker_runs.specs.RiscVItems.{AreRiscVNops, AreEnoughAt, IsRiscVSite};
 ghost use Rattle.linker_runs.specs.RiscVItems.{IsOfCall, IsCallAt, MayFree, IsShapesOf, RiscVMakes};
 ghost use Rattle.linker_runs.specs.RiscVItems.{Aligns};
 
 use crate::items::{
     AsRelocation, Relocation, has_bytes, is_marked, relocation_at, unsigned_addend,
 };
-use crate::packing::Isa;
+use crate::packing::Machine;
 use crate::relaxation::{Alignment, Item, Shapes, Site};
 use crate::shapes::riscv64::{CALL, TAIL_C};
 use linker_utils::riscv64::{LinkRegister, RiscVRelocation};
@@ -134,23 +134,10 @@ pub(crate) fn link_at(section: &[u8], offset: u64) -> Option<u32>
     LinkRegister::OfJalr.named_at(section, offset)
 }
 
-impl Isa {
-    /// Whether a jump of two bytes links a register: `c.j` none, and RV32's `c.jal` x1.
-    #[inline(always)]
-    pub(crate) fn links_short(self, link: u32) -> bool
-        ensures { result ≡ links_short self link }
-    {
-        match self {
-            Isa::Rv32 => link == 0 || link == 1,
-            Isa::Rv64 => link == 0,
-        }
-    }
-}
-
 /// What a call at an index can become that links a register.
 #[inline]
 fn shapes_of<R: AsRelocation>(
-    isa: Isa,
+    machine: Machine,
     link: u32,
     section: &[u8],
     relocations: &[R],
@@ -161,10 +148,10 @@ fn shapes_of<R: AsRelocation>(
     requires link { link ≡ link_register OfJalr section.now
         (relocation_at (map R.relocation relocations.now) index).offset }
     requires next { IsNextAlignment (map R.relocation relocations.now) index next }
-    ensures { IsShapesOf isa section.now (map R.relocation relocations.now) index result }
+    ensures { IsShapesOf machine section.now (map R.relocation relocations.now) index result }
 {
     let may_compress = relocation_at(relocations, index).may_compress;
-    if may_compress && isa.links_short(link) && may_free(6, relocations, index, next) {
+    if may_compress && machine.links_short(link) && may_free(6, relocations, index, next) {
         TAIL_C
     } else {
         CALL
@@ -174,7 +161,7 @@ fn shapes_of<R: AsRelocation>(
 /// The site of a call's relocation, if it may be relaxed.
 #[inline]
 fn site_at<R: AsRelocation>(
-    isa: Isa,
+    machine: Machine,
     section: &[u8],
     base: u64,
     relocations: &[R],
@@ -188,9 +175,9 @@ fn site_at<R: AsRelocation>(
         ≤ length section.now }
     requires next { IsNextAlignment (map R.relocation relocations.now) index next }
     ensures some { IfSome result
-        (IsRiscVSite isa section.now base (map R.relocation relocations.now) index) }
+        (IsRiscVSite machine section.now base (map R.relocation relocations.now) index) }
     ensures none { IfNone result ((item : items)
-        → ¬ RiscVMakes isa section.now base (map R.relocation relocations.now) index item) }
+        → ¬ RiscVMakes machine section.now base (map R.relocation relocations.now) index item) }
 {
     let relocation = relocation_at(relocations, index);
     if !is_marked(relocations, index, RiscVRelocation::R_RISCV_RELAX.r_type()) {
@@ -205,7 +192,7 @@ fn site_at<R: AsRelocation>(
         offset: base + relocation.offset,
         len: 8,
         target,
-        shapes: shapes_of(isa, link, section, relocations, index, next),
+        shapes: shapes_of(machine, link, section, relocations, index, next),
     })
 }
 
@@ -229,7 +216,7 @@ pub(crate) fn is_formed(section: &[u8], relocation: &Relocation) -> bool
 /// The item that the relocation at an index makes, if it makes one.
 #[inline]
 pub(crate) fn item_at<R: AsRelocation>(
-    isa: Isa,
+    machine: Machine,
     section: &[u8],
     base: u64,
     relocations: &[R],
@@ -242,12 +229,12 @@ pub(crate) fn item_at<R: AsRelocation>(
         (relocation_at (map R.relocation relocations.now) index) }
     requires next { IsNextAlignment (map R.relocation relocations.now) index next }
     ensures { MatchOption result ((item : items)
-        → ¬ RiscVMakes isa section.now base (map R.relocation relocations.now) index item)
-        (RiscVMakes isa section.now base (map R.relocation relocations.now) index) }
+        → ¬ RiscVMakes machine section.now base (map R.relocation relocations.now) index item)
+        (RiscVMakes machine section.now base (map R.relocation relocations.now) index) }
 {
     let relocation = relocation_at(relocations, index);
     if is_of_call(&relocation) {
-        let site = site_at(isa, section, base, relocations, index, next)?;
+        let site = site_at(machine, section, base, relocations, index, next)?;
         return Some(Item::Site(site));
     }
     if !aligns(&relocation) {

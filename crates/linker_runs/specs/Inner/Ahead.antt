@@ -4,7 +4,7 @@ use Rattle.std.specs.Prelude.{◌≤◌, ◌⊎◌}
 use Rattle.linker_runs.specs.RiscVItems.{IsNextAlignment}
 
 abbrev pub IsAhead : Machine → List Relocation → ℕ → ℕ → Type 0
-IsAhead (RiscV isa) relocations i known = IsNextAlignment relocations i known
+IsAhead (RiscV _) relocations i known = IsNextAlignment relocations i known
 IsAhead LoongArch64 relocations i known = ⊤
 
 -- of RISC-V it may also be what the walk has passed

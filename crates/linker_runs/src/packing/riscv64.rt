@@ -9,11 +9,11 @@ ghost use Rattle.linker_riscv64.specs.declared.calls.LinkRegister.TheVariants.{O
 ghost use Rattle.linker_runs.specs.RiscVSites.{riscv_template, RiscVBecomes, RiscVAccepts};
 ghost use Rattle.linker_runs.specs.RiscVSites.{short_bytes, RiscVCause};
 ghost use Rattle.linker_runs.specs.Origins.{HasRiscVShapes};
-ghost use Rattle.linker_runs.specs.RiscVItems.{links_short};
+ghost use Rattle.linker_runs.specs.RiscV32.{links_short};
 ghost use Rattle.linker_runs.specs.Inner.Pieces.{template_is, code_bytes};
 
 use crate::packing::code::{Code, Template, pair_at, relocated};
-use crate::packing::{Isa, ItemError};
+use crate::packing::{ItemError, Machine};
 use crate::relaxation::Shapes;
 use crate::riscv64::link_at;
 use crate::shapes::riscv64::{CALL, TAIL_C};
@@ -55,16 +55,22 @@ fn short_jump(link: u32) -> [u8; 2]
 
 /// The instruction of which n bytes stay of a call that links a register.
 #[inline(always)]
-fn template_of(isa: Isa, section: &[u8], offset: u64, link: u32, kept: u64) -> Option<Template>
+fn template_of(
+    machine: Machine,
+    section: &[u8],
+    offset: u64,
+    link: u32,
+    kept: u64,
+) -> Option<Template>
     requires inside { offset + 8 ≤ length section.now }
     requires link { link ≡ link_register OfJalr section.now offset }
-    ensures none { IfNone result (riscv_template isa section.now offset kept ≡ None) }
+    ensures none { IfNone result (riscv_template machine section.now offset kept ≡ None) }
     ensures some { IfSome result (λ template.
-        (riscv_template isa section.now offset kept ≡ Some (template_is template))
+        (riscv_template machine section.now offset kept ≡ Some (template_is template))
         × (length (code_bytes template.code) ≡ kept)) }
 {
     match kept {
-        2 if isa.links_short(link) => Some(Template {
+        2 if machine.links_short(link) => Some(Template {
             row: row_of(RiscVRelocation::R_RISCV_RVC_JUMP),
             code: Code::Half(short_jump(link)),
         }),
@@ -83,7 +89,7 @@ fn template_of(isa: Isa, section: &[u8], offset: u64, link: u32, kept: u64) -> O
 /// What a call becomes of which n bytes stay, at an address and for a target's.
 #[inline(always)]
 pub(crate) fn code_of(
-    isa: Isa,
+    machine: Machine,
     section: &[u8],
     offset: u64,
     kept: u64,
@@ -92,15 +98,15 @@ pub(crate) fn code_of(
 ) -> Result<Code, ItemError>
     requires { offset + 8 ≤ length section.now }
     ensures becomes { IfOk result
-        (λ code. RiscVBecomes isa section.now offset place target (code_bytes code)) }
+        (λ code. RiscVBecomes machine section.now offset place target (code_bytes code)) }
     ensures len { IfOk result (λ code. length (code_bytes code) ≡ kept) }
-    ensures accepts { OnOk result (RiscVAccepts isa section.now offset kept place target) }
-    ensures rejected { IfErr result (RiscVCause isa section.now offset kept place target) }
+    ensures accepts { OnOk result (RiscVAccepts machine section.now offset kept place target) }
+    ensures rejected { IfErr result (RiscVCause machine section.now offset kept place target) }
 {
     let Some(link) = link_at(section, offset) else {
         return Err(ItemError::NotItsInstructions);
     };
-    let Some(template) = template_of(isa, section, offset, link, kept) else {
+    let Some(template) = template_of(machine, section, offset, link, kept) else {
         return Err(ItemError::NoShape);
     };
     linker_laws::relocations::riscv64();
@@ -111,20 +117,20 @@ pub(crate) fn code_of(
 }
 
 /// Whether a call that links a register can have the shapes.
-fn are_of_link(isa: Isa, link: u32, shapes: &Shapes) -> bool
+fn are_of_link(machine: Machine, link: u32, shapes: &Shapes) -> bool
     ensures { IsTrue result ↔ ((shapes.now ≡ CALL)
-        ⊎ ((shapes.now ≡ TAIL_C) × (links_short isa link ≡ true))) }
+        ⊎ ((shapes.now ≡ TAIL_C) × (links_short machine link ≡ true))) }
 {
-    *shapes == CALL || (isa.links_short(link) && *shapes == TAIL_C)
+    *shapes == CALL || (machine.links_short(link) && *shapes == TAIL_C)
 }
 
 /// Whether a call at an offset can have the shapes.
-pub(crate) fn has_shapes(isa: Isa, section: &[u8], offset: u64, shapes: &Shapes) -> bool
+pub(crate) fn has_shapes(machine: Machine, section: &[u8], offset: u64, shapes: &Shapes) -> bool
     requires { offset + 8 ≤ length section.now }
-    ensures { IsTrue result ↔ HasRiscVShapes isa section.now offset shapes.now }
+    ensures { IsTrue result ↔ HasRiscVShapes machine section.now offset shapes.now }
 {
     match link_at(section, offset) {
-        Some(link) => are_of_link(isa, link, shapes),
+        Some(link) => are_of_link(machine, link, shapes),
         None => false,
     }
 }

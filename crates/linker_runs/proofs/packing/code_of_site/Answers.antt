@@ -1,4 +1,4 @@
-use Rattle.linker_runs.proofs.Imports.{CodeCause, Err, IfErr, IfOk, IsPosition, ItemError, List, LoongArch64, LoongArchAccepts, LoongArchBecomes, LoongArchCause, Machine, NotItsInstructions, Ok, OnOk, Result, RiscV, RiscVAccepts, RiscVBecomes, RiscVCause, Section, SiteAccepts, SiteBecomes, SiteCause, address_of, ap, code_bytes, deletions_of, rank, section_of, subst, sym, ℕ, ◌%◌, ◌+◌, ◌-◌, ◌^◌, ◌∙◌, ◌≡◌}
+use Rattle.linker_runs.proofs.Imports.{CodeCause, Err, IfErr, IfOk, IsPosition, ItemError, List, LoongArch64, LoongArchAccepts, LoongArchBecomes, LoongArchCause, Machine, NotItsInstructions, Ok, OnOk, Result, RiscVAccepts, RiscVBecomes, RiscVCause, Section, SiteAccepts, SiteBecomes, SiteCause, address_of, ap, code_bytes, deletions_of, rank, section_of, subst, sym, ℕ, ◌%◌, ◌+◌, ◌-◌, ◌^◌, ◌∙◌, ◌≡◌}
 use Rattle.std.proofs.lemmas.Result.{IfErr-weaker}
 use Rattle.linker_base.specs.declared.packing.Position.{Position}
 use Rattle.linker_base.specs.declared.relaxation.RelaxDelta.{RelaxDelta}
@@ -29,28 +29,31 @@ returns-in-RiscV-clause-becomes c = λ valid position.
     let s = section_of c.args.section.now c.args.base (deletions_of c.args.deltas.now) c.args.start in
     let site = c.args.site.now in
     let r = c.code_of.result in
-    subst (λ m. IfOk r (λ code. SiteBecomes m s site (code_bytes code))) (sym c.in-RiscV.is)
-    (at_site (λ place target. IfOk r (λ code. RiscVBecomes c.in-RiscV.isa s.bytes (site.offset - s.base) place target (code_bytes code))) c.args.deltas.now c.args.start site.offset site.target c.args.at.now c.position_of.result c.requires.at c.position_of.ensures.offset position (c.position_of.ensures.position valid) c.code_of.ensures.becomes)
+    let becomes = λ (m : Machine) (place target : ℕ). IfOk r (λ code. RiscVBecomes m s.bytes (site.offset - s.base) place target (code_bytes code)) in
+    subst (λ m. becomes m (address_of s site.offset) (address_of s site.target) → IfOk r (λ code. SiteBecomes m s site (code_bytes code))) (sym c.in-RiscV.is) (λ h. h)
+    (at_site (becomes c.args.machine) c.args.deltas.now c.args.start site.offset site.target c.args.at.now c.position_of.result c.requires.at c.position_of.ensures.offset position (c.position_of.ensures.position valid) c.code_of.ensures.becomes)
 
 pub returns-in-RiscV-clause-accepts : goal.returns-in-RiscV-clause-accepts
 returns-in-RiscV-clause-accepts c = λ valid position.
     let s = section_of c.args.section.now c.args.base (deletions_of c.args.deltas.now) c.args.start in
     let site = c.args.site.now in
     let r = c.code_of.result in
-    let accepts = λ (place target : ℕ). RiscVAccepts c.in-RiscV.isa s.bytes (site.offset - s.base) c.args.kept place target in
-    subst (λ m. OnOk r (SiteAccepts m s site c.args.kept)) (sym c.in-RiscV.is)
-    (on_ok r (accepts (address_of s site.offset) (address_of s site.target)) ((site.len ≡ 8) × accepts (address_of s site.offset) (address_of s site.target)) (λ h. (c.if-site-ne8.false, h))
-    (at_site (λ place target. OnOk r (accepts place target)) c.args.deltas.now c.args.start site.offset site.target c.args.at.now c.position_of.result c.requires.at c.position_of.ensures.offset position (c.position_of.ensures.position valid) c.code_of.ensures.accepts))
+    let accepts = λ (m : Machine) (place target : ℕ). RiscVAccepts m s.bytes (site.offset - s.base) c.args.kept place target in
+    on_ok r (accepts c.args.machine (address_of s site.offset) (address_of s site.target)) (SiteAccepts c.args.machine s site c.args.kept)
+    (subst (λ m. accepts m (address_of s site.offset) (address_of s site.target) → SiteAccepts m s site c.args.kept) (sym c.in-RiscV.is) (λ h. (c.if-site-ne8.false, h)))
+    (at_site (λ place target. OnOk r (accepts c.args.machine place target)) c.args.deltas.now c.args.start site.offset site.target c.args.at.now c.position_of.result c.requires.at c.position_of.ensures.offset position (c.position_of.ensures.position valid) c.code_of.ensures.accepts)
 
 pub returns-in-RiscV-clause-rejected : goal.returns-in-RiscV-clause-rejected
 returns-in-RiscV-clause-rejected c = λ valid position.
     let s = section_of c.args.section.now c.args.base (deletions_of c.args.deltas.now) c.args.start in
     let site = c.args.site.now in
     let r = c.code_of.result in
-    let causes = λ (place target : ℕ) (error : ItemError). RiscVCause c.in-RiscV.isa s.bytes (site.offset - s.base) c.args.kept place target error in
-    subst (λ m. IfErr r (SiteCause m s site c.args.kept)) (sym c.in-RiscV.is)
-    (IfErr-weaker r (causes (address_of s site.offset) (address_of s site.target)) (SiteCause (RiscV c.in-RiscV.isa) s site c.args.kept) (with_len (RiscV c.in-RiscV.isa) s site c.args.kept c.if-site-ne8.false)
-    (at_site (λ place target. IfErr r (causes place target)) c.args.deltas.now c.args.start site.offset site.target c.args.at.now c.position_of.result c.requires.at c.position_of.ensures.offset position (c.position_of.ensures.position valid) c.code_of.ensures.rejected))
+    let causes = λ (m : Machine) (place target : ℕ) (error : ItemError). RiscVCause m s.bytes (site.offset - s.base) c.args.kept place target error in
+    let code_cause = subst (λ m. (error : ItemError) → causes m (address_of s site.offset) (address_of s site.target) error
+    → CodeCause m s.bytes (site.offset - s.base) c.args.kept (address_of s site.offset) (address_of s site.target) error) (sym c.in-RiscV.is) (λ error h. h) in
+    IfErr-weaker r (causes c.args.machine (address_of s site.offset) (address_of s site.target)) (SiteCause c.args.machine s site c.args.kept)
+    (λ error h. with_len c.args.machine s site c.args.kept c.if-site-ne8.false error (code_cause error h))
+    (at_site (λ place target. IfErr r (causes c.args.machine place target)) c.args.deltas.now c.args.start site.offset site.target c.args.at.now c.position_of.result c.requires.at c.position_of.ensures.offset position (c.position_of.ensures.position valid) c.code_of.ensures.rejected)
 
 pub returns-in-LoongArch64-clause-becomes : goal.returns-in-LoongArch64-clause-becomes
 returns-in-LoongArch64-clause-becomes c = λ valid position.

@@ -1,4 +1,4 @@
-use Rattle.linker_runs.proofs.Imports.{Bool, HasItsInstructions, HasShapes, IsInside, IsTrue, Item, List, LoongArch64, Machine, RiscV, Site, [], arith, false, false≢true, length, section_of, subst, sym, ℕ, ◌+◌, ◌-◌, ◌↔◌, ◌∙◌, ◌≡◌, ◌≤◌}
+use Rattle.linker_runs.proofs.Imports.{Bool, HasItsInstructions, HasRiscVShapes, HasShapes, IsInside, IsTrue, Item, List, LoongArch64, Machine, Site, [], arith, false, false≢true, length, section_of, subst, sym, ℕ, ◌+◌, ◌-◌, ◌↔◌, ◌∙◌, ◌≡◌, ◌≤◌}
 use Rattle.linker_runs.proofs.packing.has_its_instructions.Goals as goal
 use Rattle.linker_runs.proofs.packing.has_its_instructions.Goals.{then-site-ne8-via-then-site-ne8, then-site-ne8-via-else-site-ne8+then-not-is_inside}
 use Rattle.linker_runs.specs.declared.relaxation.Site.{Site as sites}
@@ -37,8 +37,12 @@ has_shapes-requires c =
 
 pub returns-in-RiscV : goal.returns-in-RiscV
 returns-in-RiscV c =
-    rw c.in-RiscV.is
-    (has c.args.section.now c.args.base c.args.item.now c.in-Site.site c.in-Site.is (RiscV c.in-RiscV.isa) c.has_shapes.result c.if-site-ne8.false ((c.is_inside.ensures [] 0).0 c.if-not-is_inside.false) c.has_shapes.ensures)
+    let bytes = c.args.section.now in
+    let site = c.in-Site.site in
+    let same = c.has_shapes.result in
+    has bytes c.args.base c.args.item.now site c.in-Site.is c.args.machine same c.if-site-ne8.false ((c.is_inside.ensures [] 0).0 c.if-not-is_inside.false)
+    (subst (λ m. (IsTrue same ↔ HasRiscVShapes m bytes (site.offset - c.args.base) site.shapes) → (IsTrue same ↔ HasShapes m bytes (site.offset - c.args.base) site.shapes))
+    (sym c.in-RiscV.is) (λ h. h) c.has_shapes.ensures)
 
 pub returns-in-LoongArch64 : goal.returns-in-LoongArch64
 returns-in-LoongArch64 c =

@@ -1,11 +1,11 @@
-use Rattle.linker_runs.proofs.Imports.{Aligned, HasRiscVName, IsCallAt, IsMarked, IsOfCall, Isa, Item, List, MayFree, Relocation, RiscVMakes, Site, ap, arith, map, refl, relocation_at, rules, subst, ℕ, ⊎_elim, ◌+◌}
+use Rattle.linker_runs.proofs.Imports.{Aligned, HasRiscVName, IsCallAt, IsMarked, IsOfCall, Item, List, Machine, MayFree, Relocation, RiscVMakes, Site, ap, arith, map, refl, relocation_at, rules, subst, ℕ, ⊎_elim, ◌+◌}
 use Rattle.linker_elf.specs.declared.riscv64.relocations.RiscVRelocation.TheVariants as r
 use Rattle.linker_runs.proofs.riscv64.site_at.Goals as goal
 
 -- a call's relocation makes no site where it may free nothing, and never an alignment
-no_item : (isa : Isa) (section : List ℕ) (base : ℕ) (relocations : List Relocation) (i : ℕ) → IsOfCall (relocation_at relocations i) → ¬ MayFree 4 relocations i → (item : Item) → ¬ RiscVMakes isa section base relocations i item
-no_item isa section base relocations i called not_free (Site call) made = not_free made.frees
-no_item isa section base relocations i called not_free (Aligned alignment) made =
+no_item : (machine : Machine) (section : List ℕ) (base : ℕ) (relocations : List Relocation) (i : ℕ) → IsOfCall (relocation_at relocations i) → ¬ MayFree 4 relocations i → (item : Item) → ¬ RiscVMakes machine section base relocations i item
+no_item machine section base relocations i called not_free (Site call) made = not_free made.frees
+no_item machine section base relocations i called not_free (Aligned alignment) made =
     ⊎_elim
     (λ (call : HasRiscVName r.R_RISCV_CALL (relocation_at relocations i)). absurd (omega (arith, made.name)))
     (λ (plt : HasRiscVName r.R_RISCV_CALL_PLT (relocation_at relocations i)). absurd (omega (arith, made.name)))
@@ -13,7 +13,7 @@ no_item isa section base relocations i called not_free (Aligned alignment) made 
 
 pub returns-then-not-may_free-clause-none : goal.returns-then-not-may_free-clause-none
 returns-then-not-may_free-clause-none g c =
-    no_item c.args.isa c.args.section.now c.args.base (map g.R.AsRelocation.relocation c.args.relocations.now) c.args.index c.requires.called
+    no_item c.args.machine c.args.section.now c.args.base (map g.R.AsRelocation.relocation c.args.relocations.now) c.args.index c.requires.called
     (λ free. (let h = c.may_free.ensures.1 free in let g = c.if-not-may_free.true in cc))
 
 pub returns-clause-some : goal.returns-clause-some
