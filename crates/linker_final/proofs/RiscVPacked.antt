@@ -10,7 +10,7 @@ use Rattle.linker_runs.specs.RiscVItems.{IsCallAt}
 use Rattle.linker_runs.specs.RiscVSites.{RiscVBecomes}
 use Rattle.linker_runs.specs.Sites.{operands_of}
 use Rattle.linker_utils.specs.declared.riscv64.rewrites.RewriteKind.{RewriteKind}
-use Rattle.linker_runs.specs.declared.packing.Isa.TheVariants.{Rv64}
+use Rattle.linker_runs.specs.Machines.{RiscV64}
 use Rattle.linker_elf.specs.declared.riscv64.relocations.RiscVRelocation.TheVariants as names
 use Rattle.linker_section.specs.Values as values
 use Rattle.linker_utils.specs.declared.riscv64.rewrites.RewriteKind.TheVariants as kinds
@@ -62,7 +62,7 @@ module _ (groups : Groups) (section : List ℕ) (o : ℕ) (bytes : AreBytes sect
 
   -- what a site becomes
   becomes : (place target n : ℕ) (final : List ℕ) → place < 2 ^ 64 → target < 2 ^ 64 → AreBytes final
-      → length final ≡ n → RiscVBecomes Rv64 section o place target final → (name : RiscVRelocation) → IsOfCall name
+      → length final ≡ n → RiscVBecomes RiscV64 section o place target final → (name : RiscVRelocation) → IsOfCall name
       → CallIsAlike window (operands_of place target) n (instructions_in n) (landing n target) final name
   becomes place target n final small reach new same (short_jump len none cj) name of =
       subst (λ m. CallIsAlike window (operands_of place target) m (instructions_in m) (landing m target) final name)
@@ -102,7 +102,7 @@ sites groups p is riscv i site of name of_call =
     let s = p.section in
     let o = site_offset p site in
     let code = site_bytes p site in
-    let final : RiscVBecomes Rv64 s.bytes o (site_place p site) (site_target p site) code =
+    let final : RiscVBecomes RiscV64 s.bytes o (site_place p site) (site_target p site) code =
     subst (λ m. SiteBecomes m s site code) riscv (site_becomes p is i site of) in
     let has = subst (λ m. HasItsInstructions m s.bytes s.base (Site site)) riscv of.there in
     becomes groups s.bytes o is.section_bytes has.3.0 (site_inside p i site of) (site_place p site)

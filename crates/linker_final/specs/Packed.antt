@@ -30,7 +30,7 @@ use Rattle.linker_final.specs.declared.packed.PackError.TheVariants.{Misplaced, 
 use Rattle.linker_final.specs.declared.packed.RunSection.{RunSection}
 use Rattle.linker_runs.specs.Origins.{HasItsInstructions}
 use Rattle.linker_runs.specs.Relaxing.{end_of, item_at, items_in, len_of, offset_of}
-use Rattle.linker_runs.specs.declared.packing.Isa.{Isa}
+use Rattle.linker_runs.specs.declared.packing.riscv32.Isa.{Isa}
 use Rattle.linker_runs.specs.declared.packing.Machine.{Machine}
 use Rattle.linker_runs.specs.declared.relaxation.Alignment.{Alignment}
 use Rattle.linker_runs.specs.declared.relaxation.Item.TheVariants.{Aligned, Site}
@@ -63,7 +63,7 @@ abbrev pub count : Packed → ℕ
 count p = length p.relocations_after / 24
 
 abbrev pub architecture_of : Machine → Architecture
-architecture_of (machines.RiscV isa) = architectures.RiscV
+architecture_of (machines.RiscV _) = architectures.RiscV
 architecture_of machines.LoongArch64 = architectures.LoongArch64
 
 -- where the byte at an offset of the section before goes

@@ -23,7 +23,7 @@ use Rattle.linker_section.specs.declared.values.ValueError.{ValueError}
 use Rattle.linker_elf.specs.declared.riscv64.relocations.RiscVRelocation.TheVariants as names
 use Rattle.linker_riscv64.specs.RiscVCalls.{link_register}
 use Rattle.linker_riscv64.specs.declared.calls.LinkRegister.TheVariants.{OfJalr}
-use Rattle.linker_runs.specs.declared.packing.Isa.TheVariants.{Rv32}
+use Rattle.linker_runs.specs.declared.packing.riscv32.Isa.TheVariants.{Rv32}
 use Rattle.linker_runs.specs.declared.packing.Machine.TheVariants as machines
 use Rattle.linker_utils.specs.RiscVRewrites.{riscv_matches}
 use Rattle.linker_utils.specs.declared.riscv64.rewrites.RewriteKind.TheVariants as kinds

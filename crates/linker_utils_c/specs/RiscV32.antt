@@ -4,7 +4,7 @@ use Rattle.std.specs.Prelude.{None, Some, ◌+◌, ◌==◌, if◌then◌else◌
 use Rattle.linker_utils_c.specs.Imports.{Addresses, Architecture, Machine, RiscV, Success, Symbol}
 use Rattle.linker_utils_c.specs.Imports.{TooShort, UnknownArchitecture, architecture_of}
 use Rattle.linker_runs.specs.Machines.{machine_of}
-use Rattle.linker_runs.specs.declared.packing.Isa.TheVariants.{Rv32}
+use Rattle.linker_runs.specs.declared.packing.riscv32.Isa.TheVariants.{Rv32}
 use Rattle.linker_runs.specs.declared.packing.Machine.TheVariants as machines
 use Rattle.linker_section.specs.RiscV32.{AreCopied, AreWrapped}
 use Rattle.linker_utils_c.specs.Status.{code}
