@@ -1,7 +1,7 @@
 -- What calls of RISC-V become (RISC-V ELF psABI, "Function Call Relaxation", "Compressed Tail Call
 -- Relaxation"; the instructions by the RISC-V unprivileged ISA).
-use Rattle.linker_runs.specs.Imports.{CjType, IsAddress, IsSomeAnd, ItemError, JType, List}
-use Rattle.linker_runs.specs.Imports.{Machine, NoShape, None, NotItsInstructions, OfJalr, Option, OutOfReach}
+use Rattle.linker_runs.specs.Imports.{CjType, IsAddress, IsSomeAnd, ItemError, JType, List, Machine}
+use Rattle.linker_runs.specs.Imports.{NoShape, None, NotItsInstructions, OfJalr, Option, OutOfReach}
 use Rattle.linker_runs.specs.Imports.{Some, UiType, [], drop, field, from_le_bytes, length, pos}
 use Rattle.linker_runs.specs.Imports.{riscv_row, take, to_le_bytes, true, w16, w32, w64, ℕ}
 use Rattle.linker_elf.specs.Applied.{IsApplied}
