@@ -40,7 +40,7 @@ pub use Rattle.linker_elf.specs.declared.riscv64.relocations.RiscVRelocation.{Ri
 pub use Rattle.linker_final.specs.AArch64Section.{Begins, ComesTo, HasFinal, IsDescriptorLeft, IsRewrittenAgain, IsRewrittenOf, Rewrites, address, at_address, at_call, at_high, at_initial, at_jump, at_load, at_local, at_low, high, load, low, object, register, rewriting, span, to_initial, to_local}
 pub use Rattle.linker_final.specs.Final.{AreBytes, AreCalled, AreInTurn, AreLeft, AreLinked, AreListed, ArePhases, AreRewritten, EachPlace, HasRewritten, IsBesideAll, IsFollowed, IsLinked, IsOutside, IsPhase, IsPhaseIn, IsRewrittenByNoOther, IsWrittenByNoOther, Keeps, Known, Knows, Linked, OtherBytes, OtherFields, Place, RewritesAreGroups, RewritesNone, Rewriting, RewritingPhase, RunsAreFollowed, Section, UntouchedByOthers, UntouchedBytes, UntouchedBytesAreTheSame, UntouchedInPhase, UntouchedInstruction, UntouchedInstructions, begins, comparison, count, count_of, elsewhere, instruction_at, linked_by, offset_of, rewriting_phase, two_at, unchanged, within}
 pub use Rattle.linker_final.specs.Packed.{AlignmentsHold, AreDeleted, AreRelaxedAndPacked, DeletedBytesAreGone, Goes, HoldsIn, InstructionsAreRelocated, IsAligned, IsBefore, IsKeptInstruction, IsOfRun, IsPackCause, IsPacked, IsRewrittenAndPacked, IsSiteOf, IsSkipped, IsUnwritten, ItemsAreDeleted, KeptBytesStay, LoongArchBranchesGo, Packed, PaddingIsNops, PlacesAreRelocated, PlacesHaveAddresses, RiscVBranchesGo, Run, SectionsAreAligned, StayTogether, Stays, address_at, architecture_of, final_instruction, final_number, packed_of, padding_at, padding_len, place_of, site_after, site_bytes, site_len, site_offset, site_place, site_target}
-pub use Rattle.linker_final.specs.Steps.{AllPass, Executed, Group, Numbers, all_below, at, m0, made_high, made_low, pc}
+pub use Rattle.linker_final.specs.Steps.{AllPass, all_below, made_high, made_low}
 pub use Rattle.linker_final.specs.Worked.{HasGroups, IsGroupOf, IsLinkedAs, IsOfCalls, IsPhaseOf, code_at, halves, none_stays}
 pub use Rattle.linker_final.specs.declared.worked.TheConstants.{AARCH64_OBJECT, AARCH64_RELOCATIONS, OUTPUT}
 pub use Rattle.linker_laws.proofs.RiscVGroups.{absolute_rows, based_group, below_32, cj_goes, jal_goes, jump_group, nothing_left, puts, row_of, word_goes}

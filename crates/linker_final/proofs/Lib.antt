@@ -3,7 +3,6 @@ pub mod AArch64Worked
 pub mod Imports
 pub mod LoongArch
 pub mod LoongArchPacked
-pub mod Noise
 pub mod PackedBytes
 pub mod Ppc64
 pub mod RiscV

@@ -1,6 +1,7 @@
 -- AArch64: the instructions of `linker_laws`, and BR, STP and BTI of `linker_output`, compared with
 -- an emulator. Register 31 is the stack pointer.
-use Rattle.std.specs.Prelude.{Bool, false, Option, Some, None}
+use Rattle.std.specs.Prelude.{Bool, false}
+use Rattle.linker_final.specs.Imports.{option_map_or}
 use Rattle.linker_final.specs.AArch64Steps.{aarch64_groups}
 use Rattle.linker_final.specs.Steps.{AllPass, Executed, Group, Numbers, at, bytes_from, is_left}
 use Rattle.linker_final.specs.Steps.{made_high, memory_in, pc}
@@ -13,12 +14,9 @@ begun n =
     let memory = memory_in n in
     record { registers = n; pc = n pc; memory = bytes_from start memory; thread_pointer = 0 }
 
-abbrev pub ends_so : Numbers → Executed → Option State → Bool
-ends_so n e None = false
-ends_so n e (Some s) = is_left 32 4 0 e n s.registers s.pc s.memory 0
-
 abbrev pub passes : Group → Numbers → Executed → Bool
-passes g n e = ends_so n e (step e.code (begun n))
+passes g n e =
+    option_map_or (λ s. is_left 32 4 0 e n s.registers s.pc s.memory 0) (step e.code (begun n)) false
 
 -- Each instruction leaves what the emulator did.
 abbrev pub Agrees : Type 0

@@ -45,3 +45,4 @@ pub use Rattle.linker_section.specs.declared.relocations.Rela.{Rela}
 pub use Rattle.linker_utils.specs.declared.architecture.Relaxation.{Relaxation}
 pub use Rattle.std.specs.Int.{bit_at, byte_at, cast_unsigned, from_le_bytes, int_rem_euclid, leading_zeros, to_le_bytes, w16, w32, w64}
 pub use Rattle.std.specs.List.{All, list_all}
+pub use Rattle.std.specs.Option.{option_map_or}

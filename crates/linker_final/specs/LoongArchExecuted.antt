@@ -1,7 +1,8 @@
 -- LoongArch: the instructions of `linker_laws`, and those of lazy PLTs in `linker_output`, compared
 -- with an emulator. Registers 32 to 63 are those of vectors.
 use Rattle.std.specs.Prelude.{ℕ, ◌+◌, ◌-◌, ◌*◌, ◌/◌, ◌^◌, ◌==◌, ◌&&◌, nat_le, nat_lt, if◌then◌else◌}
-use Rattle.std.specs.Prelude.{Bool, false, Option, Some, None}
+use Rattle.std.specs.Prelude.{Bool, false}
+use Rattle.linker_final.specs.Imports.{option_map_or}
 use Rattle.linker_final.specs.LoongArchSteps.{loongarch_groups}
 use Rattle.linker_final.specs.Steps.{AllPass, Executed, Group, Numbers, at, bytes_from, is_left}
 use Rattle.linker_final.specs.Steps.{made_low, memory_in, noise, pc}
@@ -12,7 +13,8 @@ use Rattle.linker_output.specs.LoongArchLazyPlt.{step}
 abbrev pub made : ℕ → Numbers
 made row place =
     if place == 0 then 0 else (
-    if nat_le 32 place && nat_lt place 64 then noise 256 (256 * row + place)
+    if nat_le 32 place && nat_lt place 64
+    then noise 0x100000000000000000000000000000000 (256 * row + place)
     else made_low row place)
 
 -- The emulator's `fld.s` sets the bits from 32 to 63. Its loads leave the higher ones as they were.
@@ -35,12 +37,9 @@ begun n =
 abbrev pub register : State → ℕ → ℕ
 register s r = if nat_lt r 32 then read r s else s.floats.numbers (r - 32)
 
-abbrev pub ends_so : Numbers → Executed → Option State → Bool
-ends_so n e None = false
-ends_so n e (Some s) = is_left 64 4 0 e n (register s) s.pc s.memory 0
-
 abbrev pub passes : Group → Numbers → Executed → Bool
-passes g n e = ends_so n e (step e.code (begun n))
+passes g n e =
+    option_map_or (λ s. is_left 64 4 0 e n (register s) s.pc s.memory 0) (step e.code (begun n)) false
 
 -- Each instruction leaves what the emulator did.
 abbrev pub Agrees : Type 0

@@ -3,9 +3,9 @@
 -- Registers 32 to 63 are those of floating-point numbers, 64 is the link register, 65 the count
 -- register, and vector registers are at places 128 to 159.
 use Rattle.std.specs.Prelude.{ℕ, ◌+◌, ◌-◌, ◌*◌, ◌/◌, ◌^◌, ◌==◌, nat_lt, if◌then◌else◌, Bool, false}
-use Rattle.std.specs.Prelude.{Option, Some, None, ◌≡◌, ◌&&◌, length, true, slice_get, List, [], ◌∷◌}
+use Rattle.std.specs.Prelude.{Option, ◌≡◌, ◌&&◌, length, true, slice_get, List, [], ◌∷◌}
 use Rattle.std.specs.Prelude.{IsSomeAnd}
-use Rattle.linker_final.specs.Imports.{field, leading_zeros, list_all, sum_64, w64}
+use Rattle.linker_final.specs.Imports.{field, leading_zeros, option_map_or, sum_64, w64}
 use Rattle.linker_final.specs.Ppc64Steps.{ppc64_groups, ppc64_restfpr, ppc64_restgpr0}
 use Rattle.linker_final.specs.Ppc64Steps.{ppc64_restgpr1, ppc64_restvr, ppc64_savefpr}
 use Rattle.linker_final.specs.Ppc64Steps.{ppc64_savegpr0, ppc64_savegpr1, ppc64_savevr}
@@ -87,9 +87,8 @@ register c r =
 abbrev pub length_of : ℕ → ℕ
 length_of code = if nat_lt code (2 ^ 32) then 4 else 8
 
-abbrev pub ends_so : Numbers → Executed → Option Counted → Bool
-ends_so n e None = false
-ends_so n e (Some c) = is_left 66 (length_of e.code) 0 e n (register c) c.state.pc c.state.memory 0
+abbrev pub ends_so : Numbers → Executed → Counted → Bool
+ends_so n e c = is_left 66 (length_of e.code) 0 e n (register c) c.state.pc c.state.memory 0
 
 abbrev pub executed : Numbers → Executed → Option Counted
 executed n e =
@@ -98,7 +97,7 @@ executed n e =
     else lifted (begun n) (step_prefixed formats e.code ((begun n).state)))
 
 abbrev pub passes : Group → Numbers → Executed → Bool
-passes g n e = ends_so n e (executed n e)
+passes g n e = option_map_or (ends_so n e) (executed n e) false
 
 -- Each instruction leaves what the emulator did.
 abbrev pub Agrees : Type 0
@@ -110,7 +109,7 @@ Agrees = AllPass made_low passes ppc64_groups
 abbrev pub vectors_before : Executed → ℕ → ℕ
 vectors_before e r =
     let place = 128 + r in
-    listed_or (noise 128 (256 * e.row + place)) e.given place
+    listed_or (noise 0x10000000000000000 (256 * e.row + place)) e.given place
 
 abbrev pub are_vectors_left : Executed → (ℕ → ℕ) → Bool
 are_vectors_left e vectors =
@@ -122,16 +121,14 @@ numbers = before made_low
 abbrev pub with_vectors : Counted → Executed → Vectored
 with_vectors c e = record { counted = c; vectors = vectors_before e }
 
-abbrev pub leaves_vectors : Executed → Option Vectored → Bool
-leaves_vectors e None = false
-leaves_vectors e (Some v) = ends_so (numbers e) e (Some v.counted) && are_vectors_left e v.vectors
+abbrev pub leaves_vectors : Executed → Vectored → Bool
+leaves_vectors e v = ends_so (numbers e) e v.counted && are_vectors_left e v.vectors
 
 -- Each of their instructions leaves what the emulator did.
 abbrev pub VectorsAgree : Type 0
 VectorsAgree =
-    list_all (λ (g : Group). list_all (λ e.
-    leaves_vectors e (step_vectored formats e.code (with_vectors (begun (numbers e)) e))) g.rows)
-    ppc64_vector_groups ≡ true
+    AllPass made_low (λ g n e. option_map_or (leaves_vectors e)
+    (step_vectored formats e.code (with_vectors (begun n) e)) false) ppc64_vector_groups
 
 -- ---- functions that save and restore registers
 
@@ -148,9 +145,8 @@ function_begun e =
     with_vectors (record c { state = record c.state { memory = bytes_of 208 start memory } }) e
 
 -- by the code of the function
-abbrev pub returns_so : List ℕ → Executed → Option Vectored → Bool
-returns_so code e None = false
-returns_so code e (Some v) =
+abbrev pub returns_so : List ℕ → Executed → Vectored → Bool
+returns_so code e v =
     let c = v.counted in
     let start = numbers e at in
     let memory_after = wide_memory (after (numbers e) e) in
@@ -162,8 +158,8 @@ returns_so code e (Some v) =
 abbrev pub return_so : (ℕ → List ℕ) → ℕ → List Executed → Bool
 return_so code n [] = n == 32
 return_so code n (e ∷ rows) =
-    e.code == n && returns_so (code n) e (run_vectored formats (code n) (function_begun e))
-    && return_so code (n + 1) rows
+    e.code == n && return_so code (n + 1) rows
+    && option_map_or (returns_so (code n) e) (run_vectored formats (code n) (function_begun e)) false
 
 -- The functions of a run have the words that the emulator executed, and leave what it did.
 abbrev pub DoAgree : ℕ → (Run → ℕ → List ℕ) → Functions → Type 0

@@ -70,24 +70,25 @@ functions words rows = record { words = words; rows = rows }
 
 -- ---- before
 
--- a pseudo-random number of n bits: the middle of a square
+-- A pseudo-random number below the square of a root, which is a power of 2: the middle of a square.
+-- Roots are written out, since `2 ^ n` takes n steps.
 abbrev pub noise : ℕ → ℕ → ℕ
-noise bits k =
-    let n = k * 0x9e3779b97f4a7c15f39cc0605cedc8341082276bf3a27251f86c6a11d0c18e95 % 2 ^ bits in
-    n * n / 2 ^ (bits / 2) % 2 ^ bits
+noise root k =
+    let n = k * 0x9e3779b97f4a7c15f39cc0605cedc8341082276bf3a27251f86c6a11d0c18e95 % (root * root) in
+    n * n / root % (root * root)
 
 -- What is made of a row's number for a place. Code and data are at addresses of 47 bits, and
 -- instructions at multiples of a unit.
 abbrev pub made_high : ℕ → ℕ → ℕ → ℕ
 made_high unit row place =
-    let number = noise 64 (256 * row + place) in
+    let number = noise 0x100000000 (256 * row + place) in
     if place == pc then 7 * 2 ^ 44 + unit * (number % 2 ^ 30) else (
     if place == at then 6 * 2 ^ 44 + number % 2 ^ 30 else number)
 
 -- Or they are in three parts, each instruction within a page of its own, and data above the pages.
 abbrev pub made_low : ℕ → ℕ → ℕ
 made_low row place =
-    let number = noise 64 (256 * row + place) in
+    let number = noise 0x100000000 (256 * row + place) in
     let part = 2 ^ 33 * (number % 3) in
     if place == pc then part + 2 ^ 20 + 2 ^ 14 * row + 2 ^ 10 + 4 * (number / 3 % 3584) else (
     if place == at then part + 2 ^ 26 + number / 3 % 2 ^ 24 else number)

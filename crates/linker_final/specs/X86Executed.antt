@@ -1,8 +1,7 @@
 -- x86-64: the instructions of `linker_laws`, and PUSH and ENDBR64 of `linker_output`, compared with
 -- an emulator. Register 16 is where the FS segment begins.
-use Rattle.std.specs.Prelude.{ℕ, ◌==◌, Bool, false, Option, Some, None, if◌then◌else◌, List, []}
-use Rattle.std.specs.Prelude.{length}
-use Rattle.linker_final.specs.Imports.{bit_at}
+use Rattle.std.specs.Prelude.{ℕ, ◌==◌, Bool, false, if◌then◌else◌, List, [], length}
+use Rattle.linker_final.specs.Imports.{bit_at, option_map_or}
 use Rattle.linker_final.specs.Steps.{AllPass, Executed, Group, Numbers, at, bytes_from, flags}
 use Rattle.linker_final.specs.Steps.{is_left, made_high, memory_in, pc}
 use Rattle.linker_final.specs.X86Steps.{x86_groups}
@@ -40,13 +39,11 @@ bytes_of e = bytes_before 15 e.code []
 abbrev pub register : State → ℕ → ℕ
 register s r = if r == 16 then s.fs else s.register r
 
-abbrev pub ends_so : ℕ → Numbers → Executed → Option State → Bool
-ends_so mask n e None = false
-ends_so mask n e (Some s) =
-    is_left 17 (length (bytes_of e)) mask e n (register s) s.ip s.memory (flags_number s.flags)
-
 abbrev pub passes : Group → Numbers → Executed → Bool
-passes g n e = ends_so g.mask n e (step (bytes_of e) (begun n))
+passes g n e =
+    option_map_or (λ s.
+    is_left 17 (length (bytes_of e)) g.mask e n (register s) s.ip s.memory (flags_number s.flags))
+    (step (bytes_of e) (begun n)) false
 
 -- Each instruction leaves what the emulator did.
 abbrev pub Agrees : Type 0
