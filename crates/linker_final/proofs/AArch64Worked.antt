@@ -1,11 +1,11 @@
 -- The groups of AArch64's program that the calls link.
-use Rattle.linker_final.proofs.Imports.{AARCH64_OBJECT, AARCH64_RELOCATIONS, AArch64, AArch64Relocation, Addresses, All-cons, All-nil, AreAddresses, AreLinked, Begins, Bool, ComesTo, Decision, Grouped, HasFinal, HasGroups, IsGroupDecision, IsGroupOf, IsLinked, IsLoadRewritten, IsNameOf, IsNamed, IsOutside, IsPhase, IsPhaseOf, IsRewrittenBy, IsRewrittenByNoOther, IsRewrittenOf, IsScopeDecision, Kept, Kinds, Linked, List, Operands, Phase, Rela, RewriteKind, Rewrites, RewritingPhase, Rewritten, Section, Some, State, Symbol, UntouchedInPhase, UntouchedInstruction, [], aarch64_name, aarch64_scope_in, all_below, and_parts, ap, arith, at_high, at_load, at_low, cases_lt, code_at, count, decision_at, entry, eqb, eqb-true, false, following, group_stays, half, halves, high, in_phase, inl, inr, instruction_at, ints, length, linked_by, lit<, lit≤, load, loaded, low, named_at, none_stays, object, offset_of, operands_with, place_sum, pos, put, r_type_of, refl, register, relaxation_rewrite, relocation_in, replicate, rewriting, same, sequences_are_whole, slice_get, span, subst, suc, sum_64, sym, true, window_of, window_of_rewrite, with_register, word_of, zero, ℕ, ◌+◌, ◌/◌, ◌<◌, ◌∙◌, ◌∷◌, ◌≡◌, ◌≤◌, ◌⊎◌}
+use Rattle.linker_final.proofs.Imports.{AARCH64_OBJECT, AARCH64_RELOCATIONS, AArch64, AArch64Relocation, Addresses, All-cons, All-nil, AreAddresses, AreLinked, Begins, ComesTo, Decision, Grouped, HasFinal, HasGroups, IsGroupDecision, IsGroupOf, IsLinked, IsLoadRewritten, IsNameOf, IsNamed, IsOutside, IsPhase, IsPhaseOf, IsRewrittenBy, IsRewrittenByNoOther, IsRewrittenOf, IsScopeDecision, Kept, Kinds, Linked, List, Operands, Phase, Rela, RewriteKind, Rewrites, RewritingPhase, Rewritten, Section, Some, State, Symbol, UntouchedInPhase, UntouchedInstruction, [], aarch64_name, aarch64_scope_in, addresses as small, ap, arith, at_high, at_load, at_low, cases_lt, code_at, count, decision_at, entry, eqb, eqb-true, false, following, group_stays, half, halves, high, in_phase, inl, inr, instruction_at, ints, length, linked_by, lit<, lit≤, load, loaded, low, named_at, no_addresses, none_stays, object, offset_of, operands_with, place_sum, pos, put, r_type_of, refl, register, relaxation_rewrite, relocated, relocation_in, replicate, rewriting, same, sequences_are_whole, slice_get, span, subst, suc, sum_64, sym, true, window_of, window_of_rewrite, with_register, word_of, zero, ℕ, ◌+◌, ◌/◌, ◌<◌, ◌∙◌, ◌∷◌, ◌≡◌, ◌≤◌, ◌⊎◌}
 use Rattle.linker_laws.specs.AArch64Groups.{Has, IsRelocated}
 use Rattle.linker_utils.specs.AArch64Rewrites.{AArch64Entry, halves_to_local_exec}
 use Rattle.linker_final.proofs.AArch64.{IsNew, IsOfEntry, got_row, high_after as left_high, named_after, of_entry}
 use Rattle.linker_final.proofs.Written.{rela, same_windows}
-use Rattle.linker_laws.proofs.Relocated.{addresses as small, relocated}
 use Rattle.linker_laws.specs.AArch64GroupsWorked.{known, starting}
+use Rattle.linker_laws.proofs.X86Bytes.{below as below_each}
 use Rattle.linker_rewriting.specs.declared.groups.Group.{Group}
 use Rattle.linker_elf.specs.declared.aarch64.relocations.AArch64Relocation.TheVariants as names
 use Rattle.linker_rewriting.specs.declared.groups.Group.TheVariants as groups
@@ -39,15 +39,7 @@ window_by kind d by = ap window_of by.decided ∙ ap (λ k. window_of_rewrite (r
 -- ---- a program
 
 abbrev addresses : Addresses
-addresses =
-    record {
-      section = 0x400000;
-      got_base = 0;
-      thread_origin = 0x420000;
-      module_origin = 0;
-      module_entry = 0;
-      has_tls = true;
-    }
+addresses = record no_addresses { section = 0x400000; thread_origin = 0x420000; has_tls = true }
 
 abbrev variable : Symbol
 variable =
@@ -134,15 +126,6 @@ low_has =
     (tt, lit< tt, tt) refl refl) refl
 
 -- ---- the final bytes
-
-below_each : (n : ℕ) (f : ℕ → Bool) → all_below n f ≡ true → (k : ℕ) → k < n → f k ≡ true
-below_each zero f e k below = absurd (omega (arith, below))
-below_each (suc n) f e k below =
-    let parts = and_parts (f n) (all_below n f) e in
-    elim (cases_lt k n) [
-      | inl less ↦ below_each n f (parts.1) k less
-      | inr past ↦ let same : n ≡ k = omega (arith, below, past) in subst (λ k. f k ≡ true) same (parts.0)
-    ]
 
 pub new_is_final : HasFinal addresses (code_at halves.new 0x400000 20) halves
 new_is_final at inside =

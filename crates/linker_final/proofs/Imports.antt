@@ -39,12 +39,13 @@ pub use Rattle.linker_elf.specs.declared.riscv64.forms.RiscVInstruction.TheVaria
 pub use Rattle.linker_elf.specs.declared.riscv64.relocations.RiscVRelocation.{RiscVRelocation}
 pub use Rattle.linker_final.specs.AArch64Section.{Begins, ComesTo, HasFinal, IsDescriptorLeft, IsRewrittenAgain, IsRewrittenOf, Rewrites, address, at_address, at_call, at_high, at_initial, at_jump, at_load, at_local, at_low, high, load, low, object, register, rewriting, span, to_initial, to_local}
 pub use Rattle.linker_final.specs.Final.{AreBytes, AreCalled, AreInTurn, AreLeft, AreLinked, AreListed, ArePhases, AreRewritten, EachPlace, HasRewritten, IsBesideAll, IsFollowed, IsLinked, IsOutside, IsPhase, IsPhaseIn, IsRewrittenByNoOther, IsWrittenByNoOther, Keeps, Known, Knows, Linked, OtherBytes, OtherFields, Place, RewritesAreGroups, RewritesNone, Rewriting, RewritingPhase, RunsAreFollowed, Section, UntouchedByOthers, UntouchedBytes, UntouchedBytesAreTheSame, UntouchedInPhase, UntouchedInstruction, UntouchedInstructions, begins, comparison, count, count_of, elsewhere, instruction_at, linked_by, offset_of, rewriting_phase, two_at, unchanged, within}
-pub use Rattle.linker_final.specs.Packed.{AlignmentsHold, AreDeleted, AreRelaxedAndPacked, DeletedBytesAreGone, Goes, HoldsIn, InstructionsAreRelocated, IsAligned, IsBefore, IsKeptInstruction, IsOfRun, IsPackCause, IsPacked, IsRewrittenAndPacked, IsSiteOf, IsSkipped, IsUnwritten, ItemsAreDeleted, KeptBytesStay, LoongArchBranchesGo, Packed, PaddingIsNops, PlacesAreRelocated, PlacesHaveAddresses, RiscVBranchesGo, Run, SectionsAreAligned, StayTogether, Stays, address_at, architecture_of, final_instruction, final_number, packed_of, padding_at, padding_len, place_of, site_after, site_bytes, site_len, site_offset, site_place, site_target}
-pub use Rattle.linker_final.specs.Steps.{AllPass, all_below, made_high, made_low}
+pub use Rattle.linker_final.specs.Packed.{AlignmentsHold, AreDeleted, AreRelaxedAndPacked, DeletedBytesAreGone, Goes, HasValue, HoldsIn, InstructionsAreRelocated, IsAligned, IsBefore, IsKeptInstruction, IsOfRun, IsPackCause, IsPacked, IsRewrittenAndPacked, IsSiteOf, IsSkipped, IsUnwritten, ItemsAreDeleted, KeptBytesStay, LoongArchBranchesGo, Packed, PaddingIsNops, PlacesAreRelocated, PlacesHaveAddresses, RiscVBranchesGo, Run, SectionsAreAligned, StayTogether, Stays, address_at, architecture_of, final_instruction, final_number, packed_of, padding_at, padding_len, place_of, site_after, site_bytes, site_len, site_offset, site_place, site_target}
+pub use Rattle.linker_final.specs.Steps.{AllPass, made_high, made_low}
 pub use Rattle.linker_final.specs.Worked.{HasGroups, IsGroupOf, IsLinkedAs, IsOfCalls, IsPhaseOf, code_at, halves, none_stays}
 pub use Rattle.linker_final.specs.declared.worked.TheConstants.{AARCH64_OBJECT, AARCH64_RELOCATIONS, OUTPUT}
 pub use Rattle.linker_laws.proofs.RiscVGroups.{absolute_rows, based_group, below_32, cj_goes, jal_goes, jump_group, nothing_left, puts, row_of, word_goes}
 pub use Rattle.linker_laws.proofs.RiscVMachine.{address_is, fetched_word, moved_twice, written}
+pub use Rattle.linker_laws.proofs.Relocated.{addresses, relocated}
 pub use Rattle.linker_laws.proofs.Sums.{cast_is, difference_below, lift, sum_zero, wrapped_is}
 pub use Rattle.linker_laws.proofs.Words.{put_there, same_low_two, word_below}
 pub use Rattle.linker_laws.specs.Changes.{go_to, put, with_register}
@@ -59,7 +60,7 @@ pub use Rattle.linker_rewriting.proofs.Entries.{IsOfApplied, IsOfEntry, IsOfOne,
 pub use Rattle.linker_rewriting.proofs.LabelGroups.{one_index, ppc64_none, x86_64_none}
 pub use Rattle.linker_rewriting.specs.Candidates.{IsCandidate, IsCandidateWith}
 pub use Rattle.linker_rewriting.specs.Decisions.{AreDecidedIn, IsDecidedAfter, IsDecidedAlone, IsGroupDecision, IsLabelDecision, IsScopeDecision, decision_at, decision_of, deleted_of, deletions_by, is_taken, label_decision, pairs_in, rewritten_by, takes_next, takes_symbol, window_of, written_end_at, written_end_by}
-pub use Rattle.linker_rewriting.specs.Facts.{RelaxContext, address_in, context, facts_at, facts_by, facts_with, link_facts, placed_facts, pre_layout}
+pub use Rattle.linker_rewriting.specs.Facts.{RelaxContext, address_in, context, facts_at, facts_by, facts_with, link_facts, no_addresses, placed_facts, pre_layout}
 pub use Rattle.linker_rewriting.specs.Groups.{IsScopeIn, aarch64_scope_in, group_stays, loongarch_scope_in, ppc64_scope_in, riscv_scope_in}
 pub use Rattle.linker_rewriting.specs.Numbers.{decisions_in}
 pub use Rattle.linker_rewriting.specs.Rewritten.{IsAddressRewritten, IsDescriptorRewritten, IsDone, IsLoadAt, IsLoadRewritten, IsMade, IsPartAt, IsRewrittenAs, IsRewrittenBy, IsWholeBy, relocation_after}
@@ -73,6 +74,7 @@ pub use Rattle.linker_rewriting.specs.declared.groups.UnrelaxableGroups.{Unrelax
 pub use Rattle.linker_rewriting.specs.declared.phases.Phase.{Phase}
 pub use Rattle.linker_riscv64.specs.RiscVCalls.{IsCallPair, link_register, word_at}
 pub use Rattle.linker_riscv64.specs.RiscVFields.{funct3_of, opcode_of, rd_of}
+pub use Rattle.linker_runs.proofs.Sites.{operands_small}
 pub use Rattle.linker_runs.specs.Deleting.{deletions_of_run}
 pub use Rattle.linker_runs.specs.Packing.{IsInside, IsPackedRun, ItemBecomes, SiteBecomes, address_of, is_fixed, kept_len, nops, packed_offset, section_of}
 pub use Rattle.linker_runs.specs.RiscVSites.RiscVBecomes.{call, jump, short_jump}
@@ -99,7 +101,7 @@ pub use Rattle.linker_utils.specs.RiscVRewrites.{AppliesToRiscV, IsAuipc, IsLui,
 pub use Rattle.linker_utils.specs.declared.aarch64.rewrites.RewriteKind.{RewriteKind}
 pub use Rattle.linker_utils.specs.declared.architecture.Relaxation.{Relaxation}
 pub use Rattle.std.proofs.Common.{Bool, Err, FitsSigned, IsSomeAnd, List, Ok, Result, Some, [], ap, append_assoc, ap₂, arith, cond, drop, drop-cons, eq-eqb, eqb, false, get_or, if◌then◌else◌, inl, inr, le-leb, leb, length, lit<, lit≤, ltb, nat_le, nat_lt, ne_eqb, neg_ℤ, negsuc, not, pos, refl, rules, subst, suc, sym, true, true≢false, zero, ℕ, ℤ, ◌%◌, ◌&&◌, ◌*◌, ◌++◌, ◌+ℤ◌, ◌+◌, ◌-◌, ◌/◌, ◌<ℤ◌, ◌<◌, ◌==◌, ◌^◌, ◌∙◌, ◌∷◌, ◌≡◌, ◌≢◌, ◌≤ℤ◌, ◌≤◌}
-pub use Rattle.std.proofs.lemmas.Bool.{and_from, and_parts, cases_Bool, cases_eq, cases_lt, cond-false, cond-true, eqb-true, le-ltb, leb-true, lt-ltb, ltb-true, or_cases, or_from, or_left, or_parts, or_right}
+pub use Rattle.std.proofs.lemmas.Bool.{and_from, and_parts, cases_Bool, cases_eq, cases_lt, cond-false, eqb-true, le-ltb, leb-true, lt-ltb, ltb-true, or_cases, or_from, or_left, or_parts, or_right}
 pub use Rattle.std.proofs.lemmas.Int.{ints, of_z-to_z, to_z-of_z}
 pub use Rattle.std.proofs.lemmas.List.{drop-drop, drop-take, drop_at, ext_get_or, get_or-drop, get_or-take, get_or_past, length-append, length-drop, length-take, length-take-le, take-append-drop, take-take, take_all, take_more}
 pub use Rattle.std.proofs.lemmas.List.Elements.{All-append, All-cons, All-drop, All-from_get_or, All-get_or, All-head, All-nil, All-tail, All-take, All-weaker}

@@ -1,13 +1,13 @@
 -- LoongArch: calls and addresses in the final bytes of a packed section, and what is deleted of it.
-use Rattle.linker_final.proofs.Imports.{AbsoluteLowPart, All-drop, All-take, AnyForm, AreAddresses, AreBytes, AreDeleted as IsGone, BitMasking, BitRange, Bool, Branch26, InstructionWritten, IsAddress, IsApplied, IsBefore, IsPacked, IsSiteOf, IsSomeAnd, IsWritten, List, LoongArch64, LoongArch64Relocation, Ok, Operands, Packed, Relocated, RowInfo, Shift10, SiteBecomes, Some, State, Symbol, ValueIsWithin, [], ap, architecture_of, arith, drop, drop-drop, entry_and_addend, eqb, false, field, following, has_value, if◌then◌else◌, inl, inr, is_jirl, length, length-drop, loaded, loongarch_form, loongarch_row, names_label, ne_eqb, not, offset_at, operands_in, or_parts, pcalau12i, place_of, plt_address, pos, refl, relocation_in, signed, site_after, site_bytes, site_len, site_offset, site_place, site_target, slice_get, subst, sum_64, sym, symbol_address, take, true, value_of, window_len, word_below, word_of, word_of_front, wrapped, ℕ, ℤ, ⊤, ◌*ℤ◌, ◌+ℤ◌, ◌+◌, ◌/◌, ◌<◌, ◌==◌, ◌^◌, ◌∙◌, ◌∷◌, ◌≡◌, ◌≢◌, ◌≤◌}
+use Rattle.linker_final.proofs.Imports.{AbsoluteLowPart, All-drop, All-take, AnyForm, AreAddresses, AreBytes, AreDeleted as IsGone, BitMasking, BitRange, Bool, Branch26, InstructionWritten, IsAddress, IsApplied, IsBefore, IsPacked, IsSiteOf, IsSomeAnd, IsWritten, List, LoongArch64, LoongArch64Relocation, Ok, Operands, Packed, Relocated, RowInfo, Shift10, SiteBecomes, Some, State, Symbol, ValueIsWithin, [], ap, architecture_of, arith, drop, drop-drop, entry_and_addend, eqb, false, field, following, has_value, if◌then◌else◌, inl, inr, is_jirl, length, length-drop, loaded, loongarch_form, loongarch_row, names_label, ne_eqb, not, offset_at, operands_in, operands_small, or_parts, pcalau12i, place_of, plt_address, pos, refl, relocation_in, signed, site_after, site_bytes, site_len, site_offset, site_place, site_target, slice_get, subst, sum_64, sym, symbol_address, take, true, value_of, window_len, word_below, word_of, word_of_front, wrapped, ℕ, ℤ, ⊤, ◌*ℤ◌, ◌+ℤ◌, ◌+◌, ◌/◌, ◌<◌, ◌==◌, ◌^◌, ◌∙◌, ◌∷◌, ◌≡◌, ◌≢◌, ◌≤◌}
 use Rattle.linker_laws.specs.LoongArchGroups.{Fits32, Groups, IsRelocated, IsRewritten, LoadsEntry, AreDeleted, Code}
 use Rattle.linker_final.specs.LoongArchSection.{AddressesAreMade, CallsTheSame, HighPartIsLeftOut, IsPairOf, LoadedAddressesAreMade, LongAddressesStay, LongLoadedAddressesStay, StaysAs, operands_at, words_in, LongCallsStay, SumIsLeftOut}
 use Rattle.linker_laws.specs.LoongArchMachine.{HaveCalled, HaveMade, no_register, pair}
 use Rattle.linker_utils.specs.LoongArchRewrites.{IsAddi, IsCall, rj_of, signed_32, AreOfOneRegister, IsLd, rd_of, word_at}
 use Rattle.linker_elf.proofs.Relocated.{plain_written}
 use Rattle.linker_elf.specs.declared.elf.AnyForm.TheVariants.{LoongArch64 as of_loongarch}
-use Rattle.linker_final.proofs.PackedBytes.{are_addresses, instructions, no_place, place_after, places_inside, site_becomes, site_inside, site_length, site_small, stay_inside, the_row}
-use Rattle.linker_final.proofs.Written.{back_of_pair, front_of_pair, some_value, window_length}
+use Rattle.linker_final.proofs.PackedBytes.{instructions, valued, no_place, place_after, places_inside, site_becomes, site_inside, site_length, site_small, stay_inside, the_row}
+use Rattle.linker_final.proofs.Written.{back_of_pair, front_of_pair, window_length}
 use Rattle.linker_laws.proofs.AArch64Pairs.{word_made}
 use Rattle.linker_laws.proofs.AArch64Steps.{address_is}
 use Rattle.linker_laws.proofs.LoongArchCalls.{call_is, decodes_b, decodes_bl, decodes_far, decodes_jirl, new_first, new_second, target_is}
@@ -326,7 +326,7 @@ module _ (calls : relocation_laws.Calls) (section : List ℕ) (o : ℕ) (bytes :
         len = len ∙ sym wide;
         old_bytes = All-take (λ byte. byte < 2 ^ 8) 8 there (All-drop (λ byte. byte < 2 ^ 8) o section bytes);
         bytes = new;
-      }) (are_addresses place target small reach) t at)
+      }) (operands_small place target small reach) t at)
 
   no_pair : IsPcalaAt section o → IsCall36At section o → ⊥
   no_pair pcala (inl is) = omega (arith, pcala.one_register.first, is.first)
@@ -483,25 +483,13 @@ module _ (p : Packed) (is : IsPacked p) (machine : p.machine ≡ LoongArch64) (i
     (symbol_is : slice_get p.symbols (relocation_in p.relocations_after i).symbol ≡ Some symbol)
     (y : Operands)
     (taken : operands_in architectures.LoongArch64 p.addresses row (relocation_in p.relocations_after i) (Some symbol) ≡ Ok y)
-    (valued : IsSomeAnd (value_of row y) (λ _. ⊤)) where
+    (is_some : IsSomeAnd (value_of row y) (λ _. ⊤)) where
   applied : IsApplied row y (take n (drop (offset_at p.relocations i) p.section.bytes))
       (take n (drop (place_of p (offset_at p.relocations i)) p.final))
   applied =
-      let there : architectures.LoongArch64 ≡ architecture_of p.machine = sym (ap architecture_of machine) in
-      let value = some_value (value_of row y) valued in
       rw (← wide) (instructions p is i row y
-      (record {
-        within = stays.within;
-        is_row = rw (← there) (record { name = name; is_name = stays.is_name; value_is = sym row_is });
-        bits = bits;
-        insn = insn;
-        size = size;
-        has = has;
-        unlabelled = unlabelled;
-        taken = rw (← there) (ap (operands_in architectures.LoongArch64 p.addresses row (relocation_in p.relocations_after i)) symbol_is ∙ taken);
-        value = value.0;
-        value_is = value.1;
-      })
+      (valued p i stays.within architectures.LoongArch64 (ap architecture_of machine) row
+      (record { name = name; is_name = stays.is_name; value_is = sym row_is }) bits insn size has unlabelled symbol symbol_is y taken is_some)
       (λ k below. stays.stays k (rw (← wide) below)))
 
 pub long_calls : relocation_laws.Calls → LongCallsStay

@@ -1,5 +1,5 @@
 -- The final bytes of a section that was packed.
-use Rattle.linker_final.proofs.Imports.{Addresses, Adds, Aligned, AlignmentsHold, All-drop, All-from_get_or, All-take, AnyForm, Architecture, AreAddresses, AreBytes, AreDeleted, AreRelaxedAndPacked, BType, BitMasking, BitRange, Branch21, Branch26, CbType, CjType, DeletedBytesAreGone, Goes, HoldsIn, InstructionsAreRelocated, IsAddress, IsAligned, IsApplied, IsInside, IsKeptInstruction, IsOfRun, IsPacked, IsRewrittenAndPacked, IsRow, IsSiteOf, IsSkipped, IsSomeAnd, IsTrue, IsUnwritten, Item, ItemBecomes, ItemsAreDeleted, JType, KeptBytesStay, Linked, List, LoongArch64, LoongArch64Relocation, LoongArchBranchesGo, Machine, MatchOption, None, Ok, Operands, Option, Packed, PaddingIsNops, PlacesAreRelocated, PlacesHaveAddresses, RecordsDeletions, Rela, RiscVBranchesGo, RiscVRelocation, RowInfo, Run, SectionsAreAligned, Shift10, Shift5, Site, SiteBecomes, Some, StayTogether, Stays, Symbol, UntouchedBytes, UntouchedInstruction, address_at, address_of, ap, architecture_of, arith, bytes_row, cases_Bool, cases_lt, count, deletions_of_run, div-add-mod', drop, false, final_number, get_or, has_value, here, inl, inr, instruction_at, is_fixed, kept_len, length, loongarch_form, loongarch_row, mod-mul-add, names_label, nops, offset_at, operands_in, operands_of as operands_by_symbols, operands_with, packed_of, packed_offset, padding_at, padding_len, place, place_of, plt_address, pos, refl, relocation_in, riscv_form, riscv_row, site_bytes, site_len, site_offset, slice_get, some_window, subst, suc, sum_64, sym, symbol_address, take, true, value_of, window_len, zero, ℕ, ℤ, ⊤, ◌%◌, ◌*ℤ◌, ◌*◌, ◌+ℤ◌, ◌+◌, ◌-◌, ◌/◌, ◌<◌, ◌^◌, ◌∙◌, ◌≡◌, ◌≢◌, ◌≤◌, ◌⊎◌}
+use Rattle.linker_final.proofs.Imports.{Addresses, Adds, Aligned, AlignmentsHold, All-drop, All-from_get_or, All-take, AnyForm, Architecture, AreBytes, AreDeleted, AreRelaxedAndPacked, BType, BitMasking, BitRange, Branch21, Branch26, CbType, CjType, DeletedBytesAreGone, Goes, HasValue, HoldsIn, InstructionsAreRelocated, IsAddress, IsAligned, IsApplied, IsInside, IsKeptInstruction, IsOfRun, IsPacked, IsRewrittenAndPacked, IsRow, IsSiteOf, IsSkipped, IsSomeAnd, IsTrue, IsUnwritten, Item, ItemBecomes, ItemsAreDeleted, JType, KeptBytesStay, Linked, List, LoongArch64, LoongArch64Relocation, LoongArchBranchesGo, Machine, MatchOption, None, Ok, Operands, Option, Packed, PaddingIsNops, PlacesAreRelocated, PlacesHaveAddresses, RecordsDeletions, Rela, RiscVBranchesGo, RiscVRelocation, RowInfo, Run, SectionsAreAligned, Shift10, Shift5, Site, SiteBecomes, Some, StayTogether, Stays, Symbol, UntouchedBytes, UntouchedInstruction, address_at, address_of, ap, architecture_of, arith, bytes_row, cases_Bool, cases_lt, count, deletions_of_run, div-add-mod', drop, false, final_number, get_or, has_value, here, inl, inr, instruction_at, is_fixed, kept_len, length, loongarch_form, loongarch_row, mod-mul-add, names_label, nops, offset_at, operands_in, operands_with, packed_of, packed_offset, padding_at, padding_len, place, place_of, plt_address, pos, refl, relocation_in, riscv_form, riscv_row, site_bytes, site_len, site_offset, slice_get, some_window, subst, suc, sum_64, sym, symbol_address, take, true, value_of, window_len, zero, ℕ, ℤ, ⊤, ◌%◌, ◌*ℤ◌, ◌*◌, ◌+ℤ◌, ◌+◌, ◌-◌, ◌/◌, ◌<◌, ◌^◌, ◌∙◌, ◌≡◌, ◌≢◌, ◌≤◌, ◌⊎◌}
 use Rattle.linker_runs.specs.Relaxing.{IsSound, end_of, freed_before, item_at, needed, choice_of, offset_of}
 use Rattle.linker_runs.specs.Packing.{Section}
 use Rattle.linker_base.proofs.Rank.{rank-le, rank-mono, rank_all_kept, rank_gone, rank_kept, selected_once}
@@ -14,7 +14,6 @@ use Rattle.linker_runs.proofs.Layouts.{freed_fits}
 use Rattle.linker_runs.proofs.Multiples.{needed_fills, no_rest}
 use Rattle.linker_runs.proofs.Translations.{translations_exact}
 use Rattle.linker_runs.specs.Choosing.{AreItems, IsExact, IsExactItem, IsRelaxation}
-use Rattle.linker_runs.specs.Sites.{operands_of}
 use Rattle.linker_runs.specs.declared.packing.Machine.TheVariants.{RiscV}
 use Rattle.linker_runs.specs.declared.relaxation.Alignment.{Alignment}
 use Rattle.linker_runs.specs.declared.relaxation.Site.{Site as sites}
@@ -214,12 +213,6 @@ instructions p is i row operands of stays =
 pub site_inside : (p : Packed) (i : ℕ) (here : sites) → IsSiteOf p i here
     → site_offset p here + 8 ≤ length p.section.bytes
 site_inside p i here of = omega (arith, of.there.1, of.there.2)
-
--- what a site's value is computed from
-pub are_addresses : (place target : ℕ) → place < 2 ^ 64 → target < 2 ^ 64 → AreAddresses (operands_of place target)
-are_addresses place target small reach =
-    let none : 0 < 2 ^ 64 = omega arith in
-    record { symbol = reach; place = small; got_entry = none; got_base = none; plt_entry = reach; tls_base = none }
 
 module _ (p : Packed) (is : IsPacked p) where
   pub site_small : (here : sites) → AreBytes (site_bytes p here)
@@ -468,6 +461,31 @@ packed_run s items start before after places symbols shapes stays gone deletions
       of_run = record { accepted = are; relaxed = relaxed; lost = refl };
     }
 
+-- ---- relocations that are written
+
+-- one with a row and a symbol has the value of its formula
+pub valued : (p : Packed) (i : ℕ) → i < packed.count p → (architecture : Architecture) → architecture_of p.machine ≡ architecture
+    → (row : RowInfo) → IsRow architecture (relocation_in p.relocations_after i).r_type (Some row)
+    → (bits : BitRange) (insn : AnyForm) → row.size ≡ BitMasking bits insn → has_value row.kind ≡ true
+    → names_label row.size row.kind ≡ false → (symbol : Symbol)
+    → slice_get p.symbols (relocation_in p.relocations_after i).symbol ≡ Some symbol → (y : Operands)
+    → operands_in architecture p.addresses row (relocation_in p.relocations_after i) (Some symbol) ≡ Ok y
+    → IsSomeAnd (value_of row y) (λ _. ⊤) → HasValue p i row y
+valued p i below architecture is row is_row bits insn size has unlabelled symbol symbol_is y taken some =
+    let value = some_value (value_of row y) some in
+    record {
+      within = below;
+      is_row = rw is is_row;
+      bits = bits;
+      insn = insn;
+      size = size;
+      has = has;
+      unlabelled = unlabelled;
+      taken = rw is (ap (operands_in architecture p.addresses row (relocation_in p.relocations_after i)) symbol_is ∙ taken);
+      value = value.0;
+      value_is = value.1;
+    }
+
 -- ---- branches that stay
 
 -- by a row of an instruction that takes no entry
@@ -478,26 +496,15 @@ goes : (machine : Machine) (row : RowInfo) (bits : BitRange) (insn : AnyForm)
     ≡ Ok (operands_with (architecture_of machine) a row symbol r 0))
     → ((y : Operands) → IsSomeAnd (value_of row y) (λ _. ⊤))
     → Adds (here (Some row)) place reads unit target → Goes machine (Some row) reads unit target
-goes machine row bits insn reads unit target size has unlabelled taken valued law p is machine_is i of symbol symbol_is small =
+goes machine row bits insn reads unit target size has unlabelled taken is_some law p is machine_is i of symbol symbol_is small =
     let r = relocation_in p.relocations_after i in
     let o = offset_at p.relocations i in
     let n = window_len row in
     let y = operands_with (architecture_of machine) p.addresses row symbol r 0 in
-    let value = some_value (value_of row y) (valued y) in
     let applied = places p is i row y
-    (record {
-      within = of.within;
-      is_row = of.is_row;
-      bits = bits;
-      insn = insn;
-      size = size;
-      has = has;
-      unlabelled = unlabelled;
-      taken = subst (λ a. operands_by_symbols a p.addresses p.symbols row r ≡ Ok y) (sym (ap architecture_of machine_is))
-          (ap (operands_in (architecture_of machine) p.addresses row r) symbol_is ∙ taken p.addresses symbol r);
-      value = value.0;
-      value_is = value.1;
-    }) of.inside in
+    (valued p i of.within (architecture_of machine) (ap architecture_of machine_is) row
+    (subst (λ a. IsRow a r.r_type (Some row)) (ap architecture_of machine_is) of.is_row) bits insn size has unlabelled symbol symbol_is y
+    (taken p.addresses symbol r) (is_some y)) of.inside in
     let placed : sum_64 p.addresses.section r.offset ≡ address_at p o =
     ap (sum_64 p.addresses.section) ((is.moved i of.within).offset of.inside) ∙ addresses p is o in
     subst (λ a. IsAddress (pos a +ℤ (reads (final_number p i row) *ℤ pos unit)) (target y)) placed

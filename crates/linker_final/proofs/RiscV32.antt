@@ -1,6 +1,6 @@
 -- RV32: values once addends are wrapped, and its instructions by RV64's laws: a sum modulo 2^64 is
 -- one modulo 2^32.
-use Rattle.linker_final.proofs.Imports.{Addresses, AreAddresses, BType, BitMasking, Bool, Bounds, ByteSize, CbType, CjType, CluiType, Computed, Err, FitsSigned, HoldsDistance, IType, IsHighPartAt, IsLowValue, IsNoHighPart, IsRow, IsValue, IsValueBy, IsValueIn, IsWithin, JType, Law, List, NoSymbol, None, Ok, Operands, Option, Rela, RelocationKind, Result, RiscV, RiscVRelocation, RowInfo, RowSize, SType, Some, Step, Symbol, UType, UiType, ValueError, [], and_parts, ap, arith, cast_signed, cast_unsigned, clui_row, cond-true, difference_64, entry_address, entry_and_addend, entry_of, even, false, formula, has_value, here, if◌then◌else◌, int_rem_euclid, ints, is_high_part, is_offset, lacks_origin, length, loads_plt_word, low_by, low_load, low_operands, low_value, lt-ltb, ltb, names_label, neg_ℤ, negsuc, number_at, number_of_bytes, of_z-to_z, one_row, operands_by, operands_in, operands_of, operands_with, own_value, place, plt_address, pos, reach_of, refl, relocation_at, relocation_in, riscv_form, riscv_pair_bounds, riscv_relocation, riscv_row, slice_get, subst, suc, sum_64, sym, symbol_address, tls_base, to_z-of_z, true, unsigned_abs, upper_and_low, value_by, value_of, w64, without_bit_0, ℕ, ℤ, ◌%◌, ◌&&◌, ◌*ℤ◌, ◌+ℤ◌, ◌+◌, ◌-◌, ◌/◌, ◌<ℤ◌, ◌<◌, ◌==◌, ◌^◌, ◌∙◌, ◌∷◌, ◌≡◌, ◌≤ℤ◌}
+use Rattle.linker_final.proofs.Imports.{Addresses, AreAddresses, BType, BitMasking, Bool, Bounds, ByteSize, CbType, CjType, CluiType, Computed, Err, FitsSigned, HoldsDistance, IType, IsHighPartAt, IsLowValue, IsNoHighPart, IsRow, IsValue, IsValueBy, IsValueIn, IsWithin, JType, Law, List, NoSymbol, None, Ok, Operands, Option, Rela, RelocationKind, Result, RiscV, RiscVRelocation, RowInfo, RowSize, SType, Some, Step, Symbol, UType, UiType, ValueError, [], and_parts, ap, arith, cast_signed, cast_unsigned, clui_row, difference_64, entry_address, entry_and_addend, entry_of, even, false, formula, has_value, here, if◌then◌else◌, int_rem_euclid, ints, is_high_part, is_offset, lacks_origin, length, loads_plt_word, low_by, low_load, low_operands, low_value, names_label, neg_ℤ, negsuc, number_at, number_of_bytes, of_z-to_z, one_row, operands_by, operands_in, operands_of, operands_with, own_value, place, plt_address, pos, reach_of, refl, relocation_at, relocation_in, riscv_form, riscv_pair_bounds, riscv_relocation, riscv_row, slice_get, subst, suc, sum_64, sym, symbol_address, tls_base, to_z-of_z, true, unsigned_abs, upper_and_low, value_by, value_of, w64, without_bit_0, ℕ, ℤ, ◌%◌, ◌&&◌, ◌*ℤ◌, ◌+ℤ◌, ◌+◌, ◌-◌, ◌/◌, ◌<ℤ◌, ◌<◌, ◌==◌, ◌^◌, ◌∙◌, ◌∷◌, ◌≡◌, ◌≤ℤ◌, addresses as small}
 use Rattle.linker_final.specs.RiscV32.{Addends, Branches, HasWrappedAddend, IsSame32, IsWrappedValue, IsWrappedWithin, Law32, PairsReachAll, Reaches32, RelativeAddresses, Values, Word, Words}
 use Rattle.linker_laws.specs.Schemes.{Reaches, zero}
 use Rattle.linker_laws.proofs.Sums.{sum_below}
@@ -13,6 +13,7 @@ use Rattle.linker_section.specs.Inner.Facts.{When}
 use Rattle.linker_section.specs.RiscV32.{AreWrapped, IsLeastFrom, IsWrapped, IsWrappedBy, IsWrappedTo, least_in, with_value}
 use Rattle.std.proofs.Math.Facts.{sfits_to_z}
 use Rattle.std.specs.Int.Signed.{le_z}
+use Rattle.linker_runs.proofs.Moved.{there_at}
 use Rattle.linker_elf.specs.declared.elf.RelocationKind.TheVariants as kinds
 use Rattle.linker_elf.specs.declared.riscv64.relocations.RiscVRelocation.TheVariants as riscv64
 use Rattle.linker_laws.specs.RiscVRelocationLaws as laws
@@ -379,9 +380,6 @@ module _ (addresses : Addresses) (symbols : List Symbol) (row high : RowInfo) (l
       ∙ sym (when_true (names_label row.size row.kind) (reach_of row) (Some riscv_pair_bounds) low.bounds labelled) in
       rw (as_alone r, as_alone after, ← same_reach) (own_wrapped addresses symbols high r after of each unlabelled)
 
-at_below : (bytes : List ℕ) (i : ℕ) → i < length bytes / 24 → relocation_at bytes i ≡ Some (relocation_in bytes i)
-at_below bytes i below = cond-true (ltb i (length bytes / 24)) (Some (relocation_in bytes i)) None (lt-ltb i (length bytes / 24) below)
-
 module _ (addresses : Addresses) (symbols : List Symbol) (before after : List ℕ)
     (are : AreWrapped addresses symbols before after) where
   same_count : length after / 24 ≡ length before / 24
@@ -392,7 +390,7 @@ module _ (addresses : Addresses) (symbols : List Symbol) (before after : List �
       let there = there_is before i r is in
       let new = relocation_in after i in
       let becomes = addends addresses symbols before after are i there.within in
-      let now : relocation_at after i ≡ Some new = at_below after i (subst (λ n. i < n) (sym same_count) there.within) in
+      let now : relocation_at after i ≡ Some new = there_at after i (subst (λ n. i < n) (sym same_count) there.within) in
       let old : new ≡ record r { addend = new.addend } = becomes.others ∙ ap (λ (x : Rela). record x { addend = new.addend }) there.is in
       subst (IsNoHighPart RiscV kind at) old (none i new now)
 
@@ -412,7 +410,7 @@ module _ (addresses : Addresses) (symbols : List Symbol) (before after : List �
       let offset : r.offset ≡ at = sym (ap (λ (x : Rela). x.offset) is) ∙ part.offset_is in
       let each : IsWrapped addresses symbols r new = subst (IsWrapped addresses symbols r) there.is (are.each i below) in (
         Some (r, high),
-        record { index = i; is_there = at_below before i below; offset_is = offset; row_is = of; is_high = part.is_high },
+        record { index = i; is_there = there_at before i below; offset_is = offset; row_is = of; is_high = part.is_high },
         low_wrapped addresses symbols row high sum.low labelled (high_is (is_of_descriptor row.kind) high (is_sum r.r_type high of))
             part.is_high r new of each,
       )
@@ -481,14 +479,8 @@ weaker (step ∷ steps) o c t t' same is =
     weaker steps o (c (number_at row.size after)) t t' same (law at before after applied holds)) step.row is
 
 pub with_addend_sum : (o : Operands) (a : ℤ) → AreAddresses o → AreAddresses (record o { addend = a })
-with_addend_sum o a small = record {
-  symbol = small.symbol;
-  place = small.place;
-  got_entry = small.got_entry;
-  got_base = small.got_base;
-  plt_entry = small.plt_entry;
-  tls_base = small.tls_base;
-}
+with_addend_sum o a are =
+    small (record o { addend = a }) are.symbol are.place are.got_entry are.got_base are.plt_entry are.tls_base
 
 -- a target that changes with its addend by multiples of 2^32
 abbrev IsTarget32 : (Operands → ℕ) → Type 0

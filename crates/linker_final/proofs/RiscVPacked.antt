@@ -1,9 +1,9 @@
 -- RISC-V: calls in the final bytes of a packed section, and what is deleted of it.
-use Rattle.linker_final.proofs.Imports.{All-drop, All-take, AreAddresses, AreBytes, AreDeleted as IsGone, CallStays, DeletedLui, HasWord, IsApplied, IsBefore, IsCallPair, IsLow12, IsLowOffset, IsLui, IsSomeAnd, List, Operands, Packed, RiscV, RiscVRelocation, Site, SiteBecomes, Some, State, address_is, ap, architecture_of, arith, call, cj_goes, drop, drop-drop, eqb-true, even, field, from_le_bytes, if◌then◌else◌, inl, inr, jal_goes, jump, jump_group, length, length-drop, link_register, offset_at, operands_with, place_of, plt_address, rd_of, refl, relocation_in, riscv_matches, riscv_relocation, short_jump, site_bytes, site_len, site_offset, site_place, site_target, subst, sym, take, take_all, value_of, w16, w32, word_at, ℕ, ◌%◌, ◌+◌, ◌-◌, ◌<◌, ◌^◌, ◌∙◌, ◌≡◌, ◌≢◌, ◌≤◌}
+use Rattle.linker_final.proofs.Imports.{All-drop, All-take, AreAddresses, AreBytes, AreDeleted as IsGone, CallStays, DeletedLui, HasWord, IsApplied, IsBefore, IsCallPair, IsLow12, IsLowOffset, IsLui, IsSomeAnd, List, Operands, Packed, RiscV, RiscVRelocation, Site, SiteBecomes, Some, State, address_is, ap, arith, call, cj_goes, drop, drop-drop, eqb-true, even, field, from_le_bytes, if◌then◌else◌, inl, inr, jal_goes, jump, jump_group, length, length-drop, link_register, offset_at, operands_small, operands_with, place_of, plt_address, rd_of, refl, relocation_in, riscv_matches, riscv_relocation, short_jump, site_bytes, site_len, site_offset, site_place, site_target, subst, sym, take, take_all, w16, w32, word_at, ℕ, ◌%◌, ◌+◌, ◌-◌, ◌<◌, ◌^◌, ◌∙◌, ◌≡◌, ◌≢◌, ◌≤◌}
 use Rattle.linker_final.specs.RiscVSection.{CallIsAlike, HighPartsAreLeftOut, IsOfCall, LongCallsStay, LuiIsLeftOut, SitesCallTheSame, SumIsLeftOut, call_row, instructions_in, landing}
 use Rattle.linker_laws.specs.RiscVGroups.{Code, Groups, AreDeleted}
-use Rattle.linker_final.proofs.PackedBytes.{are_addresses, instructions, no_place, places_inside, site_becomes, site_inside, site_length, site_small, stay_inside}
-use Rattle.linker_final.proofs.Written.{back_of_pair, front_of_pair, some_value, window_length}
+use Rattle.linker_final.proofs.PackedBytes.{instructions, valued, no_place, places_inside, site_becomes, site_inside, site_length, site_small, stay_inside}
+use Rattle.linker_final.proofs.Written.{back_of_pair, front_of_pair, window_length}
 use Rattle.linker_riscv64.specs.declared.calls.LinkRegister.TheVariants.{OfJalr}
 use Rattle.linker_runs.specs.Origins.{HasItsInstructions}
 use Rattle.linker_runs.specs.RiscVItems.{IsCallAt}
@@ -12,7 +12,6 @@ use Rattle.linker_runs.specs.Sites.{operands_of}
 use Rattle.linker_utils.specs.declared.riscv64.rewrites.RewriteKind.{RewriteKind}
 use Rattle.linker_runs.specs.Machines.{RiscV64}
 use Rattle.linker_elf.specs.declared.riscv64.relocations.RiscVRelocation.TheVariants as names
-use Rattle.linker_section.specs.Values as values
 use Rattle.linker_utils.specs.declared.riscv64.rewrites.RewriteKind.TheVariants as kinds
 
 -- both relocations of calls have one row
@@ -90,7 +89,7 @@ module _ (groups : Groups) (section : List ℕ) (o : ℕ) (bytes : AreBytes sect
       let whole : take 8 final ≡ final = take_all 8 final (omega (arith, len)) in
       subst (λ m. CallIsAlike window y m (instructions_in m) (landing m target) final name) (sym len ∙ same)
       (subst (λ f. CallIsAlike window y 8 2 (target - target % 2) f name) whole
-      (long y (target - target % 2) final (are_addresses place target small reach) (ap (λ t. t - t % 2) plt)
+      (long y (target - target % 2) final (operands_small place target small reach) (ap (λ t. t - t % 2) plt)
       (subst (λ f. IsSomeAnd (riscv_relocation names.R_RISCV_CALL_PLT).row (λ row. IsApplied row y window f))
       (sym whole) far.relocated)
       (All-take (λ b. b < 2 ^ 8) 8 final new) (ap length whole ∙ len) name of))
@@ -116,23 +115,10 @@ long_calls groups p is riscv i name stays symbol symbol_is small other_name of =
     let o = offset_at p.relocations i in
     let r = relocation_in p.relocations_after i in
     let y = operands_with RiscV p.addresses call_row symbol r 0 in
-    let arch = architecture_of p.machine in
     let row_is = of_either (λ n. (riscv_relocation n).row ≡ Some call_row) name stays.of_call refl refl in
-    let machine : RiscV ≡ arch = sym riscv in
-    let value = some_value (value_of call_row y) tt in
     let applied = instructions p is i call_row y
-    (record {
-      within = stays.within;
-      is_row = rw (← machine) (record { name = name; is_name = stays.is_name; value_is = sym row_is });
-      bits = _;
-      insn = _;
-      size = refl;
-      has = refl;
-      unlabelled = refl;
-      taken = rw (← machine) (ap (values.operands_in RiscV p.addresses call_row r) symbol_is);
-      value = value.0;
-      value_is = value.1;
-    }) stays.stays in
+    (valued p i stays.within RiscV riscv call_row (record { name = name; is_name = stays.is_name; value_is = sym row_is }) _ _
+    refl refl refl symbol symbol_is y refl tt) stays.stays in
     let inside = stay_inside p is o 8 (omega arith) stays.stays in
     let final = drop (place_of p o) p.final in
     long groups p.section.bytes o is.section_bytes stays.call inside y (even plt_address y) final small refl applied

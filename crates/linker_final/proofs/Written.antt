@@ -675,7 +675,6 @@ pub word_same : (bytes : List ℕ) (o : ℕ)
 word_same bytes o = sym (word_of_front (drop o bytes))
 
 -- of two instructions
-
 pub front_of_pair : (bytes : List ℕ) → from_le_bytes w32 (take 8 bytes) ≡ from_le_bytes w32 bytes
 front_of_pair bytes =
     cc (word_of_front (take 8 bytes), take-take 4 8 bytes (omega arith), word_of_front bytes)

@@ -287,9 +287,7 @@ OtherFields =
     → 0 < field_len row (drop (offset_at l.relocations_last i) l.last)
     → IsHeld linked.written.can.found l.relocations_last l.last l.final (count l) i row v)
 
--- ---- the code of a section: what is passed to the calls, and what they leave
-
--- ---- a section
+-- ---- the code of a section
 
 -- What is passed to the calls for a section, in one phase or in several, and what they leave.
 pub record Section : Type 0 where

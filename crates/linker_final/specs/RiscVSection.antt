@@ -463,9 +463,7 @@ AuipcGoes =
     → IsHighPart c k s (rd_of (word_of auipc)) (upper_from s.pc has.relocated) (distance x)
     (symbol_address x)
 
--- ---- a section that was packed (psABI, "Function Call Relaxation")
-
--- ---- calls
+-- ---- calls of a section that was packed (psABI, "Function Call Relaxation")
 
 -- the row of both relocations of calls
 abbrev pub call_row : RowInfo
