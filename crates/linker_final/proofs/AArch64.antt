@@ -1,12 +1,12 @@
 -- AArch64: the rewrites of a section are of instructions that are rewritten together, and these are
 -- groups.
-use Rattle.linker_final.proofs.Imports.{AArch64, AArch64Relocation, AbsoluteLowPart, Agree, AreCalled, Begins, BeginsRewritten, Bool, Choice, ComesTo, Condition, Entry, GotRelative, GotTpOff, GotTpOffGot, Grouped, HasFinal, Independent, IsAddressRewritten, IsArchitectureChoice, IsDescriptorLeft, IsDescriptorRewritten, IsDone, IsLinked, IsLoadRewritten, IsMade, IsNameOf, IsNamed, IsOfEntry as IsOfEntryIn, IsOfOne as IsOfOneIn, IsPartAt, IsPhase, IsRewrittenAgain, IsRewrittenBy, IsRewrittenByNoOther, IsRewrittenOf, IsRow, IsScopeDecision, IsScopeIn, IsSomeAnd, IsWholeBy, IsWrittenByNoOther, Kept, Kinds, Linked, List, None, Ok, Operands, Phase, Rela, Relative, Relaxation, RewriteKind, Rewrites, RewritesAreGroups, RowInfo, Section, Some, State, Symbol, ThreadOffset, TpOff, UntouchedInstruction, UntouchedInstructions, [], aarch64_name, aarch64_row, aarch64_scope_in, addend_after, address, aligned_row, anything, ap, arith, at_address, at_call, at_high, at_initial, at_jump, at_load, at_local, at_low, bytes_row, chosen_at, cond, cond-false, count, decision_at, drop, entry, entry_address, entry_of, entry_pages, eq-eqb, eqb, false, field, following, go_to, group_stays, half, high, in_phase, inl, inr, insn_row, instruction_at, is_there, length, load, loaded, low, object, of_entry as of_entry_in, of_group, of_link, of_one as of_one_in, of_option, offset_after, offset_of, operands_by, operands_with, page, paged_row, place_pages, plt_address, put, r_type_of, refl, register, relaxation_rewrite, relocation_after, relocation_in, replaces, rewriting, scope_there, sequences_are_whole, signed_row, slice_get, span, subst, sum_64, sym, symbol_address, take, take-take, thread_offset, to_initial, to_local, true, two_at, unlabelled, value_of, weak_zero, with_register, word_of, ℕ, ℤ, ◌*◌, ◌+◌, ◌-◌, ◌<◌, ◌^◌, ◌∙◌, ◌∷◌, ◌≡◌, ◌≢◌, ◌≤◌}
+use Rattle.linker_final.proofs.Imports.{AArch64, AArch64Relocation, AbsoluteLowPart, Agree, AreCalled, Begins, BeginsRewritten, Bool, Choice, ComesTo, Condition, Entry, GotRelative, GotTpOff, GotTpOffGot, Grouped, HasFinal, Independent, IsAddressRewritten, IsArchitectureChoice, IsDescriptorLeft, IsDescriptorRewritten, IsDone, IsLinked, IsLoadRewritten, IsMade, IsNameOf, IsNamed, IsOfEntry as IsOfEntryIn, IsOfOne as IsOfOneIn, IsPartAt, IsPhase, IsRewrittenAgain, IsRewrittenBy, IsRewrittenByNoOther, IsRewrittenOf, IsRow, IsScopeDecision, IsScopeIn, IsSomeAnd, IsWholeBy, IsWrittenByNoOther, Kept, Kinds, Linked, List, None, Ok, Operands, Phase, Rela, Relative, Relaxation, RewriteKind, Rewrites, RewritesAreGroups, RowInfo, Section, Some, State, Symbol, ThreadOffset, TpOff, UntouchedInstruction, UntouchedInstructions, [], aarch64_name, aarch64_row, aarch64_scope_in, addend_after, address, aligned_row, anything, ap, arith, at_address, at_call, at_high, at_initial, at_jump, at_load, at_local, at_low, bytes_row, chosen_at, cond, cond-false, count, decision_at, drop, entry, entry_address, entry_of, entry_pages, eq-eqb, eqb, false, field, following, go_to, group_stays, half, high, in_phase, inl, inr, insn_row, instruction_at, is_there, length, load, loaded, low, object, of_entry as of_entry_in, of_group, of_link, of_one as of_one_in, of_option, offset_after, offset_of, operands_by, operands_with, page, paged_row, place_pages, plt_address, put, r_type_of, refl, register, relaxation_rewrite, relocation_after, relocation_in, replaces, rewriting, scope_there, sequences_are_whole, signed_row, slice_get, span, subst, sum_64, sym, symbol_address, take, take-take, thread_offset, to_initial, to_local, true, two_at, unlabelled, value_of, weak_zero, with_register, word_of, ℕ, ℤ, ◌*◌, ◌+◌, ◌-◌, ◌<◌, ◌^◌, ◌∙◌, ◌∷◌, ◌≡◌, ◌≢◌, ◌≤◌, ◌⊎◌}
 use Rattle.linker_final.specs.AArch64Section.{call, jump}
 use Rattle.linker_laws.specs.AArch64Groups.{BranchToNop, Code, Descriptor, EndsInNops, Has, IsPair, Stands, go_and_link, link, seen, with_entry, Groups, Leaves, IsRewritten}
 use Rattle.linker_utils.specs.AArch64Rewrites.{AArch64Applies, AArch64Entry, AreOfOneRegister, IsAdd64, IsAdrp, IsIntoOwnSource, IsLdr64, aarch64_entries, aarch64_matches, aarch64_rewrite, halves_to_local_exec, is_ldr64, nop, nop_adr, rewrites_where, rn_of, to_address, to_adr, to_initial_exec, to_local_exec, HasPattern, rd_of}
 use Rattle.linker_elf.specs.declared.aarch64.forms.AArch64Instruction.TheVariants.{Add, Adr, LdrRegister, Movkz, Movnz}
 use Rattle.linker_elf.specs.declared.elf.RelocationKind.TheVariants.{None as NoValue}
-use Rattle.linker_final.proofs.SectionRuns.{AreIn, beside_or, final_in, is_linked, is_of}
+use Rattle.linker_final.proofs.SectionRuns.{AreIn, beside_or, final_in, is_linked, is_of, Cases, by_cases}
 use Rattle.linker_final.proofs.Written.{IsOfInstruction, IsRowOf, applied_after, by_name, entry_is_there, first_same, last_length, made_there, of_bits, rela, relocation_left, relocation_named, second_same, stays, unwritten_without, word_same}
 use Rattle.linker_laws.specs.AArch64Machine.{is_b, is_bl, load_64}
 use Rattle.linker_laws.specs.Simulation.{Group}
@@ -434,32 +434,19 @@ same_kind : (k : Relaxation) (x y : RewriteKind) → k ≡ relaxations.AArch64 x
     → x ≡ y
 same_kind k x y is_x is_y = let both : relaxations.AArch64 x ≡ relaxations.AArch64 y = sym is_x ∙ is_y in cc
 
--- of two entries the one of a kind
-module _ (name : AArch64Relocation) (a b : AArch64Entry) (section : List ℕ) (o : ℕ) (chosen : Choice Relaxation ℕ) where
-  first_of : (a.kind ≡ b.kind → ⊥) → chosen.kind ≡ relaxations.AArch64 a.kind
-      → IsOfOne name (a ∷ b ∷ []) section o chosen → IsOfEntry name a section o chosen
-  first_of differ kind (inl this) = this
-  first_of differ kind (inr (inl this)) = absurd (differ (same_kind chosen.kind a.kind b.kind kind this.kind_is))
-  first_of differ kind (inr (inr nothing)) = absurd nothing
-
-  second_of : (b.kind ≡ a.kind → ⊥) → chosen.kind ≡ relaxations.AArch64 b.kind
-      → IsOfOne name (a ∷ b ∷ []) section o chosen → IsOfEntry name b section o chosen
-  second_of differ kind (inl this) = absurd (differ (same_kind chosen.kind b.kind a.kind kind this.kind_is))
-  second_of differ kind (inr (inl this)) = this
-  second_of differ kind (inr (inr nothing)) = absurd nothing
+-- what the entries of a name show
+shown : {Q : Type 0} (name : AArch64Relocation) (section : List ℕ) (o : ℕ) (chosen : Choice Relaxation ℕ)
+    → IsOfOne name (aarch64_entries name) section o chosen
+    → Cases Q (λ e. IsOfEntry name e section o chosen) (aarch64_entries name) → Q
+shown name section o chosen = by_cases aarch64_name relaxations.AArch64 (IsMeant name section o) chosen (aarch64_entries name)
 
 abbrev erased_by : List (Condition AArch64Relocation) → AArch64Entry
 erased_by conditions = entry kinds.ReplaceWithNop names.R_AARCH64_NONE conditions
 
--- either, where both put `nop` in its place
-either_of : (name : AArch64Relocation) (x y : List (Condition AArch64Relocation)) (section : List ℕ) (o : ℕ)
-    (chosen : Choice Relaxation ℕ) → IsOfOne name (erased_by x ∷ erased_by y ∷ []) section o chosen
-    → IsOfEntry name (erased_by []) section o chosen
-either_of name x y section o chosen (inl this) =
-    record { kind_is = this.kind_is; r_type_is = this.r_type_is; meant = this.meant }
-either_of name x y section o chosen (inr (inl this)) =
-    record { kind_is = this.kind_is; r_type_is = this.r_type_is; meant = this.meant }
-either_of name x y section o chosen (inr (inr nothing)) = absurd nothing
+-- one of those that put `nop` in its place
+erased : (name : AArch64Relocation) (x : List (Condition AArch64Relocation)) (section : List ℕ) (o : ℕ) (chosen : Choice Relaxation ℕ)
+    → IsOfEntry name (erased_by x) section o chosen → IsOfEntry name (erased_by []) section o chosen
+erased name x section o chosen this = record { kind_is = this.kind_is; r_type_is = this.r_type_is; meant = this.meant }
 
 -- ---- the sequence
 
@@ -498,11 +485,11 @@ module _ {l : Linked} {c : Code} (new : IsNew l c) (high_is low_is : RewriteKind
         second_made = becomes new call_is (i + 3) call_of kinds.ReplaceWithNop (λ _. true) (λ _. nop) refl of.call_decided.kind_is;
         first =
             nop_there_descriptor new add (i + 2) add_of
-            (either_of add to_local_exec (to_initial_exec 8) l.section (offset_of l (i + 2)) add_of.chosen (of_one new add (i + 2) add_of tt))
+            (shown add l.section (offset_of l (i + 2)) add_of.chosen (of_one new add (i + 2) add_of tt) (λ this. erased add to_local_exec l.section (offset_of l (i + 2)) add_of.chosen this, (λ this. erased add (to_initial_exec 8) l.section (offset_of l (i + 2)) add_of.chosen this, tt)))
             left.second.0 left.add (following 8 o) (place_of l i (i + 2) 8 o place of.add.offset);
         second =
             nop_there_descriptor new call_is (i + 3) call_of
-            (either_of call_is to_local_exec (to_initial_exec 12) l.section (offset_of l (i + 3)) call_of.chosen (of_one new call_is (i + 3) call_of tt))
+            (shown call_is l.section (offset_of l (i + 3)) call_of.chosen (of_one new call_is (i + 3) call_of tt) (λ this. erased call_is to_local_exec l.section (offset_of l (i + 3)) call_of.chosen this, (λ this. erased call_is (to_initial_exec 12) l.section (offset_of l (i + 3)) call_of.chosen this, tt)))
             left.second.1 left.call (following 12 o) (place_of l i (i + 3) 12 o place of.call.offset);
       }
 
@@ -521,10 +508,12 @@ local_is_group laws l c new i of k k' s s' o at left described =
     let to_low = entry kinds.MovkX0 names.R_AARCH64_TLSLE_MOVW_TPREL_G0_NC to_local_exec in
     let is_page = page_of_descriptor new kinds.MovzX0Lsl16 kinds.MovkX0 i of in
     let is_load = load_of new kinds.MovzX0Lsl16 kinds.MovkX0 i of in
-    let by_high = first_of page to_high (entry kinds.AdrpX0 names.R_AARCH64_TLSIE_ADR_GOTTPREL_PAGE21 (to_initial_exec 0)) l.section (offset_of l i) is_page.chosen
-    (λ e. cc) of.page_decided.kind_is (of_one new page i is_page tt) in
-    let by_low = first_of load_is to_low (entry kinds.LdrX0 names.R_AARCH64_TLSIE_LD64_GOTTPREL_LO12_NC (to_initial_exec 4)) l.section (offset_of l (i + 1)) is_load.chosen
-    (λ e. cc) of.load_decided.kind_is (of_one new load_is (i + 1) is_load tt) in
+    let by_high : IsOfEntry page to_high l.section (offset_of l i) is_page.chosen =
+    shown page l.section (offset_of l i) is_page.chosen (of_one new page i is_page tt)
+    (λ this. this, (λ this. absurd (let e : kinds.MovzX0Lsl16 ≡ kinds.AdrpX0 = same_kind is_page.chosen.kind kinds.MovzX0Lsl16 kinds.AdrpX0 of.page_decided.kind_is this.kind_is in cc), tt)) in
+    let by_low : IsOfEntry load_is to_low l.section (offset_of l (i + 1)) is_load.chosen =
+    shown load_is l.section (offset_of l (i + 1)) is_load.chosen (of_one new load_is (i + 1) is_load tt)
+    (λ this. this, (λ this. absurd (let e : kinds.MovkX0 ≡ kinds.LdrX0 = same_kind is_load.chosen.kind kinds.MovkX0 kinds.LdrX0 of.load_decided.kind_is this.kind_is in cc), tt)) in
     laws.descriptor_to_local_exec c o k k' s s' (object l i) (object l (i + 1)) (object l (i + 2)) (object l (i + 3))
     (instruction_at l.rewritten (offset_of l i)) (instruction_at l.rewritten (offset_of l (i + 1)))
     (instruction_at l.rewritten (offset_of l (i + 2))) (instruction_at l.rewritten (offset_of l (i + 3))) described
@@ -566,10 +555,12 @@ initial_is_group laws l c new i of k k' s s' o offset at left small holds descri
     let to_load = entry kinds.LdrX0 names.R_AARCH64_TLSIE_LD64_GOTTPREL_LO12_NC (to_initial_exec 4) in
     let is_page = page_of_descriptor new kinds.AdrpX0 kinds.LdrX0 i of in
     let is_load = load_of new kinds.AdrpX0 kinds.LdrX0 i of in
-    let by_page = second_of page (entry kinds.MovzX0Lsl16 names.R_AARCH64_TLSLE_MOVW_TPREL_G1 to_local_exec) to_page l.section (offset_of l i) is_page.chosen
-    (λ e. cc) of.page_decided.kind_is (of_one new page i is_page tt) in
-    let by_load = second_of load_is (entry kinds.MovkX0 names.R_AARCH64_TLSLE_MOVW_TPREL_G0_NC to_local_exec) to_load l.section (offset_of l (i + 1)) is_load.chosen
-    (λ e. cc) of.load_decided.kind_is (of_one new load_is (i + 1) is_load tt) in
+    let by_page : IsOfEntry page to_page l.section (offset_of l i) is_page.chosen =
+    shown page l.section (offset_of l i) is_page.chosen (of_one new page i is_page tt)
+    (λ this. absurd (let e : kinds.AdrpX0 ≡ kinds.MovzX0Lsl16 = same_kind is_page.chosen.kind kinds.AdrpX0 kinds.MovzX0Lsl16 of.page_decided.kind_is this.kind_is in cc), (λ this. this, tt)) in
+    let by_load : IsOfEntry load_is to_load l.section (offset_of l (i + 1)) is_load.chosen =
+    shown load_is l.section (offset_of l (i + 1)) is_load.chosen (of_one new load_is (i + 1) is_load tt)
+    (λ this. absurd (let e : kinds.LdrX0 ≡ kinds.MovkX0 = same_kind is_load.chosen.kind kinds.LdrX0 kinds.MovkX0 of.load_decided.kind_is this.kind_is in cc), (λ this. this, tt)) in
     let there : is_there l.addresses symbol (record { class = ThreadOffset; addend = r.addend }) ≡ true =
     entry_there new i is_page.below names.R_AARCH64_TLSIE_ADR_GOTTPREL_PAGE21 page_after_descriptor
     (named_after new page i is_page to_page by_page (λ o. refl) (λ a. refl)) (left.first.0) symbol at.is_symbol
@@ -600,6 +591,12 @@ module _ (l : Linked) (linked : IsLinked l) (aarch64 : l.context.architecture �
     pub g : Rewrites l
     pub first : (span l g).0 ≤ offset_of l i
     pub last : offset_of l i + 4 ≤ (span l g).0 + 4 * (span l g).1
+
+  abbrev IsLocal : ℕ → Type 0
+  IsLocal = IsDescriptorRewritten kinds.MovzX0Lsl16 kinds.MovkX0 l.relocations l.decisions
+
+  abbrev IsInitial : ℕ → Type 0
+  IsInitial = IsDescriptorRewritten kinds.AdrpX0 kinds.LdrX0 l.relocations l.decisions
 
   in_at : (i j n : ℕ) → j ≡ i → (g : Rewrites l) → n < (span l g).1 → offset_of l j ≡ (span l g).0 + 4 * n
       → IsPart i
@@ -637,35 +634,28 @@ module _ (l : Linked) (linked : IsLinked l) (aarch64 : l.context.architecture �
       let made = of_option l.context aarch64 l.kept l.relocations l.section l.decisions linked.decided i (is.0) (is.1) (is.2) changed in
       record { below = below; is_name = is_name; chosen = made.chosen; decided = made.decided_so }
 
+  -- an instruction of a descriptor
+  in_descriptor : (i j n : ℕ) → (n ≤ i) × (IsLocal (i - n) ⊎ IsInitial (i - n)) → (n ≤ i → j ≡ i) → n < 4
+      → (IsLocal (i - n) → offset_of l j ≡ offset_of l (i - n) + 4 * n)
+      → (IsInitial (i - n) → offset_of l j ≡ offset_of l (i - n) + 4 * n) → IsPart i
+  in_descriptor i j n (le, inl w) same less at_local at_initial = in_at i j n (same le) (to_local (i - n) w) less (at_local w)
+  in_descriptor i j n (le, inr w) same less at_local at_initial = in_at i j n (same le) (to_initial (i - n) w) less (at_initial w)
+
   -- by the phase and the name
   early_in : (i : ℕ) → i < count l → decision_at l.decisions i ≢ Kept → l.context.phase ≡ phases.PreLayout
       → (name : AArch64Relocation) → IsNameOf aarch64_name (relocation_in l.relocations i).r_type name → IsPart i
   early_in i below changed early names.R_AARCH64_TLSDESC_ADR_PAGE21 is_name =
-      elim (whole i names.R_AARCH64_TLSDESC_ADR_PAGE21 below changed is_name).1 [
-        | inl w ↦ in_at i (i - 0) 0 (omega arith) (to_local (i - 0) w) (omega arith) w.page.offset
-        | inr w ↦ in_at i (i - 0) 0 (omega arith) (to_initial (i - 0) w) (omega arith) w.page.offset
-      ]
+      in_descriptor i (i - 0) 0 (whole i names.R_AARCH64_TLSDESC_ADR_PAGE21 below changed is_name) (λ le. omega (arith, le)) (omega arith)
+      (λ w. w.page.offset) (λ w. w.page.offset)
   early_in i below changed early names.R_AARCH64_TLSDESC_LD64_LO12 is_name =
-      let whole_is = whole i names.R_AARCH64_TLSDESC_LD64_LO12 below changed is_name in
-      let le = whole_is.0 in
-      elim whole_is.1 [
-        | inl w ↦ in_at i (i - 1 + 1) 1 (omega (arith, le)) (to_local (i - 1) w) (omega arith) w.load.offset
-        | inr w ↦ in_at i (i - 1 + 1) 1 (omega (arith, le)) (to_initial (i - 1) w) (omega arith) w.load.offset
-      ]
+      in_descriptor i (i - 1 + 1) 1 (whole i names.R_AARCH64_TLSDESC_LD64_LO12 below changed is_name) (λ le. omega (arith, le)) (omega arith)
+      (λ w. w.load.offset) (λ w. w.load.offset)
   early_in i below changed early names.R_AARCH64_TLSDESC_ADD_LO12 is_name =
-      let whole_is = whole i names.R_AARCH64_TLSDESC_ADD_LO12 below changed is_name in
-      let le = whole_is.0 in
-      elim whole_is.1 [
-        | inl w ↦ in_at i (i - 2 + 2) 2 (omega (arith, le)) (to_local (i - 2) w) (omega arith) w.add.offset
-        | inr w ↦ in_at i (i - 2 + 2) 2 (omega (arith, le)) (to_initial (i - 2) w) (omega arith) w.add.offset
-      ]
+      in_descriptor i (i - 2 + 2) 2 (whole i names.R_AARCH64_TLSDESC_ADD_LO12 below changed is_name) (λ le. omega (arith, le)) (omega arith)
+      (λ w. w.add.offset) (λ w. w.add.offset)
   early_in i below changed early names.R_AARCH64_TLSDESC_CALL is_name =
-      let whole_is = whole i names.R_AARCH64_TLSDESC_CALL below changed is_name in
-      let le = whole_is.0 in
-      elim whole_is.1 [
-        | inl w ↦ in_at i (i - 3 + 3) 3 (omega (arith, le)) (to_local (i - 3) w) (omega arith) w.call.offset
-        | inr w ↦ in_at i (i - 3 + 3) 3 (omega (arith, le)) (to_initial (i - 3) w) (omega arith) w.call.offset
-      ]
+      in_descriptor i (i - 3 + 3) 3 (whole i names.R_AARCH64_TLSDESC_CALL below changed is_name) (λ le. omega (arith, le)) (omega arith)
+      (λ w. w.call.offset) (λ w. w.call.offset)
   early_in i below changed early names.R_AARCH64_TLSIE_ADR_GOTTPREL_PAGE21 is_name =
       let name = names.R_AARCH64_TLSIE_ADR_GOTTPREL_PAGE21 in
       in_at i i 0 refl (high i (half_of i name below changed is_name (decision_in i name phases.PreLayout below is_name early)))

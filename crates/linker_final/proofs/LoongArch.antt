@@ -1,14 +1,14 @@
 -- LoongArch: each rewrite of a section is of one instruction or of a load, which is a group.
-use Rattle.linker_final.proofs.Imports.{AbsoluteLowPart, Addresses, Architecture, AreDecidedIn, AreRewritten, BeginsRewritten, Bool, Choice, Consumed, Decision, GotRelative, GotTpOff, GotTpOffGot, Grouped, Independent, IsApplied, IsArchitectureChoice, IsCandidate, IsCandidateWith, IsChosen, IsDecidedAfter, IsDecidedAlone, IsGroupDecision, IsKeptInstruction, IsLinked, IsLoadAt, IsNameOf, IsNamed, IsOfEntry, IsOfOne, IsRewrittenAndPacked, IsRewrittenByNoOther, IsRow, IsScopeDecision, IsScopeIn, IsSomeAnd, IsTrue, IsWrittenByNoOther, Kept, Labelled, LinkFacts, Linked, List, LoongArch64 as loongarch64, LoongArch64Relocation, None, NotRelaxable, Ok, Operands, Option, Packed, Phase, Ppc64, Rela, Relative, RelaxContext, Relaxation, RewritesAreGroups, Rewritten, RewrittenWithSymbol, RowInfo, Scope, Some, Symbol, TpOff, UntouchedInstruction, UntouchedInstructions, [], addend_after, ap, architecture_of, arith, bytes_row, cases_Bool, chosen_at, cond, count, decision_at, decision_of, entry_pages, false, field, final_instruction, following, group_stays, high_row, inl, inr, instruction_at, is_some, is_taken, link_facts, loongarch_name, loongarch_row, loongarch_scope_in, low_row, of_one, offset_after, offset_of, operands_by, operands_in, operands_with, paged_row, place_pages, pre_layout, r_type_of, refl, relaxation_rewrite, relaxation_skipped, relocation_in, rounded_row, slice_get, subst, suc, sym, takes_next, true, value_of, word_of, zero, ℕ, ℤ, ⊤, ◌*◌, ◌+◌, ◌-◌, ◌/◌, ◌<◌, ◌^◌, ◌∙◌, ◌∷◌, ◌≡◌, ◌≢◌, ◌≤◌, ◌⊎◌}
+use Rattle.linker_final.proofs.Imports.{AbsoluteLowPart, Addresses, Architecture, AreDecidedIn, AreRewritten, BeginsRewritten, Bool, Choice, Consumed, Decision, GotRelative, GotTpOff, GotTpOffGot, Grouped, Independent, IsApplied, IsArchitectureChoice, IsCandidate, IsCandidateWith, IsChosen, IsDecidedAfter, IsDecidedAlone, IsGroupDecision, IsKeptInstruction, IsLinked, IsLoadAt, IsNameOf, IsNamed, IsOfEntry, IsOfOne, IsRewrittenAndPacked, IsRewrittenByNoOther, IsRow, IsScopeDecision, IsScopeIn, IsSomeAnd, IsTrue, IsWrittenByNoOther, Kept, Labelled, LinkFacts, Linked, List, LoongArch64 as loongarch64, LoongArch64Relocation, None, NotRelaxable, Ok, Operands, Option, Packed, Phase, Ppc64, Rela, Relative, RelaxContext, Relaxation, RewritesAreGroups, Rewritten, RewrittenWithSymbol, RowInfo, Scope, Some, Symbol, TpOff, UntouchedInstruction, UntouchedInstructions, addend_after, ap, architecture_of, arith, bytes_row, cases_Bool, chosen_at, cond, count, decision_at, decision_of, entry_pages, false, field, final_instruction, following, group_stays, high_row, inl, inr, instruction_at, is_some, is_taken, link_facts, loongarch_name, loongarch_row, loongarch_scope_in, low_row, of_one, offset_after, offset_of, operands_by, operands_in, operands_with, paged_row, place_pages, pre_layout, r_type_of, refl, relaxation_rewrite, relaxation_skipped, relocation_in, rounded_row, slice_get, subst, suc, sym, takes_next, true, value_of, word_of, zero, ℕ, ℤ, ⊤, ◌*◌, ◌+◌, ◌-◌, ◌/◌, ◌<◌, ◌^◌, ◌∙◌, ◌≡◌, ◌≢◌, ◌≤◌, ◌⊎◌}
 use Rattle.linker_laws.specs.LoongArchGroups.{Becomes, CallGoes, GoneLaw, Groups, HasNop, HighOffset, InstructionLaw, IsRelocated, IsRewritten, LoadGoes, LoadsOffset, LowHalf, LowOfDescriptor, LowPart, MakesOffset, OffsetGoes, SumGoes, BecomesNop, IsDeleted, IsPair}
-use Rattle.linker_final.specs.LoongArchSection.{AreOf, HasEntry, IsAlone, IsFinal, IsKept, IsLeft, IsLoad, IsNew, Left, LoadsTheSame, applied, by_itself, entry_by as entry_of_name, law_of, none, without_law, IsMade, Law, RelocationsAreLeft, anywhere, final, load, named_as, packed, rewriting}
+use Rattle.linker_final.specs.LoongArchSection.{AreOf, HasEntry, IsAlone, IsFinal, IsKept, IsLeft, IsLoad, IsNew, Left, LoadsTheSame, applied, by_itself, entry_by as entry_of_name, law_of, none, without_law, IsMade, Law, RelocationsAreLeft, anywhere, final, load, named_as, packed, rewriting, Rewrites}
 use Rattle.linker_final.specs.LoongArchSection as section_laws
-use Rattle.linker_utils.specs.LoongArchRewrites.{IsCallOfDescriptor, IsLoadOfDescriptor, IsLowOfDescriptor, IsLu12i, IsPageOfDescriptor, IsPcalau12i, LoongArchApplies, LoongArchEntry, loongarch_entries, loongarch_rewrite, rj_of, HasPattern, IsAddTp, IsLd, adds_low12, rd_of, rewrites_word, tp}
+use Rattle.linker_utils.specs.LoongArchRewrites.{IsCallOfDescriptor, IsLoadOfDescriptor, IsLowOfDescriptor, IsLu12i, IsPcalau12i, LoongArchApplies, LoongArchEntry, loongarch_entries, loongarch_rewrite, rj_of, HasPattern, IsAddTp, IsLd, adds_low12, rd_of, rewrites_word, tp, word_at}
 use Rattle.linker_rewriting.specs.Rewritten.{IsRewritten as PairIsRewritten}
 use Rattle.linker_elf.specs.declared.elf.architecture.Architecture.TheVariants.{LoongArch64}
 use Rattle.linker_elf.specs.declared.elf.RelocationKind.TheVariants.{None as NoValue}
 use Rattle.linker_final.proofs.PackedBytes.{own_there, r_type_is, unwritten_there, within}
-use Rattle.linker_final.proofs.SectionRuns.{AreIn, IsIn, beside_or, is_linked, without_label}
+use Rattle.linker_final.proofs.SectionRuns.{AreIn, Cases, IsIn, IsRewrittenAt, beside_or, by_cases, is_linked, without_label}
 use Rattle.linker_final.proofs.Written.{IsOfInstruction, IsRowOf, applied_after, by_name, made_there, of_bits, rela, rela_at, relocation_named, row_in, stays, unwritten_without, word_same}
 use Rattle.linker_rewriting.proofs.LoongArchLoads.{loads_are_whole}
 use Rattle.linker_rewriting.proofs.PreLayout.{AreEarly, IsListed, are_early, isnt, listed_at}
@@ -46,14 +46,16 @@ same_addend : (kind : RewriteKind) (a : ℤ) → addend_after (loongarch_rewrite
 same_addend kinds.NoOp a = refl
 same_addend kind a = refl
 
+-- a relocation that is rewritten
+abbrev pub IsAt : Linked → ℕ → Type 0
+IsAt = IsRewrittenAt rewriting
+
 -- the relocation that is left has another name
-pub named_after : (l : Linked) → AreRewritten l → (i : ℕ) (chosen : Choice Relaxation ℕ) → i < count l
-    → decision_at l.decisions i ≡ Rewritten chosen
-    → (kind : RewriteKind) → chosen.kind ≡ relaxations.LoongArch64 kind
-    → (name : LoongArch64Relocation) → chosen.relocation ≡ r_type_of (loongarch_name name)
+pub named_after : (l : Linked) (i : ℕ) (at : IsAt l i) (kind : RewriteKind) → at.chosen.kind ≡ relaxations.LoongArch64 kind
+    → (name : LoongArch64Relocation) → at.chosen.relocation ≡ r_type_of (loongarch_name name)
     → relocation_in l.relocations_after i ≡ named_as name (relocation_in l.relocations i)
-named_after l made i chosen below decided kind kind_is name r_type_is =
-    relocation_named l made i chosen below decided (loongarch_rewrite kind) (r_type_of (loongarch_name name))
+named_after l i at kind kind_is name r_type_is =
+    relocation_named l at.ensured i at.chosen at.below at.decided (loongarch_rewrite kind) (r_type_of (loongarch_name name))
     (ap relaxation_rewrite kind_is) r_type_is (unmoved kind) (same_addend kind)
 
 module _ (l : Linked) (linked : IsLinked l) (loongarch : l.context.architecture ≡ LoongArch64) (i : ℕ)
@@ -72,15 +74,13 @@ module _ (l : Linked) (linked : IsLinked l) (loongarch : l.context.architecture 
       (row_of l.context.architecture loongarch name a.named a.row a.is) symbol is_symbol got LoongArch64 loongarch taken y same (loongarch_row name) a.is
 
 -- an instruction that becomes another
-pub becomes : (l : Linked) → AreRewritten l → (i : ℕ) (chosen : Choice Relaxation ℕ) → i < count l
-    → decision_at l.decisions i ≡ Rewritten chosen
-    → (kind : RewriteKind) → chosen.kind ≡ relaxations.LoongArch64 kind
+pub becomes : (l : Linked) (i : ℕ) (at : IsAt l i) (kind : RewriteKind) → at.chosen.kind ≡ relaxations.LoongArch64 kind
     → (new : ℕ → ℕ) → loongarch_rewrite kind ≡ Some (rewrites_word new)
-    → IsRewritten kind (instruction_at l.section (relocation_in l.relocations i).offset) (instruction_at l.rewritten (relocation_in l.relocations i).offset)
-becomes l made i chosen below decided kind kind_is new is =
-    let o = (relocation_in l.relocations i).offset in
+    → IsRewritten kind (instruction_at l.section (offset_of l i)) (instruction_at l.rewritten (offset_of l i))
+becomes l i at kind kind_is new is =
+    let o = offset_of l i in
     subst (λ q. IsSomeAnd q (λ made. BeginsRewritten made (instruction_at l.section o) (instruction_at l.rewritten o))) (sym is)
-    (made_there l made i chosen below decided (rewrites_word new) (ap relaxation_rewrite kind_is ∙ is) refl)
+    (made_there l at.ensured i at.chosen at.below at.decided (rewrites_word new) (ap relaxation_rewrite kind_is ∙ is) refl)
 
 -- ---- instructions without a field
 
@@ -147,54 +147,45 @@ pub record IsByTable (name : LoongArch64Relocation) (section : List ℕ) (o : �
       (loongarch_entries name) chosen
   pub early : loongarch_scope_in phases.TlsLocalExec name ≡ NotRelaxable → AreEarly facts
 
--- what each entry of a table shows
-abbrev pub Cases : Type 0 → (LoongArchEntry → Type 0) → List LoongArchEntry → Type 0
-Cases Q Is [] = ⊤
-Cases Q Is (e ∷ es) = (Is e → Q) × Cases Q Is es
-
-by_cases : {Q : Type 0} (IsMeant : LoongArchEntry → Type 0) (chosen : Choice Relaxation ℕ) (es : List LoongArchEntry)
-    → IsOfOne loongarch_name relaxations.LoongArch64 IsMeant es chosen
-    → Cases Q (λ e. IsOfEntry loongarch_name relaxations.LoongArch64 IsMeant e chosen) es → Q
-by_cases IsMeant chosen [] nothing cases = absurd nothing
-by_cases IsMeant chosen (e ∷ es) (inl this) cases = (cases.0) this
-by_cases IsMeant chosen (e ∷ es) (inr other) cases = by_cases IsMeant chosen es other (cases.1)
-
+-- what its entries show
 pub shown : {Q : Type 0} {name : LoongArch64Relocation} {section : List ℕ} {o : ℕ} {chosen : Choice Relaxation ℕ}
     (by : IsByTable name section o chosen)
     → Cases Q
     (λ e. IsOfEntry loongarch_name relaxations.LoongArch64 (LoongArchApplies name section o by.facts) e chosen)
     (loongarch_entries name) → Q
-shown {Q} {name} {section} {o} {chosen} by = by_cases (LoongArchApplies name section o by.facts) chosen (loongarch_entries name) by.one
+shown {Q} {name} {section} {o} {chosen} by =
+    by_cases loongarch_name relaxations.LoongArch64 (LoongArchApplies name section o by.facts) chosen (loongarch_entries name) by.one
 
-module _ (l : Linked) (all : AreDecidedIn l.context l.kept l.relocations l.section l.decisions (count l))
-    (loongarch : l.context.architecture ≡ LoongArch64) (i : ℕ) (chosen : Choice Relaxation ℕ) (below : i < count l)
-    (decided : decision_at l.decisions i ≡ Rewritten chosen) where
-  pub is_chosen : IsChosen l.context l.section (rela_at l i) chosen
+module _ (l : Linked) (i : ℕ) (at : IsAt l i) where
+  abbrev made : AreRewritten l
+  made = at.ensured
+
+  pub is_chosen : IsChosen l.context l.section (rela_at l i) at.chosen
   is_chosen =
-      chosen_at l.context l.kept l.relocations l.section l.decisions (count l) i chosen all below decided
-      (λ scope is. unlabelled l.context.phase (rela_at l i).r_type scope (subst (λ x. IsScopeIn x l.context.phase (rela_at l i).r_type scope) loongarch is))
+      chosen_at l.context l.kept l.relocations l.section l.decisions (count l) i at.chosen made.decided at.below at.decided
+      (λ scope is. unlabelled l.context.phase (rela_at l i).r_type scope (subst (λ x. IsScopeIn x l.context.phase (rela_at l i).r_type scope) at.architecture is))
 
-  pub choice_there : IsArchitectureChoice LoongArch64 (rela_at l i).r_type l.section (rela_at l i).offset is_chosen.facts chosen
+  pub choice_there : IsArchitectureChoice LoongArch64 (rela_at l i).r_type l.section (offset_of l i) is_chosen.facts at.chosen
   choice_there =
-      subst (λ x. IsArchitectureChoice x (rela_at l i).r_type l.section (rela_at l i).offset is_chosen.facts chosen) loongarch is_chosen.is_choice
+      subst (λ x. IsArchitectureChoice x (rela_at l i).r_type l.section (offset_of l i) is_chosen.facts at.chosen) at.architecture is_chosen.is_choice
 
   pub by_table : (name : LoongArch64Relocation) → IsNamed (loongarch_name name) → IsNameOf loongarch_name (rela_at l i).r_type name
-      → IsByTable name l.section (rela_at l i).offset chosen
+      → IsByTable name l.section (offset_of l i) at.chosen
   by_table name named is_name =
       let facts = is_chosen.facts in
       let listed : IsListed l.context (rela_at l i) =
-      listed_at l.context l.kept l.relocations l.section l.decisions (count l) i chosen all below decided in
-      let scope = subst (λ x. IsScopeIn x l.context.phase (rela_at l i).r_type listed.scope) loongarch listed.is_scope in
+      listed_at l.context l.kept l.relocations l.section l.decisions (count l) i at.chosen made.decided at.below at.decided in
+      let scope = subst (λ x. IsScopeIn x l.context.phase (rela_at l i).r_type listed.scope) at.architecture listed.is_scope in
       let same : scope.name ≡ name = scope.is_name.named name named is_name.r_type_is in
       record {
         facts = facts;
-        one = of_one loongarch_name relaxations.LoongArch64 (LoongArchApplies name l.section (rela_at l i).offset facts) chosen
-            (λ n. LoongArchApplies n l.section (rela_at l i).offset facts) loongarch_entries kinds.NoOp refl (rela_at l i).r_type name named is_name
+        one = of_one loongarch_name relaxations.LoongArch64 (LoongArchApplies name l.section (offset_of l i) facts) at.chosen
+            (λ n. LoongArchApplies n l.section (offset_of l i) facts) loongarch_entries kinds.NoOp refl (rela_at l i).r_type name named is_name
             (λ e applies. applies) choice_there is_chosen.changed;
-        early = λ without. are_early l.context l.section (rela_at l i) chosen
+        early = λ without. are_early l.context l.section (rela_at l i) at.chosen
             (only_early name without l.context.phase
             (λ unlisted. listed.listed (scope.value_is ∙ (ap (loongarch_scope_in l.context.phase) same ∙ unlisted))))
-            (λ ppc64. let e : LoongArch64 ≡ Ppc64 = sym loongarch ∙ ppc64 in cc) is_chosen;
+            (λ ppc64. let e : LoongArch64 ≡ Ppc64 = sym at.architecture ∙ ppc64 in cc) is_chosen;
       }
 
 -- one that was chosen
@@ -216,17 +207,13 @@ entry_of_table name section o chosen facts e this =
 -- The relocations at two indexes are those of a `pcalau12i` and of the `ld.d` after it, of one S +
 -- A, and both are rewritten.
 pub record AreOfLoad (l : Linked) (i j : ℕ) : Type 0 where
-  pub page_below : i < count l
-  pub low_below : j < count l
   pub next : (relocation_in l.relocations j).offset ≡ (relocation_in l.relocations i).offset + 4
   pub same_symbol : (relocation_in l.relocations j).symbol ≡ (relocation_in l.relocations i).symbol
   pub same_addend : (relocation_in l.relocations j).addend ≡ (relocation_in l.relocations i).addend
   pub page : IsNameOf loongarch_name (relocation_in l.relocations i).r_type names.R_LARCH_GOT_PC_HI20
   pub low : IsNameOf loongarch_name (relocation_in l.relocations j).r_type names.R_LARCH_GOT_PC_LO12
-  pub page_chosen : Choice Relaxation ℕ
-  pub page_decided : decision_at l.decisions i ≡ Rewritten page_chosen
-  pub low_chosen : Choice Relaxation ℕ
-  pub low_decided : decision_at l.decisions j ≡ Rewritten low_chosen
+  pub page_at : IsAt l i
+  pub low_at : IsAt l j
 
 -- ---- the relocations of a load
 
@@ -315,21 +302,20 @@ of_candidate d None is rewritten = absurd (let none_is : PairIsRewritten Kept = 
 
 -- ---- a load
 
-pub load_of : (l : Linked) → AreDecidedIn l.context l.kept l.relocations l.section l.decisions (count l)
-    → l.context ≡ pre_layout LoongArch64 l.context.output l.context.symbols
-    → (i : ℕ) (chosen : Choice Relaxation ℕ) → i < count l
-    → IsNameOf loongarch_name (relocation_in l.relocations i).r_type names.R_LARCH_GOT_PC_HI20
-    → decision_at l.decisions i ≡ Rewritten chosen → AreOfLoad l i (i + 2)
-load_of l all context i chosen below is_name decided =
+pub load_of : (l : Linked) → l.context ≡ pre_layout LoongArch64 l.context.output l.context.symbols → (i : ℕ) (at : IsAt l i)
+    → IsNameOf loongarch_name (relocation_in l.relocations i).r_type names.R_LARCH_GOT_PC_HI20 → AreOfLoad l i (i + 2)
+load_of l context i at is_name =
+    let made : AreRewritten l = at.ensured in
+    let all = made.decided in
+    let decided = at.decided in
     let r = relocation_in l.relocations i in
-    let loongarch : l.context.architecture ≡ LoongArch64 = ap (λ (x : RelaxContext). x.architecture) context in
-    let taken : is_taken l.decisions i ≡ false = rewritten_alone l all context i below chosen decided in
-    let page = by_scope l all context i below names.R_LARCH_GOT_PC_HI20 tt (sym is_name.r_type_is) taken in
+    let taken : is_taken l.decisions i ≡ false = rewritten_alone l all context i at.below at.chosen decided in
+    let page = by_scope l all context i at.below names.R_LARCH_GOT_PC_HI20 tt (sym is_name.r_type_is) taken in
     let page_made = of_candidate (decision_at l.decisions i) (page.1.0) (page.1.2) (subst PairIsRewritten (sym decided) tt) in
     let whole : IsWhole l.context.architecture l.relocations i r true =
     whole_of l.context l.relocations l.section i r page_made.chosen
     (subst (IsCandidate l.context l.relocations l.section i r) page_made.candidate_is (page.1.1)) in
-    let is = whole_is l.relocations i is_name (subst (λ x. IsWhole x l.relocations i r true) loongarch whole) in
+    let is = whole_is l.relocations i is_name (subst (λ x. IsWhole x l.relocations i r true) at.architecture whole) in
     let load_is = are_there marked_load r.offset r l.relocations i 0 is in
     let second = load_is.1.1.0 in
     let within = second.below in
@@ -341,20 +327,22 @@ load_of l all context i chosen below is_name decided =
     (subst (λ x. AreDecidedIn x l.kept l.relocations l.section l.decisions (count l)) context all)
     within (omega arith) is taken taken_low in
     let by = by_scope l all context (i + 2) within names.R_LARCH_GOT_PC_LO12 tt second.r_type_is taken_low in
-    let made = of_candidate (decision_at l.decisions (i + 2)) (by.1.0) (by.1.2)
+    let low_made = of_candidate (decision_at l.decisions (i + 2)) (by.1.0) (by.1.2)
     (both.0 (subst PairIsRewritten (sym decided) tt)) in
     record {
-      page_below = below;
-      low_below = within;
       next = second.offset_is;
       same_symbol = (second.of refl).0;
       same_addend = (second.of refl).1;
       page = is_name;
       low = by.0;
-      page_chosen = chosen;
-      page_decided = decided;
-      low_chosen = made.chosen;
-      low_decided = made.decided;
+      page_at = at;
+      low_at = record {
+        ensured = made;
+        architecture = at.architecture;
+        below = within;
+        chosen = low_made.chosen;
+        decided = low_made.decided;
+      };
     }
 
 -- ---- rows
@@ -372,18 +360,18 @@ low_after = record { row = low_row AbsoluteLowPart; is = refl; named = tt; of = 
 
 module _ (groups : Groups) (l : Linked) (linked : IsLinked l) (loongarch : l.context.architecture ≡ LoongArch64)
     (i j : ℕ) (of : AreOfLoad l i j) (left : UntouchedInstructions l i j) (alone : IsRewrittenByNoOther l i (relocation_in l.relocations i).offset) where
-  page : IsEntry kinds.NoOp names.R_LARCH_PCALA_HI20 names.R_LARCH_GOT_PC_HI20 l.section (rela_at l i).offset of.page_chosen
+  page : IsEntry kinds.NoOp names.R_LARCH_PCALA_HI20 names.R_LARCH_GOT_PC_HI20 l.section (rela_at l i).offset of.page_at.chosen
   page =
-      let by = by_table l linked.decided loongarch i of.page_chosen of.page_below of.page_decided names.R_LARCH_GOT_PC_HI20 tt of.page in
-      shown by (λ near. isnt by.facts.is_relaxable (by.early refl).unmarked (near.meant.1.1.1.0), (λ this. entry_of_table names.R_LARCH_GOT_PC_HI20 l.section (rela_at l i).offset of.page_chosen by.facts _ this, tt))
+      let by = by_table l i of.page_at names.R_LARCH_GOT_PC_HI20 tt of.page in
+      shown by (λ near. isnt by.facts.is_relaxable (by.early refl).unmarked (near.meant.1.1.1.0), (λ this. entry_of_table names.R_LARCH_GOT_PC_HI20 l.section (rela_at l i).offset of.page_at.chosen by.facts _ this, tt))
 
-  low : IsEntry kinds.LdToAddi names.R_LARCH_PCALA_LO12 names.R_LARCH_GOT_PC_LO12 l.section (rela_at l j).offset of.low_chosen
+  low : IsEntry kinds.LdToAddi names.R_LARCH_PCALA_LO12 names.R_LARCH_GOT_PC_LO12 l.section (rela_at l j).offset of.low_at.chosen
   low =
-      let by = by_table l linked.decided loongarch j of.low_chosen of.low_below of.low_decided names.R_LARCH_GOT_PC_LO12 tt of.low in
+      let by = by_table l j of.low_at names.R_LARCH_GOT_PC_LO12 tt of.low in
       shown by (
         λ near. isnt by.facts.is_relaxable (by.early refl).unmarked (near.meant.1.1.1.0),
         (
-          λ this. entry_of_table names.R_LARCH_GOT_PC_LO12 l.section (rela_at l j).offset of.low_chosen by.facts _ this,
+          λ this. entry_of_table names.R_LARCH_GOT_PC_LO12 l.section (rela_at l j).offset of.low_at.chosen by.facts _ this,
           (λ of_entry. isnt by.facts.is_relaxable (by.early refl).unmarked (of_entry.meant.1.0), tt),
         ),
       )
@@ -400,34 +388,32 @@ module _ (groups : Groups) (l : Linked) (linked : IsLinked l) (loongarch : l.con
         second_is = subst IsLd (word_same l.section (o + 4)) there.second;
       } in
       let stayed : instruction_at l.rewritten o ≡ instruction_at l.section o =
-      stays l linked.made i of.page_chosen of.page_below of.page_decided (ap relaxation_rewrite page.kind_is) alone in
+      stays l linked.made i of.page_at.chosen of.page_at.below of.page_at.decided (ap relaxation_rewrite page.kind_is) alone in
       let low_r_type = r_type_of (loongarch_name names.R_LARCH_PCALA_LO12) in
       let page_written : IsApplied page_after.row w (instruction_at l.section o) (instruction_at l.final o) =
-      rw (← stayed) (relocated_there l linked loongarch i of.page_below names.R_LARCH_PCALA_HI20 page_after
-      (named_after l linked.made i of.page_chosen of.page_below of.page_decided kinds.NoOp page.kind_is names.R_LARCH_PCALA_HI20 page.r_type_is)
+      rw (← stayed) (relocated_there l linked loongarch i of.page_at.below names.R_LARCH_PCALA_HI20 page_after
+      (named_after l i of.page_at kinds.NoOp page.kind_is names.R_LARCH_PCALA_HI20 page.r_type_is)
       (left.0) symbol 0 refl is_symbol w refl) in
       let low_written : IsApplied low_after.row (following 4 w) (instruction_at l.rewritten (o + 4)) (instruction_at l.final (o + 4)) =
-      rw (← next) (relocated_there l linked loongarch j of.low_below names.R_LARCH_PCALA_LO12 low_after
-      (named_after l linked.made j of.low_chosen of.low_below of.low_decided kinds.LdToAddi low.kind_is names.R_LARCH_PCALA_LO12 low.r_type_is)
+      rw (← next) (relocated_there l linked loongarch j of.low_at.below names.R_LARCH_PCALA_LO12 low_after
+      (named_after l j of.low_at kinds.LdToAddi low.kind_is names.R_LARCH_PCALA_LO12 low.r_type_is)
       (left.1) symbol 0 refl (ap (slice_get l.symbols) of.same_symbol ∙ is_symbol) (following 4 w)
       (ap (λ x. value_of low_after.row (operands_with LoongArch64 l.addresses low_after.row symbol (rela (rela_at l j).offset low_r_type (rela_at l j).symbol x) 0)) (sym of.same_addend))) in
       let added : IsRewritten kinds.LdToAddi (instruction_at l.section (o + 4)) (instruction_at l.rewritten (o + 4)) =
       rw (← next)
-      (becomes l linked.made j of.low_chosen of.low_below of.low_decided kinds.LdToAddi low.kind_is
+      (becomes l j of.low_at kinds.LdToAddi low.kind_is
       (λ word. 0x02c00000 + field word 0 22) refl) in
       groups.got c w w k s (instruction_at l.section o) (instruction_at l.section (o + 4)) (instruction_at l.rewritten (o + 4))
       together loads added loads.small fits
       (record { relocated = instruction_at l.final o; applied = page_written; stands = page_stands })
       (record { relocated = instruction_at l.final (o + 4); applied = low_written; stands = low_stands })
 
-pub load_is : Groups → (l : Linked) (i : ℕ) (chosen : Choice Relaxation ℕ) (name : LoongArch64Relocation) → i < count l
-    → IsNameOf loongarch_name (relocation_in l.relocations i).r_type name
-    → decision_at l.decisions i ≡ Rewritten chosen → IsLoad l i name
+pub load_is : Groups → (l : Linked) (i : ℕ) (at : IsAt l i) (name : LoongArch64Relocation)
+    → IsNameOf loongarch_name (relocation_in l.relocations i).r_type name → IsLoad l i name
     → IsSomeAnd (loongarch_row names.R_LARCH_GOT_PC_HI20) (LoadsTheSame l i)
-load_is groups l i chosen name below is_name decided of =
-    loads_the_same groups l of.linked (ap (λ (x : RelaxContext). x.architecture) of.early) i (i + 2)
-    (load_of l of.linked.decided of.early i chosen below
-    (subst (IsNameOf loongarch_name (relocation_in l.relocations i).r_type) of.is is_name) decided) of.left of.alone
+load_is groups l i at name is_name of =
+    loads_the_same groups l of.linked at.architecture i (i + 2)
+    (load_of l of.early i at (subst (IsNameOf loongarch_name (relocation_in l.relocations i).r_type) of.is is_name)) of.left of.alone
 
 -- ---- what is left
 
@@ -438,26 +424,33 @@ pub record Takes (name : LoongArch64Relocation) : Type 0 where
       → operands_in LoongArch64 addresses after.row r (Some symbol)
       ≡ Ok (operands_with LoongArch64 addresses after.row symbol r (entry_of_name name symbol))
 
+abbrev takes : (name : LoongArch64Relocation) (row : RowInfo) → loongarch_row name ≡ Some row → IsNamed (loongarch_name name)
+    → IsOfInstruction 4 row → ((addresses : Addresses) (r : Rela) (symbol : Symbol) → HasEntry name addresses symbol
+    → operands_in LoongArch64 addresses row r (Some symbol)
+    ≡ Ok (operands_with LoongArch64 addresses row symbol r (entry_of_name name symbol))) → Takes name
+takes name row is named of taken = record { after = record { row = row; is = is; named = named; of = of }; taken = taken }
+
 abbrev pub high_offset : Takes names.R_LARCH_TLS_LE_HI20
-high_offset =
-    record {
-      after = record { row = high_row TpOff; is = refl; named = tt; of = of_bits refl refl refl refl refl (λ o. tt) };
-      taken = λ addresses r symbol there. refl;
-    }
+high_offset = takes names.R_LARCH_TLS_LE_HI20 (high_row TpOff) refl tt (of_bits refl refl refl refl refl (λ o. tt)) (λ addresses r symbol there. refl)
 
 abbrev pub low_offset : Takes names.R_LARCH_TLS_LE_LO12
-low_offset =
-    record {
-      after = record { row = low_row TpOff; is = refl; named = tt; of = of_bits refl refl refl refl refl (λ o. tt) };
-      taken = λ addresses r symbol there. refl;
-    }
+low_offset = takes names.R_LARCH_TLS_LE_LO12 (low_row TpOff) refl tt (of_bits refl refl refl refl refl (λ o. tt)) (λ addresses r symbol there. refl)
 
 abbrev part_offset : Takes names.R_LARCH_TLS_LE_LO12_R
-part_offset =
-    record {
-      after = record { row = low_row TpOff; is = refl; named = tt; of = of_bits refl refl refl refl refl (λ o. tt) };
-      taken = λ addresses r symbol there. refl;
-    }
+part_offset = takes names.R_LARCH_TLS_LE_LO12_R (low_row TpOff) refl tt (of_bits refl refl refl refl refl (λ o. tt)) (λ addresses r symbol there. refl)
+
+-- of initial-exec
+abbrev entry_high : Takes names.R_LARCH_TLS_IE_PC_HI20
+entry_high =
+    let row = paged_row entry_pages (rounded_row GotTpOff) in
+    takes names.R_LARCH_TLS_IE_PC_HI20 row refl tt (of_bits refl refl refl refl refl (λ o. tt)) (λ addresses r symbol there.
+    ap (λ b. operands_by LoongArch64 addresses row r symbol (cond b (Some symbol.thread_entry) None)) there)
+
+abbrev entry_low : Takes names.R_LARCH_TLS_IE_PC_LO12
+entry_low =
+    let row = low_row GotTpOffGot in
+    takes names.R_LARCH_TLS_IE_PC_LO12 row refl tt (of_bits refl refl refl refl refl (λ o. tt)) (λ addresses r symbol there.
+    ap (λ b. operands_by LoongArch64 addresses row r symbol (cond b (Some symbol.thread_entry) None)) there)
 
 -- ---- a rewrite
 
@@ -478,223 +471,185 @@ before l i = instruction_at l.section (offset_of l i)
 abbrev pub rewritten : Linked → ℕ → List ℕ
 rewritten l i = instruction_at l.rewritten (offset_of l i)
 
-module _ (l : Linked) (made : AreRewritten l) (i : ℕ) (chosen : Choice Relaxation ℕ) (below : i < count l)
-    (decided : decision_at l.decisions i ≡ Rewritten chosen) where
-  pub left_by : (kind : RewriteKind) (name old : LoongArch64Relocation) → IsEntry kind name old l.section (offset_of l i) chosen
+module _ (l : Linked) (i : ℕ) (at : IsAt l i) where
+  -- it is an entry of a name
+  abbrev IsOf : LoongArch64Relocation → RewriteKind → LoongArch64Relocation → Type 0
+  IsOf old kind name = IsEntry kind name old l.section (offset_of l i) at.chosen
+
+  pub left_by : (old : LoongArch64Relocation) (kind : RewriteKind) (name : LoongArch64Relocation) → IsOf old kind name
       → relocation_in l.relocations_after i ≡ named_as name (relocation_in l.relocations i)
-  left_by kind name old by = named_after l made i chosen below decided kind by.kind_is name by.r_type_is
+  left_by old kind name by = named_after l i at kind by.kind_is name by.r_type_is
 
-  pub becomes_by : (kind : RewriteKind) (name old : LoongArch64Relocation) → IsEntry kind name old l.section (offset_of l i) chosen
-      → (new : ℕ → ℕ) → loongarch_rewrite kind ≡ Some (rewrites_word new) → IsRewritten kind (before l i) (rewritten l i)
-  becomes_by kind name old by = becomes l made i chosen below decided kind by.kind_is
+  module _ (old : LoongArch64Relocation) (relaxation : Relaxation) (P : ℕ → Type 0) (is : P (word_at l.section (offset_of l i))) where
+    there : P (word_of (before l i))
+    there = subst P (word_same l.section (offset_of l i)) is
 
-  module _ (old : LoongArch64Relocation) (relaxation : Relaxation) (P : ℕ → Type 0) (is : P (word_of (before l i))) where
     -- the law of an instruction that becomes another, with a relocation
-    law_by : (Law : InstructionLaw) (kind : RewriteKind) (name : LoongArch64Relocation) → Becomes P kind name Law → Takes name
-        → IsEntry kind name old l.section (offset_of l i) chosen → (new : ℕ → ℕ)
-        → loongarch_rewrite kind ≡ Some (rewrites_word new) → IsLawful l i relaxation (section_laws.law name Law)
+    pub law_by : (Law : InstructionLaw) (kind : RewriteKind) (name : LoongArch64Relocation) → Becomes P kind name Law → Takes name
+        → IsOf old kind name → (new : ℕ → ℕ) → loongarch_rewrite kind ≡ Some (rewrites_word new)
+        → IsLawful l i relaxation (section_laws.law name Law)
     law_by Law kind name group takes by new rewrites =
         record {
           writable = takes;
-          left = left_by kind name old by;
+          left = left_by old kind name by;
           group = λ alone u y after.
-              group u y (before l i) (rewritten l i) after is (becomes_by kind name old by new rewrites);
+              group u y (before l i) (rewritten l i) after there (becomes l i at kind by.kind_is new rewrites);
         }
 
     -- of one that becomes a `nop`
-    nop_by : (Law : GoneLaw) → BecomesNop P Law
-        → IsEntry kinds.ReplaceWithNop names.R_LARCH_NONE old l.section (offset_of l i) chosen
+    pub nop_by : (Law : GoneLaw) → BecomesNop P Law → IsOf old kinds.ReplaceWithNop names.R_LARCH_NONE
         → IsLawful l i relaxation (section_laws.nop Law)
     nop_by Law group by =
         record {
           writable = tt;
-          left = left_by kinds.ReplaceWithNop names.R_LARCH_NONE old by;
+          left = left_by old kinds.ReplaceWithNop names.R_LARCH_NONE by;
           group = λ alone u y after made_so. subst (λ nop. Law 1 (HasNop nop) (before l i)) (sym made_so)
-              (group (before l i) (rewritten l i) is
-              (becomes_by kinds.ReplaceWithNop names.R_LARCH_NONE old by (λ _. 0x03400000) refl));
+              (group (before l i) (rewritten l i) there (becomes l i at kinds.ReplaceWithNop by.kind_is (λ _. 0x03400000) refl));
         }
 
     -- and of one that is deleted
-    deleted_by : (Law : GoneLaw) → IsDeleted P Law
-        → IsEntry kinds.Delete names.R_LARCH_NONE old l.section (offset_of l i) chosen
+    pub deleted_by : (Law : GoneLaw) → IsDeleted P Law → IsOf old kinds.Delete names.R_LARCH_NONE
         → IsLawful l i relaxation (section_laws.deleted Law)
     deleted_by Law group by =
         record {
           writable = tt;
-          left = left_by kinds.Delete names.R_LARCH_NONE old by;
-          group = λ alone u y after made_so. group (before l i) is;
+          left = left_by old kinds.Delete names.R_LARCH_NONE by;
+          group = λ alone u y after made_so. group (before l i) there;
         }
 
 -- ---- laws
 
-module _ (groups : Groups) (l : Linked) (made : AreRewritten l) (loongarch : l.context.architecture ≡ LoongArch64)
-    (i : ℕ) (chosen : Choice Relaxation ℕ) (below : i < count l)
-    (decided : decision_at l.decisions i ≡ Rewritten chosen) where
+module _ (groups : Groups) (l : Linked) (i : ℕ) (at : IsAt l i) where
   abbrev HasLaw : LoongArch64Relocation → Type 0
   HasLaw name =
       IsNameOf loongarch_name (relocation_in l.relocations i).r_type name
-      → IsLawful l i chosen.kind (law_of name chosen.kind)
-
-  pub table : (name : LoongArch64Relocation) → IsNamed (loongarch_name name)
-      → IsNameOf loongarch_name (relocation_in l.relocations i).r_type name
-      → IsByTable name l.section (offset_of l i) chosen
-  table = by_table l made.decided loongarch i chosen below decided
+      → IsLawful l i at.chosen.kind (law_of name at.chosen.kind)
 
   -- initial-exec
-  pub high_half : HasLaw names.R_LARCH_TLS_IE_PC_HI20
+  high_half : HasLaw names.R_LARCH_TLS_IE_PC_HI20
   high_half is_name =
       let name = names.R_LARCH_TLS_IE_PC_HI20 in
-      let t = table name tt is_name in
-      let by : IsEntry kinds.PcalaToLu12i names.R_LARCH_TLS_LE_HI20 name l.section (offset_of l i) chosen =
-      shown t (λ short. isnt t.facts.has_addresses (t.early refl).unplaced (short.meant.1.1.1.1.1.0.0), (λ this. entry_of_table name l.section (offset_of l i) chosen t.facts _ this, tt)) in
-      law_by l made i chosen below decided name chosen.kind IsPcalau12i
-      (subst IsPcalau12i (word_same l.section (offset_of l i)) (by.pattern.1)) (HighOffset name) kinds.PcalaToLu12i
-      names.R_LARCH_TLS_LE_HI20 groups.high_halves high_offset by (λ word. 0x14000000 + rd_of word) refl
+      let t = by_table l i at name tt is_name in
+      let by : IsOf l i at name kinds.PcalaToLu12i names.R_LARCH_TLS_LE_HI20 =
+      shown t (λ short. isnt t.facts.has_addresses (t.early refl).unplaced (short.meant.1.1.1.1.1.0.0), (λ this. entry_of_table name l.section (offset_of l i) at.chosen t.facts _ this, tt)) in
+      law_by l i at name at.chosen.kind IsPcalau12i (by.pattern.1) (HighOffset name) kinds.PcalaToLu12i names.R_LARCH_TLS_LE_HI20
+      groups.high_halves high_offset by (λ word. 0x14000000 + rd_of word) refl
 
-  pub low_half : HasLaw names.R_LARCH_TLS_IE_PC_LO12
+  low_half : HasLaw names.R_LARCH_TLS_IE_PC_LO12
   low_half is_name =
       let name = names.R_LARCH_TLS_IE_PC_LO12 in
-      let t = table name tt is_name in
-      let by : IsEntry kinds.LowToOri names.R_LARCH_TLS_LE_LO12 name l.section (offset_of l i) chosen =
-      shown t (λ short. isnt t.facts.has_addresses (t.early refl).unplaced (short.meant.1.1.1.1.1.0.0), (λ this. entry_of_table name l.section (offset_of l i) chosen t.facts _ this, tt)) in
-      law_by l made i chosen below decided name chosen.kind IsLd
-      (subst IsLd (word_same l.section (offset_of l i)) (by.pattern.1)) LowHalf kinds.LowToOri
-      names.R_LARCH_TLS_LE_LO12 groups.low_halves low_offset by (λ word. 0x03800000 + field word 0 10) refl
+      let t = by_table l i at name tt is_name in
+      let by : IsOf l i at name kinds.LowToOri names.R_LARCH_TLS_LE_LO12 =
+      shown t (λ short. isnt t.facts.has_addresses (t.early refl).unplaced (short.meant.1.1.1.1.1.0.0), (λ this. entry_of_table name l.section (offset_of l i) at.chosen t.facts _ this, tt)) in
+      law_by l i at name at.chosen.kind IsLd (by.pattern.1) LowHalf kinds.LowToOri names.R_LARCH_TLS_LE_LO12
+      groups.low_halves low_offset by (λ word. 0x03800000 + field word 0 10) refl
 
   -- local-exec
-  pub high_part : HasLaw names.R_LARCH_TLS_LE_HI20_R
+  high_part : HasLaw names.R_LARCH_TLS_LE_HI20_R
   high_part is_name =
       let name = names.R_LARCH_TLS_LE_HI20_R in
-      let t = table name tt is_name in
-      let by : IsEntry kinds.Delete names.R_LARCH_NONE name l.section (offset_of l i) chosen =
-      shown t (λ this. entry_of_table name l.section (offset_of l i) chosen t.facts _ this, tt) in
-      deleted_by l made i chosen below decided name chosen.kind IsLu12i
-      (subst IsLu12i (word_same l.section (offset_of l i)) (by.pattern.1)) OffsetGoes groups.high_offsets by
+      let t = by_table l i at name tt is_name in
+      let by : IsOf l i at name kinds.Delete names.R_LARCH_NONE =
+      shown t (λ this. entry_of_table name l.section (offset_of l i) at.chosen t.facts _ this, tt) in
+      deleted_by l i at name at.chosen.kind IsLu12i (by.pattern.1) OffsetGoes groups.high_offsets by
 
-  pub sum : HasLaw names.R_LARCH_TLS_LE_ADD_R
+  sum : HasLaw names.R_LARCH_TLS_LE_ADD_R
   sum is_name =
       let name = names.R_LARCH_TLS_LE_ADD_R in
-      let t = table name tt is_name in
-      let by : IsEntry kinds.Delete names.R_LARCH_NONE name l.section (offset_of l i) chosen =
-      shown t (λ this. entry_of_table name l.section (offset_of l i) chosen t.facts _ this, tt) in
-      deleted_by l made i chosen below decided name chosen.kind IsAddTp
-      (subst IsAddTp (word_same l.section (offset_of l i)) (by.pattern.1)) SumGoes groups.sums by
+      let t = by_table l i at name tt is_name in
+      let by : IsOf l i at name kinds.Delete names.R_LARCH_NONE =
+      shown t (λ this. entry_of_table name l.section (offset_of l i) at.chosen t.facts _ this, tt) in
+      deleted_by l i at name at.chosen.kind IsAddTp (by.pattern.1) SumGoes groups.sums by
 
-  pub low_part : HasLaw names.R_LARCH_TLS_LE_LO12_R
+  low_part : HasLaw names.R_LARCH_TLS_LE_LO12_R
   low_part is_name =
       let name = names.R_LARCH_TLS_LE_LO12_R in
-      let t = table name tt is_name in
-      let by : IsEntry kinds.BaseToTp names.R_LARCH_TLS_LE_LO12_R name l.section (offset_of l i) chosen =
-      shown t (λ this. entry_of_table name l.section (offset_of l i) chosen t.facts _ this, tt) in
-      law_by l made i chosen below decided name chosen.kind (λ word. IsTrue (adds_low12 (word / 2 ^ 22)))
-      (subst (λ word. IsTrue (adds_low12 (word / 2 ^ 22))) (word_same l.section (offset_of l i)) (by.pattern.1.0))
-      LowPart kinds.BaseToTp name groups.low_offsets part_offset by (λ word. word - rj_of word * 2 ^ 5 + tp * 2 ^ 5) refl
+      let t = by_table l i at name tt is_name in
+      let by : IsOf l i at name kinds.BaseToTp names.R_LARCH_TLS_LE_LO12_R =
+      shown t (λ this. entry_of_table name l.section (offset_of l i) at.chosen t.facts _ this, tt) in
+      law_by l i at name at.chosen.kind (λ word. IsTrue (adds_low12 (word / 2 ^ 22))) (by.pattern.1.0) LowPart kinds.BaseToTp name
+      groups.low_offsets part_offset by (λ word. word - rj_of word * 2 ^ 5 + tp * 2 ^ 5) refl
 
--- ---- the relocations of initial-exec
+  -- descriptors
+  by_kind : (name : LoongArch64Relocation) (kind : RewriteKind) → at.chosen.kind ≡ relaxations.LoongArch64 kind
+      → IsLawful l i (relaxations.LoongArch64 kind) (law_of name (relaxations.LoongArch64 kind))
+      → IsLawful l i at.chosen.kind (law_of name at.chosen.kind)
+  by_kind name kind is = subst (λ k. IsLawful l i k (law_of name k)) (sym is)
 
-abbrev entry_high : Takes names.R_LARCH_TLS_IE_PC_HI20
-entry_high =
-    let row = paged_row entry_pages (rounded_row GotTpOff) in
-    record {
-      after = record { row = row; is = refl; named = tt; of = of_bits refl refl refl refl refl (λ o. tt) };
-      taken = λ addresses r symbol there.
-          ap (λ b. operands_by LoongArch64 addresses row r symbol (cond b (Some symbol.thread_entry) None)) there;
-    }
-
-abbrev entry_low : Takes names.R_LARCH_TLS_IE_PC_LO12
-entry_low =
-    let row = low_row GotTpOffGot in
-    record {
-      after = record { row = row; is = refl; named = tt; of = of_bits refl refl refl refl refl (λ o. tt) };
-      taken = λ addresses r symbol there.
-          ap (λ b. operands_by LoongArch64 addresses row r symbol (cond b (Some symbol.thread_entry) None)) there;
-    }
-
--- ---- laws
-
-module _ (groups : Groups) (l : Linked) (made : AreRewritten l) (loongarch : l.context.architecture ≡ LoongArch64)
-    (i : ℕ) (chosen : Choice Relaxation ℕ) (below : i < count l)
-    (decided : decision_at l.decisions i ≡ Rewritten chosen) where
-  abbrev DescriptorHasLaw : LoongArch64Relocation → Type 0
-  DescriptorHasLaw name =
-      IsNameOf loongarch_name (relocation_in l.relocations i).r_type name
-      → IsLawful l i chosen.kind (law_of name chosen.kind)
-
-  pub page_descriptor : DescriptorHasLaw names.R_LARCH_TLS_DESC_PC_HI20
+  page_descriptor : HasLaw names.R_LARCH_TLS_DESC_PC_HI20
   page_descriptor is_name =
       let name = names.R_LARCH_TLS_DESC_PC_HI20 in
-      let o = offset_of l i in
-      let by = table groups l made loongarch i chosen below decided name tt is_name in
-      let which : IsEntry kinds.PcalaToLu12i names.R_LARCH_TLS_LE_HI20 name l.section o chosen ⊎ IsEntry kinds.NoOp names.R_LARCH_TLS_IE_PC_HI20 name l.section o chosen =
-      shown by (
-        λ short. isnt by.facts.is_relaxable (by.early refl).unmarked (short.meant.1.1.1.0),
+      let t = by_table l i at name tt is_name in
+      let which : IsOf l i at name kinds.PcalaToLu12i names.R_LARCH_TLS_LE_HI20 ⊎ IsOf l i at name kinds.NoOp names.R_LARCH_TLS_IE_PC_HI20 =
+      shown t (
+        λ short. isnt t.facts.is_relaxable (t.early refl).unmarked (short.meant.1.1.1.0),
         (
-          λ short. isnt by.facts.has_addresses (by.early refl).unplaced (short.meant.1.1.1.1.1.0.0),
-          (λ this. inl (entry_of_table name l.section o chosen by.facts _ this), (λ this. inr (entry_of_table name l.section o chosen by.facts _ this), (λ near. isnt by.facts.is_relaxable (by.early refl).unmarked (near.meant.1.0), tt))),
+          λ short. isnt t.facts.has_addresses (t.early refl).unplaced (short.meant.1.1.1.1.1.0.0),
+          (λ this. inl (entry_of_table name l.section (offset_of l i) at.chosen t.facts _ this), (λ this. inr (entry_of_table name l.section (offset_of l i) at.chosen t.facts _ this), (λ near. isnt t.facts.is_relaxable (t.early refl).unmarked (near.meant.1.0), tt))),
         ),
       ) in
       elim which [
         | inl is ↦
-            let page_is : IsPageOfDescriptor (word_of (before l i)) = subst IsPageOfDescriptor (word_same l.section o) (is.pattern.1) in
-            subst (λ k. IsLawful l i k (law_of name k)) (sym is.kind_is)
-            (law_by l made i chosen below decided name (relaxations.LoongArch64 kinds.PcalaToLu12i) IsPcalau12i page_is.0
-            (HighOffset name) kinds.PcalaToLu12i names.R_LARCH_TLS_LE_HI20 groups.descriptor_high_halves high_offset is
-            (λ word. 0x14000000 + rd_of word) refl)
-        | inr is ↦
-            let page_is : IsPageOfDescriptor (word_of (before l i)) = subst IsPageOfDescriptor (word_same l.section o) (is.pattern.1) in
-            let law : IsLawful l i (relaxations.LoongArch64 kinds.NoOp) (law_of name (relaxations.LoongArch64 kinds.NoOp)) =
-            record {
-              writable = entry_high;
-              left = left_by l made i chosen below decided kinds.NoOp names.R_LARCH_TLS_IE_PC_HI20 name is;
-              group = λ alone u y after made_so.
-                  let stayed : (rewritten l i) ≡ (before l i) =
-                  stays l made i chosen below decided (ap relaxation_rewrite is.kind_is) alone in
-                  groups.descriptor_entries u y (before l i) after (page_is.0)
-                  (subst (λ bytes. IsRelocated names.R_LARCH_TLS_IE_PC_HI20 y bytes after) stayed made_so);
-            } in
-            subst (λ k. IsLawful l i k (law_of name k)) (sym is.kind_is) law
+            by_kind name kinds.PcalaToLu12i is.kind_is
+            (law_by l i at name (relaxations.LoongArch64 kinds.PcalaToLu12i) IsPcalau12i (is.pattern.1.0) (HighOffset name)
+            kinds.PcalaToLu12i names.R_LARCH_TLS_LE_HI20 groups.descriptor_high_halves high_offset is (λ word. 0x14000000 + rd_of word) refl)
+        | inr is ↦ by_kind name kinds.NoOp is.kind_is (record {
+          writable = entry_high;
+          left = left_by l i at name kinds.NoOp names.R_LARCH_TLS_IE_PC_HI20 is;
+          group = λ alone u y after made_so.
+              groups.descriptor_entries u y (before l i) after (subst IsPcalau12i (word_same l.section (offset_of l i)) (is.pattern.1.0))
+              (subst (λ bytes. IsRelocated names.R_LARCH_TLS_IE_PC_HI20 y bytes after)
+              (stays l at.ensured i at.chosen at.below at.decided (ap relaxation_rewrite is.kind_is) alone) made_so);
+        })
       ]
 
-  pub low_descriptor : DescriptorHasLaw names.R_LARCH_TLS_DESC_PC_LO12
+  low_descriptor : HasLaw names.R_LARCH_TLS_DESC_PC_LO12
   low_descriptor is_name =
       let name = names.R_LARCH_TLS_DESC_PC_LO12 in
-      let o = offset_of l i in
-      let by = table groups l made loongarch i chosen below decided name tt is_name in
-      let which : IsEntry kinds.LowToOri names.R_LARCH_TLS_LE_LO12 name l.section o chosen ⊎ IsEntry kinds.AddiToLd names.R_LARCH_TLS_IE_PC_LO12 name l.section o chosen =
-      shown by (
-        λ short. isnt by.facts.has_addresses (by.early refl).unplaced (short.meant.1.1.1.1.1.0.0),
-        (λ this. inl (entry_of_table name l.section o chosen by.facts _ this), (λ this. inr (entry_of_table name l.section o chosen by.facts _ this), (λ near. isnt by.facts.is_relaxable (by.early refl).unmarked (near.meant.1.0), tt))),
+      let t = by_table l i at name tt is_name in
+      let which : IsOf l i at name kinds.LowToOri names.R_LARCH_TLS_LE_LO12 ⊎ IsOf l i at name kinds.AddiToLd names.R_LARCH_TLS_IE_PC_LO12 =
+      shown t (
+        λ short. isnt t.facts.has_addresses (t.early refl).unplaced (short.meant.1.1.1.1.1.0.0),
+        (λ this. inl (entry_of_table name l.section (offset_of l i) at.chosen t.facts _ this), (λ this. inr (entry_of_table name l.section (offset_of l i) at.chosen t.facts _ this), (λ near. isnt t.facts.is_relaxable (t.early refl).unmarked (near.meant.1.0), tt))),
       ) in
       elim which [
         | inl is ↦
-            subst (λ k. IsLawful l i k (law_of name k)) (sym is.kind_is)
-            (law_by l made i chosen below decided name (relaxations.LoongArch64 kinds.LowToOri) IsLowOfDescriptor
-            (subst IsLowOfDescriptor (word_same l.section o) (is.pattern.1)) (LowOfDescriptor MakesOffset) kinds.LowToOri
-            names.R_LARCH_TLS_LE_LO12 groups.descriptor_low_halves low_offset is (λ word. 0x03800000 + field word 0 10) refl)
+            by_kind name kinds.LowToOri is.kind_is
+            (law_by l i at name (relaxations.LoongArch64 kinds.LowToOri) IsLowOfDescriptor (is.pattern.1) (LowOfDescriptor MakesOffset)
+            kinds.LowToOri names.R_LARCH_TLS_LE_LO12 groups.descriptor_low_halves low_offset is (λ word. 0x03800000 + field word 0 10) refl)
         | inr is ↦
-            subst (λ k. IsLawful l i k (law_of name k)) (sym is.kind_is)
-            (law_by l made i chosen below decided name (relaxations.LoongArch64 kinds.AddiToLd) IsLowOfDescriptor
-            (subst IsLowOfDescriptor (word_same l.section o) (is.pattern.1)) (LowOfDescriptor LoadsOffset) kinds.AddiToLd
-            names.R_LARCH_TLS_IE_PC_LO12 groups.descriptor_entry_loads entry_low is (λ word. 0x28c00000 + field word 0 22) refl)
+            by_kind name kinds.AddiToLd is.kind_is
+            (law_by l i at name (relaxations.LoongArch64 kinds.AddiToLd) IsLowOfDescriptor (is.pattern.1) (LowOfDescriptor LoadsOffset)
+            kinds.AddiToLd names.R_LARCH_TLS_IE_PC_LO12 groups.descriptor_entry_loads entry_low is (λ word. 0x28c00000 + field word 0 22) refl)
       ]
 
-  pub load_law : DescriptorHasLaw names.R_LARCH_TLS_DESC_LD
+  load_law : HasLaw names.R_LARCH_TLS_DESC_LD
   load_law is_name =
       let name = names.R_LARCH_TLS_DESC_LD in
-      let by = table groups l made loongarch i chosen below decided name tt is_name in
-      let is : IsEntry kinds.ReplaceWithNop names.R_LARCH_NONE name l.section (offset_of l i) chosen =
-      shown by (λ gone. isnt by.facts.is_relaxable (by.early refl).unmarked (gone.meant.1.1.0), (λ this. entry_of_table name l.section (offset_of l i) chosen by.facts _ this, tt)) in
-      nop_by l made i chosen below decided name chosen.kind IsLoadOfDescriptor
-      (subst IsLoadOfDescriptor (word_same l.section (offset_of l i)) (is.pattern.1)) LoadGoes groups.descriptor_loads is
+      let t = by_table l i at name tt is_name in
+      let by : IsOf l i at name kinds.ReplaceWithNop names.R_LARCH_NONE =
+      shown t (λ gone. isnt t.facts.is_relaxable (t.early refl).unmarked (gone.meant.1.1.0), (λ this. entry_of_table name l.section (offset_of l i) at.chosen t.facts _ this, tt)) in
+      nop_by l i at name at.chosen.kind IsLoadOfDescriptor (by.pattern.1) LoadGoes groups.descriptor_loads by
 
-  pub call : DescriptorHasLaw names.R_LARCH_TLS_DESC_CALL
+  call : HasLaw names.R_LARCH_TLS_DESC_CALL
   call is_name =
       let name = names.R_LARCH_TLS_DESC_CALL in
-      let by = table groups l made loongarch i chosen below decided name tt is_name in
-      let is : IsEntry kinds.ReplaceWithNop names.R_LARCH_NONE name l.section (offset_of l i) chosen =
-      shown by (λ gone. isnt by.facts.is_relaxable (by.early refl).unmarked (gone.meant.1.1.0), (λ this. entry_of_table name l.section (offset_of l i) chosen by.facts _ this, tt)) in
-      nop_by l made i chosen below decided name chosen.kind IsCallOfDescriptor
-      (subst IsCallOfDescriptor (word_same l.section (offset_of l i)) (is.pattern.1)) CallGoes groups.descriptor_calls is
+      let t = by_table l i at name tt is_name in
+      let by : IsOf l i at name kinds.ReplaceWithNop names.R_LARCH_NONE =
+      shown t (λ gone. isnt t.facts.is_relaxable (t.early refl).unmarked (gone.meant.1.1.0), (λ this. entry_of_table name l.section (offset_of l i) at.chosen t.facts _ this, tt)) in
+      nop_by l i at name at.chosen.kind IsCallOfDescriptor (by.pattern.1) CallGoes groups.descriptor_calls by
+
+  pub law_there : (name : LoongArch64Relocation) → HasLaw name
+  law_there names.R_LARCH_TLS_IE_PC_HI20 = high_half
+  law_there names.R_LARCH_TLS_IE_PC_LO12 = low_half
+  law_there names.R_LARCH_TLS_DESC_PC_HI20 = page_descriptor
+  law_there names.R_LARCH_TLS_DESC_PC_LO12 = low_descriptor
+  law_there names.R_LARCH_TLS_DESC_LD = load_law
+  law_there names.R_LARCH_TLS_DESC_CALL = call
+  law_there names.R_LARCH_TLS_LE_HI20_R = high_part
+  law_there names.R_LARCH_TLS_LE_ADD_R = sum
+  law_there names.R_LARCH_TLS_LE_LO12_R = low_part
+  law_there name = λ is_name. record { writable = tt; left = tt; group = λ alone_so u y after made_so. made_so }
 
 -- ---- an instruction that stays
 
@@ -774,7 +729,8 @@ module _ (l : Linked) (made : AreRewritten l) (loongarch : l.context.architectur
   takes_none i below Kept _ = refl
   takes_none i below Consumed _ = refl
   takes_none i below (Rewritten chosen) is =
-      ap (λ k. is_some (relaxation_skipped k)) (choice_there l made.decided loongarch i chosen below is).kind_is
+      ap (λ k. is_some (relaxation_skipped k))
+      (choice_there l i (record { ensured = made; architecture = loongarch; below = below; chosen = chosen; decided = is })).kind_is
   takes_none i below (RewrittenWithSymbol chosen subject) is =
       absurd (without_label l made.decided loongarch unlabelled i chosen subject below is)
 
@@ -836,32 +792,20 @@ are_in l made loongarch b =
     beside_or l b (λ i below changed from less.
     is_in l made loongarch b i below from less (decision_at l.decisions i) refl changed)
 
--- ---- laws
+-- ---- what was rewritten
 
-module _ (groups : Groups) (l : Linked) (made : AreRewritten l) (loongarch : l.context.architecture ≡ LoongArch64)
-    (i : ℕ) (chosen : Choice Relaxation ℕ) (below : i < count l)
-    (decided : decision_at l.decisions i ≡ Rewritten chosen) where
-  of_the_name : (name : LoongArch64Relocation) → IsNameOf loongarch_name (relocation_in l.relocations i).r_type name
-      → IsLawful l i chosen.kind (law_of name chosen.kind)
-  of_the_name names.R_LARCH_TLS_IE_PC_HI20 = high_half groups l made loongarch i chosen below decided
-  of_the_name names.R_LARCH_TLS_IE_PC_LO12 = low_half groups l made loongarch i chosen below decided
-  of_the_name names.R_LARCH_TLS_DESC_PC_HI20 = page_descriptor groups l made loongarch i chosen below decided
-  of_the_name names.R_LARCH_TLS_DESC_PC_LO12 = low_descriptor groups l made loongarch i chosen below decided
-  of_the_name names.R_LARCH_TLS_DESC_LD = load_law groups l made loongarch i chosen below decided
-  of_the_name names.R_LARCH_TLS_DESC_CALL = call groups l made loongarch i chosen below decided
-  of_the_name names.R_LARCH_TLS_LE_HI20_R = high_part groups l made loongarch i chosen below decided
-  of_the_name names.R_LARCH_TLS_LE_ADD_R = sum groups l made loongarch i chosen below decided
-  of_the_name names.R_LARCH_TLS_LE_LO12_R = low_part groups l made loongarch i chosen below decided
-  of_the_name name = λ is_name. record { writable = tt; left = tt; group = λ alone_so u y after made_so. made_so }
+abbrev at_rewrite : (l : Linked) → AreRewritten l → l.context.architecture ≡ LoongArch64 → (g : Rewrites l) → IsAt l g.i
+at_rewrite l made loongarch g =
+    record { ensured = made; architecture = loongarch; below = g.below; chosen = g.chosen; decided = g.decided }
 
 pub relocations_are_left : Groups → RelocationsAreLeft
 relocations_are_left groups l made loongarch g =
-    (of_the_name groups l made loongarch g.i g.chosen g.below g.decided g.name g.is_name).left
+    (law_there groups l g.i (at_rewrite l made loongarch g) g.name g.is_name).left
 
 pub rewrites_are_groups : Groups → RewritesAreGroups rewriting
 rewrites_are_groups groups x c called l is k s g n k' s' (by_itself is_alone u y after new by_law) =
     let loongarch = called.architecture l is in
-    let law = of_the_name groups l (is_linked rewriting x called l is) loongarch g.i g.chosen g.below g.decided g.name g.is_name in
+    let law = law_there groups l g.i (at_rewrite l (is_linked rewriting x called l is) loongarch g) g.name g.is_name in
     by_law (law.group is_alone u y after (is_made l loongarch g.i g.below (law_of g.name g.chosen.kind).left law.writable law.left y after new))
-rewrites_are_groups groups x c called l _ k s g n k' s' (load of by_law) =
-    by_law (load_is groups l g.i g.chosen g.name g.below g.is_name g.decided of)
+rewrites_are_groups groups x c called l is k s g n k' s' (load of by_law) =
+    by_law (load_is groups l g.i (at_rewrite l (is_linked rewriting x called l is) (called.architecture l is) g) g.name g.is_name of)

@@ -6,7 +6,7 @@ use Rattle.linker_laws.specs.RiscVGroups.{Groups, Has, Stands}
 use Rattle.linker_utils.specs.RiscVRewrites.{HasPattern, IsAddTp, IsLd, rewrites_word, tp}
 use Rattle.linker_base.proofs.Bits.{cast_negative}
 use Rattle.linker_final.proofs.PackedBytes.{final_inside, place_is, r_type_is, rewritten_inside, same_kept, unwritten_there, within}
-use Rattle.linker_final.proofs.SectionRuns.{AreIn, beside_or, is_linked}
+use Rattle.linker_final.proofs.SectionRuns.{AreIn, beside_or, is_linked, Cases, by_cases}
 use Rattle.linker_final.proofs.Written.{IsOfInstruction, IsRowOf, applied, applied_found, by_name, bytes_left, last_length, last_within, later_bytes, low_found, mapped, of_bits, rela, rela_at, relocation_left, row_in, stays, unwritten_without, with_operands, word_same}
 use Rattle.linker_rewriting.specs.declared.facts.OutputFacts.{OutputFacts}
 use Rattle.linker_rewriting.specs.declared.facts.SymbolFacts.{SymbolFacts}
@@ -618,46 +618,43 @@ pub record MadePart (l : Linked) (name : RiscVRelocation) (subject n : ℕ) (kin
 
 module _ (l : Linked) (rewriting : AreRewritten l) (kind : RewriteKind) (new : ℕ → ℕ)
     (rewrites : riscv_rewrite kind ≡ Some (rewrites_word new)) where
-  -- by itself
+  -- by some decision
+  made_part : (n : ℕ) (decision : Decision) (chosen : Choice Relaxation ℕ) (below : n < count l) → decision_at l.decisions n ≡ decision
+      → chosen.kind ≡ relaxations.RiscV kind
+      → (IsDone decision (offset_of l n) l.section l.rewritten → IsMade (relaxation_rewrite chosen.kind) (offset_of l n) l.section l.rewritten)
+      → (name : RiscVRelocation) (subject : ℕ) → IsNamedAs l n name subject → offset_of l n + 4 ≤ length l.section
+      → MadePart l name subject n kind (instruction_at l.section (offset_of l n))
+  made_part n decision chosen below decided kind_is by name subject left inside =
+      record {
+        part = record {
+          below = below;
+          left = left;
+          inside = inside;
+          bytes = λ _. made_bytes l rewriting n below decision decided chosen kind kind_is new rewrites by;
+        };
+        made = becomes l rewriting n below decision decided chosen kind kind_is new rewrites by inside;
+        long = long_there l.section (offset_of l n) inside;
+      }
+
   pub part_alone : (i : ℕ) (chosen : Choice Relaxation ℕ) → i < count l → decision_at l.decisions i ≡ Rewritten chosen
       → chosen.kind ≡ relaxations.RiscV kind → (name : RiscVRelocation) → chosen.relocation ≡ r_type_of (riscv_name name)
       → offset_of l i + 4 ≤ length l.section → MadePart l name i i kind (instruction_at l.section (offset_of l i))
   part_alone i chosen below decided kind_is name r_type_is inside =
-      record {
-        part = record {
-          below = below;
-          left = rewritten_after l rewriting i chosen below kind name kind_is r_type_is
-              (λ o. ap (λ q. offset_after q o) rewrites) (λ a. ap (λ q. addend_after q a) rewrites) decided;
-          inside = inside;
-          bytes = λ _. made_bytes l rewriting i below (Rewritten chosen) decided chosen kind kind_is new rewrites (λ done. done);
-        };
-        made = becomes l rewriting i below (Rewritten chosen) decided chosen kind kind_is new rewrites (λ done. done) inside;
-        long = long_there l.section (offset_of l i) inside;
-      }
+      made_part i (Rewritten chosen) chosen below decided kind_is (λ done. done) name i
+      (rewritten_after l rewriting i chosen below kind name kind_is r_type_is
+      (λ o. ap (λ q. offset_after q o) rewrites) (λ a. ap (λ q. addend_after q a) rewrites) decided) inside
 
   -- for the high part of its label
   pub part_of : (high distance : ℕ) (name : RiscVRelocation) (n : ℕ) (of : IsOfDescriptor l high name distance kind n)
       (after : RiscVRelocation) → Becomes after l.section (offset_of l n) of.chosen
       → MadePart l after high n kind (instruction_at l.section (offset_of l high + distance))
   part_of high distance name n of after one =
-      let o = offset_of l n in
-      let decision = RewrittenWithSymbol of.chosen of.subject in
-      let following = of.following in
-      let inside = one.inside in
-      record {
-        part = record {
-          below = of.below;
-          left = redirected_after l rewriting n of.chosen of.below kind after of.kind_is one.r_type_is
-              (λ o. ap (λ q. offset_after q o) rewrites) (λ a. ap (λ q. addend_after q a) rewrites) of.subject of.decided
-              ∙ ap (λ (s : Subject). rela o (r_type_of (riscv_name after)) s.symbol s.addend)
-              (of_subject l rewriting n of.chosen of.subject of.below of.decided high of.labels);
-          inside = inside;
-          bytes = λ _. made_bytes l rewriting n of.below decision of.decided of.chosen kind of.kind_is new rewrites (λ done. done);
-        };
-        made = subst (λ m. instruction_at l.rewritten o ≡ after_rewrite kind (instruction_at l.section m) 0) following
-            (becomes l rewriting n of.below decision of.decided of.chosen kind of.kind_is new rewrites (λ done. done) inside);
-        long = long_there l.section (offset_of l high + distance) (omega (arith, following, inside));
-      }
+      subst (λ m. MadePart l after high n kind (instruction_at l.section m)) of.following
+      (made_part n (RewrittenWithSymbol of.chosen of.subject) of.chosen of.below of.decided of.kind_is (λ done. done) after high
+      (redirected_after l rewriting n of.chosen of.below kind after of.kind_is one.r_type_is
+      (λ o. ap (λ q. offset_after q o) rewrites) (λ a. ap (λ q. addend_after q a) rewrites) of.subject of.decided
+      ∙ ap (λ (s : Subject). rela (offset_of l n) (r_type_of (riscv_name after)) s.symbol s.addend)
+      (of_subject l rewriting n of.chosen of.subject of.below of.decided high of.labels)) one.inside)
 
   -- by the entries of its name
   pub part_by : l.context.architecture ≡ RiscV → (high distance : ℕ) (name : RiscVRelocation) → IsNamed (riscv_name name)
@@ -763,29 +760,11 @@ module _ (l : Linked) (riscv : l.context.architecture ≡ RiscV) where
       (in_packed names.R_RISCV_PCREL_LO12_I j j part p joined machine (second.0) (second.1)) y (first.2)
       (second.2.0) (second.2.1) (second.2.2) code at' (second.3)
 
--- ---- entries
-
-high_of : (section : List ℕ) (o : ℕ) (chosen : Choice Relaxation ℕ)
-    → chosen.relocation ≡ r_type_of (riscv_name names.R_RISCV_PCREL_HI20)
-    → IsOfSome names.R_RISCV_GOT_HI20 (riscv_entries names.R_RISCV_GOT_HI20) section o chosen
-    → IsOfEntry names.R_RISCV_GOT_HI20 (entry kinds.NoOp names.R_RISCV_PCREL_HI20 (without_got [])) section o chosen
-high_of section o chosen code (inl this) =
-    absurd (let e : 0 ≡ 23 = sym this.r_type_is ∙ code in omega (arith, e))
-high_of section o chosen code (inr (inl this)) = this
-high_of section o chosen code (inr (inr (inl this))) =
-    absurd (let e : 26 ≡ 23 = sym this.r_type_is ∙ code in omega (arith, e))
-high_of section o chosen code (inr (inr (inr nothing))) = absurd nothing
-
-low_of_load : (section : List ℕ) (o : ℕ) (chosen : Choice Relaxation ℕ)
-    → chosen.relocation ≡ r_type_of (riscv_name names.R_RISCV_PCREL_LO12_I)
-    → IsOfSome names.R_RISCV_PCREL_LO12_I (riscv_entries names.R_RISCV_PCREL_LO12_I) section o chosen
-    → IsOfEntry names.R_RISCV_PCREL_LO12_I (entry kinds.LdToAddi names.R_RISCV_PCREL_LO12_I (without_got (got_high_part ∷ []))) section o chosen
-low_of_load section o chosen code (inl this) =
-    absurd (let e : 27 ≡ 24 = sym this.r_type_is ∙ code in omega (arith, e))
-low_of_load section o chosen code (inr (inl this)) = this
-low_of_load section o chosen code (inr (inr (inl this))) =
-    absurd (let e : 27 ≡ 24 = sym this.r_type_is ∙ code in omega (arith, e))
-low_of_load section o chosen code (inr (inr (inr nothing))) = absurd nothing
+-- what the entries of a name show
+shown : {Q : Type 0} (name : RiscVRelocation) (section : List ℕ) (o : ℕ) (chosen : Choice Relaxation ℕ)
+    → IsOfSome name (riscv_entries name) section o chosen → Cases Q (λ e. IsOfEntry name e section o chosen) (riscv_entries name) → Q
+shown name section o chosen =
+    by_cases riscv_name relaxations.RiscV (λ e. HasPattern name e.kind section o) chosen (riscv_entries name)
 
 -- ---- a pair
 
@@ -793,13 +772,19 @@ module _ (groups : Groups) (l : Linked) (rewriting : AreRewritten l) (riscv : l.
     (i j : ℕ) (of : AreOfPair l i j) (alone : IsRewrittenByNoOther l i (offset_of l i)) where
   high_entry : IsOfEntry names.R_RISCV_GOT_HI20 (entry kinds.NoOp names.R_RISCV_PCREL_HI20 (without_got [])) l.section (offset_of l i) of.first.chosen
   high_entry =
-      high_of l.section (offset_of l i) of.first.chosen of.high_becomes
-      (of_some l rewriting riscv i (Rewritten of.first.chosen) of.first.chosen of.first.below of.first.decided refl names.R_RISCV_GOT_HI20 tt of.first.is_name)
+      shown names.R_RISCV_GOT_HI20 l.section (offset_of l i) of.first.chosen
+      (of_some l rewriting riscv i (Rewritten of.first.chosen) of.first.chosen of.first.below of.first.decided refl names.R_RISCV_GOT_HI20 tt of.first.is_name) (
+        λ this. absurd (let e : 0 ≡ 23 = sym this.r_type_is ∙ of.high_becomes in omega (arith, e)),
+        (λ this. this, (λ this. absurd (let e : 26 ≡ 23 = sym this.r_type_is ∙ of.high_becomes in omega (arith, e)), tt)),
+      )
 
   low_entry : IsOfEntry names.R_RISCV_PCREL_LO12_I (entry kinds.LdToAddi names.R_RISCV_PCREL_LO12_I (without_got (got_high_part ∷ []))) l.section (offset_of l j) of.second.chosen
   low_entry =
-      low_of_load l.section (offset_of l j) of.second.chosen of.low_becomes
-      (of_some l rewriting riscv j (Rewritten of.second.chosen) of.second.chosen of.second.below of.second.decided refl names.R_RISCV_PCREL_LO12_I tt of.second.is_name)
+      shown names.R_RISCV_PCREL_LO12_I l.section (offset_of l j) of.second.chosen
+      (of_some l rewriting riscv j (Rewritten of.second.chosen) of.second.chosen of.second.below of.second.decided refl names.R_RISCV_PCREL_LO12_I tt of.second.is_name) (
+        λ this. absurd (let e : 27 ≡ 24 = sym this.r_type_is ∙ of.low_becomes in omega (arith, e)),
+        (λ this. this, (λ this. absurd (let e : 27 ≡ 24 = sym this.r_type_is ∙ of.low_becomes in omega (arith, e)), tt)),
+      )
 
   -- the `auipc` stays
   auipc_there : instruction_at l.rewritten (offset_of l i) ≡ instruction_at l.section (offset_of l i)
@@ -901,30 +886,29 @@ module _ (groups : Groups) (l : Linked) (rewritten : AreRewritten l) (riscv : l.
     abbrev at : ℕ
     at = (relocation_in l.relocations i).offset
 
+    -- an instruction of a name whose entry deletes it
+    gone_by : (name : RiscVRelocation) → IsNamed (riscv_name name)
+        → riscv_entries name ≡ (entry kinds.Delete names.R_RISCV_NONE by_low_offset ∷ []) → (P : ℕ → Type 0)
+        → (HasPattern name kinds.Delete l.section at → HasWord l.section at P)
+        → IsRewrittenOf l name i → IsDeleted l i × HasWord (instruction_at l.section at) 0 P
+    gone_by name named entries P has of =
+        let by = of_riscv_entry l rewritten riscv i (Rewritten of.chosen) of.chosen of.below of.decided refl name named of.is_name
+        (entry kinds.Delete names.R_RISCV_NONE by_low_offset) entries in
+        let pattern = has by.meant in
+        let long = long_there l.section at pattern.0 in (
+          ap deleted_of of.decided ∙ ap relaxation_deleted by.kind_is,
+          (omega (arith, long), subst P (word_same l.section at) pattern.1),
+        )
+
     pub high_part_goes : (of : IsRewrittenOf l names.R_RISCV_TPREL_HI20 i) → IsDeleted l i × ((new : New l) → law l i (high_part of) new)
     high_part_goes of =
-        let lui = instruction_at l.section at in
-        let by : IsOfEntry names.R_RISCV_TPREL_HI20 (entry kinds.Delete names.R_RISCV_NONE by_low_offset) l.section at of.chosen =
-        of_riscv_entry l rewritten riscv i (Rewritten of.chosen) of.chosen of.below of.decided refl names.R_RISCV_TPREL_HI20 tt of.is_name
-        (entry kinds.Delete names.R_RISCV_NONE by_low_offset) refl in
-        let pattern = by.meant in
-        let there : HasWord lui 0 IsLui = (omega (arith, long_there l.section at pattern.0), subst IsLui (word_same l.section at) (pattern.1)) in (
-          ap deleted_of of.decided ∙ ap relaxation_deleted by.kind_is,
-          λ new. groups.high_offsets lui (there.0, tt) there.1,
-        )
+        let gone = gone_by names.R_RISCV_TPREL_HI20 tt refl IsLui (λ pattern. pattern) of in
+        (gone.0, λ new. groups.high_offsets (instruction_at l.section at) (gone.1.0, tt) gone.1.1)
 
     pub sum_goes : (of : IsRewrittenOf l names.R_RISCV_TPREL_ADD i) → IsDeleted l i × ((new : New l) → law l i (sum of) new)
     sum_goes of =
-        let add = instruction_at l.section at in
-        let by : IsOfEntry names.R_RISCV_TPREL_ADD (entry kinds.Delete names.R_RISCV_NONE by_low_offset) l.section at of.chosen =
-        of_riscv_entry l rewritten riscv i (Rewritten of.chosen) of.chosen of.below of.decided refl names.R_RISCV_TPREL_ADD tt of.is_name
-        (entry kinds.Delete names.R_RISCV_NONE by_low_offset) refl in
-        let pattern = by.meant in
-        let long = long_there l.section at pattern.0 in
-        let there : HasWord add 0 IsAddTp = (omega (arith, long), subst IsAddTp (word_same l.section at) (pattern.1)) in (
-          ap deleted_of of.decided ∙ ap relaxation_deleted by.kind_is,
-          λ new. groups.sums add there.1,
-        )
+        let gone = gone_by names.R_RISCV_TPREL_ADD tt refl IsAddTp (λ pattern. pattern) of in
+        (gone.0, λ new. groups.sums (instruction_at l.section at) gone.1.1)
 
 -- ---- TLS descriptors that became those of local-exec
 
@@ -978,16 +962,6 @@ module _ (groups : Groups) (l : Linked) (rewriting : AreRewritten l) (riscv : l.
 
 -- ---- loads of fixed addresses from the GOT that became `lui` and `addi`, or `addi` alone
 
-ld_inside : (section : List ℕ) (o : ℕ) (chosen : Choice Relaxation ℕ)
-    → IsOfSome names.R_RISCV_PCREL_LO12_I (riscv_entries names.R_RISCV_PCREL_LO12_I) section o chosen
-    → o + 4 ≤ length section
-ld_inside section o chosen (inl this) = this.meant.0
-ld_inside section o chosen (inr (inl this)) = this.meant.0
-ld_inside section o chosen (inr (inr (inl this))) = this.meant.0
-ld_inside section o chosen (inr (inr (inr nothing))) = absurd nothing
-
--- ---- rows
-
 abbrev high_row : IsOwn names.R_RISCV_HI20
 high_row =
     own_row names.R_RISCV_HI20 (pair_row Absolute 32 UType) refl tt (of_bits refl refl refl refl refl (λ o. tt)) refl (λ addresses r symbol. refl)
@@ -1012,8 +986,9 @@ module _ (groups : Groups) (l : Linked) (rewriting : AreRewritten l) (riscv : l.
       let is = of.rewritten in
       part_of l rewriting kinds.LdToAddi load_to_addi refl high 4 names.R_RISCV_PCREL_LO12_I low is names.R_RISCV_LO12_I (record {
         r_type_is = of.becomes;
-        inside = ld_inside l.section (offset_of l low) is.chosen
-            (of_some l rewriting riscv low (RewrittenWithSymbol is.chosen is.subject) is.chosen is.below is.decided refl names.R_RISCV_PCREL_LO12_I tt is.name_is);
+        inside = shown names.R_RISCV_PCREL_LO12_I l.section (offset_of l low) is.chosen
+            (of_some l rewriting riscv low (RewrittenWithSymbol is.chosen is.subject) is.chosen is.below is.decided refl names.R_RISCV_PCREL_LO12_I tt is.name_is)
+            (λ this. this.meant.0, (λ this. this.meant.0, (λ this. this.meant.0, tt)));
       })
 
   pub addi_alone_address : IsOfDescriptor l high names.R_RISCV_PCREL_LO12_I 4 kinds.LdToAddiZero low
@@ -1183,36 +1158,37 @@ are_in l made riscv b =
 -- ---- laws
 
 module _ (groups : Groups) (l : Linked) (made : AreRewritten l) (riscv : l.context.architecture ≡ RiscV) where
-  leaves : (i : ℕ) (g : Lawful l i) → Leaves l i g
-  leaves i (load j of alone) =
-      ((high groups l made riscv i j of alone).left, (low_load groups l made riscv i j of alone).part.left)
-  leaves i (fixed j high low) =
-      ((lui_address groups l made riscv i j high).part.left, (addi_address groups l made riscv i j low).part.left)
-  leaves i (low_address j _ low) = (addi_alone_address groups l made riscv i j low).part.left
-  leaves i (descriptor add call of_add of_call) =
-      ((lui groups l made riscv i add of_add).part.left, (addi groups l made riscv i call of_call).part.left)
-  leaves i (short_descriptor call of) = (addi_alone groups l made riscv i call of).part.left
-  leaves i (low_part of) = (low_part_is groups names.R_RISCV_TPREL_LO12_I of_load l made riscv i of).part.left
-  leaves i (low_store of) = (low_part_is groups names.R_RISCV_TPREL_LO12_S of_store l made riscv i of).part.left
-  leaves i (high_part of) = (high_part_goes groups l made riscv i of).0
-  leaves i (sum of) = (sum_goes groups l made riscv i of).0
-
-  law_there : (i : ℕ) (g : Lawful l i) (new : New l) → law l i g new
-  law_there i (load j of alone) new = loads groups l made riscv i j of alone new
-  law_there i (fixed j high low) new = fixed_addresses groups l made riscv i j high low new
-  law_there i (low_address j high low) new = low_addresses groups l made riscv i j high low new
-  law_there i (descriptor add call of_add of_call) new =
-      descriptors groups l made riscv i add call of_add of_call new
-  law_there i (short_descriptor call of) new = short_descriptors groups l made riscv i call of new
-  law_there i (low_part of) new = low_parts groups names.R_RISCV_TPREL_LO12_I of_load l made riscv i of new
-  law_there i (low_store of) new = low_parts groups names.R_RISCV_TPREL_LO12_S of_store l made riscv i of new
-  law_there i (high_part of) new = (high_part_goes groups l made riscv i of).1 new
-  law_there i (sum of) new = (sum_goes groups l made riscv i of).1 new
+  -- what a rewrite leaves, and its law
+  lawful : (i : ℕ) (g : Lawful l i) → Leaves l i g × ((new : New l) → law l i g new)
+  lawful i (load j of alone) =
+      (((high groups l made riscv i j of alone).left, (low_load groups l made riscv i j of alone).part.left), loads groups l made riscv i j of alone)
+  lawful i (fixed j high low) = (
+    ((lui_address groups l made riscv i j high).part.left, (addi_address groups l made riscv i j low).part.left),
+    fixed_addresses groups l made riscv i j high low,
+  )
+  lawful i (low_address j high low) =
+      ((addi_alone_address groups l made riscv i j low).part.left, low_addresses groups l made riscv i j high low)
+  lawful i (descriptor add call of_add of_call) = (
+    ((lui groups l made riscv i add of_add).part.left, (addi groups l made riscv i call of_call).part.left),
+    descriptors groups l made riscv i add call of_add of_call,
+  )
+  lawful i (short_descriptor call of) =
+      ((addi_alone groups l made riscv i call of).part.left, short_descriptors groups l made riscv i call of)
+  lawful i (low_part of) = (
+    (low_part_is groups names.R_RISCV_TPREL_LO12_I of_load l made riscv i of).part.left,
+    low_parts groups names.R_RISCV_TPREL_LO12_I of_load l made riscv i of,
+  )
+  lawful i (low_store of) = (
+    (low_part_is groups names.R_RISCV_TPREL_LO12_S of_store l made riscv i of).part.left,
+    low_parts groups names.R_RISCV_TPREL_LO12_S of_store l made riscv i of,
+  )
+  lawful i (high_part of) = high_part_goes groups l made riscv i of
+  lawful i (sum of) = sum_goes groups l made riscv i of
 
 pub relocations_are_left : Groups → RelocationsAreLeft
-relocations_are_left = leaves
+relocations_are_left groups l made riscv i g = (lawful groups l made riscv i g).0
 
 pub rewrites_are_groups : Groups → RewritesAreGroups rewriting
 rewrites_are_groups groups x c called l is k s g n k' s' begins =
     begins.by_law
-    (law_there groups l (is_linked rewriting x called l is) (called.architecture l is) g.i begins.lawful begins.new)
+    ((lawful groups l (is_linked rewriting x called l is) (called.architecture l is) g.i begins.lawful).1 begins.new)

@@ -1,6 +1,7 @@
 -- What stands at each place of a section, and runs of its code, of any architecture; and what the
 -- calls leave.
-use Rattle.linker_final.proofs.Imports.{Addresses, Architecture, AreCalled, AreDecidedIn, AreInTurn, AreLeft, AreListed, ArePhases, AreWritten, Bool, Choice, Comparison, Decision, EachPlace, HasRewritten, IsBesideAll, IsFollowed, IsLinked, IsLinkedAs, IsOfCalls, IsPackedRun, IsPhase, IsPhaseIn, IsRewrittenAs, IsScopeIn, Item, Kept, Kinds, Known, Knows, Labelled, Linked, List, Machine, Next, Phase, Place, RelaxContext, Relaxation, RewritesAreGroups, Rewriting, RewritingPhase, Rewritten, RewrittenWithSymbol, RunsAreFollowed, Scope, Section, Simulates, State, Subject, Symbol, UnrelaxableGroups, [], ap, arith, begins, by_group, cases_eq, cases_lt, chosen_or_labelled, code_at, comparison, count, count_of, decision_at, deletions_by, drop, elsewhere, false, get_or, inl, inr, length, linked_by, offset_of, pairs_in, refl, relocation_in, rewriting_phase, section_of, subst, suc, sym, take, true, unchanged, uncovered, within, zero, ℕ, ◌+◌, ◌-◌, ◌<◌, ◌^◌, ◌∙◌, ◌∷◌, ◌≡◌, ◌≢◌, ◌≤◌, ◌⊎◌}
+use Rattle.linker_final.proofs.Imports.{Addresses, Architecture, AreCalled, AreDecidedIn, AreInTurn, AreLeft, AreListed, ArePhases, AreWritten, Bool, Choice, Comparison, Decision, EachPlace, ElfName, HasRewritten, IsBesideAll, IsFollowed, IsLinked, IsLinkedAs, IsOfCalls, IsOfEntry, IsOfOne, IsPackedRun, IsPhase, IsPhaseIn, IsRewrittenAs, IsScopeIn, Item, Kept, Kinds, Known, Knows, Labelled, Linked, List, Machine, Next, Phase, Place, RelaxContext, Relaxation, RewritesAreGroups, Rewriting, RewritingPhase, Rewritten, RewrittenWithSymbol, RunsAreFollowed, Scope, Section, Simulates, State, Subject, Symbol, UnrelaxableGroups, [], ap, arith, begins, by_group, cases_eq, cases_lt, chosen_or_labelled, code_at, comparison, count, count_of, decision_at, deletions_by, drop, elsewhere, false, get_or, inl, inr, length, linked_by, offset_of, pairs_in, refl, relocation_in, rewriting_phase, section_of, subst, suc, sym, take, true, unchanged, uncovered, within, zero, ℕ, ⊤, ◌+◌, ◌-◌, ◌<◌, ◌^◌, ◌∙◌, ◌∷◌, ◌≡◌, ◌≢◌, ◌≤◌, ◌⊎◌}
+use Rattle.linker_elf.specs.Choices.{Entry}
 use Rattle.linker_final.specs.Final.{rewritten}
 use Rattle.linker_final.proofs.PackedBytes.{are_bytes}
 use Rattle.linker_rewriting.specs.declared.decisions.Deletion.{Deletion}
@@ -68,6 +69,20 @@ without_label l decided same unlabelled i chosen subject below is =
           (subst (λ x. IsScopeIn x l.context.phase code Labelled) same label.scope_is) refl
     ]
 
+-- ---- entries of tables
+
+-- what each entry of a table shows
+abbrev pub Cases : {K N : Type 0} → Type 0 → (Entry K N → Type 0) → List (Entry K N) → Type 0
+Cases Q Is [] = ⊤
+Cases Q Is (e ∷ es) = (Is e → Q) × Cases Q Is es
+
+pub by_cases : {K N Q : Type 0} (elf : N → ElfName) (relaxation : K → Relaxation) (IsMeant : Entry K N → Type 0)
+    (chosen : Choice Relaxation ℕ) (es : List (Entry K N)) → IsOfOne elf relaxation IsMeant es chosen
+    → Cases Q (λ e. IsOfEntry elf relaxation IsMeant e chosen) es → Q
+by_cases elf relaxation IsMeant chosen [] nothing cases = absurd nothing
+by_cases elf relaxation IsMeant chosen (e ∷ es) (inl this) cases = (cases.0) this
+by_cases elf relaxation IsMeant chosen (e ∷ es) (inr other) cases = by_cases elf relaxation IsMeant chosen es other (cases.1)
+
 -- ---- instructions of 4 bytes
 
 kept_or_not : (d : Decision) → (d ≡ Kept) ⊎ (d ≢ Kept)
@@ -92,6 +107,14 @@ beside_or l b each =
     ])
 
 -- ---- an architecture
+
+-- in a phase the relocation at an index is rewritten
+pub record IsRewrittenAt (r : Rewriting) (l : Linked) (i : ℕ) : Type 0 where
+  pub ensured : r.Ensured l
+  pub architecture : l.context.architecture ≡ r.architecture
+  pub below : i < count l
+  pub chosen : Choice Relaxation ℕ
+  pub decided : decision_at l.decisions i ≡ Rewritten chosen
 
 -- a byte is of instructions that are rewritten together
 pub record IsIn (r : Rewriting) (l : Linked) (b : ℕ) : Type 0 where

@@ -1,14 +1,14 @@
 -- x86-64: each rewrite of a section has a law, so that what it takes is a group.
-use Rattle.linker_final.proofs.Imports.{Absolute, Addresses, All-append, All-drop, All-take, AllHold, Applies, AreAddresses, AreBytes, Bool, CanRewrite, Choice, Composes, Consumed, Decision, HaveSameWindow, IsApplied, IsArchitectureChoice, IsDone, IsField, IsFirst, IsLinked, IsMade, IsNameOf, IsNamed, IsOutside, IsRewritable, IsRow, IsScopeIn, IsSomeAnd, IsTrue, IsWithin, IsWritten, Kept, Kinds, Labelled, LinkFacts, Linked, List, None, Ok, Operands, Option, Phase, Rela, Relative, Relaxation, RelocationKind, Rewrite, RewritesAreGroups, Rewritten, RewrittenWithSymbol, RowInfo, Scope, Some, State, Symbol, ThreadOffset, TpOff, UntouchedByOthers, UntouchedBytes, X86_64, [], accepted_same, and_from, and_parts, ap, append_assoc, arith, begins_pair, bit_and, bit_bounds, bytes_row, cases_eq, cases_lt, cast_is, cast_signed, cast_unsigned, choice, chosen_at, cond, cond-false, continues, count, decision_at, difference_64, difference_below, drop, drop-cons, drop-drop, drop_at, ends_pair, entry_address, entry_of, eqb, ext_get_or, false, field_end, field_len, from_le_bytes, get_or, get_or-drop, inl, inr, int_rem_euclid, ints, is_labelled, is_of_got, leb, leb-true, length, length-drop, length-take-le, loads_plt_word, low_bytes, neg_ℤ, negsuc, number_of_bytes, number_written, of_number, of_pair, of_z-to_z, offset_after, offset_at, offset_of, one_info, operands_after, operands_by, operands_in, operands_of, operands_with, or_cases, or_left, or_right, pos, r_type_of, refl, relaxation_no_op, relaxation_rewrite, relocation_in, replaces, rewrite_window, rewritten, signed_row, size_len, slice_get, subst, suc, sum_64, sym, symbol_term, take, take-append-drop, take_more, target_of, true, unsigned_row, unwrap_or, value_of, w64, window_len, window_of_rewrite, x86_64_none, ℕ, ℤ, ⊤, ◌%◌, ◌*◌, ◌++◌, ◌+◌, ◌-◌, ◌/◌, ◌<◌, ◌^◌, ◌||◌, ◌∙◌, ◌∷◌, ◌≡◌, ◌≤◌, ◌⊎◌}
+use Rattle.linker_final.proofs.Imports.{Absolute, Addresses, All-append, All-drop, All-take, AllHold, Applies, AreAddresses, AreBytes, Bool, CanRewrite, Choice, Composes, Consumed, Decision, HaveSameWindow, IsApplied, IsArchitectureChoice, IsDone, IsField, IsFirst, IsLinked, IsMade, IsNameOf, IsNamed, IsOutside, IsRewritable, IsRow, IsScopeIn, IsSomeAnd, IsTrue, IsWithin, IsWritten, Kept, Kinds, Labelled, LinkFacts, Linked, List, None, Ok, Operands, Option, Phase, Rela, Relative, Relaxation, RelocationKind, Rewrite, RewritesAreGroups, Rewritten, RewrittenWithSymbol, RowInfo, Scope, Some, State, Symbol, ThreadOffset, TpOff, UntouchedByOthers, UntouchedBytes, X86_64, [], accepted_same, and_from, and_parts, ap, append_assoc, arith, begins_pair, bit_and, bit_bounds, bytes_row, cases_eq, cases_lt, cast_is, cast_signed, cast_unsigned, choice, chosen_at, cond, cond-false, continues, count, decision_at, difference_64, difference_below, drop, drop-cons, drop-drop, drop_at, ends_pair, entry_address, entry_of, eqb, ext_get_or, false, field_end, field_len, from_le_bytes, get_or, get_or-drop, inl, inr, int_rem_euclid, ints, is_labelled, is_of_got, leb, leb-true, length, length-drop, length-take-le, loads_plt_word, low_bytes, neg_ℤ, negsuc, number_of_bytes, number_written, of_number, of_pair, of_z-to_z, offset_after, offset_at, offset_of, one_info, operands_after, operands_by, operands_in, operands_of, operands_with, or_cases, or_left, or_right, pos, r_type_of, refl, relaxation_no_op, relaxation_rewrite, relocation_in, replaces, rewrite_window, rewritten, signed_row, size_len, slice_get, subst, suc, sum_64, sym, symbol_term, take, take-append-drop, take_more, target_of, true, unsigned_row, unwrap_or, value_of, w64, window_len, window_of_rewrite, x86_64_none, ℕ, ℤ, ⊤, ◌%◌, ◌&&◌, ◌*◌, ◌++◌, ◌+◌, ◌-◌, ◌/◌, ◌<◌, ◌^◌, ◌||◌, ◌∙◌, ◌∷◌, ◌≡◌, ◌≤◌, ◌⊎◌}
 use Rattle.linker_laws.specs.X86Groups.{AddsOffset, BlockOffsets, IsModuleCall, IsThreadCall, LeaToEntry, LeaToOffset, LeadToTheSame, reg_after_rex, reg_after_rex2, Code, Groups, Rewritten as IsRewrittenGroup, Stands, seen, IsBefore, IsRelocated, IsRelocatedBy, address, thread_offset}
-use Rattle.linker_final.specs.X86Section.{AreBy, EntryHolds, Form, HasFinal, HasObject, IsGroupOf, IsObject, LawOf, LeadsToTheSame, Makes, Offsets, Window, block, call, in_got, lea, put_back, rewriting, sequence_of, variable, window, window_of}
+use Rattle.linker_final.specs.X86Section.{AreBy, EntryHolds, HasFinal, HasObject, IsGroupOf, IsObject, LawOf, LeadsToTheSame, Makes, Offsets, Window, block, call, in_got, lea, put_back, rewriting, sequence_of, variable, window, window_of}
 use Rattle.linker_section.specs.Sections.{IsInNoField}
 use Rattle.linker_base.proofs.Tests.{never}
 use Rattle.linker_elf.specs.X86Relocations.{x86_64_name, x86_64_row}
 use Rattle.linker_elf.specs.declared.elf.RelocationKind.TheVariants.{None as NoValue}
 use Rattle.linker_elf.specs.declared.elf.Sign.TheVariants.{Signed, Unsigned}
 use Rattle.linker_elf.specs.declared.x86_64.relocations.X86_64Relocation.{X86_64Relocation}
-use Rattle.linker_final.proofs.SectionRuns.{AreIn, IsIn, each_or, final_in, is_linked, without_label}
+use Rattle.linker_final.proofs.SectionRuns.{AreIn, IsIn, IsRewrittenAt, each_or, final_in, is_linked, without_label}
 use Rattle.linker_final.proofs.Written.{none_written, AreLowest, IsPlain, IsRowOf, UntouchedField, back_inside, back_outside, back_rewritten, by_name, byte_left, eight_bytes, entry_is_there, four_bytes, last_as_many, last_length, last_within, left, len_is, no_field, outside_of, plain, put_back_is, rela, rela_at, relocation_is, relocation_left, row_in, same_windows, small_byte, spared}
 use Rattle.linker_laws.proofs.X86Fields.{block_row, long_block_row, long_thread_row, thread_row, tls_got_row, tls_module_row}
 use Rattle.linker_laws.specs.X86Machine.{extended}
@@ -298,26 +298,30 @@ module _ (name : X86_64Relocation) (section : List ℕ) (o : ℕ) (facts : LinkF
 abbrev pub IsOfTable : Table → List ℕ → ℕ → ℤ → Choice Relaxation ℕ → Type 0
 IsOfTable t section o addend chosen = IsOfOne t.instructions t.entries section o addend chosen
 
--- of the relocation at an index
+-- a relocation that is rewritten
+abbrev pub IsAt : Linked → ℕ → Type 0
+IsAt = IsRewrittenAt rewriting
+
+-- what the relocation at an index has
 pub record HasTable (l : Linked) (i : ℕ) (chosen : Choice Relaxation ℕ) : Type 0 where
   pub name : X86_64Relocation
   pub is_name : IsNameOf x86_64_name (relocation_in l.relocations i).r_type name
-  pub is : IsOfTable (x86_64_table name (opcode_at name l.section (relocation_in l.relocations i).offset))
-      l.section (relocation_in l.relocations i).offset (relocation_in l.relocations i).addend chosen
+  pub is : IsOfTable (x86_64_table name (opcode_at name l.section (offset_of l i)))
+      l.section (offset_of l i) (relocation_in l.relocations i).addend chosen
 
-pub has_table : (l : Linked) → IsLinked l → l.context.architecture ≡ X86_64 → (i : ℕ)
-    → (chosen : Choice Relaxation ℕ) → i < count l → decision_at l.decisions i ≡ Rewritten chosen
-    → HasTable l i chosen
-has_table l linked x86 i chosen below decided =
+pub has_table : (l : Linked) (i : ℕ) (at : IsAt l i) → HasTable l i at.chosen
+has_table l i at =
     let r = relocation_in l.relocations i in
-    let c = chosen_at l.context l.kept l.relocations l.section l.decisions (count l) i chosen linked.decided below decided
+    let linked : IsLinked l = at.ensured in
+    let x86 : l.context.architecture ≡ X86_64 = at.architecture in
+    let c = chosen_at l.context l.kept l.relocations l.section l.decisions (count l) i at.chosen linked.decided at.below at.decided
     (λ scope is. unlabelled l.context.phase r.r_type scope (subst (λ x. IsScopeIn x l.context.phase r.r_type scope) x86 is)) in
-    let h = subst (λ x. IsArchitectureChoice x r.r_type l.section r.offset c.facts chosen) x86 c.is_choice in
+    let h = subst (λ x. IsArchitectureChoice x r.r_type l.section r.offset c.facts at.chosen) x86 c.is_choice in
     let t = x86_64_table h.name (opcode_at h.name l.section r.offset) in
     record {
       name = h.name;
       is_name = h.is_name;
-      is = by_first h.name l.section r.offset c.facts r.addend c.addend chosen h.named h.kind_is h.r_type_is
+      is = by_first h.name l.section r.offset c.facts r.addend c.addend at.chosen h.named h.kind_is h.r_type_is
           (λ e. c.changed (
             subst relaxation_no_op (sym (h.kind_is ∙ ap (λ (q : Choice RewriteKind X86_64Relocation). relaxations.X86_64 q.kind) e)) refl,
             h.r_type_is ∙ (ap (λ (q : Choice RewriteKind X86_64Relocation). r_type_of (x86_64_name q.relocation)) e ∙ h.is_name.r_type_is),
@@ -325,15 +329,12 @@ has_table l linked x86 i chosen below decided =
           t.instructions t.entries h.is_choice;
     }
 
-pub of_table : (l : Linked) → IsLinked l → l.context.architecture ≡ X86_64 → (i : ℕ)
-    → (chosen : Choice Relaxation ℕ) → i < count l
-    → decision_at l.decisions i ≡ Rewritten chosen → (name : X86_64Relocation) → IsNamed (x86_64_name name)
+pub of_table : (l : Linked) (i : ℕ) (at : IsAt l i) (name : X86_64Relocation) → IsNamed (x86_64_name name)
     → IsNameOf x86_64_name (relocation_in l.relocations i).r_type name
-    → IsOfTable (x86_64_table name (opcode_at name l.section (relocation_in l.relocations i).offset))
-    l.section (relocation_in l.relocations i).offset (relocation_in l.relocations i).addend chosen
-of_table l linked x86 i chosen below decided name named is_name =
-    let t = has_table l linked x86 i chosen below decided in
-    rw (← (t.is_name.named name named is_name.r_type_is)) t.is
+    → IsOfTable (x86_64_table name (opcode_at name l.section (offset_of l i)))
+    l.section (offset_of l i) (relocation_in l.relocations i).addend at.chosen
+of_table l i at name named is_name =
+    let t = has_table l i at in rw (← (t.is_name.named name named is_name.r_type_is)) t.is
 
 -- ---- the shape of a rewrite
 
@@ -682,18 +683,10 @@ module _ (laws : Groups) where
 
 -- ---- what stands at the bytes, where the same bytes are
 
-begins_same : (ps : List (ℕ × ℕ)) (xs ys : List ℕ) → length ys ≡ length xs
-    → ((k : ℕ) → k < length ps → get_or xs k 0 ≡ get_or ys k 0)
-    → begins ps xs ≡ true → begins ps ys ≡ true
-begins_same [] xs ys long same is = refl
-begins_same (p ∷ ps) [] ys long same is = absurd (let e : false ≡ true = is in cc)
-begins_same (p ∷ ps) (x ∷ xs) [] long same is = absurd (omega (arith, long))
-begins_same (p ∷ ps) (x ∷ xs) (y ∷ ys) long same is =
-    let parts = and_parts (eqb (bit_and x (p.0)) (p.1)) (begins ps xs) is in
-    let head : x ≡ y = same 0 (omega arith) in
-    and_from (eqb (bit_and y (p.0)) (p.1)) (begins ps ys)
-    (ap (λ z. eqb (bit_and z (p.0)) (p.1)) (sym head) ∙ parts.0)
-    (begins_same ps xs ys (omega (arith, long)) (λ k below. same (suc k) (omega (arith, below))) (parts.1))
+begins_take : (ps : List (ℕ × ℕ)) (xs : List ℕ) → begins ps (take (length ps) xs) ≡ begins ps xs
+begins_take [] xs = refl
+begins_take (p ∷ ps) [] = refl
+begins_take (p ∷ ps) (x ∷ xs) = ap (λ b. eqb (bit_and x (p.0)) (p.1) && b) (begins_take ps xs)
 
 begins_long : (ps : List (ℕ × ℕ)) (xs : List ℕ) → begins ps xs ≡ true → length ps ≤ length xs
 begins_long [] xs is = omega arith
@@ -722,9 +715,13 @@ module _ (n end o : ℕ) (section others : List ℕ) (same_length : length other
     (same : (at : ℕ) → o - n ≤ at → at < o + end → get_or section at 0 ≡ get_or others at 0) where
   at_same : (r : Original) → HasShape n end r → is_at r section o ≡ true → is_at r others o ≡ true
   at_same r shape is =
-      let parts = and_parts (leb r.back o) (begins r.bytes (drop (o - r.back) section)) is in
+      let a = o - r.back in
+      let parts = and_parts (leb r.back o) (begins r.bytes (drop a section)) is in
       let starts = leb-true r.back o (parts.0) in
-      cc (and_from (leb r.back o) (begins r.bytes (drop (o - r.back) others)) (parts.0) (begins_same r.bytes (drop (o - r.back) section) (drop (o - r.back) others) (omega (arith, length-drop (o - r.back) section, (length-drop (o - r.back) others), same_length)) (λ k below. get_or-drop (o - r.back) section k 0 ∙ (same (o - r.back + k) (omega (arith, starts, shape.0)) (omega (arith, starts, shape.1, below)) ∙ sym (get_or-drop (o - r.back) others k 0))) (parts.1)))
+      let window = same_windows a (length r.bytes) others section (sym same_length) (λ at from less.
+      sym (same at (omega (arith, starts, shape.0, from)) (omega (arith, starts, shape.1, less)))) in
+      and_from (leb r.back o) (begins r.bytes (drop a others)) (parts.0)
+      (sym (begins_take r.bytes (drop a others)) ∙ (ap (begins r.bytes) window ∙ (begins_take r.bytes (drop a section) ∙ parts.1)))
 
   pub one_same : (rs : List Original) → HaveShape n end rs → IsTrue (is_one_at rs section o)
       → IsTrue (is_one_at rs others o)
@@ -805,44 +802,25 @@ row_after l linked x86 i below name named row is r_type_is =
 
 -- ---- one rewrite
 
--- The relocation at an index is rewritten, and no other has a byte of the window.
-pub record HasRewrite (l : Linked) (i back end : ℕ) (kind : RewriteKind) : Type 0 where
-  pub linked : IsLinked l
-  pub x86 : l.context.architecture ≡ X86_64
-  pub chosen : Choice Relaxation ℕ
-  pub below : i < count l
-  pub decided : decision_at l.decisions i ≡ Rewritten chosen
+-- It is by a kind, whose instructions are there.
+pub record IsOfKind (l : Linked) (i : ℕ) (chosen : Choice Relaxation ℕ) (back end : ℕ) (kind : RewriteKind) : Type 0 where
   pub kind_is : chosen.kind ≡ relaxations.X86_64 kind
   pub window : HasWindow back end (x86_64_rewrite kind)
-  pub matches : x86_64_matches kind l.section (relocation_in l.relocations i).offset
-  pub room : (back ≤ (relocation_in l.relocations i).offset)
-      × ((relocation_in l.relocations i).offset + end ≤ length l.section)
-  pub alone : UntouchedByOthers l i ((relocation_in l.relocations i).offset - back) (back + end)
+  pub matches : x86_64_matches kind l.section (offset_of l i)
+  pub room : (back ≤ offset_of l i) × (offset_of l i + end ≤ length l.section)
 
-abbrev pub has_rewrite : {back end : ℕ} {kind : RewriteKind} (l : Linked) → IsLinked l → l.context.architecture ≡ X86_64
-    → (i : ℕ) (chosen : Choice Relaxation ℕ) → i < count l → decision_at l.decisions i ≡ Rewritten chosen
-    → chosen.kind ≡ relaxations.X86_64 kind → HasWindow back end (x86_64_rewrite kind)
-    → x86_64_matches kind l.section (relocation_in l.relocations i).offset
-    → (back ≤ (relocation_in l.relocations i).offset) × ((relocation_in l.relocations i).offset + end ≤ length l.section)
-    → UntouchedByOthers l i ((relocation_in l.relocations i).offset - back) (back + end) → HasRewrite l i back end kind
-has_rewrite l linked x86 i chosen below decided kind_is window matches room alone =
-    record {
-      linked = linked;
-      x86 = x86;
-      chosen = chosen;
-      below = below;
-      decided = decided;
-      kind_is = kind_is;
-      window = window;
-      matches = matches;
-      room = room;
-      alone = alone;
-    }
+-- no other relocation has a byte of the window
+pub record HasRewrite (l : Linked) (i back end : ℕ) (kind : RewriteKind) : Type 0 where
+  pub at : IsRewrittenAt rewriting l i
+  pub open at use *
+  pub of : IsOfKind l i at.chosen back end kind
+  pub open of use *
+  pub alone : UntouchedByOthers l i (offset_of l i - back) (back + end)
 
 module _ (l : Linked) (i back end : ℕ) (kind : RewriteKind) (is : HasRewrite l i back end kind)
   where
     abbrev linked : IsLinked l
-    linked = is.linked
+    linked = is.ensured
 
     abbrev chosen : Choice Relaxation ℕ
     chosen = is.chosen
@@ -994,7 +972,7 @@ module _ (l : Linked) (i back end : ℕ) (kind : RewriteKind) (is : HasRewrite l
         object_rewritten ∙ ext_get_or 0 between l.final between_length
         (λ at below. between_same at (λ from less row is_field.
         absurd (no_field l i (relocation_in l.relocations_last i) refl (bytes_row NoValue 0)
-        (subst (λ code. IsRowOf l.context.architecture code (bytes_row NoValue 0)) (sym none) (row_of l is.x86 names.R_X86_64_NONE tt (bytes_row NoValue 0) refl))
+        (subst (λ code. IsRowOf l.context.architecture code (bytes_row NoValue 0)) (sym none) (row_of l is.architecture names.R_X86_64_NONE tt (bytes_row NoValue 0) refl))
         refl row is_field)))
 
     -- ---- with one, whose value is written
@@ -1014,7 +992,7 @@ module _ (l : Linked) (i back end : ℕ) (kind : RewriteKind) (is : HasRewrite l
         subst (λ (x : Rela). UntouchedField 4 row taken x.offset l.last l.final) r_after
         (left 4 (omega arith) four_bytes l.context.architecture l.addresses l.relocations_last l.symbols l.last l.final linked.written
         (small_byte l.final linked.final_bytes) i (last_within l linked i is.below) row plain row_there taken
-        (subst (λ x. operands_of x l.addresses l.symbols row (relocation_in l.relocations_last i) ≡ Ok taken) (sym is.x86)
+        (subst (λ x. operands_of x l.addresses l.symbols row (relocation_in l.relocations_last i) ≡ Ok taken) (sym is.architecture)
         (subst (λ x. operands_of X86_64 l.addresses l.symbols row x ≡ Ok taken) (sym r_after) taken_is))
         (λ j other lj isnt is_field.
         subst (λ (x : Rela). (x.offset < offset_at l.relocations_last j) ⊎ (field_end l.relocations_last l.last j other ≤ x.offset)) (sym r_after)
@@ -1028,7 +1006,7 @@ module _ (l : Linked) (i back end : ℕ) (kind : RewriteKind) (is : HasRewrite l
       where
         row_there : IsRow l.context.architecture (relocation_in l.relocations_last i).r_type (Some row)
         row_there =
-            row_after l linked is.x86 i is.below after named row row_is
+            row_after l linked is.architecture i is.below after named row row_is
             (ap (λ (x : Rela). x.r_type) r_after ∙ r_type_is)
 
         own_field : (at : ℕ) → (at < w.made.offset (offset_of l i)) ⊎ (w.made.offset (offset_of l i) + 4 ≤ at) → (other : RowInfo)
@@ -1083,40 +1061,46 @@ pub record IsLawful (l : Linked) (i : ℕ) (chosen : Choice Relaxation ℕ) (nam
     : Type 0 where
   pub is : window_of name chosen.kind ≡ Some w
   pub kind : RewriteKind
-  pub kind_is : chosen.kind ≡ relaxations.X86_64 kind
-  pub window : HasWindow w.back w.end (x86_64_rewrite kind)
-  pub matches : x86_64_matches kind l.section (offset_of l i)
-  pub room : (w.back ≤ offset_of l i) × (offset_of l i + w.end ≤ length l.section)
+  pub of : IsOfKind l i chosen w.back w.end kind
+  pub open of use *
   pub law : UntouchedByOthers l i (offset_of l i - w.back) (w.back + w.end)
       → (symbol : Symbol) (o : Operands) (c : Code) (s : State) → HasFinal l.addresses l.final c
       → s.pc ≡ sum_64 l.addresses.section (offset_of l i - w.back)
       → HasObject w.form l i name chosen.relocation w symbol o c s → LawOf w.form w chosen.kind symbol c o s
 
 -- that of a relocation with a field
-module _ (l : Linked) (linked : IsLinked l) (i : ℕ) (chosen : Choice Relaxation ℕ) (name : X86_64Relocation)
-    (w : Window) (small : w.back < 2 ^ 64)
-    (room : (w.back ≤ offset_of l i) × (offset_of l i + w.end ≤ length l.section))
-    (symbol : Symbol) (o : Operands) (c : Code) (s : State) (final : HasFinal l.addresses l.final c)
-    (pc : s.pc ≡ sum_64 l.addresses.section (offset_of l i - w.back))
-    (object : IsObject l i name chosen.relocation w symbol o c s) where
-  pub of_field : (row : RowInfo) → row ≡ object.row → LawAt l i name row w chosen.kind symbol
-      → LawOf w.form w chosen.kind symbol c o s
-  of_field row same law =
-      let low = room.0 in
-      let long : length l.final ≡ length l.section =
-      linked.written.same_length ∙ (last_length l linked ∙ linked.same_length) in
-      let e : sum_64 l.addresses.section (offset_of l i - w.back)
-      ≡ difference_64 (sum_64 l.addresses.section (offset_of l i)) w.back = omega (arith, low, small) in
-      subst (λ x. StandsThere l i w.back w.end name x c s → LawOf w.form w chosen.kind symbol c x s) (sym object.are)
-      (subst (λ x. LawAt l i name x w chosen.kind symbol) same law object.entry c s)
-      (record {
-        original = object.original;
-        addresses = object.addresses;
-        pc = pc ∙ (e ∙ ap (λ (x : Operands). difference_64 x.place w.back) (sym object.are));
-        applied = object.applied;
-        old = object.old;
-        new = rw pc (final (offset_of l i - w.back) (w.back + w.end) (omega (arith, low, room.1, long)));
-      })
+pub by_field : (l : Linked) (i : ℕ) (at : IsAt l i) (name : X86_64Relocation) (w : Window) (kind : RewriteKind)
+    → IsOfKind l i at.chosen w.back w.end kind → window_of name at.chosen.kind ≡ Some w → w.back < 2 ^ 64
+    → ((symbol : Symbol) (o : Operands) (c : Code) (s : State) → HasObject w.form l i name at.chosen.relocation w symbol o c s
+    → IsObject l i name at.chosen.relocation w symbol o c s) → (row : RowInfo)
+    → (UntouchedByOthers l i (offset_of l i - w.back) (w.back + w.end) → (symbol : Symbol) (other : RowInfo)
+    → AreBy w.form l i at.chosen.relocation symbol other → (row ≡ other) × LawAt l i name row w at.chosen.kind symbol)
+    → IsLawful l i at.chosen name w
+by_field l i at name w kind of is small has row law =
+    let linked : IsLinked l = at.ensured in
+    let low = of.room.0 in
+    let long : length l.final ≡ length l.section =
+    linked.written.same_length ∙ (last_length l linked ∙ linked.same_length) in
+    let e : sum_64 l.addresses.section (offset_of l i - w.back)
+    ≡ difference_64 (sum_64 l.addresses.section (offset_of l i)) w.back = omega (arith, low, small) in
+    record {
+      is = is;
+      kind = kind;
+      of = of;
+      law = λ alone symbol o c s final pc there.
+          let object = has symbol o c s there in
+          let made = law alone symbol object.row object.by in
+          subst (λ x. StandsThere l i w.back w.end name x c s → LawOf w.form w at.chosen.kind symbol c x s) (sym object.are)
+          (subst (λ x. LawAt l i name x w at.chosen.kind symbol) (made.0) (made.1) object.entry c s)
+          (record {
+            original = object.original;
+            addresses = object.addresses;
+            pc = pc ∙ (e ∙ ap (λ (x : Operands). difference_64 x.place w.back) (sym object.are));
+            applied = object.applied;
+            old = object.old;
+            new = rw pc (final (offset_of l i - w.back) (w.back + w.end) (omega (arith, low, of.room.1, long)));
+          });
+    }
 
 -- ---- an operand in the GOT
 
@@ -1189,16 +1173,10 @@ final_is l i back end kind is after a before_is r_type_is low high symbol is_sym
 -- ---- one instruction
 
 module _ (name : X86_64Relocation) (back : ℕ) (held : Operands → ℕ)
-    (not_of_got : is_of_got X86_64 (r_type_of (x86_64_name name)) ≡ false) (l : Linked) (linked : IsLinked l)
-    (x86 : l.context.architecture ≡ X86_64) (i : ℕ) (chosen : Choice Relaxation ℕ) (below : i < count l)
-    (decided : decision_at l.decisions i ≡ Rewritten chosen)
+    (not_of_got : is_of_got X86_64 (r_type_of (x86_64_name name)) ≡ false) (l : Linked) (i : ℕ) (at : IsAt l i)
     (is_name : IsNameOf x86_64_name (relocation_in l.relocations i).r_type name)
-    (served : IsServed back name held l.section (relocation_in l.relocations i).offset (relocation_in l.relocations i).addend chosen)
+    (served : IsServed back name held l.section (offset_of l i) (relocation_in l.relocations i).addend at.chosen)
   where
-    abbrev DoesTheSame : RowInfo → Type 0
-    DoesTheSame row =
-        (symbol : Symbol) → slice_get l.symbols (rela_at l i).symbol ≡ Some symbol → LawAt l i name row (window (in_got held) back 4) chosen.kind symbol
-
     abbrev law : HasLaw back name held l.section (offset_of l i) served.named
     law = served.has_law
 
@@ -1208,12 +1186,18 @@ module _ (name : X86_64Relocation) (back : ℕ) (held : Operands → ℕ)
     abbrev after : X86_64Relocation
     after = served.named.relocation
 
-    room : (back ≤ (offset_of l i)) × ((offset_of l i) + 4 ≤ length l.section)
-    room = there_inside back 4 (omega arith) law.instructions l.section (offset_of l i) law.are_of law.there
+    abbrev of_kind : IsOfKind l i at.chosen back 4 kind
+    of_kind =
+        record {
+          kind_is = served.kind_is;
+          window = law.within.window;
+          matches = law.matches;
+          room = there_inside back 4 (omega arith) law.instructions l.section (offset_of l i) law.are_of law.there;
+        }
 
     module _ (alone : UntouchedByOthers l i ((offset_of l i) - back) (back + 4)) where
       abbrev has : HasRewrite l i back 4 kind
-      has = has_rewrite l linked x86 i chosen below decided served.kind_is law.within.window law.matches room alone
+      has = record { at = at; of = of_kind; alone = alone }
 
       abbrev object_got : List ℕ
       object_got = put_back ((offset_of l i) - back) (back + 4) l.section l.final
@@ -1236,10 +1220,11 @@ module _ (name : X86_64Relocation) (back : ℕ) (held : Operands → ℕ)
             final_is l i back 4 kind has after a before_is served.r_type_is
             (moves.0) (omega (arith, moves.1)) symbol is_symbol entry
 
-      does_the_same : (a : IsAfterRow after) → DoesTheSame a.row
+      does_the_same : (a : IsAfterRow after) (symbol : Symbol) → slice_get l.symbols (rela_at l i).symbol ≡ Some symbol
+          → LawAt l i name a.row (window (in_got held) back 4) at.chosen.kind symbol
       does_the_same a symbol is_symbol entry c s there =
           let operands = operands_of_object a symbol is_symbol entry in
-          let addend = addend_was l.addresses after a symbol (rela_at l i) law.within.window.made chosen.relocation entry small
+          let addend = addend_was l.addresses after a symbol (rela_at l i) law.within.window.made at.chosen.relocation entry small
           before_is (ap (is_of_got X86_64) served.r_type_is ∙ a.is_not_of_got) ∙ served.is_from_end in
           rw served.kind_is (some_and _ (x86_64_relocation_after kind name) after law.after law.law
           c s object_got there.original l.final (offset_of l i) operands (before l i back 4 kind has name operands c s there addend)
@@ -1249,25 +1234,16 @@ module _ (name : X86_64Relocation) (back : ℕ) (held : Operands → ℕ)
           there.applied (relocated_got a symbol is_symbol entry) there.old there.new)
 
     -- the row of the relocation after
-    row_same : (row : RowInfo) (is_row : IsRow X86_64 chosen.relocation (Some row)) → law.row.row ≡ row
+    row_same : (row : RowInfo) (is_row : IsRow X86_64 at.chosen.relocation (Some row)) → law.row.row ≡ row
     row_same row is_row =
         let same = is_row.is_name.named after law.row.named (sym served.r_type_is) in
         ap (λ q. unwrap_or q row) (sym (is_row.value_is ∙ (ap x86_64_row same ∙ law.row.is)))
 
-    pub got_is_lawful : window_of name chosen.kind ≡ Some (window (in_got held) back 4) → back < 2 ^ 64
-        → IsLawful l i chosen name (window (in_got held) back 4)
-    got_is_lawful is small =
-        record {
-          is = is;
-          kind = kind;
-          kind_is = served.kind_is;
-          window = law.within.window;
-          matches = law.matches;
-          room = room;
-          law = λ alone symbol o c s final pc object.
-              of_field l linked i chosen name (window (in_got held) back 4) small room symbol o c s final pc object
-              object.row refl (subst DoesTheSame (row_same object.row (object.by.1)) (does_the_same alone law.row) symbol (object.by.0));
-        }
+    pub got_is_lawful : window_of name at.chosen.kind ≡ Some (window (in_got held) back 4) → back < 2 ^ 64
+        → IsLawful l i at.chosen name (window (in_got held) back 4)
+    got_is_lawful is few =
+        by_field l i at name (window (in_got held) back 4) kind of_kind is few (λ symbol o c s object. object) law.row.row
+        (λ alone symbol other by. (row_same other (by.1), does_the_same alone law.row symbol (by.0)))
 
 -- ---- the GOT entry of an offset, which a rewrite leaves in place of a call or of a descriptor
 
@@ -1297,8 +1273,8 @@ module _ (l : Linked) (i back end : ℕ) (kind : RewriteKind) (is : HasRewrite l
         -- the section is written, so that there is an entry
         (ap (operands_in X86_64 l.addresses tls_got_row relocation) is_symbol
         ∙ ap (λ b. operands_by X86_64 l.addresses tls_got_row relocation symbol (cond b (Some e) None))
-        (entry_is_there l is.linked i is.below tls_got_row refl refl relocation (r_after l i back end kind is)
-        (subst (λ code. IsRowOf l.context.architecture code tls_got_row) (sym r_type_is) (row_of l is.x86 names.R_X86_64_GOTTPOFF tt tls_got_row refl))
+        (entry_is_there l is.ensured i is.below tls_got_row refl refl relocation (r_after l i back end kind is)
+        (subst (λ code. IsRowOf l.context.architecture code tls_got_row) (sym r_type_is) (row_of l is.architecture names.R_X86_64_GOTTPOFF tt tls_got_row refl))
         symbol is_symbol (record { class = ThreadOffset; addend = pos 0 }) refl))
         low high (record (operands_after (x86_64_rewrite kind) (rela_at l i).offset was) { got_entry = e })
         (rw (is.window.is, moved l.addresses.section (rela_at l i).offset (made.offset (rela_at l i).offset) (offset_small l i back end kind is)))
@@ -1400,26 +1376,25 @@ module _ (n : ℕ) (read : ℕ → ℕ) (block_row thread_row : RowInfo)
     (name_is : is_of_got X86_64 (r_type_of (x86_64_name name)) ≡ false)
     (after_is : is_of_got X86_64 (r_type_of (x86_64_name after)) ≡ false)
     (named : IsNamed (x86_64_name after)) (law : LeadToTheSame n read name after)
-    (l : Linked) (linked : IsLinked l) (x86 : l.context.architecture ≡ X86_64) (i : ℕ)
-    (chosen : Choice Relaxation ℕ) (below : i < count l)
-    (is_name : IsNameOf x86_64_name (relocation_in l.relocations i).r_type name)
-    (decided : decision_at l.decisions i ≡ Rewritten chosen)
-    (stays : UntouchedBytes l i (relocation_in l.relocations i).offset n)
-    (kind_is : chosen.kind ≡ relaxations.X86_64 kinds.NoOp)
-    (r_type_is : chosen.relocation ≡ r_type_of (x86_64_name after)) where
+    (l : Linked) (i : ℕ) (at : IsAt l i) (is_name : IsNameOf x86_64_name (relocation_in l.relocations i).r_type name)
+    (stays : UntouchedBytes l i (offset_of l i) n) (kind_is : at.chosen.kind ≡ relaxations.X86_64 kinds.NoOp)
+    (r_type_is : at.chosen.relocation ≡ r_type_of (x86_64_name after)) where
+  abbrev linked_offset : IsLinked l
+  linked_offset = at.ensured
+
   abbrev relocation_offset : Rela
-  relocation_offset = rela (offset_of l i) chosen.relocation (rela_at l i).symbol (rela_at l i).addend
+  relocation_offset = rela (offset_of l i) at.chosen.relocation (rela_at l i).symbol (rela_at l i).addend
 
   r_after_offset : relocation_in l.relocations_last i ≡ relocation_offset
   r_after_offset =
-      relocation_left l linked i (offset_of l i) n stays below ∙ rw (decided, kind_is) at (linked.relocations i below)
+      relocation_left l linked_offset i (offset_of l i) n stays at.below ∙ rw (at.decided, kind_is) at (linked_offset.relocations i at.below)
 
   row_there_offset : IsRow l.context.architecture (relocation_in l.relocations_last i).r_type (Some thread_row)
   row_there_offset =
-      row_after l linked x86 i below after named thread_row is_thread (ap (λ (x : Rela). x.r_type) r_after_offset ∙ r_type_is)
+      row_after l linked_offset at.architecture i at.below after named thread_row is_thread (ap (λ (x : Rela). x.r_type) r_after_offset ∙ r_type_is)
 
   within_offset : i < length l.relocations_last / 24
-  within_offset = last_within l linked i below
+  within_offset = last_within l linked_offset i at.below
 
   mine : IsField l.context.architecture l.relocations_last l.last i thread_row
   mine =
@@ -1444,7 +1419,7 @@ module _ (n : ℕ) (read : ℕ → ℕ) (block_row thread_row : RowInfo)
       overlaps from inside =
           let following : offset_at l.relocations_last j < field_end l.relocations_last l.last i thread_row =
           omega (arith, from, mine.some) in
-          let apart = linked.written.can.apart in
+          let apart = linked_offset.written.can.apart in
           elim (cases_lt i j) [
             | inl less ↦
                 not_first l.relocations_last thread_row rows.of other i j
@@ -1466,21 +1441,21 @@ module _ (n : ℕ) (read : ℕ → ℕ) (block_row thread_row : RowInfo)
       ap (operands_in X86_64 l.addresses thread_row relocation_offset) is_symbol ∙ rows.alone l.addresses symbol relocation_offset in
       let field : UntouchedField n thread_row written (offset_of l i) l.last l.final =
       subst (λ (x : Rela). UntouchedField n thread_row written x.offset l.last l.final) r_after_offset
-      (left n rows.some rows.lowest l.context.architecture l.addresses l.relocations_last l.symbols l.last l.final linked.written
-      (small_byte l.final linked.final_bytes) i within_offset thread_row rows.plain row_there_offset written
-      (subst (λ x. operands_of x l.addresses l.symbols thread_row (relocation_in l.relocations_last i) ≡ Ok written) (sym x86)
+      (left n rows.some rows.lowest l.context.architecture l.addresses l.relocations_last l.symbols l.last l.final linked_offset.written
+      (small_byte l.final linked_offset.final_bytes) i within_offset thread_row rows.plain row_there_offset written
+      (subst (λ x. operands_of x l.addresses l.symbols thread_row (relocation_in l.relocations_last i) ≡ Ok written) (sym at.architecture)
       (subst (λ x. operands_of X86_64 l.addresses l.symbols thread_row x ≡ Ok written) (sym r_after_offset) taken))
       others_apart) in
       let final_length : length l.final ≡ length l.section =
-      linked.written.same_length ∙ (last_length l linked ∙ linked.same_length) in
-      let rl = linked.written.same_length in
+      linked_offset.written.same_length ∙ (last_length l linked_offset ∙ linked_offset.same_length) in
+      let rl = linked_offset.written.same_length in
       let inside_final : (offset_of l i) + n ≤ length l.final = omega (arith, field.inside, rl) in
       let object = put_back (offset_of l i) n l.section l.final in
       let object_length : length object ≡ length l.final =
       (put_back_is (offset_of l i) n l.section l.final inside_final (sym final_length)).same_len in
       let base : IsRelocatedBy thread_row counted (offset_of l i) object l.final =
       relocated n thread_row rows.plain written counted (offset_of l i) l.last l.final object field
-      (rows.same l.addresses symbol (rela_at l i) chosen.relocation entry before_is (ap (is_of_got X86_64) r_type_is ∙ after_is) strong)
+      (rows.same l.addresses symbol (rela_at l i) at.chosen.relocation entry before_is (ap (is_of_got X86_64) r_type_is ∙ after_is) strong)
       object_length (sym rl)
       (λ at outside. back_outside (offset_of l i) n l.section l.final inside_final (sym final_length) at outside) in
       let of_object : IsRelocatedBy block_row operands (offset_of l i) object original =
@@ -1499,20 +1474,27 @@ module _ (n : ℕ) (read : ℕ → ℕ) (block_row thread_row : RowInfo)
 
 -- ---- both lengths
 
+abbrev at_index : (l : Linked) → IsLinked l → l.context.architecture ≡ X86_64 → (i : ℕ) (chosen : Choice Relaxation ℕ)
+    → i < count l → decision_at l.decisions i ≡ Rewritten chosen → IsAt l i
+at_index l linked x86 i chosen below decided =
+    record { ensured = linked; architecture = x86; below = below; chosen = chosen; decided = decided }
+
 pub offsets : BlockOffsets → Offsets
 offsets law = (
   λ l linked x86 i chosen below is_name decided stays.
-      elim (of_table l linked x86 i chosen below decided names.R_X86_64_DTPOFF32 tt is_name) [
+      let at = at_index l linked x86 i chosen below decided in
+      elim (of_table l i at names.R_X86_64_DTPOFF32 tt is_name) [
         | inl this ↦
             leads 4 extended block_row thread_row short_rows names.R_X86_64_DTPOFF32 names.R_X86_64_TPOFF32 refl refl
-            refl refl tt (law.0) l linked x86 i chosen below is_name decided stays this.kind_is this.r_type_is
+            refl refl tt (law.0) l i at is_name stays this.kind_is this.r_type_is
         | inr nothing ↦ absurd nothing
       ],
   λ l linked x86 i chosen below is_name decided stays.
-      elim (of_table l linked x86 i chosen below decided names.R_X86_64_DTPOFF64 tt is_name) [
+      let at = at_index l linked x86 i chosen below decided in
+      elim (of_table l i at names.R_X86_64_DTPOFF64 tt is_name) [
         | inl this ↦
             leads 8 (λ offset. offset) long_block_row long_thread_row long_rows names.R_X86_64_DTPOFF64 names.R_X86_64_TPOFF64
-            refl refl refl refl tt (law.1) l linked x86 i chosen below is_name decided stays this.kind_is this.r_type_is
+            refl refl refl refl tt (law.1) l i at is_name stays this.kind_is this.r_type_is
         | inr nothing ↦ absurd nothing
       ],
 )
@@ -1535,49 +1517,21 @@ CallLaw back its_call count kind =
     → Stands c.new s.pc (back + (4 + its_call)) (drop (o - back) (rewritten (x86_64_rewrite kind) section o))
     → IsModuleCall (back + (4 + its_call)) count c operands s
 
-module _ (l : Linked) (linked : IsLinked l) (x86 : l.context.architecture ≡ X86_64) (i : ℕ)
-    (chosen : Choice Relaxation ℕ) (below : i < count l)
-    (decided : decision_at l.decisions i ≡ Rewritten chosen)
-    (kind : RewriteKind) (kind_is : chosen.kind ≡ relaxations.X86_64 kind)
+module _ (l : Linked) (i : ℕ) (at : IsAt l i) (kind : RewriteKind) (kind_is : at.chosen.kind ≡ relaxations.X86_64 kind)
     (back its_call : ℕ) (has_window : HasWindow back (4 + its_call) (x86_64_rewrite kind))
-    (shape : AreOf back (4 + its_call) (x86_64_originals kind))
-    (pattern : HasPattern any kind l.section (relocation_in l.relocations i).offset) where
-  abbrev around_call : Form → Window
-  around_call form = window form back (4 + its_call)
-
-  room_call : (back ≤ (offset_of l i)) × ((offset_of l i) + (4 + its_call) ≤ length l.section)
-  room_call = there_inside back (4 + its_call) (omega arith) (x86_64_originals kind) l.section (offset_of l i) shape (pattern.1.1)
-
-  -- of a name with a law
-  sequence : (name : X86_64Relocation) (form : Form)
-      → window_of name (relaxations.X86_64 kind) ≡ Some (around_call form) → back < 2 ^ 64
-      → ((symbol : Symbol) (w : Operands) (c : Code) (s : State)
-      → HasObject form l i name chosen.relocation (around_call form) symbol w c s
-      → IsObject l i name chosen.relocation (around_call form) symbol w c s)
-      → (row : RowInfo)
-      → (UntouchedByOthers l i ((offset_of l i) - back) (back + (4 + its_call)) → (symbol : Symbol) (other : RowInfo)
-      → AreBy form l i chosen.relocation symbol other
-      → (row ≡ other) × LawAt l i name row (around_call form) chosen.kind symbol)
-      → Lawful l i chosen name
-  sequence name form is few has_call row law = (
-    around_call form,
-    record {
-      is = ap (window_of name) kind_is ∙ is;
-      kind = kind;
-      kind_is = kind_is;
-      window = has_window;
-      matches = pattern.1;
-      room = room_call;
-      law = λ alone symbol w c s final pc there.
-          let object = has_call symbol w c s there in
-          let made = law alone symbol object.row object.by in
-          of_field l linked i chosen name (around_call form) few room_call symbol w c s final pc object row (made.0) (made.1);
-    },
-  )
+    (shape : AreOf back (4 + its_call) (x86_64_originals kind)) (pattern : HasPattern any kind l.section (offset_of l i)) where
+  abbrev of_call : IsOfKind l i at.chosen back (4 + its_call) kind
+  of_call =
+      record {
+        kind_is = kind_is;
+        window = has_window;
+        matches = pattern.1;
+        room = there_inside back (4 + its_call) (omega arith) (x86_64_originals kind) l.section (offset_of l i) shape (pattern.1.1);
+      }
 
   module _ (alone : UntouchedByOthers l i ((offset_of l i) - back) (back + (4 + its_call))) where
     abbrev has_call : HasRewrite l i back (4 + its_call) kind
-    has_call = has_rewrite l linked x86 i chosen below decided kind_is has_window (pattern.1) room_call alone
+    has_call = record { at = at; of = of_call; alone = alone }
 
     abbrev object_call : List ℕ
     object_call = put_back ((offset_of l i) - back) (back + (4 + its_call)) l.section l.final
@@ -1595,9 +1549,9 @@ module _ (l : Linked) (linked : IsLinked l) (x86 : l.context.architecture ≡ X8
       to_local : x86_64_relocation_after kind names.R_X86_64_TLSGD ≡ Some names.R_X86_64_TPOFF32
           → groups.Rewritten back (back + (4 + its_call)) (x86_64_originals kind) names.R_X86_64_TLSGD kind
           (λ operands. operands) (IsThreadCall (back + 4) (back + (4 + its_call)) count (λ c k s k' o. ⊤))
-          → chosen.relocation ≡ r_type_of (x86_64_name names.R_X86_64_TPOFF32)
+          → at.chosen.relocation ≡ r_type_of (x86_64_name names.R_X86_64_TPOFF32)
           → (symbol : Symbol) → slice_get l.symbols (rela_at l i).symbol ≡ Some symbol
-          → LawAt l i names.R_X86_64_TLSGD thread_row (around_call (variable count)) chosen.kind symbol
+          → LawAt l i names.R_X86_64_TLSGD thread_row (window (variable count) back (4 + its_call)) at.chosen.kind symbol
       to_local after_is law r_type_is symbol is_symbol entry c s there k k' s' pointer holds returns =
           some_and _ (x86_64_relocation_after kind names.R_X86_64_TLSGD) names.R_X86_64_TPOFF32 after_is law c s
           object_call there.original l.final (offset_of l i) (operands_with X86_64 l.addresses thread_row symbol (rela_at l i) entry)
@@ -1615,9 +1569,9 @@ module _ (l : Linked) (linked : IsLinked l) (x86 : l.context.architecture ≡ X8
           → ((symbol : Symbol) (c : Code) (k : Kinds) (s : State) (k' : Kinds) (o : Operands)
           → EntryHolds (relaxations.X86_64 kind) symbol c k s k' o
           → (symbol.thread_entry < 2 ^ 64) × AddsOffset symbol.thread_entry c k s k' o)
-          → chosen.relocation ≡ r_type_of (x86_64_name names.R_X86_64_GOTTPOFF)
+          → at.chosen.relocation ≡ r_type_of (x86_64_name names.R_X86_64_GOTTPOFF)
           → (symbol : Symbol) → slice_get l.symbols (rela_at l i).symbol ≡ Some symbol
-          → LawAt l i names.R_X86_64_TLSGD thread_row (around_call (variable count)) chosen.kind symbol
+          → LawAt l i names.R_X86_64_TLSGD thread_row (window (variable count) back (4 + its_call)) at.chosen.kind symbol
       to_initial after_is law reads r_type_is symbol is_symbol entry c s there k k' s' pointer holds returns =
           let operands = operands_with X86_64 l.addresses thread_row symbol (rela_at l i) entry in
           let held = reads symbol c k s k' operands
@@ -1629,8 +1583,8 @@ module _ (l : Linked) (linked : IsLinked l) (x86 : l.context.architecture ≡ X8
           there.old there.new k k' s' pointer (held.1) returns
 
     -- of a module
-    module_law : (count : ℕ) → CallLaw back its_call count kind → chosen.relocation ≡ 0 → (rela_at l i).addend ≡ neg_ℤ (pos 4)
-        → (symbol : Symbol) → LawAt l i names.R_X86_64_TLSLD tls_module_row (around_call (block count)) chosen.kind symbol
+    module_law : (count : ℕ) → CallLaw back its_call count kind → at.chosen.relocation ≡ 0 → (rela_at l i).addend ≡ neg_ℤ (pos 4)
+        → (symbol : Symbol) → LawAt l i names.R_X86_64_TLSLD tls_module_row (window (block count) back (4 + its_call)) at.chosen.kind symbol
     module_law count law code addend symbol entry c s there =
         law c s object_call there.original (offset_of l i) (operands_with X86_64 l.addresses tls_module_row symbol (rela_at l i) entry)
         (before l i back (4 + its_call) kind has_call names.R_X86_64_TLSLD _ c s there addend) matches there.applied
@@ -1638,64 +1592,72 @@ module _ (l : Linked) (linked : IsLinked l) (x86 : l.context.architecture ≡ X8
 
 -- ---- general-dynamic
 
-module _ (law : groups.GeneralDynamic) (l : Linked) (linked : IsLinked l) (x86 : l.context.architecture ≡ X86_64)
-    (i : ℕ) (chosen : Choice Relaxation ℕ) (below : i < count l)
-    (is_name : IsNameOf x86_64_name (relocation_in l.relocations i).r_type names.R_X86_64_TLSGD)
-    (decided : decision_at l.decisions i ≡ Rewritten chosen) where
-  pub variable_is_lawful : IsOfTable general_dynamic_table l.section (relocation_in l.relocations i).offset (relocation_in l.relocations i).addend chosen
-      → Lawful l i chosen names.R_X86_64_TLSGD
+module _ (law : groups.GeneralDynamic) (l : Linked) (i : ℕ) (at : IsAt l i)
+    (is_name : IsNameOf x86_64_name (relocation_in l.relocations i).r_type names.R_X86_64_TLSGD) where
+  pub variable_is_lawful : IsOfTable general_dynamic_table l.section (offset_of l i) (relocation_in l.relocations i).addend at.chosen
+      → Lawful l i at.chosen names.R_X86_64_TLSGD
   variable_is_lawful (inl this) =
       let kind = kinds.TlsGdToLocalExec in
-      let window = own_window 4 12 (x86_64_rewrite kind) (puts 4 12 _ _ _) refl (λ window. refl) (omega arith) (omega arith) in
-      let shape : AreOf 4 12 (x86_64_originals kind) = ((refl, refl), ((refl, refl), tt)) in
-      sequence l linked x86 i chosen below decided kind this.kind_is 4 8 window shape this.has_pattern
-      names.R_X86_64_TLSGD (variable 2) refl (omega arith) (λ symbol w c s object. object) thread_row (λ alone symbol row by. (
-        ap (λ q. unwrap_or q row) (by.1),
-        to_local l linked x86 i chosen below decided kind this.kind_is 4 8 window shape this.has_pattern alone 2 is_name
-            (sym this.same_addend ∙ this.hold.1.1.1.0) (omega arith) (omega arith) refl (law.0) this.r_type_is symbol (by.0),
-      ))
+      let its_window = own_window 4 12 (x86_64_rewrite kind) (puts 4 12 _ _ _) refl (λ window. refl) (omega arith) (omega arith) in
+      let shape : AreOf 4 12 (x86_64_originals kind) = ((refl, refl), ((refl, refl), tt)) in (
+        window (variable 2) 4 12,
+        by_field l i at names.R_X86_64_TLSGD (window (variable 2) 4 12) kind
+            (of_call l i at kind this.kind_is 4 8 its_window shape this.has_pattern)
+            (ap (window_of names.R_X86_64_TLSGD) this.kind_is) (omega arith) (λ symbol w c s object. object) thread_row (λ alone symbol row by. (
+              ap (λ q. unwrap_or q row) (by.1),
+              to_local l i at kind this.kind_is 4 8 its_window shape this.has_pattern alone 2 is_name
+                  (sym this.same_addend ∙ this.hold.1.1.1.0) (omega arith) (omega arith) refl (law.0) this.r_type_is symbol (by.0),
+            )),
+      )
   variable_is_lawful (inr (inl this)) =
       let kind = kinds.TlsGdToLocalExecLarge in
-      let window = own_window 3 19 (x86_64_rewrite kind) (puts 3 22 _ _ _) refl (λ window. refl) (omega arith) (omega arith) in
-      let shape : AreOf 3 19 (x86_64_originals kind) = ((refl, refl), ((refl, refl), tt)) in
-      sequence l linked x86 i chosen below decided kind this.kind_is 3 15 window shape this.has_pattern
-      names.R_X86_64_TLSGD (variable 3) refl (omega arith) (λ symbol w c s object. object) thread_row (λ alone symbol row by. (
-        ap (λ q. unwrap_or q row) (by.1),
-        to_local l linked x86 i chosen below decided kind this.kind_is 3 15 window shape this.has_pattern alone 3 is_name
-            (sym this.same_addend ∙ this.hold.1.1.1.0) (omega arith) (omega arith) refl (law.2) this.r_type_is symbol (by.0),
-      ))
+      let its_window = own_window 3 19 (x86_64_rewrite kind) (puts 3 22 _ _ _) refl (λ window. refl) (omega arith) (omega arith) in
+      let shape : AreOf 3 19 (x86_64_originals kind) = ((refl, refl), ((refl, refl), tt)) in (
+        window (variable 3) 3 19,
+        by_field l i at names.R_X86_64_TLSGD (window (variable 3) 3 19) kind
+            (of_call l i at kind this.kind_is 3 15 its_window shape this.has_pattern)
+            (ap (window_of names.R_X86_64_TLSGD) this.kind_is) (omega arith) (λ symbol w c s object. object) thread_row (λ alone symbol row by. (
+              ap (λ q. unwrap_or q row) (by.1),
+              to_local l i at kind this.kind_is 3 15 its_window shape this.has_pattern alone 3 is_name
+                  (sym this.same_addend ∙ this.hold.1.1.1.0) (omega arith) (omega arith) refl (law.2) this.r_type_is symbol (by.0),
+            )),
+      )
   variable_is_lawful (inr (inr (inl this))) =
       let kind = kinds.TlsGdToInitialExec in
-      let window = own_window 4 12 (x86_64_rewrite kind) (puts 4 12 _ _ _) refl (λ window. refl) (omega arith) (omega arith) in
-      let shape : AreOf 4 12 (x86_64_originals kind) = ((refl, refl), ((refl, refl), tt)) in
-      sequence l linked x86 i chosen below decided kind this.kind_is 4 8 window shape this.has_pattern
-      names.R_X86_64_TLSGD (variable 2) refl (omega arith) (λ symbol w c s object. object) thread_row (λ alone symbol row by. (
-        ap (λ q. unwrap_or q row) (by.1),
-        to_initial l linked x86 i chosen below decided kind this.kind_is 4 8 window shape this.has_pattern alone 2 is_name
-            (sym this.same_addend ∙ this.hold.1.1.0) (omega arith) (omega arith) refl (law.1) (λ symbol c k s k' o holds. holds) this.r_type_is symbol (by.0),
-      ))
+      let its_window = own_window 4 12 (x86_64_rewrite kind) (puts 4 12 _ _ _) refl (λ window. refl) (omega arith) (omega arith) in
+      let shape : AreOf 4 12 (x86_64_originals kind) = ((refl, refl), ((refl, refl), tt)) in (
+        window (variable 2) 4 12,
+        by_field l i at names.R_X86_64_TLSGD (window (variable 2) 4 12) kind
+            (of_call l i at kind this.kind_is 4 8 its_window shape this.has_pattern)
+            (ap (window_of names.R_X86_64_TLSGD) this.kind_is) (omega arith) (λ symbol w c s object. object) thread_row (λ alone symbol row by. (
+              ap (λ q. unwrap_or q row) (by.1),
+              to_initial l i at kind this.kind_is 4 8 its_window shape this.has_pattern alone 2 is_name
+                  (sym this.same_addend ∙ this.hold.1.1.0) (omega arith) (omega arith) refl (law.1) (λ symbol c k s k' o holds. holds) this.r_type_is symbol (by.0),
+            )),
+      )
   variable_is_lawful (inr (inr (inr nothing))) = absurd nothing
 
 -- ---- local-dynamic
 
-module _ (law : groups.LocalDynamic) (l : Linked) (linked : IsLinked l) (x86 : l.context.architecture ≡ X86_64)
-    (i : ℕ) (chosen : Choice Relaxation ℕ) (below : i < count l)
-    (decided : decision_at l.decisions i ≡ Rewritten chosen) where
+module _ (law : groups.LocalDynamic) (l : Linked) (i : ℕ) (at : IsAt l i) where
   by_kind : (kind : RewriteKind) (its_call n : ℕ) (has_window : HasWindow 3 (4 + its_call) (x86_64_rewrite kind))
       → AreOf 3 (4 + its_call) (x86_64_originals kind)
       → sequence_of (relaxations.X86_64 kind) ≡ Some (window (block n) 3 (4 + its_call)) → CallLaw 3 its_call n kind
-      → IsOfEntry any (module_by kind) l.section (relocation_in l.relocations i).offset (relocation_in l.relocations i).addend chosen
-      → Lawful l i chosen names.R_X86_64_TLSLD
+      → IsOfEntry any (module_by kind) l.section (offset_of l i) (relocation_in l.relocations i).addend at.chosen
+      → Lawful l i at.chosen names.R_X86_64_TLSLD
   by_kind kind its_call n has_window shape is of this =
-      sequence l linked x86 i chosen below decided kind this.kind_is 3 its_call has_window shape this.has_pattern names.R_X86_64_TLSLD
-      (block n) is (omega arith) (λ symbol w c s object. object) tls_module_row (λ alone symbol row by. (
-        ap (λ q. unwrap_or q row) by,
-        module_law l linked x86 i chosen below decided kind this.kind_is 3 its_call has_window shape this.has_pattern alone n of
-            this.r_type_is (sym this.same_addend ∙ this.hold.1.1.0) symbol,
-      ))
+      let its_kind = of_call l i at kind this.kind_is 3 its_call has_window shape this.has_pattern in (
+        window (block n) 3 (4 + its_call),
+        by_field l i at names.R_X86_64_TLSLD (window (block n) 3 (4 + its_call)) kind its_kind (ap sequence_of this.kind_is ∙ is)
+            (omega arith) (λ symbol w c s object. object) tls_module_row (λ alone symbol row by. (
+              ap (λ q. unwrap_or q row) by,
+              module_law l i at kind this.kind_is 3 its_call has_window shape this.has_pattern alone n of this.r_type_is
+                  (sym this.same_addend ∙ this.hold.1.1.0) symbol,
+            )),
+      )
 
-  pub module_is_lawful : IsOfTable local_dynamic_table l.section (relocation_in l.relocations i).offset (relocation_in l.relocations i).addend chosen
-      → Lawful l i chosen names.R_X86_64_TLSLD
+  pub module_is_lawful : IsOfTable local_dynamic_table l.section (offset_of l i) (relocation_in l.relocations i).addend at.chosen
+      → Lawful l i at.chosen names.R_X86_64_TLSLD
   module_is_lawful (inl this) =
       by_kind kinds.TlsLdToLocalExec 5 1
       (own_window 3 9 (x86_64_rewrite kinds.TlsLdToLocalExec) (puts 3 12 _ _ _) refl (λ window. refl) (omega arith) (omega arith))
@@ -1722,71 +1684,65 @@ module _ (n : ℕ) (three : 3 ≤ n) (name : X86_64Relocation) (named : IsNamed 
     (offset_after : x86_64_relocation_after (kinds.TlsDescToLocalExec n) name ≡ Some names.R_X86_64_TPOFF32)
     (entry_after : x86_64_relocation_after kinds.TlsDescToInitialExec name ≡ Some names.R_X86_64_GOTTPOFF)
     (to_offset : LeaToOffset n name register_of) (to_entry : LeaToEntry n name register_of)
-    (l : Linked) (linked : IsLinked l) (x86 : l.context.architecture ≡ X86_64) (i : ℕ)
-    (chosen : Choice Relaxation ℕ) (below : i < count l)
-    (is_name : IsNameOf x86_64_name (relocation_in l.relocations i).r_type name)
-    (decided : decision_at l.decisions i ≡ Rewritten chosen)
-    (is : window_of name chosen.kind ≡ Some (window (lea register_of) n 4)) (small : n < 2 ^ 64)
+    (l : Linked) (i : ℕ) (at : IsAt l i) (is_name : IsNameOf x86_64_name (relocation_in l.relocations i).r_type name)
+    (is : window_of name at.chosen.kind ≡ Some (window (lea register_of) n 4)) (small : n < 2 ^ 64)
   where
     abbrev object_descriptor : List ℕ
     object_descriptor = put_back ((offset_of l i) - n) (n + 4) l.section l.final
 
-    room_descriptor : IsTrue (is_one_at (lea_of_descriptor n) l.section (offset_of l i)) → (n ≤ (offset_of l i)) × ((offset_of l i) + 4 ≤ length l.section)
-    room_descriptor there = there_inside n 4 (omega arith) (lea_of_descriptor n) l.section (offset_of l i) shape there
-
     -- by its rewrite
-    lawful : (kind : RewriteKind) → chosen.kind ≡ relaxations.X86_64 kind → HasWindow n 4 (x86_64_rewrite kind)
-        → IsTrue (is_one_at (lea_of_descriptor n) l.section (offset_of l i)) → x86_64_matches kind l.section (offset_of l i)
-        → (UntouchedByOthers l i ((offset_of l i) - n) (n + 4) → (symbol : Symbol) → slice_get l.symbols (rela_at l i).symbol ≡ Some symbol
-        → LawAt l i name thread_row (window (lea register_of) n 4) chosen.kind symbol)
-        → IsLawful l i chosen name (window (lea register_of) n 4)
-    lawful kind kind_is has_window there matches law =
+    abbrev of_lea : (kind : RewriteKind) → at.chosen.kind ≡ relaxations.X86_64 kind → HasWindow n 4 (x86_64_rewrite kind)
+        → HasPattern (lea_of_descriptor n) kind l.section (offset_of l i) → IsOfKind l i at.chosen n 4 kind
+    of_lea kind kind_is has_window pattern =
         record {
-          is = is;
-          kind = kind;
           kind_is = kind_is;
           window = has_window;
-          matches = matches;
-          room = room_descriptor there;
-          law = λ alone symbol o c s final pc object.
-              of_field l linked i chosen name (window (lea register_of) n 4) small (room_descriptor there) symbol o c s final pc object
-              thread_row (ap (λ q. unwrap_or q object.row) (object.by.1)) (law alone symbol (object.by.0));
+          matches = pattern.1;
+          room = there_inside n 4 (omega arith) (lea_of_descriptor n) l.section (offset_of l i) shape (pattern.0);
         }
 
-    pub lea_is_lawful : IsOfTable (descriptor_table n) l.section (offset_of l i) (rela_at l i).addend chosen
-        → IsLawful l i chosen name (window (lea register_of) n 4)
+    lawful : (kind : RewriteKind) → IsOfKind l i at.chosen n 4 kind
+        → (UntouchedByOthers l i ((offset_of l i) - n) (n + 4) → (symbol : Symbol) → slice_get l.symbols (rela_at l i).symbol ≡ Some symbol
+        → LawAt l i name thread_row (window (lea register_of) n 4) at.chosen.kind symbol)
+        → IsLawful l i at.chosen name (window (lea register_of) n 4)
+    lawful kind of law =
+        by_field l i at name (window (lea register_of) n 4) kind of is small (λ symbol o c s object. object) thread_row
+        (λ alone symbol row by. (ap (λ q. unwrap_or q row) (by.1), law alone symbol (by.0)))
+
+    pub lea_is_lawful : IsOfTable (descriptor_table n) l.section (offset_of l i) (rela_at l i).addend at.chosen
+        → IsLawful l i at.chosen name (window (lea register_of) n 4)
     lea_is_lawful (inl this) =
         let kind = kinds.TlsDescToLocalExec n in
         let has_window = own_window n 4 (x86_64_rewrite kind) (rex_mov n) refl (λ window. refl) three (omega arith) in
-        lawful kind this.kind_is has_window (this.has_pattern.0) (this.has_pattern.1)
-        (λ alone symbol is_symbol entry c s at h k descriptor makes.
-        let has = has_rewrite l linked x86 i chosen below decided this.kind_is has_window (this.has_pattern.1) (room_descriptor (this.has_pattern.0)) alone in
+        let of = of_lea kind this.kind_is has_window this.has_pattern in
+        lawful kind of (λ alone symbol is_symbol entry c s stands h k descriptor makes.
+        let has : HasRewrite l i n 4 kind = record { at = at; of = of; alone = alone } in
         let there = object_has l i n 4 kind has (lea_of_descriptor n) (shaped_of n 4 (lea_of_descriptor n) shape) (this.has_pattern.0) in
         let operands = operands_with X86_64 l.addresses thread_row symbol (rela_at l i) entry in
         some_and _ (x86_64_relocation_after kind name) names.R_X86_64_TPOFF32 offset_after to_offset c s object_descriptor
-        at.original l.final (offset_of l i) operands
-        (before l i n 4 kind has name operands c s at (sym this.same_addend ∙ this.hold.1.1.1.0)) there
-        (object_matches l i n 4 kind has (of_offset object_descriptor (offset_of l i) there)) at.applied
+        stands.original l.final (offset_of l i) operands
+        (before l i n 4 kind has name operands c s stands (sym this.same_addend ∙ this.hold.1.1.1.0)) there
+        (object_matches l i n 4 kind has (of_offset object_descriptor (offset_of l i) there)) stands.applied
         (final_is l i n 4 kind has names.R_X86_64_TPOFF32 tpoff32
         (ap (is_of_got X86_64) (sym is_name.r_type_is) ∙ not_of_got) this.r_type_is (omega arith) (omega arith) symbol is_symbol entry)
-        at.old at.new h k descriptor
+        stands.old stands.new h k descriptor
         (subst (λ x. Makes x symbol c k s operands (c.new_half h)) this.kind_is makes))
     lea_is_lawful (inr (inl this)) =
         let kind = kinds.TlsDescToInitialExec in
         let has_window = own_window n 4 (x86_64_rewrite kind) (replaces 2 1 _) refl (λ window. refl) (omega (arith, three)) (omega arith) in
-        lawful kind this.kind_is has_window (this.has_pattern.0) (this.has_pattern.1)
-        (λ alone symbol is_symbol entry c s at h k descriptor makes.
-        let has = has_rewrite l linked x86 i chosen below decided this.kind_is has_window (this.has_pattern.1) (room_descriptor (this.has_pattern.0)) alone in
+        let of = of_lea kind this.kind_is has_window this.has_pattern in
+        lawful kind of (λ alone symbol is_symbol entry c s stands h k descriptor makes.
+        let has : HasRewrite l i n 4 kind = record { at = at; of = of; alone = alone } in
         let there = object_has l i n 4 kind has (lea_of_descriptor n) (shaped_of n 4 (lea_of_descriptor n) shape) (this.has_pattern.0) in
         let operands = operands_with X86_64 l.addresses thread_row symbol (rela_at l i) entry in
         let made : Makes (relaxations.X86_64 kind) symbol c k s operands (c.new_half h) =
         subst (λ x. Makes x symbol c k s operands (c.new_half h)) this.kind_is makes in
         some_and _ (x86_64_relocation_after kind name) names.R_X86_64_GOTTPOFF entry_after
-        (to_entry symbol.thread_entry (made.0)) c s object_descriptor at.original l.final (offset_of l i) operands
-        (before l i n 4 kind has name operands c s at (sym this.same_addend ∙ this.hold.1.1.0)) there
-        (object_matches l i n 4 kind has (of_entry object_descriptor (offset_of l i) there)) at.applied
+        (to_entry symbol.thread_entry (made.0)) c s object_descriptor stands.original l.final (offset_of l i) operands
+        (before l i n 4 kind has name operands c s stands (sym this.same_addend ∙ this.hold.1.1.0)) there
+        (object_matches l i n 4 kind has (of_entry object_descriptor (offset_of l i) there)) stands.applied
         (entry_final l i n 4 kind has this.r_type_is symbol is_symbol (omega arith) (omega arith) entry)
-        at.old at.new h k descriptor (made.1))
+        stands.old stands.new h k descriptor (made.1))
     lea_is_lawful (inr (inr nothing)) = absurd nothing
 
 -- an instruction that is one of one is one of two
@@ -1794,91 +1750,90 @@ first : (a b : Bool) → (a || false) ≡ true → (a || b) ≡ true
 first true b is = refl
 first false b is = absurd (let e : false ≡ true = is in cc)
 
-module _ (law : groups.LeaOfDescriptor) (l : Linked) (linked : IsLinked l) (x86 : l.context.architecture ≡ X86_64)
-    (i : ℕ) (chosen : Choice Relaxation ℕ) (below : i < count l) (decided : decision_at l.decisions i ≡ Rewritten chosen)
+module _ (law : groups.LeaOfDescriptor) (l : Linked) (i : ℕ) (at : IsAt l i)
   where
     abbrev it : Rela
     it = relocation_in l.relocations i
 
     pub with_rex_is_lawful : IsNameOf x86_64_name it.r_type names.R_X86_64_GOTPC32_TLSDESC
-        → IsOfTable (descriptor_table 3) l.section it.offset it.addend chosen
-        → IsLawful l i chosen names.R_X86_64_GOTPC32_TLSDESC (window (lea reg_after_rex) 3 4)
+        → IsOfTable (descriptor_table 3) l.section it.offset it.addend at.chosen
+        → IsLawful l i at.chosen names.R_X86_64_GOTPC32_TLSDESC (window (lea reg_after_rex) 3 4)
     with_rex_is_lawful is_name =
         lea_is_lawful 3 (omega arith) names.R_X86_64_GOTPC32_TLSDESC tt refl reg_after_rex ((refl, refl), tt)
         (λ bytes o is. is)
         (λ bytes o is. first (is_at (with_rex rex_w 0x8d) bytes o) (is_at (with_rex2 rex2_w 0x8d) bytes o || false) is)
-        refl refl (law.0) (law.1) l linked x86 i chosen below is_name decided refl (omega arith)
+        refl refl (law.0) (law.1) l i at is_name refl (omega arith)
 
     pub with_rex2_is_lawful : IsNameOf x86_64_name it.r_type names.R_X86_64_CODE_4_GOTPC32_TLSDESC
-        → IsOfTable (descriptor_table 4) l.section it.offset it.addend chosen
-        → IsLawful l i chosen names.R_X86_64_CODE_4_GOTPC32_TLSDESC (window (lea reg_after_rex2) 4 4)
+        → IsOfTable (descriptor_table 4) l.section it.offset it.addend at.chosen
+        → IsLawful l i at.chosen names.R_X86_64_CODE_4_GOTPC32_TLSDESC (window (lea reg_after_rex2) 4 4)
     with_rex2_is_lawful is_name =
         lea_is_lawful 4 (omega arith) names.R_X86_64_CODE_4_GOTPC32_TLSDESC tt refl reg_after_rex2 ((refl, refl), tt)
         (λ bytes o is. is)
         (λ bytes o is. or_right (is_at (with_rex rex_w 0x8d) bytes o) (is_at (with_rex2 rex2_w 0x8d) bytes o || false) is)
-        refl refl (law.2) (law.3) l linked x86 i chosen below is_name decided refl (omega arith)
+        refl refl (law.2) (law.3) l i at is_name refl (omega arith)
 
 -- ---- the call
 
-module _ (law : groups.CallOfDescriptor) (l : Linked) (linked : IsLinked l)
-    (x86 : l.context.architecture ≡ X86_64) (i : ℕ) (chosen : Choice Relaxation ℕ) (below : i < count l)
-    (decided : decision_at l.decisions i ≡ Rewritten chosen)
+module _ (law : groups.CallOfDescriptor) (l : Linked) (i : ℕ) (at : IsAt l i)
   where
-    abbrev at : ℕ
-    at = (relocation_in l.relocations i).offset
+    abbrev o : ℕ
+    o = offset_of l i
 
     abbrev skip : RewriteKind
     skip = kinds.SkipTlsDescCall
 
-    pub call_is_lawful : IsOfTable (any_entry (unrelocated_by kinds.SkipTlsDescCall ∷ [])) l.section at (relocation_in l.relocations i).addend chosen
-        → IsLawful l i chosen names.R_X86_64_TLSDESC_CALL (window call 0 2)
+    pub call_is_lawful : IsOfTable (any_entry (unrelocated_by kinds.SkipTlsDescCall ∷ [])) l.section o (relocation_in l.relocations i).addend at.chosen
+        → IsLawful l i at.chosen names.R_X86_64_TLSDESC_CALL (window call 0 2)
     call_is_lawful (inl this) =
-        let room_descriptor = there_inside 0 2 (omega arith) (x86_64_originals skip) l.section at ((refl, refl), tt) (this.has_pattern.1.1) in
+        let linked : IsLinked l = at.ensured in
         let has_window = own_window 0 2 (x86_64_rewrite skip) (replaces 0 2 _) refl (λ window. refl) (omega arith) (omega arith) in
-        record {
-          is = refl;
-          kind = skip;
+        let of : IsOfKind l i at.chosen 0 2 skip = record {
           kind_is = this.kind_is;
           window = has_window;
           matches = this.has_pattern.1;
-          room = room_descriptor;
-          law = λ alone symbol o c s final pc old.
-              let has = has_rewrite l linked x86 i chosen below decided this.kind_is has_window (this.has_pattern.1) room_descriptor alone in
-              let high = room_descriptor.1 in
+          room = there_inside 0 2 (omega arith) (x86_64_originals skip) l.section o ((refl, refl), tt) (this.has_pattern.1.1);
+        } in
+        record {
+          is = refl;
+          kind = skip;
+          of = of;
+          law = λ alone symbol operands c s final pc old.
+              let has : HasRewrite l i 0 2 skip = record { at = at; of = of; alone = alone } in
+              let high = of.room.1 in
               let long : length l.final ≡ length l.section =
               linked.written.same_length ∙ (last_length l linked ∙ linked.same_length) in
-              let object = put_back (at - 0) (0 + 2) l.section l.final in
-              law c s object at (object_bytes l i 0 2 skip has)
+              let object = put_back (o - 0) (0 + 2) l.section l.final in
+              law c s object o (object_bytes l i 0 2 skip has)
               (object_matches l i 0 2 skip has
               (object_has l i 0 2 skip has (x86_64_originals skip) (shaped_of 0 2 (x86_64_originals skip) ((refl, refl), tt)) (this.has_pattern.1.1)))
               (old
-              ∙ same_windows at 2 l.section object (object_length l i 0 2 skip has)
+              ∙ same_windows o 2 l.section object (object_length l i 0 2 skip has)
               (λ j from less. object_same l i 0 2 skip has j (omega (arith, from)) less))
-              (rw (unrelocated l i 0 2 skip has this.r_type_is, ← (let e : at - 0 ≡ at = omega arith in e), pc) (final (at - 0) 2 (omega (arith, high, long))));
+              (rw (unrelocated l i 0 2 skip has this.r_type_is, ← (let e : o - 0 ≡ o = omega arith in e), pc) (final (o - 0) 2 (omega (arith, high, long))));
         }
     call_is_lawful (inr nothing) = absurd nothing
 
 -- ---- the law of a name
 
-module _ (laws : Groups) (l : Linked) (linked : IsLinked l) (x86 : l.context.architecture ≡ X86_64) (i : ℕ)
-    (chosen : Choice Relaxation ℕ) (below : i < count l) (decided : decision_at l.decisions i ≡ Rewritten chosen) where
+module _ (laws : Groups) (l : Linked) (i : ℕ) (at : IsAt l i) where
   -- a rewrite has a law, or it leaves the instruction
   abbrev Outcome : X86_64Relocation → Type 0
   Outcome name =
       IsNamed (x86_64_name name)
-      × (Lawful l i chosen name ⊎ ((window_of name chosen.kind ≡ None) × (relaxation_rewrite chosen.kind ≡ None)))
+      × (Lawful l i at.chosen name ⊎ ((window_of name at.chosen.kind ≡ None) × (relaxation_rewrite at.chosen.kind ≡ None)))
 
   abbrev IsOf : X86_64Relocation → Type 0
   IsOf name =
-      IsOfTable (x86_64_table name (opcode_at name l.section (offset_of l i))) l.section (offset_of l i) (relocation_in l.relocations i).addend chosen
+      IsOfTable (x86_64_table name (opcode_at name l.section (offset_of l i))) l.section (offset_of l i) (relocation_in l.relocations i).addend at.chosen
 
   got_law : (name : X86_64Relocation) (back : ℕ) (held : Operands → ℕ) → is_of_got X86_64 (r_type_of (x86_64_name name)) ≡ false
-      → window_of name chosen.kind ≡ Some (window (in_got held) back 4) → back < 2 ^ 64 → IsNamed (x86_64_name name)
+      → window_of name at.chosen.kind ≡ Some (window (in_got held) back 4) → back < 2 ^ 64 → IsNamed (x86_64_name name)
       → ((opcode : ℕ) → TableServes back name held (x86_64_table name opcode))
       → IsNameOf x86_64_name (relocation_in l.relocations i).r_type name → IsOf name → Outcome name
   got_law name back held not_of_got is few named serves is_name of = (
     named,
-    inl (window (in_got held) back 4, got_is_lawful name back held not_of_got l linked x86 i chosen below decided is_name (of_choice (serves (opcode_at name l.section (offset_of l i))) of) is few),
+    inl (window (in_got held) back 4, got_is_lawful name back held not_of_got l i at is_name (of_choice (serves (opcode_at name l.section (offset_of l i))) of) is few),
   )
 
   law_of_name : (name : X86_64Relocation) → IsNameOf x86_64_name (relocation_in l.relocations i).r_type name
@@ -1892,20 +1847,20 @@ module _ (laws : Groups) (l : Linked) (linked : IsLinked l) (x86 : l.context.arc
   law_of_name names.R_X86_64_CODE_4_GOTTPOFF is_name of = got_law names.R_X86_64_CODE_4_GOTTPOFF 4 thread_offset refl refl (omega arith) tt (offset_4 laws) is_name of
   law_of_name names.R_X86_64_CODE_6_GOTTPOFF is_name of = got_law names.R_X86_64_CODE_6_GOTTPOFF 6 thread_offset refl refl (omega arith) tt (offset_6 laws) is_name of
   law_of_name names.R_X86_64_TLSGD is_name of =
-      (tt, inl (variable_is_lawful laws.general_dynamic l linked x86 i chosen below is_name decided of))
+      (tt, inl (variable_is_lawful laws.general_dynamic l i at is_name of))
   law_of_name names.R_X86_64_TLSLD is_name of =
-      (tt, inl (module_is_lawful laws.local_dynamic l linked x86 i chosen below decided of))
+      (tt, inl (module_is_lawful laws.local_dynamic l i at of))
   law_of_name names.R_X86_64_GOTPC32_TLSDESC is_name of = (
     tt,
-    inl (window (lea reg_after_rex) 3 4, with_rex_is_lawful laws.descriptor_address l linked x86 i chosen below decided is_name of),
+    inl (window (lea reg_after_rex) 3 4, with_rex_is_lawful laws.descriptor_address l i at is_name of),
   )
   law_of_name names.R_X86_64_CODE_4_GOTPC32_TLSDESC is_name of = (
     tt,
-    inl (window (lea reg_after_rex2) 4 4, with_rex2_is_lawful laws.descriptor_address l linked x86 i chosen below decided is_name of),
+    inl (window (lea reg_after_rex2) 4 4, with_rex2_is_lawful laws.descriptor_address l i at is_name of),
   )
   law_of_name names.R_X86_64_TLSDESC_CALL is_name of = (
     tt,
-    inl (window call 0 2, call_is_lawful laws.descriptor_call l linked x86 i chosen below decided of),
+    inl (window call 0 2, call_is_lawful laws.descriptor_call l i at of),
   )
   law_of_name names.R_X86_64_DTPOFF32 is_name (inl this) = (tt, inr (refl, ap relaxation_rewrite this.kind_is))
   law_of_name names.R_X86_64_DTPOFF32 is_name (inr nothing) = absurd nothing
@@ -1915,17 +1870,17 @@ module _ (laws : Groups) (l : Linked) (linked : IsLinked l) (x86 : l.context.arc
 
   -- of instructions that are rewritten together
   law_there : (name : X86_64Relocation) (w : Window) → IsNameOf x86_64_name (relocation_in l.relocations i).r_type name
-      → window_of name chosen.kind ≡ Some w → IsLawful l i chosen name w
+      → window_of name at.chosen.kind ≡ Some w → IsLawful l i at.chosen name w
   law_there name w is_name is =
-      let t = has_table l linked x86 i chosen below decided in
+      let t = has_table l i at in
       let made = law_of_name t.name t.is_name t.is in
       let same : name ≡ t.name = is_name.named t.name (made.0) t.is_name.r_type_is in
-      let there : window_of t.name chosen.kind ≡ Some w = ap (λ n. window_of n chosen.kind) (sym same) ∙ is in
+      let there : window_of t.name at.chosen.kind ≡ Some w = ap (λ n. window_of n at.chosen.kind) (sym same) ∙ is in
       rw same (elim (made.1) [
         | inl found ↦
             let law = found.1 in
             let e : found.0 ≡ w = ap (λ q. unwrap_or q w) (sym law.is ∙ there) in
-            subst (IsLawful l i chosen t.name) e law
+            subst (IsLawful l i at.chosen t.name) e law
         | inr none ↦ absurd (let e : None ≡ Some w = sym (none.0) ∙ there in cc)
       ])
 
@@ -1936,34 +1891,34 @@ module _ (laws : Groups) (l : Linked) (linked : IsLinked l) (x86 : l.context.arc
   Shown = (get_or l.rewritten b 0 ≡ get_or l.section b 0) ⊎ IsIn rewriting l b
 
   -- one with a law
-  in_window : (i : ℕ) (chosen : Choice Relaxation ℕ) → i < count l → decision_at l.decisions i ≡ Rewritten chosen
-      → (name : X86_64Relocation) → IsNameOf x86_64_name (relocation_in l.relocations i).r_type name
-      → (w : Window) → IsLawful l i chosen name w → IsOutside l.relocations l.decisions i b ⊎ Shown
-  in_window i chosen below decided name is_name w law =
+  in_window : (i : ℕ) (at : IsAt l i) (name : X86_64Relocation)
+      → IsNameOf x86_64_name (relocation_in l.relocations i).r_type name
+      → (w : Window) → IsLawful l i at.chosen name w → IsOutside l.relocations l.decisions i b ⊎ Shown
+  in_window i at name is_name w law =
       let o = offset_of l i in
       let has_window = law.window in
       let made = has_window.made in
       let inner = has_window.inner in
-      let made_is : relaxation_rewrite chosen.kind ≡ Some made = ap relaxation_rewrite law.kind_is ∙ has_window.is in
+      let made_is : relaxation_rewrite at.chosen.kind ≡ Some made = ap relaxation_rewrite law.kind_is ∙ has_window.is in
       let can : IsRewritable made l.section o = subst (λ q. CanRewrite q l.section o) has_window.is (law.matches.0) in
       elim (cases_lt b (o - made.back)) [
         | inl before ↦
-            inl (outside_of l i chosen (Some made) decided made_is b (inl before))
+            inl (outside_of l i at.chosen (Some made) at.decided made_is b (inl before))
         | inr from ↦ elim (cases_lt b (o - made.back + made.len)) [
           | inr past ↦
-              inl (outside_of l i chosen (Some made) decided made_is b (inr past))
+              inl (outside_of l i at.chosen (Some made) at.decided made_is b (inr past))
           | inl less ↦ inr (elim (cases_lt b (o - w.back)) [
             | inl low ↦ inl (has_window.low l.section l.rewritten o b can.starts can.ends linked.same_length
                 (subst (λ q. IsMade q o l.section l.rewritten) made_is
-                (subst (λ d. IsDone d o l.section l.rewritten) decided (linked.done i below))) from low)
+                (subst (λ d. IsDone d o l.section l.rewritten) at.decided (linked.done i at.below))) from low)
             | inr high ↦ inr (record {
               g = record {
                 i = i;
-                below = below;
+                below = at.below;
                 name = name;
                 is_name = is_name;
-                chosen = chosen;
-                decided = decided;
+                chosen = at.chosen;
+                decided = at.decided;
                 window = w;
                 is = law.is;
               };
@@ -1986,9 +1941,10 @@ module _ (laws : Groups) (l : Linked) (linked : IsLinked l) (x86 : l.context.arc
   by_decision i below Kept is = inl (spared l i Kept is refl b)
   by_decision i below Consumed is = inl (spared l i Consumed is refl b)
   by_decision i below (Rewritten chosen) is =
-      let t = has_table l linked x86 i chosen below is in
-      elim ((law_of_name laws l linked x86 i chosen below is t.name t.is_name t.is).1) [
-        | inl found ↦ in_window i chosen below is t.name t.is_name (found.0) (found.1)
+      let at = at_index l linked x86 i chosen below is in
+      let t = has_table l i at in
+      elim ((law_of_name laws l i at t.name t.is_name t.is).1) [
+        | inl found ↦ in_window i at t.name t.is_name (found.0) (found.1)
         | inr none ↦ inl (spared l i (Rewritten chosen) is (ap window_of_rewrite (none.1)) b)
       ]
   by_decision i below (RewrittenWithSymbol chosen subject) is =
@@ -2007,7 +1963,7 @@ are_in laws l linked x86 b =
 pub rewrites_are_groups : Groups → RewritesAreGroups rewriting
 rewrites_are_groups laws x c called l is k s g n k' s' both =
     let begins = both.1 in
-    let law = law_there laws l (is_linked rewriting x called l is) (called.architecture l is) g.i g.chosen g.below g.decided
-    g.name g.window g.is_name g.is in
+    let at = at_index l (is_linked rewriting x called l is) (called.architecture l is) g.i g.chosen g.below g.decided in
+    let law = law_there laws l g.i at g.name g.window g.is_name g.is in
     begins.by_law (law.law begins.alone begins.symbol begins.operands c s
     (final_in (λ addresses final. HasFinal addresses final c) x l is (both.0)) begins.pc begins.object)
