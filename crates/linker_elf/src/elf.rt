@@ -419,21 +419,22 @@ pub trait InstructionRewrite: Copy {
         ensures addend { addend.new ≡ addend_after (rewrite self) addend.old };
 
     /// Whether `apply` may be called at an offset of a section: the bytes that it writes lie in the
-    /// section, and the instruction meets what the rewrite requires of it. For most rewrites
-    /// nothing is required and the instruction isn't tested; `matches` tests it.
+    /// section, and the instruction meets what the rewrite requires of it. Most rewrites require
+    /// nothing; then the instruction isn't tested, as `matches` of the library's rewrites tests it.
     fn can_apply(self, section: &[u8], offset: u64) -> bool
         ensures { IsTrue result ↔ CanRewrite (rewrite self) section.now offset };
 
-    /// The bytes that `apply` writes: from how far before the offset, and how many. None are
-    /// written by a rewrite that only changes the relocation. On x86-64 the field whose value is
-    /// written afterwards lies after them, but for `JmpIndirectToRelative` and
+    /// The bytes that `apply` writes: from how far before the offset, and how many. `NoOp`,
+    /// `Delete` and other rewrites that leave the instruction write none. On x86-64 the field whose
+    /// value is written afterwards lies after them, but for `JmpIndirectToRelative` and
     /// `TlsGdToLocalExecLarge`, which write 0 to it.
     fn window(self) -> RewriteWindow
         ensures { result ≡ window_of_rewrite (rewrite self) };
 
     /// What becomes of the relocation after the rewritten one. It is skipped where it is that of
-    /// the call in a TLS sequence, which the rewrite removes, or the mark `R_RISCV_RELAX` of a
-    /// deleted instruction; `skipped_offset` says where it is. Else it is applied as usual.
+    /// the call in a TLS sequence, which the rewrite removes, or the mark `R_RISCV_RELAX` of a call
+    /// that becomes a jump or of a `lui` that `Hi20Delete` deletes. Else it is applied as usual.
+    /// `skipped_offset` of the library's rewrites says where it is.
     fn next_modifier(&self) -> RelocationModifier
         ensures { result ≡ modifier self.now };
 

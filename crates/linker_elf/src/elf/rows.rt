@@ -496,8 +496,8 @@ fn write_plain(entry: &'static TableRow, value: i64, dest: &mut [u8])
     match entry.size {
         RowSize::ByteSize(len) => write_number(entry.kind, len as usize, value, dest),
         RowSize::BitMasking { range, insn } => match insn {
-            // each of the others has a plan
             AnyForm::RiscV(_) => write_field(insn, range, value, dest),
+            // not reached: only RISC-V has forms without a plan
             _ => write_bits(entry.kind, insn, range, value, dest),
         },
     }
