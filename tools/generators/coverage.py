@@ -43,26 +43,26 @@ OPEN = {
         "DescriptorToLocalExec":
             f"{ONE_PATH}; nothing else reads the registers of the `auipc` and the `ld`, and nothing "
             "t0 and what the function changes",
-        "Calls": "nothing else reads the register of a tail call's `auipc`",
-        "LuiIsDeleted": "what reads the register of a `lui` that is deleted",
+        "calls": "nothing else reads the register of a tail call's `auipc`",
+        "no_high_parts": "what reads the register of a `lui` that is deleted",
         "CluiBecomesCli": "",
-        "LowPartFromZero":
+        "low_parts":
             "the base has what the `lui` put there; a store stores no register that differs",
-        "OffsetLuiIsDeleted": "what reads the register",
-        "SumIsDeleted": "the source has what the `lui` put there",
-        "LowPartFromThreadPointer":
+        "high_offsets": "what reads the register",
+        "sums": "the source has what the `lui` put there",
+        "low_offsets":
             "the base has what the `add` put there; a store stores no register that differs",
     },
     258: {
-        "GotToAddress": ONE_PATH, "AddressToPcaddi": ONE_PATH, "EntriesToPcaddi": ONE_PATH,
-        "HighHalfToLu12i": READ_BY_LOW, "LowHalfToOri": HAS_HIGH, "LowOfDescriptorToOri": HAS_HIGH,
-        "LoadOfDescriptorToNop": "`a0` has the descriptor's address",
-        "CallOfDescriptorToNop":
+        "GotToAddress": ONE_PATH, "address": ONE_PATH, "EntriesToPcaddi": ONE_PATH,
+        "HighHalfToLu12i": READ_BY_LOW, "low_halves": HAS_HIGH, "descriptor_low_halves": HAS_HIGH,
+        "descriptor_loads": "`a0` has the descriptor's address",
+        "descriptor_calls":
             "`a0` and `ra` have what the others put there; nothing reads `ra` and what the function "
             "changes",
-        "OffsetLu12iIsDeleted": READ_BY_LOW,
-        "SumIsDeleted": "the source has what the `lu12i.w` put there",
-        "LowPartFromThreadPointer":
+        "high_offsets": READ_BY_LOW,
+        "sums": "the source has what the `lu12i.w` put there",
+        "low_offsets":
             "the base has what the `add.d` put there; a store stores no register that differs",
         "Calls": "nothing else reads rd",
     },

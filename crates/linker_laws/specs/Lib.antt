@@ -14,6 +14,7 @@ pub mod Ppc64Groups
 pub mod Ppc64GroupsWorked
 pub mod Ppc64Machine
 pub mod Ppc64RelocationLaws
+pub mod RiscVExamples
 pub mod RiscVGroups
 pub mod RiscVGroupsWorked
 pub mod RiscVMachine

@@ -13,8 +13,9 @@ use Rattle.linker_section.specs.Values.{IsHighPart, IsHighPartAt, has_value, low
 use Rattle.linker_section.specs.Values.{operands_by, value_by}
 use Rattle.linker_section.specs.declared.values.ValueError.TheVariants.{OutOfReach}
 
--- A symbol, the address of the entry that a relocation of it requires, and whether its value isn't
--- written. The address is 0 where none is required, and none where there isn't one.
+-- A symbol, the address of the entry that a relocation of it requires, and whether the relocation's
+-- value isn't written. The address is 0 where no entry is required, and None where a required one
+-- is missing.
 pub record Known : Type 0 where
   pub symbol : Symbol
   pub entry : Addresses → Option Entry → Option ℕ
@@ -24,7 +25,7 @@ pub record Known : Type 0 where
 abbrev pub Knowledge : Type 0
 Knowledge = ℕ → Rela → Option Known
 
--- ---- values
+-- ---- operands
 
 abbrev pub known_operands : Architecture → Addresses → RowInfo → Rela
     → Option Known → Result Operands ValueError

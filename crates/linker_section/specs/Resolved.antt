@@ -36,6 +36,7 @@ abbrev pub entry_at : ℕ → Option Entry → Option ℕ
 entry_at address None = Some 0
 entry_at address (Some entry) = if address == 0 then None else Some address
 
+-- what a linker resolved, as what is known of a symbol
 abbrev pub known_of : Resolved → Known
 known_of known = record {
   symbol = symbol_of known;
@@ -45,6 +46,7 @@ known_of known = record {
 
 -- ---- values
 
+-- what is known of symbols by a look-up
 abbrev pub known_by : Lookup → Knowledge
 known_by lookup i r = option_map known_of (lookup i r)
 

@@ -158,7 +158,7 @@ fn plain_operands<K: Known>(
     }
 }
 
-/// The value of a plain relocation; none where its entry isn't there.
+/// The value of a plain relocation. None where its entry is missing or its formula has no value.
 #[inline(always)]
 fn plain_value<K: Known>(
     architecture: Architecture,
@@ -212,7 +212,8 @@ fn has_plain_way(architecture: Architecture, addresses: &Addresses, way: Way) ->
     }
 }
 
-/// The value of a relocation of whose symbol something is known; none where it isn't found so.
+/// The value of a relocation of whose symbol something is known. None where it has no plain way,
+/// its entry is missing or its formula has no value.
 /// Only the contract uses `_relocations`, `_symbols` and `_index`.
 #[inline(always)]
 fn found_value<S: Symbols>(
