@@ -3,7 +3,7 @@
 
 use crate::elf::{AllowedRange, Architecture};
 use crate::linker_output::description::Target;
-use crate::linker_output::dynamic::{DynamicType, DynamicTypes, named};
+use crate::linker_output::dynamic::{DynamicTypes, named};
 use crate::linker_output::flags::FlagRules;
 use crate::linker_output::got::{GotHeader, GotLayout, ThreadPointer};
 use crate::linker_output::layout::{

@@ -6,8 +6,8 @@ use Rattle.linker_output.specs.Imports.{ppc64_name}
 use Rattle.linker_elf.specs.declared.ppc64.relocations.Ppc64Relocation.TheVariants as r
 use Rattle.linker_output.specs.Layout.{Run}
 use Rattle.linker_output.specs.Stubs.{StubCode}
-use Rattle.linker_output.specs.Tables.{field_of, code_of_words, kind, kind_of, units_of, plain_stub}
-use Rattle.linker_output.specs.Tables.{symbol, only, tag, four, load_of}
+use Rattle.linker_output.specs.Tables.{field_of, code_of_words, kind, kind_of, plain_stub}
+use Rattle.linker_output.specs.Tables.{symbol, only, plain_output, tag, four, load_of}
 use Rattle.linker_output.specs.View.{Description}
 
 -- `e_flags`: the version of the ABI
@@ -84,20 +84,21 @@ of_vectors prefix access =
 
 abbrev pub ppc64_output : Description
 ppc64_output =
-    record {
-      dynamic =
-          record {
-            word = kind_of (ppc64_name r.R_PPC64_ADDR64);
-            relative = kind 22 (codes "R_PPC64_RELATIVE");
-            glob_dat = kind 20 (codes "R_PPC64_GLOB_DAT");
-            jump_slot = kind 21 (codes "R_PPC64_JMP_SLOT");
-            copy = kind 19 (codes "R_PPC64_COPY");
-            irelative = kind 248 (codes "R_PPC64_IRELATIVE");
-            module_number = kind 68 (codes "R_PPC64_DTPMOD64");
-            module_offset = kind_of (ppc64_name r.R_PPC64_DTPREL64);
-            thread_offset = kind_of (ppc64_name r.R_PPC64_TPREL64);
-            descriptor = None;
-          };
+    record (plain_output Ppc64
+    (record {
+      word = kind_of (ppc64_name r.R_PPC64_ADDR64);
+      relative = kind 22 (codes "R_PPC64_RELATIVE");
+      glob_dat = kind 20 (codes "R_PPC64_GLOB_DAT");
+      jump_slot = kind 21 (codes "R_PPC64_JMP_SLOT");
+      copy = kind 19 (codes "R_PPC64_COPY");
+      irelative = kind 248 (codes "R_PPC64_IRELATIVE");
+      module_number = kind 68 (codes "R_PPC64_DTPMOD64");
+      module_offset = kind_of (ppc64_name r.R_PPC64_DTPREL64);
+      thread_offset = kind_of (ppc64_name r.R_PPC64_TPREL64);
+      descriptor = None;
+    })
+    -- `addis 12, 12`, `ld 12, (12)`
+    (through_r12 0xe98c0000 (ppc64_name r.R_PPC64_TOC16_LO_DS))) {
       -- DT_PPC64_GLINK, DT_PPC64_OPT
       dynamic_tags = tag 0x70000000 LazyPlt ∷ tag 0x70000003 Options ∷ [];
       thread_pointer = BelowImage 0 0x7000;
@@ -115,8 +116,6 @@ ppc64_output =
                 ∷ load_of (ppc64_name r.R_PPC64_TOC16_LO_DS) (ppc64_name r.R_PPC64_GOT16_LO_DS)
                 ∷ [];
           });
-      page = 0x10000;
-      code_unit = units_of 4;
       -- `trap`
       filler = four 0x08 0 0xe0 0x7f;
       -- version 2 of the ABI, or 0, which leaves it open; an output has 2
@@ -133,17 +132,9 @@ ppc64_output =
           -- `stvx` and `lvx` of register 20 over 12 and 0
           ∷ of_vectors (codes "_savevr_") 0x7e8c01ce
           ∷ of_vectors (codes "_restvr_") 0x7e8c00ce ∷ [];
-      interpreter_flags = 0;
       paths = only (codes "/lib64/ld64.so.2");
-      landing_property = None;
-      instructions = Ppc64;
-      -- `addis 12, 12`, `ld 12, (12)`
-      load_stub = through_r12 0xe98c0000 (ppc64_name r.R_PPC64_TOC16_LO_DS);
       -- `addis 12, 12`, `addi 12, 12`
-      landing_load_stub = None;
       jump_stub = Some (through_r12 0x398c0000 (ppc64_name r.R_PPC64_TOC16_LO));
-      far_stub = None;
-      far_relative_stub = None;
       -- `std 2, 24(1)`, and the same as the next
       toc_load_stub =
           Some (record by_toc { head = code_of_words (0xf8410018 ∷ []); entry = 4 });

@@ -1,14 +1,15 @@
 -- The vocabulary of the architectures' tables.
 use Rattle.std.specs.Prelude.{ℕ, ℤ, List, [], ◌∷◌, ◌++◌, Option, Some, None, pos}
-use Rattle.linker_output.specs.Imports.{CodeUnit, DynamicTag, ElfName, FlagRules, StubField}
-use Rattle.linker_output.specs.Imports.{TagRule, bit_bounds, r_type_of, text_of, to_le_bytes, w32}
+use Rattle.linker_output.specs.Imports.{Architecture, BelowImage, CodeUnit, DynamicTag, ElfName}
+use Rattle.linker_output.specs.Imports.{StubField, TagRule, bit_bounds, r_type_of, text_of}
+use Rattle.linker_output.specs.Imports.{to_le_bytes, w32}
 use Rattle.linker_output.specs.declared.layout.SymbolPlace.{SymbolPlace}
 use Rattle.linker_output.specs.declared.addresses.WordLoad.{WordLoad}
 use Rattle.linker_elf.specs.declared.elf.Sign.TheVariants.{Signed}
-use Rattle.linker_output.specs.Dynamic.{DynamicKind}
+use Rattle.linker_output.specs.Dynamic.{DynamicKind, DynamicKinds}
 use Rattle.linker_output.specs.Layout.{Path}
 use Rattle.linker_output.specs.Stubs.{StubCode}
-use Rattle.linker_output.specs.View.{Symbol}
+use Rattle.linker_output.specs.View.{Description, Symbol}
 
 abbrev pub kind : ℕ → List ℕ → DynamicKind
 kind r_type name = record { r_type = r_type; name = name }
@@ -22,10 +23,6 @@ kind_of name = kind (r_type_of name) (text_of name)
 -- instructions of n bytes, whatever `e_flags` is
 abbrev pub units_of : ℕ → CodeUnit
 units_of n = record { len = n; flag = 0; flagged_len = n }
-
--- the psABI defines no bit of `e_flags`
-abbrev pub no_flags : FlagRules
-no_flags = record { same = 0; joined = 0; own = 0 }
 
 abbrev pub symbol : List ℕ → SymbolPlace → ℕ → Symbol
 symbol name place offset = record { name = name; place = place; offset = offset }
@@ -81,4 +78,38 @@ data_stub words at field addend =
       head = code_of_words words;
       origin = at;
       addend = addend;
+    }
+
+-- a description with these types of dynamic relocations and the stub to the address that a word
+-- has; of all else what most architectures have, and none of the optional stubs
+abbrev pub plain_output : Architecture → DynamicKinds → StubCode → Description
+plain_output instructions dynamic load_stub =
+    record {
+      dynamic = dynamic;
+      dynamic_tags = [];
+      thread_pointer = BelowImage 0 0;
+      module_bias = 0;
+      got = record { header = None; bias = 0 };
+      addresses = None;
+      -- 64 KiB
+      page = 0x10000;
+      code_unit = units_of 4;
+      -- AArch64's `udf 0`; of RISC-V a half of 0 is no instruction
+      filler = four 0 0 0 0;
+      flags = record { same = 0; joined = 0; own = 0 };
+      symbols = [];
+      runs = [];
+      interpreter_flags = 0;
+      paths = [];
+      landing_property = None;
+      instructions = instructions;
+      load_stub = load_stub;
+      landing_load_stub = None;
+      jump_stub = None;
+      far_stub = None;
+      far_relative_stub = None;
+      toc_load_stub = None;
+      toc_far_stub = None;
+      prefixed_load_stub = None;
+      prefixed_jump_stub = None;
     }

@@ -1,14 +1,12 @@
 //! What a linker adds to an output of AArch64.
 
-use crate::description::Target;
-use crate::dynamic::{DynamicType, DynamicTypes, named};
-use crate::flags::FlagRules;
-use crate::got::{GotLayout, ThreadPointer};
-use crate::layout::{Interpreter, WORDS, interpreter};
+use crate::description::{Target, plain};
+use crate::dynamic::{DynamicTypes, named};
+use crate::got::ThreadPointer;
+use crate::layout::interpreter;
 use crate::properties::LandingProperty;
-use crate::stubs::{Stub, StubField, field, stub, words};
-use crate::tags::{DynamicTag, TagRule, tag};
-use linker_utils::elf::{AllowedRange, Architecture};
+use crate::stubs::{field, stub, words};
+use crate::tags::tag;
 
 /// The stub to the address that a word has, after other code of a length.
 macro_rules! load_stub {
@@ -28,18 +26,6 @@ macro_rules! load_stub {
 
 /// The description.
 pub(crate) static TARGET: Target = Target {
-    dynamic: DynamicTypes {
-        word: named!(257, "R_AARCH64_ABS64"),
-        relative: named!(1027, "R_AARCH64_RELATIVE"),
-        glob_dat: named!(1025, "R_AARCH64_GLOB_DAT"),
-        jump_slot: named!(1026, "R_AARCH64_JUMP_SLOT"),
-        copy: named!(1024, "R_AARCH64_COPY"),
-        irelative: named!(1032, "R_AARCH64_IRELATIVE"),
-        module_number: named!(1028, "R_AARCH64_TLS_DTPMOD"),
-        module_offset: named!(1029, "R_AARCH64_TLS_DTPREL"),
-        thread_offset: named!(1030, "R_AARCH64_TLS_TPREL"),
-        descriptor: Some(named!(1031, "R_AARCH64_TLSDESC")),
-    },
     dynamic_tags: &[
         tag!(0x7000_0001, LandingPlt), // DT_AARCH64_BTI_PLT
         tag!(0x7000_0003, SignedPlt), // DT_AARCH64_PAC_PLT
@@ -49,31 +35,12 @@ pub(crate) static TARGET: Target = Target {
         reserved: 16,
         bias: 0,
     },
-    module_bias: 0,
-    got: GotLayout {
-        header: None,
-        bias: 0,
-    },
-    address_section: None,
-    page: 0x10000,
-    code_unit: WORDS,
-    filler: [0, 0, 0, 0],
-    flags: FlagRules {
-        same: 0,
-        joined: 0,
-        own: 0,
-    },
-    symbols: &[],
-    runs: &[],
-    interpreter_flags: 0,
     interpreters: &[interpreter!(0, "/lib/ld-linux-aarch64.so.1")],
     // GNU_PROPERTY_AARCH64_FEATURE_1_AND, and its bit BTI
     landing_property: Some(LandingProperty {
         kind: 0xc000_0000,
         bit: 1,
     }),
-    instructions: Architecture::AArch64,
-    load_stub: load_stub!(&[], 0),
     landing_load_stub: Some(load_stub!(&words!(0xd503_245f), 4)), // bti c
     jump_stub: Some(stub!(
         &[],
@@ -103,8 +70,20 @@ pub(crate) static TARGET: Target = Target {
         16,
         12 // from `adr`
     )),
-    toc_load_stub: None,
-    toc_far_stub: None,
-    prefixed_load_stub: None,
-    prefixed_jump_stub: None,
+    ..plain!(
+        AArch64,
+        DynamicTypes {
+            word: named!(257, "R_AARCH64_ABS64"),
+            relative: named!(1027, "R_AARCH64_RELATIVE"),
+            glob_dat: named!(1025, "R_AARCH64_GLOB_DAT"),
+            jump_slot: named!(1026, "R_AARCH64_JUMP_SLOT"),
+            copy: named!(1024, "R_AARCH64_COPY"),
+            irelative: named!(1032, "R_AARCH64_IRELATIVE"),
+            module_number: named!(1028, "R_AARCH64_TLS_DTPMOD"),
+            module_offset: named!(1029, "R_AARCH64_TLS_DTPREL"),
+            thread_offset: named!(1030, "R_AARCH64_TLS_TPREL"),
+            descriptor: Some(named!(1031, "R_AARCH64_TLSDESC")),
+        },
+        load_stub!(&[], 0)
+    )
 };

@@ -155,7 +155,7 @@ pub struct Interpreter {
 /// A path, and the bits of `e_flags` that it is for.
 macro_rules! interpreter {
     ($flags:literal, $path:literal) => {
-        Interpreter {
+        $crate::layout::Interpreter {
             flags: $flags,
             path: $path,
         }

@@ -1,8 +1,8 @@
 //! The lazy PLTs of the architectures.
 
 use crate::lazy_plt::{LazyField, LazyPiece, LazyPlt, LazyTarget, LazyWord};
-use crate::stubs::{StubField, field, words};
-use linker_utils::elf::{AllowedRange, Architecture};
+use crate::stubs::{field, words};
+use linker_utils::elf::Architecture;
 
 /// Code of a length, and its field: the place, the relocation, what the value is computed from, the
 /// origin and the addend.

@@ -5,8 +5,8 @@ ghost use Rattle.linker_output.specs.RiscV32Output.{riscv32_output};
 ghost use Rattle.linker_output.specs.View.{view};
 
 use crate::description::Target;
-use crate::dynamic::{DynamicType, DynamicTypes, named};
-use crate::layout::{Interpreter, interpreter};
+use crate::dynamic::{DynamicTypes, named};
+use crate::layout::interpreter;
 use crate::riscv64::TARGET;
 use crate::stubs::{Stub, words};
 

@@ -89,10 +89,10 @@ macro_rules! field {
         field!($offset, $relocation, Some((-0x8000_0000, 0x8000_0000)))
     };
     ($offset:literal, $relocation:ident, $bounds:expr) => {
-        StubField {
+        $crate::stubs::StubField {
             offset: $offset,
             relocation: $crate::r_types::r_type!($relocation),
-            range: AllowedRange { bounds: $bounds },
+            range: linker_utils::elf::AllowedRange { bounds: $bounds },
         }
     };
 }
@@ -123,7 +123,7 @@ macro_rules! stub {
         $head:expr, $pair:expr, $first:expr, $second:expr, $tail:expr, $entry:expr, $origin:expr,
         $addend:expr
     ) => {
-        Stub {
+        $crate::stubs::Stub {
             head: $head,
             pair: $pair,
             first: $first,

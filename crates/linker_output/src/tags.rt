@@ -32,9 +32,9 @@ pub struct DynamicTag {
 /// A tag with a number and a rule.
 macro_rules! tag {
     ($tag:literal, $rule:ident) => {
-        DynamicTag {
+        $crate::tags::DynamicTag {
             tag: $tag,
-            rule: TagRule::$rule,
+            rule: $crate::tags::TagRule::$rule,
         }
     };
 }
