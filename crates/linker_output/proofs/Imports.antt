@@ -40,7 +40,7 @@ pub use Rattle.linker_output.specs.Inner.Properties.{AreSlim, IsSlim, IsWritable
 pub use Rattle.linker_output.specs.Inner.Relr.{Leaves, capped, is_past, words_from, words_of}
 pub use Rattle.linker_output.specs.Layout.{Run, own_word, path_in, run_word, spacing_with}
 pub use Rattle.linker_output.specs.LazyPlt.{IsPiece, WritesPieces, header_places, operands_at, piece_len, pieces_len, target_at}
-pub use Rattle.linker_output.specs.LazyPlts.{aarch64_entry, aarch64_header, aarch64_landing_entry, aarch64_landing_header, aarch64_loads, aarch64_wide_entry, fixed, loongarch_entry, padded, riscv_entry, with_field, x86_64_entry, x86_64_landing_entry}
+pub use Rattle.linker_output.specs.LazyPlts.{aarch64_entry, aarch64_header, aarch64_landing_entry, aarch64_landing_header, aarch64_loads, aarch64_wide_entry, fixed, loongarch_entry, padded, riscv_entry, x86_64_entry, x86_64_landing_entry, x86_64_onward}
 pub use Rattle.linker_output.specs.LazyRuns.{continue_by, or_else, run_by, words}
 pub use Rattle.linker_output.specs.Placement.{AllGo, AreOfTwo, AreTwo, AreUsed, Goes, HasNoFar, HasPart, HasSpare, HasTarget, IsCode, IsFar, IsFarFrom, IsFirst, IsLaidOut, IsLayout, IsNextTo, IsShared, IsStuck, Reaches, ReachesAt, StubReaches, at, branch_at, end_of, group_at, most_bytes, part_of, passed, place_in, place_of, start_of, stub_at, stubs_in, target_place}
 pub use Rattle.linker_output.specs.Ppc64Output.{blr, by_prefixed, by_toc, jump_to_r12, load_link, mtlr_0, of_vectors, ppc64_output, save_link}

@@ -1,5 +1,5 @@
 -- x86-64's lazy PLT.
-use Rattle.linker_output.proofs.Imports.{Bool, Header, Index, IsSomeAnd, LazyEntry, LazyField, LazyPiece, List, Operands, Option, Some, Word, X86_64, [], ap, arith, byte_at, cast_unsigned, cond, cond-false, cond-true, difference_64, drop, drop-drop, eqb, false, field_of, fixed, header_places, if◌then◌else◌, le-ltb, length, nat_lt, negsuc, number_of_bytes, operands_at, padded, place_field, pos, refl, signed_field, subst, suc, sum_64, sym, take, true, w64, with_field, x86_64_entry, x86_64_landing_entry, x86_64_name, x86_64_row, zero, ℕ, ℤ, ◌%◌, ◌*◌, ◌++◌, ◌+◌, ◌<◌, ◌==◌, ◌^◌, ◌∙◌, ◌∷◌, ◌≡◌, ◌≤◌}
+use Rattle.linker_output.proofs.Imports.{Bool, Header, Index, IsSomeAnd, LazyEntry, LazyField, LazyPiece, List, Operands, Option, Some, Word, X86_64, [], ap, arith, byte_at, cast_unsigned, cond, cond-false, cond-true, difference_64, drop, drop-drop, eqb, false, field_of, fixed, header_places, if◌then◌else◌, le-ltb, length, nat_lt, negsuc, number_of_bytes, operands_at, padded, place_field, pos, refl, signed_field, subst, suc, sum_64, sym, take, true, w64, x86_64_entry, x86_64_landing_entry, x86_64_name, x86_64_onward, x86_64_row, zero, ℕ, ℤ, ◌%◌, ◌*◌, ◌++◌, ◌+◌, ◌<◌, ◌==◌, ◌^◌, ◌∙◌, ◌∷◌, ◌≡◌, ◌≤◌}
 use Rattle.linker_laws.specs.X86Machine.{load, extended, store_8, with_register, State}
 use Rattle.linker_elf.specs.declared.x86_64.relocations.X86_64Relocation.TheVariants as r
 use Rattle.linker_output.proofs.LazyRuns.{following, are_addresses_at}
@@ -213,15 +213,9 @@ record IsPushed (entry : LazyEntry) (s t : State) : Type 0 where
   pub flags : t.flags ≡ s.flags
   pub fs : t.fs ≡ s.fs
 
--- the two instructions after the first one
-abbrev onward : ℕ → List LazyPiece → List LazyPiece
-onward k others =
-    with_field (0x68 ∷ 0 ∷ 0 ∷ 0 ∷ 0 ∷ []) (field_of 1 (x86_64_name r.R_X86_64_32S)) Index 0 (pos 0)
-    ∷ with_field (0xe9 ∷ 0 ∷ 0 ∷ 0 ∷ 0 ∷ []) (field_of 1 (x86_64_name r.R_X86_64_PC32)) Header (k + 6) (negsuc 3) ∷ others
-
 to_header : (entry : LazyEntry) (k : ℕ) (others : List LazyPiece) → k ≤ 6 → entry.address < 2 ^ 64
     → entry.header < 2 ^ 64 → entry.index < 2 ^ 64
-    → (code rest : List ℕ) → drop k code ≡ rest → IsCode X86_64 (onward k others) entry rest
+    → (code rest : List ℕ) → drop k code ≡ rest → IsCode X86_64 (x86_64_onward k others) entry rest
     → (s : State) (ip : ℕ) → s.ip ≡ entry.address → step code s ≡ Some (record s { ip = ip }) → ip ≡ sum_64 entry.address k
     → (t : State) × (run 3 code entry.address s ≡ Some t) × IsPushed entry s t
 to_header entry k others most inside within small code rest from is s ip at first holds =

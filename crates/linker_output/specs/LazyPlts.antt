@@ -1,13 +1,14 @@
 -- The lazy PLTs of the architectures (x86-64 psABI, "Procedure Linkage Table"; the other psABIs
 -- leave the code to linkers, and this is ld.lld's), and those for protected code.
 use Rattle.std.specs.Prelude.{ℕ, ℤ, pos, negsuc, List, [], ◌∷◌, ◌++◌, ◌-◌, length, replicate, Some}
-use Rattle.std.specs.Prelude.{Option, None}
+use Rattle.std.specs.Prelude.{◌+◌, Option, None}
 use Rattle.linker_elf.specs.AArch64Relocations.{aarch64_name}
 use Rattle.linker_output.specs.Imports.{AArch64, Architecture, Header, Index, LazyPiece, LazyWord}
 use Rattle.linker_output.specs.Imports.{LoongArch64, Ppc64, RiscV, StubField, Word, X86_64}
 use Rattle.linker_output.specs.Imports.{loongarch_name, ppc64_name, x86_64_name}
 use Rattle.linker_output.specs.declared.lazy_plt.LazyTarget.{LazyTarget}
 use Rattle.linker_elf.specs.RiscVRelocations.{riscv_name}
+use Rattle.linker_elf.specs.declared.aarch64.relocations.AArch64Relocation.{AArch64Relocation}
 use Rattle.linker_elf.specs.declared.aarch64.relocations.AArch64Relocation.TheVariants as aarch64
 use Rattle.linker_elf.specs.declared.loongarch64.relocations.LoongArch64Relocation.TheVariants as loongarch
 use Rattle.linker_elf.specs.declared.ppc64.relocations.Ppc64Relocation.TheVariants as ppc64
@@ -58,22 +59,20 @@ two first second = fixed (code_of_words (first ∷ second ∷ []))
 abbrev pub one_with : ℕ → StubField → LazyTarget → ℕ → ℤ → LazyPiece
 one_with word = with_field (code_of_words (word ∷ []))
 
-abbrev pub aarch64_page : StubField
-aarch64_page = field_of 0 (aarch64_name aarch64.R_AARCH64_ADR_PREL_PG_HI21)
-
-abbrev pub aarch64_load : StubField
-aarch64_load = field_of 0 (aarch64_name aarch64.R_AARCH64_LDST64_ABS_LO12_NC)
-
-abbrev pub aarch64_add : StubField
-aarch64_add = field_of 0 (aarch64_name aarch64.R_AARCH64_ADD_ABS_LO12_NC)
+-- an instruction with the value of a relocation, of a word or so far above it
+abbrev pub aarch64_word : AArch64Relocation → ℕ → ℕ → ℕ → LazyPiece
+aarch64_word name word origin addend =
+    one_with word (field_of 0 (aarch64_name name)) Word origin (pos addend)
 
 -- The address of a word, or so far above it, gets into x16, and what the word there has into x17;
 -- then others. The first instruction is at an offset.
 abbrev pub aarch64_loads : ℕ → ℕ → List LazyPiece → List LazyPiece
 aarch64_loads origin addend others =
-    one_with 0x90000010 aarch64_page Word origin (pos addend)  -- `adrp x16, 0`
-    ∷ one_with 0xf9400211 aarch64_load Word origin (pos addend)  -- `ldr x17, [x16, 0]`
-    ∷ one_with 0x91000210 aarch64_add Word origin (pos addend) ∷ others  -- `add x16, x16, 0`
+    aarch64_word aarch64.R_AARCH64_ADR_PREL_PG_HI21 0x90000010 origin addend  -- `adrp x16, 0`
+    -- `ldr x17, [x16, 0]`
+    ∷ aarch64_word aarch64.R_AARCH64_LDST64_ABS_LO12_NC 0xf9400211 origin addend
+    -- `add x16, x16, 0`
+    ∷ aarch64_word aarch64.R_AARCH64_ADD_ABS_LO12_NC 0x91000210 origin addend ∷ others
 
 -- `stp x16, x30, [sp, -16]!`, those, `br x17`, and 3 of `nop`
 abbrev pub aarch64_header : List LazyPiece
@@ -135,11 +134,6 @@ loongarch_entry =
     ∷ one_with 0x28c001ef loongarch_low Word 0 (pos 0)  -- `ld.d $t3, $t3, 0`
     ∷ two 0x4c0001ed 0x03400000 ∷ []  -- `jirl $t1, $t3, 0`, `nop`
 
-abbrev pub loongarch_lazy_plt : PltCode
-loongarch_lazy_plt =
-    plt_of LoongArch64 16 loongarch_header loongarch_entry (word.Zero ∷ word.Zero ∷ [])
-    word.Header
-
 abbrev pub ppc64_header : List LazyPiece
 ppc64_header =
     two 0x7c0802a6 0x429f0005  -- `mflr 0`, `bcl 20, 31, .+4`
@@ -157,11 +151,6 @@ abbrev pub ppc64_entry : List LazyPiece
 ppc64_entry =
     -- `b header`
     one_with 0x48000000 (field_of 0 (ppc64_name ppc64.R_PPC64_REL24)) Header 0 (pos 0) ∷ []
-
-abbrev pub ppc64_lazy_plt : PltCode
-ppc64_lazy_plt =
-    plt_of Ppc64 4 ppc64_header ppc64_entry (word.Zero ∷ word.Zero ∷ [])
-    (word.Entry 0)
 
 abbrev pub riscv_high : StubField
 riscv_high = field_of 0 (riscv_name riscv.R_RISCV_PCREL_HI20)
@@ -185,57 +174,50 @@ riscv_entry =
     ∷ one_with 0x000e3e03 riscv_low Word 0 (pos 0)  -- `ld t3, 0(t3)`
     ∷ two 0x000e0367 0x00000013 ∷ []  -- `jalr t1, t3`, `nop`
 
-abbrev pub riscv_lazy_plt : PltCode
-riscv_lazy_plt =
-    plt_of RiscV 16 riscv_header riscv_entry (word.Zero ∷ word.Zero ∷ [])
-    word.Header
+-- an opcode of two bytes, and the distance to a word
+abbrev pub x86_64_word : ℕ → ℕ → ℕ → ℤ → LazyPiece
+x86_64_word first second =
+    with_field (first ∷ second ∷ 0 ∷ 0 ∷ 0 ∷ 0 ∷ [])
+    (field_of 2 (x86_64_name x86_64.R_X86_64_PC32)) Word
 
 abbrev pub x86_64_header : List LazyPiece
 x86_64_header =
-    -- `push 8+words(%rip)`
-    with_field (0xff ∷ 0x35 ∷ 0 ∷ 0 ∷ 0 ∷ 0 ∷ [])
-    (field_of 2 (x86_64_name x86_64.R_X86_64_PC32)) Word 2 (pos 4)
-    -- `jmp *16+words(%rip)`
-    ∷ with_field (0xff ∷ 0x25 ∷ 0 ∷ 0 ∷ 0 ∷ 0 ∷ [])
-    (field_of 2 (x86_64_name x86_64.R_X86_64_PC32)) Word 8 (pos 12)
-    -- `nopl 0(%rax)`
-    ∷ fixed (0x0f ∷ 0x1f ∷ 0x40 ∷ 0 ∷ []) ∷ []
+    x86_64_word 0xff 0x35 2 (pos 4)  -- `push 8+words(%rip)`
+    ∷ x86_64_word 0xff 0x25 8 (pos 12)  -- `jmp *16+words(%rip)`
+    ∷ fixed (0x0f ∷ 0x1f ∷ 0x40 ∷ 0 ∷ []) ∷ []  -- `nopl 0(%rax)`
 
-abbrev pub x86_64_entry : List LazyPiece
-x86_64_entry =
-    -- `jmp *word(%rip)`
-    with_field (0xff ∷ 0x25 ∷ 0 ∷ 0 ∷ 0 ∷ 0 ∷ [])
-    (field_of 2 (x86_64_name x86_64.R_X86_64_PC32)) Word 2 (negsuc 3)
-    -- `push index`
-    ∷ with_field (0x68 ∷ 0 ∷ 0 ∷ 0 ∷ 0 ∷ [])
+-- `push index` and `jmp header`, after so many bytes of an entry; then others
+abbrev pub x86_64_onward : ℕ → List LazyPiece → List LazyPiece
+x86_64_onward before others =
+    with_field (0x68 ∷ 0 ∷ 0 ∷ 0 ∷ 0 ∷ [])
     (field_of 1 (x86_64_name x86_64.R_X86_64_32S)) Index 0 (pos 0)
-    -- `jmp header`
     ∷ with_field (0xe9 ∷ 0 ∷ 0 ∷ 0 ∷ 0 ∷ [])
-    (field_of 1 (x86_64_name x86_64.R_X86_64_PC32)) Header 12 (negsuc 3) ∷ []
+    (field_of 1 (x86_64_name x86_64.R_X86_64_PC32)) Header (before + 6) (negsuc 3) ∷ others
+
+-- `jmp *word(%rip)`, and those
+abbrev pub x86_64_entry : List LazyPiece
+x86_64_entry = x86_64_word 0xff 0x25 2 (negsuc 3) ∷ x86_64_onward 6 []
 
 abbrev pub x86_64_plt : List LazyPiece → LazyWord → PltCode
 x86_64_plt entry own =
     plt_of X86_64 16 x86_64_header entry (word.Dynamic ∷ word.Zero ∷ word.Zero ∷ []) own
 
 -- for protected code: calls come by a stub, to which the entry's word belongs
+-- `endbr64`, those, and `xchg %ax,%ax`, which does nothing
 abbrev pub x86_64_landing_entry : List LazyPiece
 x86_64_landing_entry =
-    -- `endbr64`
-    fixed (0xf3 ∷ 0x0f ∷ 0x1e ∷ 0xfa ∷ [])
-    -- `push index`
-    ∷ with_field (0x68 ∷ 0 ∷ 0 ∷ 0 ∷ 0 ∷ [])
-    (field_of 1 (x86_64_name x86_64.R_X86_64_32S)) Index 0 (pos 0)
-    -- `jmp header`
-    ∷ with_field (0xe9 ∷ 0 ∷ 0 ∷ 0 ∷ 0 ∷ [])
-    (field_of 1 (x86_64_name x86_64.R_X86_64_PC32)) Header 10 (negsuc 3)
-    -- `xchg %ax,%ax`, which does nothing
-    ∷ fixed (0x66 ∷ 0x90 ∷ []) ∷ []
+    fixed (0xf3 ∷ 0x0f ∷ 0x1e ∷ 0xfa ∷ []) ∷ x86_64_onward 4 (fixed (0x66 ∷ 0x90 ∷ []) ∷ [])
+
+-- for the address of the resolver, and what names the object
+abbrev pub two_zeros : List LazyWord
+two_zeros = word.Zero ∷ word.Zero ∷ []
 
 abbrev pub lazy_plt_of : Architecture → PltCode
 lazy_plt_of AArch64 = aarch64_plt aarch64_header aarch64_entry
-lazy_plt_of RiscV = riscv_lazy_plt
-lazy_plt_of LoongArch64 = loongarch_lazy_plt
-lazy_plt_of Ppc64 = ppc64_lazy_plt
+lazy_plt_of RiscV = plt_of RiscV 16 riscv_header riscv_entry two_zeros word.Header
+lazy_plt_of LoongArch64 =
+    plt_of LoongArch64 16 loongarch_header loongarch_entry two_zeros word.Header
+lazy_plt_of Ppc64 = plt_of Ppc64 4 ppc64_header ppc64_entry two_zeros (word.Entry 0)
 lazy_plt_of X86_64 = x86_64_plt x86_64_entry (word.Entry 6)
 
 -- for protected code
