@@ -2,9 +2,9 @@
 use Rattle.linker_output.specs.Imports.{Architecture, Header, Index, LazyEntry, LazyPiece, LazyWord}
 use Rattle.linker_output.specs.Imports.{Operands, RelocateError, StubError, Word, sum_64}
 use Rattle.linker_output.specs.declared.lazy_plt.LazyTarget.{LazyTarget}
-use Rattle.std.specs.Prelude.{option_map, ◌++◌, List, length, take, drop, Option, Some, None}
+use Rattle.std.specs.Prelude.{option_map, ◌++◌, List, length, take, drop, Option}
 use Rattle.std.specs.Prelude.{slice_get, false, ◌≡◌, ◌≤◌, ◌<◌, ◌+◌, ◌-◌, ◌⊎◌, ◌^◌, ℕ, [], ◌∷◌, min}
-use Rattle.std.specs.Prelude.{true}
+use Rattle.std.specs.Prelude.{true, MatchOption, IsSomeAnd}
 use Rattle.linker_output.specs.Stubs.{WritesField, RejectsField}
 use Rattle.linker_output.specs.declared.lazy_plt.LazyField.{LazyField}
 use Rattle.linker_output.specs.declared.lazy_plt.LazyPlt.{LazyPlt}
@@ -61,25 +61,17 @@ operands_at field entry =
       has_tls_base = true;
     }
 
-abbrev pub HasField : Architecture → Option LazyField → LazyEntry → List ℕ → List ℕ → Type 0
-HasField architecture None entry before after = after ≡ before
-HasField architecture (Some field) entry before after =
-    WritesField architecture field.field (operands_at field entry) before after
-
 -- the 8 bytes of a piece with its field
 abbrev pub IsPiece : Architecture → LazyPiece → LazyEntry → List ℕ → Type 0
 IsPiece architecture piece entry code =
-    (length code ≡ 8) × HasField architecture piece.field entry piece.code code
-
-abbrev pub LacksField : Architecture → Option LazyField → LazyEntry → List ℕ → RelocateError
-    → Type 0
-LacksField architecture None entry before error = ⊥
-LacksField architecture (Some field) entry before error =
-    RejectsField architecture field.field (operands_at field entry) before error
+    (length code ≡ 8)
+    × MatchOption piece.field (code ≡ piece.code)
+    (λ f. WritesField architecture f.field (operands_at f entry) piece.code code)
 
 abbrev pub RejectsPiece : Architecture → LazyPiece → LazyEntry → RelocateError → Type 0
 RejectsPiece architecture piece entry error =
-    LacksField architecture piece.field entry piece.code error
+    IsSomeAnd piece.field
+    (λ f. RejectsField architecture f.field (operands_at f entry) piece.code error)
 
 -- ---- pieces one after the other
 

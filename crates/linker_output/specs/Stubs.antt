@@ -1,6 +1,6 @@
 -- Stubs: the fields of their code have the values of relocations.
 use Rattle.std.specs.Prelude.{◌≡◌, ◌++◌, List, length, take, drop, Option, Some, None, true, false}
-use Rattle.std.specs.Prelude.{◌≤◌, ◌<◌, ◌+◌, ◌⊎◌, ℕ, ℤ, min, ◌^◌, ◌-◌}
+use Rattle.std.specs.Prelude.{◌≤◌, ◌<◌, ◌+◌, ◌⊎◌, ℕ, ℤ, min, ◌^◌, ◌-◌, MatchOption, IsSomeAnd}
 use Rattle.linker_elf.specs.Applied.{IsApplied}
 use Rattle.linker_output.specs.Imports.{Architecture, IsAllowed, IsCause, IsRow, Operands}
 use Rattle.linker_output.specs.Imports.{OutOfReach, RelocateError, RowInfo, StubError, StubField}
@@ -71,41 +71,25 @@ IsValueCause range row (Some v) bytes error =
     (¬ IsAllowed range v × (error ≡ OutOfReach))
     ⊎ (IsAllowed range v × IsCause row v bytes error)
 
-abbrev pub IsFieldCause : AllowedRange → Option RowInfo → Operands → List ℕ
-    → RelocateError → Type 0
-IsFieldCause range None o bytes error = error ≡ Unsupported
-IsFieldCause range (Some row) o bytes error =
-    IsValueCause range row (value_of row o) bytes error
-
 abbrev pub RejectsField : Architecture → StubField → Operands → List ℕ → RelocateError → Type 0
 RejectsField architecture field o before error =
     (row : Option RowInfo) × IsRow architecture field.relocation row
-    × IsFieldCause field.range row o (drop (offset_in field) before) error
+    × MatchOption row (error ≡ Unsupported)
+    (λ row. IsValueCause field.range row (value_of row o) (drop (offset_in field) before) error)
 
 -- ---- both fields
-
-abbrev pub WritesSecond : Architecture → Option StubField → Operands → List ℕ → List ℕ → Type 0
-WritesSecond architecture None o before after = after ≡ before
-WritesSecond architecture (Some field) o before after =
-    WritesField architecture field o before after
-
-abbrev pub RejectsSecond : Architecture → Option StubField → Operands → List ℕ → RelocateError
-    → Type 0
-RejectsSecond architecture None o before error = ⊥
-RejectsSecond architecture (Some field) o before error =
-    RejectsField architecture field o before error
 
 abbrev pub WritesPair : Architecture → StubCode → Operands → List ℕ → Type 0
 WritesPair architecture stub o pair =
     (half : List ℕ) × WritesField architecture stub.first o stub.pair half
-    × WritesSecond architecture stub.second o half pair
+    × MatchOption stub.second (pair ≡ half) (λ field. WritesField architecture field o half pair)
 
 -- the first field that is rejected
 abbrev pub RejectsPair : Architecture → StubCode → Operands → RelocateError → Type 0
 RejectsPair architecture stub o error =
     RejectsField architecture stub.first o stub.pair error
     ⊎ ((half : List ℕ) × WritesField architecture stub.first o stub.pair half
-    × RejectsSecond architecture stub.second o half error)
+    × IsSomeAnd stub.second (λ field. RejectsField architecture field o half error))
 
 -- ---- a stub
 
@@ -118,10 +102,9 @@ IsStub architecture stub place target code =
 
 -- bytes begin with the code, and those after it are left
 abbrev pub WritesStub : Architecture → Option StubCode → ℕ → ℕ → List ℕ → List ℕ → Type 0
-WritesStub architecture None place target before after = ⊥
-WritesStub architecture (Some stub) place target before after =
-    (code : List ℕ) × IsStub architecture stub place target code
-    × (after ≡ code ++ drop (stub_len stub) before)
+WritesStub architecture stub place target before after =
+    IsSomeAnd stub (λ s. (code : List ℕ) × IsStub architecture s place target code
+    × (after ≡ code ++ drop (stub_len s) before))
 
 -- why there is none, in n bytes
 abbrev pub IsCauseOf : Architecture → StubCode → ℕ → ℕ → ℕ → StubError → Type 0
@@ -131,6 +114,6 @@ IsCauseOf architecture stub place target len (errors.Field error) =
     (stub_len stub ≤ len) × RejectsPair architecture stub (operands_of stub place target) error
 
 abbrev pub RejectsStub : Architecture → Option StubCode → ℕ → ℕ → List ℕ → StubError → Type 0
-RejectsStub architecture None place target out error = error ≡ errors.Missing
-RejectsStub architecture (Some stub) place target out error =
-    IsCauseOf architecture stub place target (length out) error
+RejectsStub architecture stub place target out error =
+    MatchOption stub (error ≡ errors.Missing)
+    (λ s. IsCauseOf architecture s place target (length out) error)
