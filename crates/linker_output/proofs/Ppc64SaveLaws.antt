@@ -80,7 +80,7 @@ module _ (f : Formats) (r : Run) (count : r.count ≡ 18) (alone : r.second ≡ 
 
 -- ---- places
 
-slot_is : (base n : ℕ) → n < 32 → slot base n ≡ (base + (2 ^ 64 - 8 * (32 - n))) % 2 ^ 64
+slot_is : (base n : ℕ) → n < 32 → slot 8 base n ≡ (base + (2 ^ 64 - 8 * (32 - n))) % 2 ^ 64
 slot_is base n less =
     let few : suc (8 * (32 - n) - 1) ≡ 8 * (32 - n) = omega (arith, less) in
     wrapped_is (pos base +ℤ negsuc (8 * (32 - n) - 1)) 1 (base + (2 ^ 64 - suc (8 * (32 - n) - 1))) (omega (arith, ints))
@@ -146,7 +146,7 @@ byte_of n values d = field (values (n + d / 8)) (8 * (d % 8)) (8 * (d % 8) + 8)
 
 -- a register more below those from the next one on
 module _ (n : ℕ) (most : 14 ≤ n) (less : n < 32) (values : ℕ → ℕ) (base : ℕ) (memory : Memory) (a : ℕ) where
-  follows : 0 < 8 * (32 - suc n) → slot base (suc n) ≡ (slot base n + 8) % 2 ^ 64
+  follows : 0 < 8 * (32 - suc n) → slot 8 base (suc n) ≡ (slot 8 base n + 8) % 2 ^ 64
   follows some =
       let under : n < 31 = omega (arith, some) in
       omega (arith, (slot_is base n less), (slot_is base (suc n) (omega (arith, under))), under)
@@ -161,11 +161,11 @@ module _ (n : ℕ) (most : 14 ≤ n) (less : n < 32) (values : ℕ → ℕ) (bas
       ap (λ k. field (values k) (8 * (d % 8)) (8 * (d % 8) + 8)) (let e : n + d / 8 ≡ suc n + (d - 8) / 8 = omega (arith, high) in e)
       ∙ ap (λ k. field (values (suc n + (d - 8) / 8)) (8 * k) (8 * k + 8)) (let e : d % 8 ≡ (d - 8) % 8 = omega (arith, high) in e)
 
-  pub one_saved : saved (suc n) values base (stored 8 (values n) (slot base n) memory) a ≡ saved n values base memory a
+  pub one_saved : saved 8 (suc n) values base (stored 8 (values n) (slot 8 base n) memory) a ≡ saved 8 n values base memory a
   one_saved =
-      joined a (slot base n) (slot base (suc n)) 8 (8 * (32 - suc n)) (let p = slot_is base n less in omega (arith, p)) follows (omega arith) memory
+      joined a (slot 8 base n) (slot 8 base (suc n)) 8 (8 * (32 - suc n)) (let p = slot_is base n less in omega (arith, p)) follows (omega arith) memory
       (λ d. field (values n) (8 * d) (8 * d + 8)) (byte_of (suc n) values) (byte_of n values) of_first of_others
-      ∙ ap (λ k. if nat_lt (difference_64 a (slot base n)) k then byte_of n values (difference_64 a (slot base n)) else memory a)
+      ∙ ap (λ k. if nat_lt (difference_64 a (slot 8 base n)) k then byte_of n values (difference_64 a (slot 8 base n)) else memory a)
       (let e : 8 + 8 * (32 - suc n) ≡ 8 * (32 - n) = omega (arith, less) in e)
 
 -- ---- what one register leaves
@@ -203,10 +203,10 @@ module _ (b : ℕ) (values : State → ℕ → ℕ) (keeps : (i : ℕ) (c : Coun
   stored_floats = kept 17 (stores b values) (λ (c : Counted). c.state.floats) (λ i c. refl)
 
   saved_after : (k : ℕ) → k ≤ 18 → (c : Counted) (a : ℕ)
-      → (all k c).state.memory a ≡ saved (32 - k) (values c.state) (c.state.registers b) c.state.memory a
+      → (all k c).state.memory a ≡ saved 8 (32 - k) (values c.state) (c.state.registers b) c.state.memory a
   saved_after zero less c a =
-      sym (cond-false (nat_lt (difference_64 a (slot (c.state.registers b) 32)) 0) _ (c.state.memory a)
-      (le-ltb (difference_64 a (slot (c.state.registers b) 32)) 0 (omega arith)))
+      sym (cond-false (nat_lt (difference_64 a (slot 8 (c.state.registers b) 32)) 0) _ (c.state.memory a)
+      (le-ltb (difference_64 a (slot 8 (c.state.registers b) 32)) 0 (omega arith)))
   saved_after (suc k) less c a =
       let n = 31 - k in
       let within : k < 18 = omega (arith, less) in
@@ -216,18 +216,18 @@ module _ (b : ℕ) (values : State → ℕ → ℕ) (keeps : (i : ℕ) (c : Coun
       let e1 : 32 - suc k ≡ n = omega (arith, less) in
       let e2 : 32 - k ≡ suc n = omega (arith, less) in
       saved_after k (omega (arith, less)) (stores b values (17 - k) c) a
-      ∙ ap (λ w. saved (32 - k) w base (stored 8 (v (14 + (17 - k))) (moved base (negsuc (143 - 8 * (17 - k)))) m) a) (keeps (17 - k) c)
-      ∙ ap (λ j. saved j v base (stored 8 (v (14 + (17 - k))) (moved base (negsuc (143 - 8 * (17 - k)))) m) a) e2
-      ∙ ap (λ j. saved (suc n) v base (stored 8 (v j) (moved base (negsuc (143 - 8 * (17 - k)))) m) a) (of_index k within)
-      ∙ ap (λ j. saved (suc n) v base (stored 8 (v n) (moved base (negsuc j)) m) a) (of_place k within)
+      ∙ ap (λ w. saved 8 (32 - k) w base (stored 8 (v (14 + (17 - k))) (moved base (negsuc (143 - 8 * (17 - k)))) m) a) (keeps (17 - k) c)
+      ∙ ap (λ j. saved 8 j v base (stored 8 (v (14 + (17 - k))) (moved base (negsuc (143 - 8 * (17 - k)))) m) a) e2
+      ∙ ap (λ j. saved 8 (suc n) v base (stored 8 (v j) (moved base (negsuc (143 - 8 * (17 - k)))) m) a) (of_index k within)
+      ∙ ap (λ j. saved 8 (suc n) v base (stored 8 (v n) (moved base (negsuc j)) m) a) (of_place k within)
       ∙ one_saved n (omega (arith, less)) (omega arith) v base m a
-      ∙ ap (λ j. saved j v base m a) (sym e1)
+      ∙ ap (λ j. saved 8 j v base m a) (sym e1)
 
   pub saved_all : (n : ℕ) → 14 ≤ n → n < 32 → (c : Counted) (a : ℕ)
-      → (all (32 - n) c).state.memory a ≡ saved n (values c.state) (c.state.registers b) c.state.memory a
+      → (all (32 - n) c).state.memory a ≡ saved 8 n (values c.state) (c.state.registers b) c.state.memory a
   saved_all n most less c a =
       saved_after (32 - n) (omega (arith, most)) c a
-      ∙ ap (λ j. saved j (values c.state) (c.state.registers b) c.state.memory a) (let e : 32 - (32 - n) ≡ n = omega (arith, less) in e)
+      ∙ ap (λ j. saved 8 j (values c.state) (c.state.registers b) c.state.memory a) (let e : 32 - (32 - n) ≡ n = omega (arith, less) in e)
 
   -- back to the caller
   pub returns : (n : ℕ) (c : Counted) (d : Counted) → d.state.pc ≡ (all (32 - n) c).state.link - (all (32 - n) c).state.link % 4
@@ -380,8 +380,8 @@ module _ (b : ℕ) (one : ℕ → Counted → Counted) (part : State → ℕ →
     (loads_one : (i : ℕ) (c : Counted) → part (one i c).state ≡ with_number (14 + i) (loaded 8 c.state.memory (place b c.state i)) (part c.state))
     (based : (i : ℕ) (c : Counted) → (one i c).state.registers b ≡ c.state.registers b) (keeps : (i : ℕ) (c : Counted) → (one i c).state.memory ≡ c.state.memory) where
   restored_after : (k : ℕ) → k ≤ 18 → (c : Counted) (m : ℕ)
-      → part (after 17 one k c).state m ≡ restored (32 - k) (c.state.registers b) c.state.memory (part c.state) m
-  restored_after zero less c m = sym (cond-false (is_from 32 m) (loaded 8 c.state.memory (slot (c.state.registers b) m)) (part c.state m) (none_from m))
+      → part (after 17 one k c).state m ≡ restored 8 (32 - k) (c.state.registers b) c.state.memory (part c.state) m
+  restored_after zero less c m = sym (cond-false (is_from 32 m) (loaded 8 c.state.memory (slot 8 (c.state.registers b) m)) (part c.state m) (none_from m))
   restored_after (suc k) less c m =
       let n = 31 - k in
       let within : k < 18 = omega (arith, less) in
@@ -392,20 +392,20 @@ module _ (b : ℕ) (one : ℕ → Counted → Counted) (part : State → ℕ →
       let e1 : 32 - suc k ≡ n = omega (arith, less) in
       let e2 : 32 - k ≡ suc n = omega (arith, less) in
       restored_after k (omega (arith, less)) d m
-      ∙ ap (λ v. restored (32 - k) v d.state.memory (part d.state) m) (based (17 - k) c)
-      ∙ ap (λ v. restored (32 - k) base v (part d.state) m) (keeps (17 - k) c)
-      ∙ ap (λ v. restored (32 - k) base h v m) (loads_one (17 - k) c)
-      ∙ ap (λ j. restored j base h (with_number (14 + (17 - k)) (loaded 8 h (moved base (negsuc (143 - 8 * (17 - k))))) g) m) e2
-      ∙ ap (λ j. restored (suc n) base h (with_number j (loaded 8 h (moved base (negsuc (143 - 8 * (17 - k))))) g) m) (of_index k within)
-      ∙ ap (λ j. restored (suc n) base h (with_number n (loaded 8 h (moved base (negsuc j))) g) m) (of_place k within)
-      ∙ one_restored n (omega arith) (λ m. loaded 8 h (slot base m)) g m
-      ∙ ap (λ j. restored j base h g m) (sym e1)
+      ∙ ap (λ v. restored 8 (32 - k) v d.state.memory (part d.state) m) (based (17 - k) c)
+      ∙ ap (λ v. restored 8 (32 - k) base v (part d.state) m) (keeps (17 - k) c)
+      ∙ ap (λ v. restored 8 (32 - k) base h v m) (loads_one (17 - k) c)
+      ∙ ap (λ j. restored 8 j base h (with_number (14 + (17 - k)) (loaded 8 h (moved base (negsuc (143 - 8 * (17 - k))))) g) m) e2
+      ∙ ap (λ j. restored 8 (suc n) base h (with_number j (loaded 8 h (moved base (negsuc (143 - 8 * (17 - k))))) g) m) (of_index k within)
+      ∙ ap (λ j. restored 8 (suc n) base h (with_number n (loaded 8 h (moved base (negsuc j))) g) m) (of_place k within)
+      ∙ one_restored n (omega arith) (λ m. loaded 8 h (slot 8 base m)) g m
+      ∙ ap (λ j. restored 8 j base h g m) (sym e1)
 
   pub restored_all : (n : ℕ) → 14 ≤ n → n < 32 → (c : Counted) (m : ℕ)
-      → part (after 17 one (32 - n) c).state m ≡ restored n (c.state.registers b) c.state.memory (part c.state) m
+      → part (after 17 one (32 - n) c).state m ≡ restored 8 n (c.state.registers b) c.state.memory (part c.state) m
   restored_all n most less c m =
       restored_after (32 - n) (omega (arith, most)) c m
-      ∙ ap (λ j. restored j (c.state.registers b) c.state.memory (part c.state) m) (let e : 32 - (32 - n) ≡ n = omega (arith, less) in e)
+      ∙ ap (λ j. restored 8 j (c.state.registers b) c.state.memory (part c.state) m) (let e : 32 - (32 - n) ≡ n = omega (arith, less) in e)
 
 -- ---- the ends of runs that load
 

@@ -1,10 +1,10 @@
 -- PowerPC64's functions that save and restore vector registers.
 use Rattle.linker_output.proofs.Imports.{IsSomeAnd, List, Memory, Option, Some, [], ap, arith, blr, codes, cond-false, difference_64, eqb, field, if◌then◌else◌, ints, le-ltb, loaded, moved, nat_lt, negsuc, of_vectors, place_sum, pos, refl, stored, subst, suc, sum_64, sym, with_state, wrapped_is, zero, ℕ, ◌%◌, ◌*◌, ◌+ℤ◌, ◌+◌, ◌-◌, ◌/◌, ◌<◌, ◌^◌, ◌∙◌, ◌∷◌, ◌≡◌, ◌≤◌}
 use Rattle.linker_laws.specs.Ppc64Machine.{Formats, write, store, go_on, with_number}
-use Rattle.linker_output.specs.Ppc64Saves.{returned, is_from}
+use Rattle.linker_output.specs.Ppc64Saves.{returned, is_from, slot, saved, restored}
 use Rattle.linker_output.proofs.LazyRuns.{run_more}
 use Rattle.linker_output.proofs.Ppc64SaveLaws.{after, below_at, joined, kept, one_restored, none_from}
-use Rattle.linker_output.specs.Ppc64Vectors.{Vectored, step_vectored, run_vectored, vector_code, quadword, vector_slot, vectors_saved, vectors_restored, ReturnsVectored, SavesVectors, RestoresVectors}
+use Rattle.linker_output.specs.Ppc64Vectors.{Vectored, step_vectored, run_vectored, vector_code, quadword, ReturnsVectored, SavesVectors, RestoresVectors}
 use Rattle.linker_output.specs.Ppc64Vectors as laws
 
 -- ---- the two instructions of a register
@@ -105,15 +105,15 @@ moved_is b t some few =
     wrapped_is (pos b +ℤ negsuc (t - 1)) 1 (b + (2 ^ 64 - suc (t - 1))) (omega (arith, ints, few))
     ∙ ap (λ m. (b + (2 ^ 64 - m)) % 2 ^ 64) is
 
-slot_is : (base n : ℕ) → 20 ≤ n → n < 32 → vector_slot base n ≡ (quadword base + (2 ^ 64 - 16 * (32 - n))) % 2 ^ 64
+slot_is : (base n : ℕ) → 20 ≤ n → n < 32 → slot 16 (quadword base) n ≡ (quadword base + (2 ^ 64 - 16 * (32 - n))) % 2 ^ 64
 slot_is base n most less = moved_is (quadword base) (16 * (32 - n)) (omega (arith, less)) (omega (arith, most))
 
-place_is : (base n : ℕ) → 20 ≤ n → n < 32 → quadword (sum_64 (moved 0 (negsuc (16 * (32 - n) - 1))) base) ≡ vector_slot base n
+place_is : (base n : ℕ) → 20 ≤ n → n < 32 → quadword (sum_64 (moved 0 (negsuc (16 * (32 - n) - 1))) base) ≡ slot 16 (quadword base) n
 place_is base n most less =
     ap (λ m. quadword (sum_64 m base)) (moved_is 0 (16 * (32 - n)) (omega (arith, less)) (omega (arith, most))) ∙ (let e : quadword (sum_64 ((0 + (2 ^ 64 - 16 * (32 - n))) % 2 ^ 64) base)
     ≡ (quadword base + (2 ^ 64 - 16 * (32 - n))) % 2 ^ 64 = omega (arith, most, less) in e) ∙ sym (slot_is base n most less)
 
-place_of : (base k : ℕ) → k < 12 → place base (11 - k) ≡ vector_slot base (31 - k)
+place_of : (base k : ℕ) → k < 12 → place base (11 - k) ≡ slot 16 (quadword base) (31 - k)
 place_of base k less =
     ap (λ j. quadword (sum_64 (moved 0 (negsuc j)) base)) (let e : 191 - 16 * (11 - k) ≡ 16 * (32 - (31 - k)) - 1 = omega (arith, less) in e)
     ∙ place_is base (31 - k) (omega (arith, less)) (omega arith)
@@ -128,7 +128,7 @@ byte_of n vectors d = field (vectors (n + d / 16)) (8 * (d % 16)) (8 * (d % 16) 
 
 -- a register more below those from the next one on
 module _ (n : ℕ) (most : 20 ≤ n) (less : n < 32) (vectors : ℕ → ℕ) (base : ℕ) (memory : Memory) (a : ℕ) where
-  follows : 0 < 16 * (32 - suc n) → vector_slot base (suc n) ≡ (vector_slot base n + 16) % 2 ^ 64
+  follows : 0 < 16 * (32 - suc n) → slot 16 (quadword base) (suc n) ≡ (slot 16 (quadword base) n + 16) % 2 ^ 64
   follows some =
       let under : n < 31 = omega (arith, some) in
       omega (arith, (slot_is base n most less), (slot_is base (suc n) (omega (arith, most)) (omega (arith, under))), under, most)
@@ -143,20 +143,20 @@ module _ (n : ℕ) (most : 20 ≤ n) (less : n < 32) (vectors : ℕ → ℕ) (ba
       ap (λ k. field (vectors k) (8 * (d % 16)) (8 * (d % 16) + 8)) (let e : n + d / 16 ≡ suc n + (d - 16) / 16 = omega (arith, high) in e)
       ∙ ap (λ k. field (vectors (suc n + (d - 16) / 16)) (8 * k) (8 * k + 8)) (let e : d % 16 ≡ (d - 16) % 16 = omega (arith, high) in e)
 
-  pub one_saved : vectors_saved (suc n) vectors base (stored 16 (vectors n) (vector_slot base n) memory) a
-      ≡ vectors_saved n vectors base memory a
+  pub one_saved : saved 16 (suc n) vectors (quadword base) (stored 16 (vectors n) (slot 16 (quadword base) n) memory) a
+      ≡ saved 16 n vectors (quadword base) memory a
   one_saved =
-      joined a (vector_slot base n) (vector_slot base (suc n)) 16 (16 * (32 - suc n))
+      joined a (slot 16 (quadword base) n) (slot 16 (quadword base) (suc n)) 16 (16 * (32 - suc n))
       (let p = slot_is base n most less in omega (arith, p)) follows (omega arith) memory
       (λ d. field (vectors n) (8 * d) (8 * d + 8)) (byte_of (suc n) vectors) (byte_of n vectors) of_first of_others
-      ∙ ap (λ k. if nat_lt (difference_64 a (vector_slot base n)) k then byte_of n vectors (difference_64 a (vector_slot base n)) else memory a)
+      ∙ ap (λ k. if nat_lt (difference_64 a (slot 16 (quadword base) n)) k then byte_of n vectors (difference_64 a (slot 16 (quadword base) n)) else memory a)
       (let e : 16 + 16 * (32 - suc n) ≡ 16 * (32 - n) = omega (arith, less) in e)
 
 saved_after : (k : ℕ) → k ≤ 12 → (v : Vectored) (a : ℕ) → (after 11 stores k v).counted.state.memory a
-    ≡ vectors_saved (32 - k) v.vectors (v.counted.state.registers 0) v.counted.state.memory a
+    ≡ saved 16 (32 - k) v.vectors (quadword (v.counted.state.registers 0)) v.counted.state.memory a
 saved_after zero less v a =
-    sym (cond-false (nat_lt (difference_64 a (vector_slot (v.counted.state.registers 0) 32)) 0) _ (v.counted.state.memory a)
-    (le-ltb (difference_64 a (vector_slot (v.counted.state.registers 0) 32)) 0 (omega arith)))
+    sym (cond-false (nat_lt (difference_64 a (slot 16 (quadword (v.counted.state.registers 0)) 32)) 0) _ (v.counted.state.memory a)
+    (le-ltb (difference_64 a (slot 16 (quadword (v.counted.state.registers 0)) 32)) 0 (omega arith)))
 saved_after (suc k) less v a =
     let within : k < 12 = omega (arith, less) in
     let g = v.vectors in
@@ -165,18 +165,18 @@ saved_after (suc k) less v a =
     let e1 : 32 - suc k ≡ 31 - k = omega arith in
     let e2 : 32 - k ≡ suc (31 - k) = omega (arith, less) in
     saved_after k (omega (arith, less)) (stores (11 - k) v) a
-    ∙ ap (λ j. vectors_saved j g base (stored 16 (g (20 + (11 - k))) (place base (11 - k)) m) a) e2
-    ∙ ap (λ j. vectors_saved (suc (31 - k)) g base (stored 16 (g j) (place base (11 - k)) m) a) (number_of k within)
-    ∙ ap (λ p. vectors_saved (suc (31 - k)) g base (stored 16 (g (31 - k)) p m) a) (place_of base k within)
+    ∙ ap (λ j. saved 16 j g (quadword base) (stored 16 (g (20 + (11 - k))) (place base (11 - k)) m) a) e2
+    ∙ ap (λ j. saved 16 (suc (31 - k)) g (quadword base) (stored 16 (g j) (place base (11 - k)) m) a) (number_of k within)
+    ∙ ap (λ p. saved 16 (suc (31 - k)) g (quadword base) (stored 16 (g (31 - k)) p m) a) (place_of base k within)
     ∙ one_saved (31 - k) (omega (arith, within)) (omega arith) g base m a
-    ∙ ap (λ j. vectors_saved j g base m a) (sym e1)
+    ∙ ap (λ j. saved 16 j g (quadword base) m a) (sym e1)
 
 -- ---- registers that are loaded
 
 restored_after : (k : ℕ) → k ≤ 12 → (v : Vectored) (m : ℕ) → (after 11 loads k v).vectors m
-    ≡ vectors_restored (32 - k) (v.counted.state.registers 0) v.counted.state.memory v.vectors m
+    ≡ restored 16 (32 - k) (quadword (v.counted.state.registers 0)) v.counted.state.memory v.vectors m
 restored_after zero less v m =
-    sym (cond-false (is_from 32 m) (loaded 16 v.counted.state.memory (vector_slot (v.counted.state.registers 0) m)) (v.vectors m) (none_from m))
+    sym (cond-false (is_from 32 m) (loaded 16 v.counted.state.memory (slot 16 (quadword (v.counted.state.registers 0)) m)) (v.vectors m) (none_from m))
 restored_after (suc k) less v m =
     let within : k < 12 = omega (arith, less) in
     let g = v.vectors in
@@ -185,11 +185,11 @@ restored_after (suc k) less v m =
     let e1 : 32 - suc k ≡ 31 - k = omega arith in
     let e2 : 32 - k ≡ suc (31 - k) = omega (arith, less) in
     restored_after k (omega (arith, less)) (loads (11 - k) v) m
-    ∙ ap (λ j. vectors_restored j base h (with_number (20 + (11 - k)) (loaded 16 h (place base (11 - k))) g) m) e2
-    ∙ ap (λ j. vectors_restored (suc (31 - k)) base h (with_number j (loaded 16 h (place base (11 - k))) g) m) (number_of k within)
-    ∙ ap (λ p. vectors_restored (suc (31 - k)) base h (with_number (31 - k) (loaded 16 h p) g) m) (place_of base k within)
-    ∙ one_restored (31 - k) (omega arith) (λ m. loaded 16 h (vector_slot base m)) g m
-    ∙ ap (λ j. vectors_restored j base h g m) (sym e1)
+    ∙ ap (λ j. restored 16 j (quadword base) h (with_number (20 + (11 - k)) (loaded 16 h (place base (11 - k))) g) m) e2
+    ∙ ap (λ j. restored 16 (suc (31 - k)) (quadword base) h (with_number j (loaded 16 h (place base (11 - k))) g) m) (number_of k within)
+    ∙ ap (λ p. restored 16 (suc (31 - k)) (quadword base) h (with_number (31 - k) (loaded 16 h p) g) m) (place_of base k within)
+    ∙ one_restored (31 - k) (omega arith) (λ m. loaded 16 h (slot 16 (quadword base) m)) g m
+    ∙ ap (λ j. restored 16 j (quadword base) h g m) (sym e1)
 
 -- ---- what is as it was
 
@@ -230,7 +230,7 @@ saves k less f v =
       vectors = λ m. kept 11 stores (λ (v : Vectored). v.vectors m) (λ i v. refl) (suc k) v;
       memory = λ a.
           saved_after (suc k) (omega (arith, less)) v a
-          ∙ ap (λ j. vectors_saved j v.vectors (v.counted.state.registers 0) v.counted.state.memory a) (let e : 32 - suc k ≡ 31 - k = omega arith in e);
+          ∙ ap (λ j. saved 16 j v.vectors (quadword (v.counted.state.registers 0)) v.counted.state.memory a) (let e : 32 - suc k ≡ 31 - k = omega arith in e);
     })
 
 restores : (k : ℕ) → k < 12 → (f : Formats) (v : Vectored)
@@ -243,7 +243,7 @@ restores k less f v =
       returns = returns loads (λ i v. refl) (λ i v. refl) (λ i v. refl) (λ i v. refl) (suc k) v;
       vectors = λ m.
           restored_after (suc k) (omega (arith, less)) v m
-          ∙ ap (λ j. vectors_restored j (v.counted.state.registers 0) v.counted.state.memory v.vectors m) (let e : 32 - suc k ≡ 31 - k = omega arith in e);
+          ∙ ap (λ j. restored 16 j (quadword (v.counted.state.registers 0)) v.counted.state.memory v.vectors m) (let e : 32 - suc k ≡ 31 - k = omega arith in e);
       memory = λ a. kept 11 loads (λ (v : Vectored). v.counted.state.memory a) (λ i v. refl) (suc k) v;
     })
 

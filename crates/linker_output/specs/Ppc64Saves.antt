@@ -39,25 +39,25 @@ code_for run n = words_from run (n - 14) (32 - n + length run.tail)
 
 -- ---- places of registers
 
--- register n is 8 * (32 - n) bytes below the base
-abbrev pub slot : ℕ → ℕ → ℕ
-slot base n = moved base (negsuc (8 * (32 - n) - 1))
+-- register n, of w bytes, is w * (32 - n) bytes below the base
+abbrev pub slot : ℕ → ℕ → ℕ → ℕ
+slot w base n = moved base (negsuc (w * (32 - n) - 1))
 
 -- whether a register is of those from n to 31
 abbrev pub is_from : ℕ → ℕ → Bool
 is_from n m = nat_le n m && nat_lt m 32
 
 -- the memory with those registers in their places: what byte of which register is at an address
-abbrev pub saved : ℕ → (ℕ → ℕ) → ℕ → Memory → Memory
-saved n registers base memory at =
-    let d = difference_64 at (slot base n) in
-    if nat_lt d (8 * (32 - n)) then field (registers (n + d / 8)) (8 * (d % 8)) (8 * (d % 8) + 8)
+abbrev pub saved : ℕ → ℕ → (ℕ → ℕ) → ℕ → Memory → Memory
+saved w n registers base memory at =
+    let d = difference_64 at (slot w base n) in
+    if nat_lt d (w * (32 - n)) then field (registers (n + d / w)) (8 * (d % w)) (8 * (d % w) + 8)
     else memory at
 
 -- the registers with those of them as their places have them
-abbrev pub restored : ℕ → ℕ → Memory → (ℕ → ℕ) → ℕ → ℕ
-restored n base memory registers m =
-    if is_from n m then loaded 8 memory (slot base m) else registers m
+abbrev pub restored : ℕ → ℕ → ℕ → Memory → (ℕ → ℕ) → ℕ → ℕ
+restored w n base memory registers m =
+    if is_from n m then loaded w memory (slot w base m) else registers m
 
 -- ---- the laws
 
@@ -81,7 +81,7 @@ pub record Saves (base : ℕ) (values : State → ℕ → ℕ) (finish : State �
   pub registers : (m : ℕ) → d.state.registers m ≡ c.state.registers m
   pub floats : (m : ℕ) → d.state.floats m ≡ c.state.floats m
   pub memory : (a : ℕ) → d.state.memory a
-      ≡ finish c.state (saved n (values c.state) (c.state.registers base) c.state.memory) a
+      ≡ finish c.state (saved 8 n (values c.state) (c.state.registers base) c.state.memory) a
 
 abbrev pub integers : State → ℕ → ℕ
 integers s = s.registers
@@ -107,7 +107,7 @@ SaveRegisters =
 pub record Restores (n : ℕ) (c d : Counted) : Type 0 where
   pub returns : Returns c d
   pub registers : (m : ℕ) → d.state.registers m
-      ≡ restored n (c.state.registers 12) c.state.memory c.state.registers m
+      ≡ restored 8 n (c.state.registers 12) c.state.memory c.state.registers m
   pub floats : (m : ℕ) → d.state.floats m ≡ c.state.floats m
   pub memory : (a : ℕ) → d.state.memory a ≡ c.state.memory a
 
@@ -127,14 +127,14 @@ pub record Returned (n : ℕ) (c d : Counted) : Type 0 where
 pub record RestoresIntegers (n : ℕ) (c d : Counted) : Type 0 where
   pub returned : Returned n c d
   pub registers : (m : ℕ) → (m == 0) ≡ false → d.state.registers m
-      ≡ restored n (c.state.registers 1) c.state.memory c.state.registers m
+      ≡ restored 8 n (c.state.registers 1) c.state.memory c.state.registers m
   pub floats : (m : ℕ) → d.state.floats m ≡ c.state.floats m
 
 pub record RestoresFloats (n : ℕ) (c d : Counted) : Type 0 where
   pub returned : Returned n c d
   pub registers : (m : ℕ) → (m == 0) ≡ false → d.state.registers m ≡ c.state.registers m
   pub floats : (m : ℕ) → d.state.floats m
-      ≡ restored n (c.state.registers 1) c.state.memory c.state.floats m
+      ≡ restored 8 n (c.state.registers 1) c.state.memory c.state.floats m
 
 abbrev pub RestoreRegisters : Type 0
 RestoreRegisters =

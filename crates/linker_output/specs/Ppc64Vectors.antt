@@ -1,15 +1,13 @@
 -- PowerPC64: what the functions do that save and restore vector registers (64-bit ELF V2 ABI for
 -- Power, "Vector Save and Restore Functions"; Power ISA, version 3.1, book I, "Vector Facility").
-use Rattle.std.specs.Prelude.{Option, IsSomeAnd, nat_lt, if◌then◌else◌, length, slice_get, negsuc}
-use Rattle.std.specs.Prelude.{◌≡◌, ◌==◌, ◌&&◌, Bool, ◌+◌, ◌-◌, ◌*◌, ◌/◌, ℕ, List, false, Some, None}
-use Rattle.std.specs.Prelude.{◌%◌, ◌<◌, ◌≤◌}
-use Rattle.linker_output.specs.Imports.{Formats, Memory, State, difference_64, field, go_on}
-use Rattle.linker_output.specs.Imports.{indexed_address, loaded, moved, opcode_of, rt_of, store}
-use Rattle.linker_output.specs.Imports.{with_number}
+use Rattle.std.specs.Prelude.{Option, IsSomeAnd, if◌then◌else◌, length, slice_get, ◌%◌, ◌<◌, ◌≤◌}
+use Rattle.std.specs.Prelude.{◌≡◌, ◌==◌, ◌&&◌, Bool, ◌+◌, ◌-◌, ◌*◌, ℕ, List, false, Some, None}
+use Rattle.linker_output.specs.Imports.{Formats, State, field, go_on, indexed_address, loaded}
+use Rattle.linker_output.specs.Imports.{opcode_of, rt_of, store, with_number}
 use Rattle.linker_output.specs.LazyRuns.{run_by}
 use Rattle.linker_output.specs.Layout.{Run}
 use Rattle.linker_output.specs.Ppc64Output.{ppc64_output}
-use Rattle.linker_output.specs.Ppc64Saves.{Returns, step, words_from, is_from}
+use Rattle.linker_output.specs.Ppc64Saves.{Returns, step, words_from, saved, restored}
 use Rattle.linker_output.specs.Ppc64Stubs.{Counted, with_state}
 
 -- ---- the vector registers
@@ -67,25 +65,6 @@ run_vectored f code v = run_by (λ v. v.counted.state.pc) (step_vectored f) code
 abbrev pub vector_code : Run → ℕ → List ℕ
 vector_code run n = words_from run (2 * (n - 20)) (2 * (32 - n) + length run.tail)
 
--- ---- places of registers
-
--- register n is 16 * (32 - n) bytes below the base without its low four bits
-abbrev pub vector_slot : ℕ → ℕ → ℕ
-vector_slot base n = moved (quadword base) (negsuc (16 * (32 - n) - 1))
-
--- the memory with the registers from n to 31 in their places: what byte of which register is at an
--- address
-abbrev pub vectors_saved : ℕ → (ℕ → ℕ) → ℕ → Memory → Memory
-vectors_saved n vectors base memory at =
-    let d = difference_64 at (vector_slot base n) in
-    if nat_lt d (16 * (32 - n)) then field (vectors (n + d / 16)) (8 * (d % 16)) (8 * (d % 16) + 8)
-    else memory at
-
--- the registers with those of them as their places have them
-abbrev pub vectors_restored : ℕ → ℕ → Memory → (ℕ → ℕ) → ℕ → ℕ
-vectors_restored n base memory vectors m =
-    if is_from n m then loaded 16 memory (vector_slot base m) else vectors m
-
 -- ---- the laws
 
 -- the law of a run's functions
@@ -103,18 +82,19 @@ pub record ReturnsVectored (v w : Vectored) : Type 0 where
       → w.counted.state.registers m ≡ v.counted.state.registers m
   pub floats : (m : ℕ) → w.counted.state.floats m ≡ v.counted.state.floats m
 
--- `_savevr_N`: the vector registers from n on are below the address in r0.
+-- `_savevr_N`: the vector registers from n on are below the address in r0, without its low four
+-- bits.
 pub record SavesVectors (n : ℕ) (v w : Vectored) : Type 0 where
   pub returns : ReturnsVectored v w
   pub vectors : (m : ℕ) → w.vectors m ≡ v.vectors m
   pub memory : (a : ℕ) → w.counted.state.memory a
-      ≡ vectors_saved n v.vectors (v.counted.state.registers 0) v.counted.state.memory a
+      ≡ saved 16 n v.vectors (quadword (v.counted.state.registers 0)) v.counted.state.memory a
 
--- `_restvr_N`: those registers are what the places below the address in r0 have.
+-- `_restvr_N`: those registers are what the places below that address have.
 pub record RestoresVectors (n : ℕ) (v w : Vectored) : Type 0 where
   pub returns : ReturnsVectored v w
   pub vectors : (m : ℕ) → w.vectors m
-      ≡ vectors_restored n (v.counted.state.registers 0) v.counted.state.memory v.vectors m
+      ≡ restored 16 n (quadword (v.counted.state.registers 0)) v.counted.state.memory v.vectors m
   pub memory : (a : ℕ) → w.counted.state.memory a ≡ v.counted.state.memory a
 
 abbrev pub SaveVectors : Type 0
