@@ -6,7 +6,7 @@ use Rattle.linker_elf.specs.declared.riscv64.relocations.RiscVRelocation.TheVari
 use Rattle.linker_elf.specs.declared.riscv64.relocations.RiscVRelocation.{RiscVRelocation}
 use Rattle.linker_laws.specs.RiscVRelocationLaws.{RelativeAddresses}
 use Rattle.linker_output.proofs.LazyRuns.{run_more, second_and_last, one_word, are_addresses_at, eight_on, no_move, offset_is}
-use Rattle.linker_output.proofs.RiscVStubLaws.{jr_is}
+use Rattle.linker_output.proofs.RiscVStubLaws.{jr_is, one, two, three, target_is, pc_is, others}
 use Rattle.linker_output.proofs.StubWords.{applies, no_addend}
 use Rattle.linker_output.specs.LazyPlt.{IsCode}
 use Rattle.linker_output.specs.RiscVLazyPlt.{step, stepped, further, run, GoesTo, Asks}
@@ -21,58 +21,34 @@ steps_as w i h is = ap (λ v. or_else (stepped v h) (further w h)) is
 
 module _ (entry : LazyEntry) (h : Hart) (u i : ℤ) (target : ℕ) (small : target < 2 ^ 64) (even : target % 2 ≡ 0)
     (at : h.pc ≡ entry.address) (leads : moved (moved h.pc u) i ≡ entry.word) (holds : loaded 8 h.memory entry.word ≡ target) where
-  pub one : Hart
-  one = executed 4 (auipc 28 u) h
+  abbrev first_two : Hart
+  first_two = two h u i 6 entry.word target small even leads holds
 
-  pub two : Hart
-  two = executed 4 (sums (loads 3) 28 28 0 i) one
+  abbrev pub end : Hart
+  end = three h u i 6 entry.word target small even leads holds
 
-  pub three : Hart
-  three = executed 4 (sums jumps 6 28 0 (pos 0)) two
-
-  target_is : register two 28 ≡ target
-  unfolding one two
-  target_is =
-      ap (λ n. load_number 3 (loaded 8 h.memory n)) leads ∙ ap (load_number 3) holds
-      ∙ whole_number target small
-
-  pc_is : three.pc ≡ target
-  unfolding three
-  pc_is =
-      ap (λ n. moved n (pos 0) - moved n (pos 0) % 2) target_is
-      ∙ ap (λ n. n - n % 2) (no_move target small) ∙ omega (arith, even)
-
-  after_is : register three 6 ≡ sum_64 entry.address 12
-  unfolding one two three
-  after_is = three_words h.pc ∙ ap (λ p. sum_64 p 12) at
-
-  others : (n : ℕ) → (n == 6 || n == 28) ≡ false → register three n ≡ register h n
-  unfolding one two three
-  others n e =
-      let not = or_parts (n == 6) (n == 28) e in
-      other 6 (sum_64 two.pc 4) two n not.0
-      ∙ other 28 (load_number 3 (loaded 8 one.memory (moved (register one 28) i))) one n not.1
-      ∙ other 28 (moved h.pc u) h n not.1
-
-  pub goes : GoesTo entry target h three
+  pub goes : GoesTo entry target h end
   unfolding one two three
   goes =
       record {
-        pc = pc_is;
-        t1 = after_is;
-        t3 = target_is;
-        integers = others;
+        pc = pc_is h u i 6 entry.word target small even leads holds;
+        t1 = three_words h.pc ∙ ap (λ p. sum_64 p 12) at;
+        t3 = target_is h u i 6 entry.word target small even leads holds;
+        integers = λ n e.
+            others h u i 6 entry.word target small even leads holds n
+            (other 6 (sum_64 first_two.pc 4) first_two n (or_parts (n == 6) (n == 28) e).0) (or_parts (n == 6) (n == 28) e).1;
         floats = refl;
         memory = refl;
       }
 
   pub runs : (x y : ℕ) → of_word x ≡ Some (auipc 28 u) → of_word y ≡ Some (sums (loads 3) 28 28 0 i)
-      → run (x ∷ y ∷ 0x000e0367 ∷ []) h ≡ Some three
+      → run (x ∷ y ∷ 0x000e0367 ∷ []) h ≡ Some end
   unfolding one two three place_sum
   runs x y first second =
-      run_more (λ h. h.pc) step x y (0x000e0367 ∷ []) h one (Some three) (steps_as x (auipc 28 u) h first) refl
-      (run_more (λ h. h.pc) step y 0x000e0367 [] one two (Some three) (steps_as y (sums (loads 3) 28 28 0 i) one second) refl
-      (steps_as 0x000e0367 (sums jumps 6 28 0 (pos 0)) two refl))
+      let first_one = one h u i 6 entry.word target small even leads holds in
+      run_more (λ h. h.pc) step x y (0x000e0367 ∷ []) h first_one (Some end) (steps_as x (auipc 28 u) h first) refl
+      (run_more (λ h. h.pc) step y 0x000e0367 [] first_one first_two (Some end) (steps_as y (sums (loads 3) 28 28 0 i) first_one second) refl
+      (steps_as 0x000e0367 (sums jumps 6 28 0 (pos 0)) first_two refl))
 
 -- a word that the relocations lead to
 
@@ -129,7 +105,7 @@ enters relative entry inside below code is target small even h at holds =
     let all : words 3 code ≡ x ∷ y ∷ 0x000e0367 ∷ [] =
     one_word is.0 is.1 code is.2.0 2 x (y ∷ 0x000e0367 ∷ []) is.4 refl
     (one_word second.0 second.1 is.1 second.2.0 1 y (0x000e0367 ∷ []) second.4 refl last) in (
-      three entry h u i target small even at leads holds,
+      end entry h u i target small even at leads holds,
       ap (λ ws. run ws h) all
           ∙ runs entry h u i target small even at leads holds x y (upper_word Relative o auipc_t3 is.0 a 28 refl refl)
           (load_word RelativeRiscVLow12 o ld_t3 second.0 b 28 28 refl refl refl refl),

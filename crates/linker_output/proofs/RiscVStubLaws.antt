@@ -18,8 +18,8 @@ pub jr_is : of_word 0x000e0067 ≡ Some (sums jumps 0 28 0 (pos 0))
 unfolding place_sum
 jr_is = refl
 
--- the three instructions
-module _ (h : Hart) (u : ℤ) (i : ℤ) (word target : ℕ) (small : target < 2 ^ 64) (even : target % 2 ≡ 0)
+-- the three instructions, the last of which puts the address after it in a register
+module _ (h : Hart) (u : ℤ) (i : ℤ) (l word target : ℕ) (small : target < 2 ^ 64) (even : target % 2 ≡ 0)
     (leads : moved (moved h.pc u) i ≡ word) (holds : loaded 8 h.memory word ≡ target) where
   pub one : Hart
   one = executed 4 (auipc 28 u) h
@@ -28,43 +28,56 @@ module _ (h : Hart) (u : ℤ) (i : ℤ) (word target : ℕ) (small : target < 2 
   two = executed 4 (sums (loads 3) 28 28 0 i) one
 
   pub three : Hart
-  three = executed 4 (sums jumps 0 28 0 (pos 0)) two
+  three = executed 4 (sums jumps l 28 0 (pos 0)) two
 
-  target_is : register two 28 ≡ target
+  pub target_is : register two 28 ≡ target
   unfolding one two
   target_is =
       ap (λ n. load_number 3 (loaded 8 h.memory n)) leads ∙ ap (load_number 3) holds
       ∙ whole_number target small
 
-  pc_is : three.pc ≡ target
+  pub pc_is : three.pc ≡ target
   unfolding three
   pc_is =
       ap (λ n. moved n (pos 0) - moved n (pos 0) % 2) target_is
       ∙ ap (λ n. n - n % 2) (no_move target small) ∙ omega (arith, even)
 
-  others : (r : ℕ) → (r == 28) ≡ false → register three r ≡ register h r
+  pub others : (r : ℕ) → register three r ≡ register two r → (r == 28) ≡ false → register three r ≡ register h r
   unfolding one two three
-  others r a =
-      unwritten (sum_64 two.pc 4) two r
-      ∙ other 28 (load_number 3 (loaded 8 one.memory (moved (register one 28) i))) one r a
+  others r same a =
+      same ∙ other 28 (load_number 3 (loaded 8 one.memory (moved (register one 28) i))) one r a
       ∙ other 28 (moved h.pc u) h r a
 
-  pub goes : GoesTo target h three
+module _ (h : Hart) (u : ℤ) (i : ℤ) (word target : ℕ) (small : target < 2 ^ 64) (even : target % 2 ≡ 0)
+    (leads : moved (moved h.pc u) i ≡ word) (holds : loaded 8 h.memory word ≡ target) where
+  abbrev before : Hart
+  before = two h u i 0 word target small even leads holds
+
+  abbrev pub end : Hart
+  end = three h u i 0 word target small even leads holds
+
+  pub goes : GoesTo target h end
   unfolding one two three
-  goes = record { pc = pc_is; integers = others; floats = refl; memory = refl }
+  goes =
+      record {
+        pc = pc_is h u i 0 word target small even leads holds;
+        integers = λ r. others h u i 0 word target small even leads holds r (unwritten (sum_64 before.pc 4) before r);
+        floats = refl;
+        memory = refl;
+      }
 
   pub runs : (code : List ℕ) → h.pc < 2 ^ 64 → fetched code ≡ Some (4, auipc 28 u)
       → fetched (drop 4 code) ≡ Some (4, sums (loads 3) 28 28 0 i)
       → fetched (drop 8 code) ≡ Some (4, sums jumps 0 28 0 (pos 0))
-      → Runs 3 code h.pc h three
+      → Runs 3 code h.pc h end
   unfolding one two three
   runs code inside first second third = (
-    one,
+    one h u i 0 word target small even leads holds,
     steps code h.pc 0 4 (auipc 28 u) h (at_start h.pc inside) first,
     (
-      two,
-      steps code h.pc 4 4 (sums (loads 3) 28 28 0 i) one (at_second h.pc inside) second,
-      (three, steps code h.pc 8 4 (sums jumps 0 28 0 (pos 0)) two (at_third h.pc inside) third, refl),
+      before,
+      steps code h.pc 4 4 (sums (loads 3) 28 28 0 i) (one h u i 0 word target small even leads holds) (at_second h.pc inside) second,
+      (end, steps code h.pc 8 4 (sums jumps 0 28 0 (pos 0)) before (at_third h.pc inside) third, refl),
     ),
   )
 
@@ -103,8 +116,8 @@ loads_go relative place word target inside below small even code is h at holds =
     let third : fetched (drop 8 code) ≡ Some (4, sums jumps 0 28 0 (pos 0)) =
     fetched_word (drop 8 code) (sums jumps 0 28 0 (pos 0)) (ap (λ b. field (word_of b) 0 2) rest)
     (omega (arith, len, length-drop 8 code)) (ap (λ b. of_word (word_of b)) rest ∙ jr_is) in (
-      three h u i word target small even leads holds,
-      subst (λ p. Runs 3 code p h (three h u i word target small even leads holds)) at
+      end h u i word target small even leads holds,
+      subst (λ p. Runs 3 code p h (end h u i word target small even leads holds)) at
           (runs h u i word target small even leads holds code (subst (λ p. p < 2 ^ 64) (sym at) inside) first second third),
       goes h u i word target small even leads holds,
     )
