@@ -21,13 +21,13 @@ jr_is = refl
 -- the three instructions, the last of which puts the address after it in a register
 module _ (h : Hart) (u : ℤ) (i : ℤ) (l word target : ℕ) (small : target < 2 ^ 64) (even : target % 2 ≡ 0)
     (leads : moved (moved h.pc u) i ≡ word) (holds : loaded 8 h.memory word ≡ target) where
-  pub one : Hart
+  unfoldable pub one : Hart
   one = executed 4 (auipc 28 u) h
 
-  pub two : Hart
+  unfoldable pub two : Hart
   two = executed 4 (sums (loads 3) 28 28 0 i) one
 
-  pub three : Hart
+  unfoldable pub three : Hart
   three = executed 4 (sums jumps l 28 0 (pos 0)) two
 
   pub target_is : register two 28 ≡ target
