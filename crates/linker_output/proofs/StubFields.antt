@@ -1,5 +1,5 @@
 -- What the code of stubs is made of, as it is written.
-use Rattle.linker_output.proofs.Imports.{AppliesAt, Architecture, Err, IfErr, IsCause, IsRow, IsValueCause, List, Ok, OnOk, Operands, Option, RejectsField, RejectsValue, RelocateError, Result, RowInfo, Some, StubField, WritesField, WritesRow, [], ap, append-nil, append_assoc, arith, drop, drop-drop, drop_all, drop_at, inl, inr, length, length-append, length-drop, length-take, offset_in, refl, subst, sym, take, take_all, take_at, value_of, ℕ, ℤ, ◌++◌, ◌+◌, ◌-◌, ◌∙◌, ◌≡◌}
+use Rattle.linker_output.proofs.Imports.{AppliesAt, Architecture, Err, IfErr, IsCause, IsRow, IsValueCause, List, Ok, OnOk, Operands, Option, RejectsField, RejectsValue, RelocateError, Result, RowInfo, Some, StubField, WritesField, WritesRow, [], ap, append-nil, arith, drop, drop_all, drop_at, inl, inr, length, length-drop, length-take, offset_in, refl, subst, sym, take, take_all, take_at, value_of, ℕ, ℤ, ◌++◌, ◌+◌, ◌-◌, ◌∙◌, ◌≡◌}
 use Rattle.linker_elf.specs.declared.elf.relocate.RelocateError.TheVariants.{OutOfReach}
 use Rattle.linker_elf.specs.Elf.{IsAllowed}
 use Rattle.linker_elf.specs.declared.elf.AllowedRange.{AllowedRange}
@@ -84,34 +84,3 @@ module _ (architecture : Architecture) (field : StubField) (o : Operands) (pair 
         (subst (λ k. IsCause row v (drop k pair) error) at
         (subst (λ b. IsCause row v b error) (from_there m pair len) (why.0))),
   )
-
--- ---- pieces that are written one after the other
-
-next : (front piece rest old new : List ℕ) (k : ℕ) → k ≡ length front → old ≡ front ++ rest
-    → new ≡ (take k old ++ piece) ++ drop (k + length piece) old
-    → new ≡ (front ++ piece) ++ drop (length piece) rest
-next front piece rest old new k at is made =
-    let following : drop (k + length piece) old ≡ drop (length piece) rest =
-    sym (drop-drop (length piece) k old)
-    ∙ ap (λ b. drop (length piece) (drop k b)) is
-    ∙ ap (drop (length piece)) (drop_at front rest k (sym at)) in
-    made ∙ ap (λ b. (b ++ piece) ++ drop (k + length piece) old) (ap (take k) is ∙ take_at front rest k (sym at))
-    ∙ ap (λ b. (front ++ piece) ++ b) following
-
-pub pieces : (out head pair tail first second third : List ℕ) → length pair ≡ 8
-    → first ≡ (take 0 out ++ head) ++ drop (0 + length head) out
-    → second ≡ (take (length head) first ++ pair) ++ drop (length head + length pair) first
-    → third ≡ (take (length head + 8) second ++ tail) ++ drop (length head + 8 + length tail) second
-    → third ≡ (head ++ (pair ++ tail)) ++ drop (length head + 8 + length tail) out
-pieces out head pair tail first second third len a b d =
-    let both : length head + 8 ≡ length (head ++ pair) =
-    sym (length-append head pair ∙ ap (λ n. length head + n) len) in
-    let three =
-    next (head ++ pair) tail (drop (length pair) (drop (length head) out)) second third
-    (length head + 8) both (next head pair (drop (length head) out) first second (length head) refl (next [] head out out first 0 refl refl a) b) d in
-    three
-    ∙ ap (λ c. c ++ drop (length tail) (drop (length pair) (drop (length head) out)))
-    (append_assoc head pair tail)
-    ∙ ap (λ n. (head ++ (pair ++ tail)) ++ drop (length tail) (drop n (drop (length head) out))) len
-    ∙ ap (λ l. (head ++ (pair ++ tail)) ++ drop (length tail) l) (drop-drop 8 (length head) out)
-    ∙ ap (λ l. (head ++ (pair ++ tail)) ++ l) (drop-drop (length tail) (length head + 8) out)

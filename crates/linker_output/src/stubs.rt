@@ -295,9 +295,9 @@ impl Target {
             Err(error) => return Err(StubError::Field(error)),
         };
         let head_len = stub.head.len() as u64;
-        overwrite(out, 0, stub.head);
-        overwrite(out, head_len, &pair);
         overwrite(out, head_len + 8, stub.tail);
+        overwrite(out, head_len, &pair);
+        overwrite(out, 0, stub.head);
         Ok(())
     }
 }

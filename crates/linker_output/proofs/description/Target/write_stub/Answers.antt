@@ -1,5 +1,5 @@
-use Rattle.linker_output.proofs.Imports.{WritesPair, WritesStub, drop, length, operands_of, refl, rules, subst, sym, take, view_stub, ◌++◌, ◌+◌, ◌≡◌}
-use Rattle.linker_output.proofs.StubFields.{pieces}
+use Rattle.linker_output.proofs.Imports.{WritesPair, WritesStub, ap, append_assoc, arith, drop, length, operands_of, refl, rules, subst, sym, take, view_stub, ◌++◌, ◌+◌, ◌∙◌, ◌≡◌}
+use Rattle.linker_output.proofs.LazyCode.{placed}
 use Rattle.linker_output.proofs.description.Target.write_stub.Goals as goal
 
 pub returns-clause-ok : goal.returns-clause-ok
@@ -10,12 +10,17 @@ returns-clause-ok c =
     let pair = c.in-Ok.pair in
     let head = stub.head.now in
     let tail = stub.tail.now in
+    let h = length head in
+    let t = length tail in
+    let first = c.overwrite.new.section in
+    let second = c.overwrite-2.new.section in
     let len : length pair ≡ 8 = search rules in
-    let a : c.overwrite.new.section ≡ (take 0 out ++ head) ++ drop (0 + length head) out =
-    c.overwrite.ensures in
-    let b : c.overwrite-2.new.section
-    ≡ (take (length head) c.overwrite.new.section ++ pair)
-    ++ drop (length head + length pair) c.overwrite.new.section = c.overwrite-2.ensures in
+    let a : first ≡ (take (h + 8) out ++ tail) ++ drop (h + 8 + t) out = c.overwrite.ensures in
+    let both = placed out first second pair tail h 8 t (omega arith) len
+    (a ∙ append_assoc (take (h + 8) out) tail (drop (h + 8 + t) out)) c.overwrite-2.ensures in
+    let from_0 : second ≡ take (0 + h) out ++ ((pair ++ tail) ++ drop (0 + h + (8 + t)) out) =
+    subst (λ k. second ≡ take k out ++ ((pair ++ tail) ++ drop (k + (8 + t)) out))
+    (let e : h ≡ 0 + h = omega arith in e) both in
     let made : WritesPair self.instructions (view_stub stub)
     (operands_of (view_stub stub) c.args.place c.args.target) pair =
     subst (λ o. WritesPair self.instructions (view_stub stub) o pair)
@@ -24,6 +29,7 @@ returns-clause-ok c =
     (sym c.in-Some.ensures.some) (
       head ++ (pair ++ tail),
       (pair, len, made, refl),
-      pieces out head pair tail c.overwrite.new.section c.overwrite-2.new.section
-          c.overwrite-3.new.section len a b c.overwrite-3.ensures,
+      placed out second c.overwrite-3.new.section head (pair ++ tail) 0 h (8 + t) (omega arith) refl from_0
+          c.overwrite-3.ensures
+          ∙ ap (λ k. (head ++ (pair ++ tail)) ++ drop k out) (let e : 0 + (h + (8 + t)) ≡ h + 8 + t = omega arith in e),
     )
