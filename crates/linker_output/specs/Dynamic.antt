@@ -3,7 +3,7 @@
 use Rattle.linker_output.specs.Imports.{Address, Descriptor, Module, ModuleOffset, ThreadOffset}
 use Rattle.linker_section.specs.declared.needed.EntryClass.{EntryClass}
 use Rattle.std.specs.Prelude.{option_map, ℕ, Bool, ◌&&◌, ◌==◌, if◌then◌else◌, List, [], ◌∷◌, Option}
-use Rattle.std.specs.Prelude.{Some, None}
+use Rattle.std.specs.Prelude.{option_to_list, Some, None}
 
 -- a type of dynamic relocations: its `r_type` in ELF files, and its name
 pub record DynamicKind : Type 0 where
@@ -30,14 +30,11 @@ pub record DynamicKinds : Type 0 where
 
 -- ---- names
 
-abbrev pub in_list : Option DynamicKind → List DynamicKind
-in_list None = []
-in_list (Some type) = type ∷ []
-
 abbrev pub types_of : DynamicKinds → List DynamicKind
 types_of types =
     types.word ∷ types.relative ∷ types.glob_dat ∷ types.jump_slot ∷ types.copy ∷ types.irelative
-    ∷ types.module_number ∷ types.module_offset ∷ types.thread_offset ∷ in_list types.descriptor
+    ∷ types.module_number ∷ types.module_offset ∷ types.thread_offset
+    ∷ option_to_list types.descriptor
 
 -- the name of the first type with an `r_type`
 abbrev pub name_in : List DynamicKind → ℕ → Option (List ℕ)
