@@ -1,6 +1,6 @@
 -- PowerPC64's stubs go to their targets.
-use Rattle.linker_output.proofs.Imports.{Bool, Counted, D, Ds, IsAddress, IsSomeAnd, List, Option, Some, TocAddresses, [], ap, arith, at_count, cond, drop, eqb, false, field, field_of, if◌then◌else◌, is_mflr, is_mtctr, is_mtlr, length, lifted, linked, loaded, moved, moved_from_link, moved_to_link, opcode_of, operands_of, place_sum, pos, ppc64_form, ppc64_name, ppc64_output, ppc64_row, ra_of, reads_ds, refl, rt_of, run, same_parts, step_counted, stepped, subst, sum_64, sym, symbol_address, three_words, true, with_state, word_of, words, ℕ, ◌%◌, ◌&&◌, ◌*ℤ◌, ◌++◌, ◌+ℤ◌, ◌-◌, ◌==◌, ◌^◌, ◌||◌, ◌∙◌, ◌∷◌, ◌≡◌}
-use Rattle.linker_laws.specs.Ppc64Machine.{Formats, go_on, State, step}
+use Rattle.linker_output.proofs.Imports.{Bool, Counted, D, Ds, IsAddress, IsSomeAnd, List, None, Option, Some, TocAddresses, [], ap, arith, at_count, cond, drop, eqb, false, field, field_of, if◌then◌else◌, is_mflr, is_mtctr, is_mtlr, length, lifted, linked, loaded, moved, moved_from_link, moved_to_link, opcode_of, operands_of, place_sum, pos, ppc64_form, ppc64_name, ppc64_output, ppc64_row, ra_of, reads_ds, refl, rt_of, run, same_parts, step_counted, stepped, subst, sum_64, sym, symbol_address, three_words, true, with_state, word_of, words, ℕ, ◌%◌, ◌&&◌, ◌*ℤ◌, ◌++◌, ◌+ℤ◌, ◌-◌, ◌==◌, ◌^◌, ◌||◌, ◌∙◌, ◌∷◌, ◌≡◌}
+use Rattle.linker_laws.specs.Ppc64Machine.{Formats, base, go_on, State, step}
 use Rattle.linker_laws.proofs.Ppc64Words.{HasParts, d_after, ds_after, sum_leads, step_addis, step_ld, step_addi, set}
 use Rattle.linker_elf.specs.declared.ppc64.relocations.Ppc64Relocation.TheVariants as r
 use Rattle.linker_output.proofs.LazyRuns.{run_more, of_pair}
@@ -38,77 +38,101 @@ of_machine f x k c s is a b d stepping =
     ap (λ o. stepped f o x c) is
     ∙ other_opcode (k == 31) (k == 16) (k == 19) f x c a b d ∙ ap (lifted c) stepping
 
--- the states after the instructions, of which the pair puts v and then w in r12
-abbrev after_1 : Counted → Counted
-after_1 c = with_state (moved_from_link 0 c.state) c
+-- ---- a pair of instructions, `mtctr 12` and `bctr`
 
-abbrev after_2 : Counted → Counted
-after_2 c = with_state (linked (after_1 c).state) (after_1 c)
+-- what `addis` puts in r12, and the states after the pair, of which the second puts w there
+abbrev pub upper : ℕ → ℕ → Counted → ℕ
+upper b x c = moved (base b c.state) ((ppc64_form D).machine x *ℤ pos (2 ^ 16))
 
-abbrev after_3 : Counted → Counted
-after_3 c = with_state (moved_from_link 12 (after_2 c).state) (after_2 c)
+abbrev pub after_1 : ℕ → Counted → Counted
+after_1 v c = with_state (set 12 v c.state) c
 
-abbrev after_4 : Counted → Counted
-after_4 c = with_state (moved_to_link 0 (after_3 c).state) (after_3 c)
+abbrev pub after_2 : ℕ → ℕ → Counted → Counted
+after_2 v w c = with_state (set 12 w (after_1 v c).state) (after_1 v c)
 
-abbrev after_5 : ℕ → Counted → Counted
-after_5 v c = with_state (set 12 v (after_4 c).state) (after_4 c)
+abbrev after_3 : ℕ → ℕ → Counted → Counted
+after_3 v w c = record { state = go_on (after_2 v w c).state; count = w }
 
-abbrev after_6 : ℕ → ℕ → Counted → Counted
-after_6 v w c = with_state (set 12 w (after_5 v c).state) (after_5 v c)
+pub once : (a b : Bool) (v r : ℕ) → (a || b) ≡ false → cond b v r ≡ r
+once true b v r e = cc
+once false true v r e = cc
+once false false v r e = refl
 
-abbrev after_7 : ℕ → ℕ → Counted → Counted
-after_7 v w c = record { state = go_on (after_6 v w c).state; count = w }
-
-pub runs : (f : Formats) (c : Counted) (x y v w : ℕ)
-    → step_counted f x (after_4 c) ≡ Some (after_5 v c)
-    → step_counted f y (after_5 v c) ≡ Some (after_6 v w c)
-    → run f
-    (0x7c0802a6 ∷ 0x429f0005 ∷ 0x7d8802a6 ∷ 0x7c0803a6 ∷ x ∷ y ∷ 0x7d8903a6 ∷ 0x4e800420 ∷ []) c
-    ≡ Some (at_count (after_7 v w c))
-runs f c x y v w first second =
-    let six : List ℕ = 0x7d8903a6 ∷ 0x4e800420 ∷ [] in
-    let four : List ℕ = x ∷ y ∷ six in
-    run_more (λ c. c.state.pc) (step_counted f) 0x7c0802a6 0x429f0005 (0x7d8802a6 ∷ 0x7c0803a6 ∷ four) c (after_1 c) _ refl refl
-    (run_more (λ c. c.state.pc) (step_counted f) 0x429f0005 0x7d8802a6 (0x7c0803a6 ∷ four) (after_1 c) (after_2 c) _ refl refl
-    (run_more (λ c. c.state.pc) (step_counted f) 0x7d8802a6 0x7c0803a6 four (after_2 c) (after_3 c) _ refl refl
-    (run_more (λ c. c.state.pc) (step_counted f) 0x7c0803a6 x (y ∷ six) (after_3 c) (after_4 c) _ refl refl
-    (run_more (λ c. c.state.pc) (step_counted f) x y six (after_4 c) (after_5 v c) _ first refl
-    (run_more (λ c. c.state.pc) (step_counted f) y 0x7d8903a6 (0x4e800420 ∷ []) (after_5 v c) (after_6 v w c) _ second refl
-    (run_more (λ c. c.state.pc) (step_counted f) 0x7d8903a6 0x4e800420 [] (after_6 v w c) (after_7 v w c) _ refl refl refl))))))
-
-kept : (a b : Bool) (w v l k r : ℕ) → (a || b) ≡ false
-    → cond b w (cond b v (cond b l (cond a k r))) ≡ r
-kept true b w v l k r e = cc
-kept false true w v l k r e = cc
-kept false false w v l k r e = refl
-
--- what is left at the target
-left : (c : Counted) (v w target : ℕ) → w ≡ target → target % 4 ≡ 0
-    → GoesTo target c (at_count (after_7 v w c))
-left c v w target is even =
-    record {
+pub four_go : (f : Formats) (c : Counted) (x y b w target : ℕ) → HasParts 15 12 b x
+    → step_counted f y (after_1 (upper b x c) c) ≡ Some (after_2 (upper b x c) w c) → w ≡ target → target % 4 ≡ 0
+    → IsSomeAnd (run f (x ∷ y ∷ 0x7d8903a6 ∷ 0x4e800420 ∷ []) c) (GoesTo target c)
+four_go f c x y b w target first second is even =
+    let v = upper b x c in
+    subst (λ end. IsSomeAnd end (GoesTo target c))
+    (sym (run_more (λ c. c.state.pc) (step_counted f) x y (0x7d8903a6 ∷ 0x4e800420 ∷ []) c (after_1 v c) (Some (at_count (after_3 v w c)))
+    (of_machine f x 15 c (after_1 v c).state first.opcode_is refl refl refl (step_addis f x 12 b c.state first)) refl
+    (run_more (λ c. c.state.pc) (step_counted f) y 0x7d8903a6 (0x4e800420 ∷ []) (after_1 v c) (after_2 v w c) (Some (at_count (after_3 v w c))) second refl
+    (run_more (λ c. c.state.pc) (step_counted f) 0x7d8903a6 0x4e800420 [] (after_2 v w c) (after_3 v w c) (Some (at_count (after_3 v w c))) refl refl refl))))
+    (record {
       pc = ap (λ n. n - n % 4) is ∙ omega (arith, even);
       r12 = is;
-      registers = λ n e. kept (eqb n 0) (eqb n 12) _ _ _ _ (c.state.registers n) e;
+      registers = λ n e. once (eqb n 0) (eqb n 12) w _ e ∙ once (eqb n 0) (eqb n 12) v (c.state.registers n) e;
       floats = refl;
       link = refl;
       memory = refl;
+    })
+
+-- ---- the instructions before them, by which r12 has an address
+
+abbrev first_1 : Counted → Counted
+first_1 c = with_state (moved_from_link 0 c.state) c
+
+abbrev first_2 : Counted → Counted
+first_2 c = with_state (linked (first_1 c).state) (first_1 c)
+
+abbrev first_3 : Counted → Counted
+first_3 c = with_state (moved_from_link 12 (first_2 c).state) (first_2 c)
+
+abbrev first_4 : Counted → Counted
+first_4 c = with_state (moved_to_link 0 (first_3 c).state) (first_3 c)
+
+begins : (f : Formats) (c : Counted) (x : ℕ) (rest : List ℕ)
+    → run f (0x7c0802a6 ∷ 0x429f0005 ∷ 0x7d8802a6 ∷ 0x7c0803a6 ∷ x ∷ rest) c ≡ run f (x ∷ rest) (first_4 c)
+begins f c x rest =
+    let end = run f (x ∷ rest) (first_4 c) in
+    run_more (λ c. c.state.pc) (step_counted f) 0x7c0802a6 0x429f0005 (0x7d8802a6 ∷ 0x7c0803a6 ∷ x ∷ rest) c (first_1 c) end refl refl
+    (run_more (λ c. c.state.pc) (step_counted f) 0x429f0005 0x7d8802a6 (0x7c0803a6 ∷ x ∷ rest) (first_1 c) (first_2 c) end refl refl
+    (run_more (λ c. c.state.pc) (step_counted f) 0x7d8802a6 0x7c0803a6 (x ∷ rest) (first_2 c) (first_3 c) end refl refl
+    (run_more (λ c. c.state.pc) (step_counted f) 0x7c0803a6 x rest (first_3 c) (first_4 c) end refl refl refl)))
+
+neither : (a b : Bool) (v l r : ℕ) → (a || b) ≡ false → cond b v (cond a l r) ≡ r
+neither true b v l r e = cc
+neither false true v l r e = cc
+neither false false v l r e = refl
+
+begun : (c : Counted) (target : ℕ) (end : Option Counted) → IsSomeAnd end (GoesTo target (first_4 c)) → IsSomeAnd end (GoesTo target c)
+begun c target None is = is
+begun c target (Some d) is =
+    record {
+      pc = is.pc;
+      r12 = is.r12;
+      registers = λ n e. is.registers n e ∙ neither (eqb n 0) (eqb n 12) _ _ (c.state.registers n) e;
+      floats = is.floats;
+      link = is.link;
+      memory = is.memory;
     }
 
--- the words from where a call enters, by the pair
-entered_is : (code pair : List ℕ) (x y : ℕ) → length pair ≡ 8
+-- from where a call enters, by the pair
+enters : (f : Formats) (c : Counted) (code pair : List ℕ) (x y target : ℕ) → length pair ≡ 8
     → code ≡ ppc64_output.load_stub.head ++ (pair ++ ppc64_output.load_stub.tail)
     → word_of pair ≡ x → word_of (drop 4 pair) ≡ y
-    → words 8 (drop 4 code)
-    ≡ 0x7c0802a6 ∷ 0x429f0005 ∷ 0x7d8802a6 ∷ 0x7c0803a6 ∷ x ∷ y ∷ 0x7d8903a6 ∷ 0x4e800420 ∷ []
-entered_is code pair x y len is first second =
+    → IsSomeAnd (run f (x ∷ y ∷ 0x7d8903a6 ∷ 0x4e800420 ∷ []) (first_4 c)) (GoesTo target (first_4 c))
+    → IsSomeAnd (run f (words 8 (drop 4 code)) c) (GoesTo target c)
+enters f c code pair x y target len is first second goes =
     let tail = ppc64_output.load_stub.tail in
-    ap (λ c. words 8 (drop 4 c)) is
-    ∙ ap (λ ws. 0x7c0802a6 ∷ 0x429f0005 ∷ 0x7d8802a6 ∷ 0x7c0803a6 ∷ ws)
+    subst (λ end. IsSomeAnd end (GoesTo target c))
+    (sym (ap (λ b. run f (words 8 (drop 4 b)) c) is
+    ∙ ap (λ ws. run f (0x7c0802a6 ∷ 0x429f0005 ∷ 0x7d8802a6 ∷ 0x7c0803a6 ∷ ws) c)
     (of_pair 2 (pair ++ tail) pair tail len refl
     ∙ ap (λ w. w ∷ word_of (drop 4 pair) ∷ 0x7d8903a6 ∷ 0x4e800420 ∷ []) first
     ∙ ap (λ w. x ∷ w ∷ 0x7d8903a6 ∷ 0x4e800420 ∷ []) second)
+    ∙ begins f c x (y ∷ 0x7d8903a6 ∷ 0x4e800420 ∷ [])))
+    (begun c target (run f (x ∷ y ∷ 0x7d8903a6 ∷ 0x4e800420 ∷ []) (first_4 c)) goes)
 
 -- ---- the laws
 
@@ -130,22 +154,18 @@ loads_go toc place word target inside below small even code is f c entry holds =
     same_parts (ap opcode_of old) (ap rt_of old) (ap ra_of old) after.0 in
     let a = (ppc64_form D).machine x *ℤ pos (2 ^ 16) in
     let b = (ppc64_form Ds).machine y in
-    let v = moved (sum_64 (sum_64 c.state.pc 4) 4) a in
-    let w = loaded 8 c.state.memory (moved v b) in
+    let v = upper 12 x (first_4 c) in
     let leads : moved v b ≡ word =
     ap (λ p. moved (moved p a) b) (ap (λ p. sum_64 (sum_64 p 4) 4) entry ∙ three_words place)
     ∙ sum_leads o.got_base (symbol_address o) a b
     (subst (λ z. IsAddress ((pos o.got_base +ℤ a) +ℤ z) (symbol_address o)) (reads_ds y second.opcode_is)
     (toc.1 o (are_addresses stub place word below) o.place template half high.applied tt o.place (drop 4 half) (drop 4 pair) low.applied tt))
     ∙ no_addend word below in
-    subst (λ end. IsSomeAnd end (GoesTo target c))
-    (sym (ap (λ ws. run f ws c) (entered_is code pair x y is.1 is.3 (sym (front_word pair) ∙ ap word_of low.kept ∙ front_word half) refl)
-    ∙ runs f c x y v w
-    (of_machine f x 15 (after_4 c) (after_5 v c).state first.opcode_is refl refl refl
-    (step_addis f x 12 12 (after_4 c).state first))
-    (of_machine f y 58 (after_5 v c) (after_6 v w c).state second.opcode_is refl refl refl
-    (step_ld f y 12 12 (after_5 v c).state second (after.1 ∙ ap (λ n. field n 0 2) old)))))
-    (left c v w target (ap (loaded 8 c.state.memory) leads ∙ holds) even)
+    enters f c code pair x y target is.1 is.3 (sym (front_word pair) ∙ ap word_of low.kept ∙ front_word half) refl
+    (four_go f (first_4 c) x y 12 (loaded 8 c.state.memory (moved v b)) target first
+    (of_machine f y 58 (after_1 v (first_4 c)) (after_2 v (loaded 8 c.state.memory (moved v b)) (first_4 c)).state second.opcode_is refl refl refl
+    (step_ld f y 12 12 (after_1 v (first_4 c)).state second (after.1 ∙ ap (λ n. field n 0 2) old)))
+    (ap (loaded 8 c.state.memory) leads ∙ holds) even)
 
 pub jumps_go : TocAddresses → stubs.Jumps
 jumps_go toc place target inside below even code is f c entry =
@@ -165,21 +185,17 @@ jumps_go toc place target inside below even code is f c entry =
     (d_after _ _ (drop 4 half) (drop 4 pair) low.applied.written) in
     let a = (ppc64_form D).machine x *ℤ pos (2 ^ 16) in
     let b = (ppc64_form D).machine y in
-    let v = moved (sum_64 (sum_64 c.state.pc 4) 4) a in
-    let w = moved v b in
-    let value : w ≡ target =
+    let v = upper 12 x (first_4 c) in
+    let value : moved v b ≡ target =
     ap (λ p. moved (moved p a) b) (ap (λ p. sum_64 (sum_64 p 4) 4) entry ∙ three_words place)
     ∙ sum_leads o.got_base (symbol_address o) a b
     (toc.0 o (are_addresses stub place target below) o.place template half high.applied tt o.place (drop 4 half) (drop 4 pair) low.applied tt)
     ∙ no_addend target below in
-    subst (λ end. IsSomeAnd end (GoesTo target c))
-    (sym (ap (λ ws. run f ws c) (entered_is code pair x y is.1 is.3 (sym (front_word pair) ∙ ap word_of low.kept ∙ front_word half) refl)
-    ∙ runs f c x y v w
-    (of_machine f x 15 (after_4 c) (after_5 v c).state first.opcode_is refl refl refl
-    (step_addis f x 12 12 (after_4 c).state first))
-    (of_machine f y 14 (after_5 v c) (after_6 v w c).state second.opcode_is refl refl refl
-    (step_addi f y 12 12 (after_5 v c).state second))))
-    (left c v w target value even)
+    enters f c code pair x y target is.1 is.3 (sym (front_word pair) ∙ ap word_of low.kept ∙ front_word half) refl
+    (four_go f (first_4 c) x y 12 (moved v b) target first
+    (of_machine f y 14 (after_1 v (first_4 c)) (after_2 v (moved v b) (first_4 c)).state second.opcode_is refl refl refl
+    (step_addi f y 12 12 (after_1 v (first_4 c)).state second))
+    value even)
 
 pub first_stores : stubs.FirstStoresToc
 unfolding place_sum

@@ -1,12 +1,12 @@
 -- PowerPC64's stubs by the TOC pointer and by prefixed instructions go to their targets.
-use Rattle.linker_output.proofs.Imports.{Bool, Counted, D, Ds, IsAddress, IsSomeAnd, List, None, Prefixed, Prefixes, Some, TocAddresses, WritesPair, [], address_is, ap, arith, at_count, by_prefixed, by_toc, code_of_words, cond, cond-true, continue_by, drop, eq-eqb, eqb, false, field, field_of, jump_to_r12, length, lifted, loaded, moved, opcode_of, operands_of, pos, ppc64_form, ppc64_name, ppc64_row, prefixed_of, ra_of, reads_ds, refl, rt_of, run, run_prefixed, same_parts, step_counted, subst, sum_64, sum_zero, sym, symbol_address, take, take-append_seam, times_one, true, with_state, word_of, words, ℕ, ◌%◌, ◌*ℤ◌, ◌++◌, ◌+ℤ◌, ◌-◌, ◌<◌, ◌^◌, ◌||◌, ◌∙◌, ◌∷◌, ◌≡◌}
+use Rattle.linker_output.proofs.Imports.{Counted, D, Ds, IsAddress, IsSomeAnd, List, None, Prefixed, Prefixes, Some, TocAddresses, WritesPair, [], address_is, ap, arith, at_count, by_prefixed, by_toc, code_of_words, cond-true, continue_by, drop, eq-eqb, eqb, field, field_of, jump_to_r12, length, lifted, loaded, moved, opcode_of, operands_of, pos, ppc64_form, ppc64_name, ppc64_row, prefixed_of, ra_of, reads_ds, refl, rt_of, run, run_prefixed, same_parts, step_counted, subst, sum_64, sum_zero, sym, symbol_address, take, take-append_seam, times_one, with_state, word_of, words, ℕ, ◌%◌, ◌*ℤ◌, ◌++◌, ◌+ℤ◌, ◌-◌, ◌<◌, ◌^◌, ◌∙◌, ◌∷◌, ◌≡◌}
 use Rattle.linker_elf.specs.declared.elf.architecture.Architecture.TheVariants.{Ppc64}
 use Rattle.linker_laws.specs.Ppc64Machine.{Formats, go_on, step_prefixed, State}
-use Rattle.linker_laws.proofs.Ppc64Words.{HasParts, d_after, ds_after, sum_leads, step_addis, step_ld, set}
+use Rattle.linker_laws.proofs.Ppc64Words.{HasParts, d_after, ds_after, sum_leads, step_ld}
 use Rattle.linker_elf.specs.declared.ppc64.relocations.Ppc64Relocation.TheVariants as r
 use Rattle.linker_laws.proofs.Ppc64Prefixed.{HasPrefixedParts, prefixed_after, set_8, step_pld, step_paddi}
 use Rattle.linker_output.proofs.LazyRuns.{run_more, of_pair}
-use Rattle.linker_output.proofs.Ppc64StubLaws.{of_machine}
+use Rattle.linker_output.proofs.Ppc64StubLaws.{of_machine, upper, after_1, after_2, once, four_go}
 use Rattle.linker_output.proofs.StubWords.{front_word, third_is, applies, no_addend, are_addresses}
 use Rattle.linker_output.specs.Ppc64Stubs.{GoesTo}
 use Rattle.linker_output.specs.Ppc64Stubs as stubs
@@ -16,36 +16,6 @@ abbrev tail : List ℕ
 tail = code_of_words jump_to_r12
 
 -- ---- by the TOC pointer
-
--- the states after the instructions, which put v and then w in r12
-abbrev after_1 : ℕ → Counted → Counted
-after_1 v c = with_state (set 12 v c.state) c
-
-abbrev after_2 : ℕ → ℕ → Counted → Counted
-after_2 v w c = with_state (set 12 w (after_1 v c).state) (after_1 v c)
-
-abbrev after_3 : ℕ → ℕ → Counted → Counted
-after_3 v w c = record { state = go_on (after_2 v w c).state; count = w }
-
-once : (a b : Bool) (v r : ℕ) → (a || b) ≡ false → cond b v r ≡ r
-once true b v r e = cc
-once false true v r e = cc
-once false false v r e = refl
-
-twice : (a b : Bool) (w v r : ℕ) → (a || b) ≡ false → cond b w (cond b v r) ≡ r
-twice a b w v r e = once a b w (cond b v r) e ∙ once a b v r e
-
-left : (c : Counted) (v w target : ℕ) → w ≡ target → target % 4 ≡ 0
-    → GoesTo target c (at_count (after_3 v w c))
-left c v w target is even =
-    record {
-      pc = ap (λ n. n - n % 4) is ∙ omega (arith, even);
-      r12 = is;
-      registers = λ n e. twice (eqb n 0) (eqb n 12) _ _ (c.state.registers n) e;
-      floats = refl;
-      link = refl;
-      memory = refl;
-    }
 
 four_are : (code pair : List ℕ) (x y : ℕ) → length pair ≡ 8 → code ≡ pair ++ tail → word_of pair ≡ x
     → word_of (drop 4 pair) ≡ y → words 4 code ≡ x ∷ y ∷ 0x7d8903a6 ∷ 0x4e800420 ∷ []
@@ -74,7 +44,7 @@ goes law toc word target inside below even code pair len writes is f c base hold
     same_parts (ap opcode_of old) (ap rt_of old) (ap ra_of old) after.0 in
     let a = (ppc64_form D).machine x *ℤ pos (2 ^ 16) in
     let b = (ppc64_form Ds).machine y in
-    let v = moved (c.state.registers 2) a in
+    let v = upper 2 x c in
     let w = loaded 8 c.state.memory (moved v b) in
     let leads : moved v b ≡ word =
     ap (λ p. moved (moved p a) b) (base ∙ sym (sum_zero toc inside))
@@ -82,16 +52,12 @@ goes law toc word target inside below even code pair len writes is f c base hold
     (subst (λ z. IsAddress ((pos o.got_base +ℤ a) +ℤ z) (symbol_address o)) (reads_ds y second.opcode_is)
     (law.1 o (are_addresses by_toc toc word below) o.place template half high.applied tt o.place (drop 4 half) (drop 4 pair) low.applied tt))
     ∙ no_addend word below in
-    subst (λ end. IsSomeAnd end (GoesTo target c))
-    (sym (ap (λ ws. run f ws c) (four_are code pair x y len is (sym (front_word pair) ∙ ap word_of low.kept ∙ front_word half) refl)
-    ∙ run_more (λ c. c.state.pc) (step_counted f) x y (0x7d8903a6 ∷ 0x4e800420 ∷ []) c (after_1 v c) _
-    (of_machine f x 15 c (after_1 v c).state first.opcode_is refl refl refl
-    (step_addis f x 12 2 c.state first)) refl
-    (run_more (λ c. c.state.pc) (step_counted f) y 0x7d8903a6 (0x4e800420 ∷ []) (after_1 v c) (after_2 v w c) _
+    subst (λ ws. IsSomeAnd (run f ws c) (GoesTo target c))
+    (sym (four_are code pair x y len is (sym (front_word pair) ∙ ap word_of low.kept ∙ front_word half) refl))
+    (four_go f c x y 2 w target first
     (of_machine f y 58 (after_1 v c) (after_2 v w c).state second.opcode_is refl refl refl
-    (step_ld f y 12 12 (after_1 v c).state second (after.1 ∙ ap (λ n. field n 0 2) old))) refl
-    (run_more (λ c. c.state.pc) (step_counted f) 0x7d8903a6 0x4e800420 [] (after_2 v w c) (after_3 v w c) _ refl refl refl))))
-    (left c v w target (ap (loaded 8 c.state.memory) leads ∙ holds) even)
+    (step_ld f y 12 12 (after_1 v c).state second (after.1 ∙ ap (λ n. field n 0 2) old)))
+    (ap (loaded 8 c.state.memory) leads ∙ holds) even)
 
 pub toc_loads_go : TocAddresses → stubs.TocLoads
 toc_loads_go law toc word target inside below small even code is f c =
