@@ -1,5 +1,5 @@
 -- Decisions, relocation by relocation.
-use Rattle.linker_rewriting.proofs.Imports.{Architecture, AreAllDecided, AreApart, AreApartBy, AreClear, AreDecidedBy, Bool, Bound, CanBeMade, CanRewrite, Consumed, Decision, DeletedBytes, IfNone, IfSome, IsEndAfter, IsMadeBy, IsOverlapping, IsSome, IsThere, IsWithin, Kept, List, Matches, None, Option, Rela, Rewrite, Rewritten, RewrittenWithSymbol, Some, ap, arith, below_more, bound_at, decision_at, deleted_end, deletes_within, end_at, end_by, false, get_or-set_other, get_or-set_same, inl, inr, is_taken, leb-true, length, max, refl, relaxation_deleted, relaxation_rewrite, relocation_in, slice_set, start_at, start_by, subst, suc, sym, takes_next, true, window_of_rewrite, zero, ℕ, ◌+◌, ◌-◌, ◌/◌, ◌<◌, ◌∙◌, ◌≡◌, ◌≤◌, ◌⊎◌}
+use Rattle.linker_rewriting.proofs.Imports.{Architecture, AreAllDecided, AreApart, AreApartBy, AreClear, AreDecidedBy, Bool, Bound, CanBeMade, CanRewrite, Consumed, Decision, DeletedBytes, IfSome, IsEndAfter, IsMadeBy, IsOverlapping, IsSome, IsThere, IsWithin, Kept, List, Matches, None, Option, Rela, Rewrite, Rewritten, RewrittenWithSymbol, Some, ap, arith, below_more, bound_at, by_index, decision_at, deleted_end, deletes_within, end_at, end_by, false, get_or-set_other, get_or-set_same, inl, inr, is_taken, leb-true, length, max, refl, relaxation_deleted, relaxation_rewrite, relocation_in, slice_set, start_at, start_by, subst, suc, sym, takes_next, true, window_of_rewrite, zero, ℕ, ◌+◌, ◌-◌, ◌/◌, ◌<◌, ◌∙◌, ◌≡◌, ◌≤◌, ◌⊎◌}
 
 -- one of the windows ends there
 abbrev pub IsReached : Bound → Bound → List ℕ → List Decision → ℕ → ℕ → Type 0
@@ -193,26 +193,19 @@ overlapping Decides S E bytes decisions end k taken d decided same following (in
 
 -- ---- what a function decides of a relocation, as a rule
 
-pub by_rule : (Decides : ℕ → Bool → Decision → Type 0) (Is : Rela → Option Decision → Type 0)
-    (S E : Bound) (bytes section : List ℕ) (n : ℕ) (taken : Bool) (r : Rela)
-    (result : Option Decision) → r ≡ relocation_in bytes n → Is r result
-    → ((d : Decision) → Is (relocation_in bytes n) (Some d) → Decides n taken d)
-    → IfSome result (λ d. IsThere d section r.offset) → IfSome result (IsWithin S E r.offset)
-    → IfSome result (IsMadeBy Decides S E bytes section n taken)
-by_rule Decides Is S E bytes section n taken r None same is become there within = tt
-by_rule Decides Is S E bytes section n taken r (Some d) same is become there within =
+pub by_rule : (Decides : ℕ → Bool → Rela → Decision → Type 0) (S E : Bound) (bytes section : List ℕ)
+    (n : ℕ) (taken : Bool) (r : Rela) (result : Option Decision) → r ≡ relocation_in bytes n
+    → IfSome result (Decides n taken r) → IfSome result (λ d. IsThere d section r.offset)
+    → IfSome result (IsWithin S E r.offset)
+    → IfSome result (IsMadeBy (by_index bytes Decides) S E bytes section n taken)
+by_rule Decides S E bytes section n taken r None same is there within = tt
+by_rule Decides S E bytes section n taken r (Some d) same is there within =
     record {
-      decides = become d (subst (λ x. Is x (Some d)) same is);
+      decides = subst (λ x. Decides n taken x d) same is;
       made = subst (λ x. CanBeMade d section x.offset) same (there.0);
       matches = subst (λ x. Matches d section x.offset) same (there.1);
       within = subst (λ x. IsWithin S E x.offset d) same within;
     }
-
-pub lacks_by : (Is : Rela → Option Decision → Type 0) (bytes : List ℕ) (n : ℕ) (r : Rela)
-    (result : Option Decision) → r ≡ relocation_in bytes n → Is r result
-    → IfNone result (Is (relocation_in bytes n) None)
-lacks_by Is bytes n r None same is = subst (λ x. Is x None) same is
-lacks_by Is bytes n r (Some d) same is = tt
 
 -- where the bytes themselves count
 pub itself : (o : ℕ) (result : Option Decision) → IfSome result (IsWithin start_by end_by o)

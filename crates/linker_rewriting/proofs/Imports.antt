@@ -17,7 +17,7 @@ pub use Rattle.linker_elf.specs.declared.ppc64.relocations.Ppc64Relocation.{Ppc6
 pub use Rattle.linker_elf.specs.declared.x86_64.relocations.X86_64Relocation.{X86_64Relocation}
 pub use Rattle.linker_rewriting.specs.Agreement.{Agree, AgreeBelow, contradict_at}
 pub use Rattle.linker_rewriting.specs.Candidates.{IsCallIn, IsCandidate, IsCandidateBy, IsCandidateWith, IsMatched, IsTaken, at_base, calls_tls_get_addr, deletes_within, own_facts}
-pub use Rattle.linker_rewriting.specs.Decisions.{AllCanBeMade, AllKeepBytes, AllStillFit, AreAllDecided, AreApart, AreApartBy, AreBytes, AreClear, AreDecidedBy, AreDecidedIn, Bound, CanBeMade, DecisionsAreMade, DecisionsFollow, IsCovered, IsDecidedAfter, IsDecidedAlone, IsDecision, IsEndAfter, IsGroupDecision, IsLabelDecision, IsMadeBy, IsMatchedDecision, IsNotSurveyed, IsOverlapping, IsRejectedBy, IsRejectedFirst, IsRejectedIn, IsRejectedWith, IsRewrittenAlone, IsRewrittenAt, IsScopeDecision, IsSome, IsThere, IsUnmade, IsWithin, KeepsBytes, Matches, OneByteTells, StillFits, WordsTell, bound_at, bytes_number, decision_ahead, decision_at, decision_of, deleted_end, deleted_of, deletion_by, deletions_by, end_at, end_by, is_taken, label_decision, pair_of, pairs_in, rewritten_by, start_at, start_by, takes_next, takes_symbol, turned, window_number, window_of, written_end_at}
+pub use Rattle.linker_rewriting.specs.Decisions.{AllCanBeMade, AllKeepBytes, AllStillFit, AreAllDecided, AreApart, AreApartBy, AreBytes, AreClear, AreDecidedBy, AreDecidedIn, Bound, CanBeMade, DecisionsAreMade, DecisionsFollow, IsCovered, IsDecided, IsDecidedAfter, IsDecidedAlone, IsEndAfter, IsGroupDecision, IsLabelDecision, IsMadeBy, IsMatchedDecision, IsNotSurveyed, IsOverlapping, IsRejectedBy, IsRejectedFirst, IsRejectedIn, IsRejectedWith, IsRewrittenAlone, IsRewrittenAt, IsScopeDecision, IsSome, IsThere, IsUnmade, IsWithin, KeepsBytes, Matches, OneByteTells, StillFits, WordsTell, bound_at, by_index, bytes_number, decision_ahead, decision_at, decision_of, deleted_end, deleted_of, deletion_by, deletions_by, end_at, end_by, is_taken, label_decision, pair_of, pairs_in, rewritten_by, start_at, start_by, takes_next, takes_symbol, turned, window_number, window_of, written_end_at}
 pub use Rattle.linker_rewriting.specs.Facts.{RelaxContext, context, context_of, facts_at, facts_by, facts_of, facts_with, link_facts, no_addresses, placed_facts, pre_layout}
 pub use Rattle.linker_rewriting.specs.GlobalPointer.{ArePartsDecided, ArePartsRejected, ArePartsWhole, ArePartsWholeAcross, AreSymbolsSurveyed, DecidesPart, IsKeepingSymbol, IsLabelled, IsMember, IsMemberBy, IsPartDecided, IsSubject, KeepsSymbol, MeansSymbolsUnsurveyed, base_of, based_relocation, based_section, decided_by, fits, is_expected, is_placed, is_placed_by, is_reached, kept_by, low_r_type, part_decision, part_end, part_of, part_start, relative_high, relocation_by, section_based}
 pub use Rattle.linker_rewriting.specs.Groups.{IsInGroupIn, IsNotRelaxableUnless, IsScopeIn, aarch64_scope_in, group_stays, has_rewrites, keeps, loongarch_scope_in, ppc64_scope_in, riscv_scope_in, stays_at, symbol_of_group, with_kept, x86_64_scope_in}
@@ -31,7 +31,7 @@ pub use Rattle.linker_rewriting.specs.Rewritten.{AreDone, AreRelocationsAfter, G
 pub use Rattle.linker_rewriting.specs.RiscVPcrelGroups.{HasLacking, IsHighAt, IsHighFrom, IsHighIn, IsHighOf, IsInLabel, IsLabelCandidate, IsLabelNote, IsLacking, LabelFits, LabelStays, Lacks, has_labels, high_r_type, is_beyond, is_high, is_high_in, is_labelled, label_facts, label_offset, offset_of_label, searched}
 pub use Rattle.linker_rewriting.specs.Sequences.{IsWhole, are_members, descriptor, got_load, is_among, is_marked_at, is_marked_in, is_member, is_place, is_tied, is_typed, is_whole, is_whole_in, marked_load, member, page_and_offset}
 pub use Rattle.linker_rewriting.specs.Surveys.{AllStayIf, AreKeptToo, HasRewrite, IsCause, IsGroup, IsGroupOf, IsKeeping, IsNoted, IsOfThreads, IsSurveyedIn, IsUnmarked, MeansUnsurveyed, NotesStay, StaysBy, SurveysCommute, is_marked}
-pub use Rattle.linker_rewriting.specs.TocIndirection.{AreLoadsDecided, AreLoadsRejected, AreLoadsSurveyed, AreSurveyedBy, DecidesLoad, HasLoadRewrite, IsDecisionBy, IsKeepingWord, IsLoad, IsLoadCandidate, IsLoadDecided, IsLoadDecision, IsNotedBy, IsWordDecision, KeepsWord, MeansWordsUnsurveyed, WordUnchangedBy, WordsAreWhole, WordsAreWholeAcross, word_offset, word_r_type, word_stays}
+pub use Rattle.linker_rewriting.specs.TocIndirection.{AreLoadsDecided, AreLoadsRejected, AreLoadsSurveyed, AreSurveyedBy, HasLoadRewrite, IsDecisionBy, IsKeepingWord, IsLoad, IsLoadCandidate, IsLoadDecision, IsNotedBy, IsWordDecision, KeepsWord, MeansWordsUnsurveyed, WordUnchangedBy, WordsAreWhole, WordsAreWholeAcross, word_offset, word_r_type, word_stays}
 pub use Rattle.linker_rewriting.specs.declared.decisions.Decision.{Decision}
 pub use Rattle.linker_rewriting.specs.declared.decisions.Decision.TheVariants.{Consumed, Kept, Rewritten, RewrittenWithSymbol}
 pub use Rattle.linker_rewriting.specs.declared.decisions.RewritingError.{RewritingError}

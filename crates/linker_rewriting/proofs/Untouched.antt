@@ -1,7 +1,8 @@
 -- Sections that stay as they are in a phase, and runs of relocations that keep no group.
-use Rattle.linker_rewriting.proofs.Imports.{Decision, IsSurveyedIn, KeepsNone, List, RelaxContext, UnrelaxableGroups, [], ap, arith, deleted_of, deletion_by, deletions_by, refl, relocation_in, subst, suc, zero, ℕ, ◌++◌, ◌+◌, ◌-◌, ◌<◌, ◌∙◌, ◌≡◌, ◌≤◌}
+use Rattle.linker_rewriting.proofs.Imports.{AreDecidedIn, Decision, IsDecidedAfter, IsSurveyedIn, KeepsNone, List, NotRelaxable, RelaxContext, UnrelaxableGroups, [], ap, arith, decision_at, deleted_of, deletion_by, deletions_by, false, is_taken, refl, relocation_in, subst, suc, sym, takes_next, zero, ℕ, ◌++◌, ◌+◌, ◌-◌, ◌<◌, ◌∙◌, ◌≡◌, ◌≤◌}
 use Rattle.linker_rewriting.proofs.Surveying.{one_left}
-use Rattle.linker_rewriting.specs.Inner.Left.{AreKept}
+use Rattle.linker_rewriting.specs.Inner.Passed.{AreKept}
+use Rattle.linker_rewriting.specs.Inner.RelocationTypes.{AreUnlisted}
 
 -- ---- what is made
 
@@ -12,6 +13,21 @@ none_deleted bytes decisions (suc n) are =
     ap (λ d. deletions_by bytes decisions n ++ deletion_by (relocation_in bytes n).offset (deleted_of d))
     (are n (omega arith))
     ∙ ap (λ l. l ++ []) (none_deleted bytes decisions n (λ m less. are m (omega (arith, less))))
+
+-- ---- what is decided
+
+untaken : (decisions : List Decision) (limit n : ℕ) → AreKept decisions limit → n < limit
+    → is_taken decisions n ≡ false
+untaken decisions limit zero are less = refl
+untaken decisions limit (suc n) are less = ap takes_next (are n (omega (arith, less)))
+
+pub unlisted_decided : (s : RelaxContext) (kept : List UnrelaxableGroups) (bytes section : List ℕ)
+    (decisions : List Decision) (limit : ℕ) → AreUnlisted s.architecture s.phase bytes limit
+    → AreKept decisions limit → AreDecidedIn s kept bytes section decisions limit
+unlisted_decided s kept bytes section decisions limit unlisted are n less =
+    subst (λ t. IsDecidedAfter s kept bytes section n t (decision_at decisions n))
+    (sym (untaken decisions limit n are less))
+    (subst (IsDecidedAfter s kept bytes section n false) (sym (are n less)) (NotRelaxable, unlisted n less, refl))
 
 -- ---- surveys
 

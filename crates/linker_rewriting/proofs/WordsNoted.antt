@@ -1,6 +1,6 @@
 -- The words that stay, noted relocation by relocation.
 use Rattle.linker_rewriting.proofs.Imports.{AreSurveyedBy, Bool, IsNotedBy, List, None, Option, Some, WordUnchangedBy, arith, below_more, inl, inr, refl, subst, sym, true, word_stays, ℕ, ◌+◌, ◌↔◌, ◌≡◌, ◌⊎◌}
-use Rattle.linker_rewriting.specs.Inner.TocIndirection.{IsThatWord}
+use Rattle.linker_rewriting.specs.Inner.Passed.{IsThatWord}
 
 -- what is noted of one relocation
 abbrev pub AreWordsKeptToo : List Bool → List Bool → Option ℕ → Type 0

@@ -168,13 +168,6 @@ IsNotSurveyed s kept bytes section n r =
     × (group_stays kept group r.symbol ≡ false)
     × IsCandidate s bytes section n r None
 
-abbrev pub IsDecision : RelaxContext → List UnrelaxableGroups → List ℕ
-    → List ℕ → ℕ → Rela → Option Decision → Type 0
-IsDecision s kept bytes section n r (Some decision) =
-    IsDecidedAlone s kept bytes section n r decision
-IsDecision s kept bytes section n r None =
-    IsNotSurveyed s kept bytes section n r
-
 -- ---- all decisions
 
 abbrev pub decision_at : List Decision → ℕ → Decision
@@ -185,12 +178,19 @@ abbrev pub is_taken : List Decision → ℕ → Bool
 is_taken decisions zero = false
 is_taken decisions (suc n) = takes_next (decision_at decisions n)
 
+-- of a relocation that the one before takes along, or doesn't
+abbrev pub IsDecided : RelaxContext → List UnrelaxableGroups → List ℕ → List ℕ → ℕ → Bool → Rela
+    → Decision → Type 0
+IsDecided s kept bytes section n true r decision = decision ≡ Consumed
+IsDecided s kept bytes section n false r decision = IsDecidedAlone s kept bytes section n r decision
+
+-- what is decided of the relocation with an index
+abbrev pub by_index : List ℕ → (ℕ → Bool → Rela → Decision → Type 0) → ℕ → Bool → Decision → Type 0
+by_index bytes Decides n taken = Decides n taken (relocation_in bytes n)
+
 abbrev pub IsDecidedAfter : RelaxContext → List UnrelaxableGroups
     → List ℕ → List ℕ → ℕ → Bool → Decision → Type 0
-IsDecidedAfter s kept bytes section n true decision =
-    decision ≡ Consumed
-IsDecidedAfter s kept bytes section n false decision =
-    IsDecidedAlone s kept bytes section n (relocation_in bytes n) decision
+IsDecidedAfter s kept bytes section = by_index bytes (IsDecided s kept bytes section)
 
 -- It is so of what is decided of the relocations with an index below a limit.
 abbrev pub AreDecidedBy : (ℕ → Bool → Decision → Type 0) → List Decision → ℕ → Type 0

@@ -158,13 +158,6 @@ IsLoadNotSurveyed s start words kept bytes section n r =
     × (word_stays kept (load.1) ≡ false)
     × IsLoadCandidate s words bytes section n r load None
 
-abbrev pub IsLoadDecided : RelaxContext → ℕ → List ℕ → List Bool → List ℕ → List ℕ → ℕ → Rela
-    → Option Decision → Type 0
-IsLoadDecided s start words kept bytes section n r None =
-    IsLoadNotSurveyed s start words kept bytes section n r
-IsLoadDecided s start words kept bytes section n r (Some decision) =
-    IsLoadDecision s start words kept bytes section n r decision
-
 -- by the rule of loads, those of the relocations with an index below a limit
 abbrev pub DecidesLoad : RelaxContext → ℕ → List ℕ → List Bool → List ℕ → List ℕ → ℕ → Bool
     → Decision → Type 0

@@ -1,7 +1,7 @@
 //! What becomes of each relocation of a section and of its instruction.
 
 ghost use Rattle.std.specs.Prelude.{◌≡◌, ◌<◌, ◌≤◌, ◌+◌, ◌-◌, ◌/◌, length, IfErr};
-ghost use Rattle.std.specs.Prelude.{OnOk, IfOk, true, false};
+ghost use Rattle.std.specs.Prelude.{OnOk, IfNone, IfOk, IfSome, true, false};
 ghost use Rattle.linker_rewriting.specs.declared.decisions.Decision.{Decision as decisions};
 ghost use Rattle.linker_rewriting.specs.Numbers.{decisions_in, IsWrittenDecision};
 ghost use Rattle.linker_section.specs.Relocations.{relocation_in, relocation_at};
@@ -248,8 +248,10 @@ fn decide(rule: &Groups<'_>, stays: bool, site: &Site<'_>) -> Option<Decision>
     requires noted { IsInLabel rule.now.context.now.architecture rule.now.context.now.phase
         site.now.relocation.r_type true → IsLabelNote (context_of rule.now.context.now)
         site.now.relocations.now site.now.section.now site.now.relocation stays }
-    ensures decision { at_site (λ s. spec.IsDecision s rule.now.kept.now) rule.now.context.now
-        site.now result }
+    ensures decided { IfSome result (at_site (λ s. spec.IsDecidedAlone s rule.now.kept.now)
+        rule.now.context.now site.now) }
+    ensures lacking { IfNone result (at_site (λ s. spec.IsNotSurveyed s rule.now.kept.now)
+        rule.now.context.now site.now) }
     ensures there { CanStand site.now result }
 {
     let (context, symbol) = (rule.context, site.relocation.symbol);
@@ -351,11 +353,9 @@ fn is_left(rule: &Groups<'_>, is_taken: bool, relocations: &[u8], index: usize) 
 }
 
 impl Rule for Groups<'_> {
-    ghost decides = { λ s bytes section. spec.IsDecidedAfter (context_of s.context.now) s.kept.now
-        bytes section };
+    ghost decides = { λ s. spec.IsDecided (context_of s.context.now) s.kept.now };
 
-    ghost lacks = { λ s bytes section n. spec.IsNotSurveyed (context_of s.context.now) s.kept.now
-        bytes section n (relocation_in bytes n) };
+    ghost lacks = { λ s. spec.IsNotSurveyed (context_of s.context.now) s.kept.now };
 
     ghost is_valid = { λ s bytes. (s.architecture ≡ s.context.now.architecture)
         × (s.phase ≡ s.context.now.phase) };

@@ -3,20 +3,19 @@
 //! `lui` and no `auipc`: each low part takes x3 or x0 as its base, all of a symbol or none. `gp` is
 //! the address of `__global_pointer$`. For other architectures nothing is noted or rewritten.
 
-ghost use Rattle.std.specs.Prelude.{◌≡◌, ◌↔◌, ◌+◌, ◌<◌, ◌≤◌, ◌/◌, ℕ, length, take, drop};
+ghost use Rattle.std.specs.Prelude.{◌≡◌, ◌↔◌, ◌+◌, ◌<◌, ◌≤◌, ◌/◌, length, drop};
 ghost use Rattle.std.specs.Prelude.{IfSome, IfErr, IfOk, OnOk, OnErr, IsTrue, ◌&&◌};
-ghost use Rattle.std.specs.Prelude.{◌==◌, true, MatchOption, None, ⊤};
+ghost use Rattle.std.specs.Prelude.{◌==◌, true, MatchOption, None, Some, take, ⊤};
 ghost use Rattle.std.specs.Int.{w32, from_le_bytes};
 ghost use Rattle.linker_rewriting.specs.Numbers.{AreListed, AreMakeable, IsWrittenDecision};
 ghost use Rattle.linker_rewriting.specs.Numbers.{decisions_in};
 ghost use Rattle.linker_rewriting.specs.Agreement.{Agree, IsContradiction, of_tables};
-ghost use Rattle.linker_rewriting.specs.Decisions.{EachIs, IsRejectedFirst, IsWithin, RestStays};
+ghost use Rattle.linker_rewriting.specs.Decisions.{EachIs, IsRejectedFirst, RestStays};
 ghost use Rattle.linker_rewriting.specs.Facts.{context_of};
-ghost use Rattle.linker_rewriting.specs.Inner.Passed.{CanStand, at_site};
+ghost use Rattle.linker_rewriting.specs.Inner.Passed.{at_site};
 ghost use Rattle.linker_rewriting.specs.Inner.Passed.{by_bases};
 ghost use Rattle.linker_riscv64.specs.RiscVCalls.{word_at};
-ghost use Rattle.linker_riscv64.specs.RiscVFields.{opcode_of, funct3_of};
-ghost use Rattle.linker_utils.specs.RiscVRewrites.{adds_low12, with_rs1};
+ghost use Rattle.linker_utils.specs.RiscVRewrites.{with_rs1};
 ghost use Rattle.linker_section.specs.Relocations.{relocation_in};
 ghost use Rattle.linker_section.specs.Values.{IsAscending};
 ghost use Rattle.linker_rewriting.specs.GlobalPointer as spec;
@@ -87,14 +86,10 @@ fn labelled(context: &RelaxContext<'_>, relocations: &[u8], relocation: &Rela) -
     ensures { spec.IsLabelled context.now.addresses.now context.now.values.now relocations.now
         relocation.now result }
 {
-    let Some(at) = label_at(context, relocation) else {
-        return None;
-    };
+    let at = label_at(context, relocation)?;
     let r_type = RiscVRelocation::R_RISCV_PCREL_HI20.r_type();
-    match high_at(relocations, r_type, at) {
-        Some(high) => Some(relocation_in(relocations, high)),
-        None => None,
-    }
+    let high = high_at(relocations, r_type, at)?;
+    Some(relocation_in(relocations, high))
 }
 
 /// What a relocation is of an address, and the relocation whose symbol and addend are its own.
@@ -160,15 +155,6 @@ fn window_at(section: &[u8], offset: u64) -> u32
     u32_from_slice(&section[offset as usize..])
 }
 
-/// Whether an instruction adds 12 bits to a register.
-fn adds_low(section: &[u8], offset: u64) -> bool
-    requires { offset + 4 ≤ length section.now }
-    ensures { result ≡ adds_low12 (opcode_of (word_at section.now offset))
-        (funct3_of (word_at section.now offset)) }
-{
-    RewriteKind::Lo12Rs1ToZero.matches(section, offset)
-}
-
 /// Whether an instruction adds 12 bits to another register than x0, doesn't store what that holds,
 /// and doesn't write x3.
 fn is_low_at(section: &[u8], offset: u64) -> bool
@@ -178,7 +164,7 @@ fn is_low_at(section: &[u8], offset: u64) -> bool
     let word = word_at(section, offset);
     // a store, or a load of a number of floating point
     let writes_none = opcode(word) == 0x23 || opcode(word) == 0x27 || opcode(word) == 0x07;
-    adds_low(section, offset)
+    RewriteKind::Lo12Rs1ToZero.matches(section, offset)
         && base(word) != 0
         && !stores_base(word)
         && (writes_none || destination(word) != 3)
@@ -207,12 +193,15 @@ fn is_expected(section: &[u8], relocation: &Rela, part: Part, subject: &Rela) ->
     }
 }
 
+/// What parts are chosen by. As a rule all of a symbol are rewritten, or none is.
 #[derive(Clone, Copy)]
 struct Parts<'a> {
     context: &'a RelaxContext<'a>,
     gp: u64,
     /// Whether the relocations ascend.
     ascends: bool,
+    /// Which symbols stay.
+    kept: &'a [bool],
 }
 
 /// Whether a part can be rewritten, if all of its symbol can.
@@ -240,9 +229,7 @@ fn keeping_symbol(parts: &Parts<'_>, site: &Site<'_>) -> Option<usize>
     ensures { at_site (λ s. spec.IsKeepingSymbol s parts.now.gp) parts.now.context.now site.now
         result }
 {
-    let Some(member) = member_of(parts.context, site.relocations, &site.relocation) else {
-        return None;
-    };
+    let member = member_of(parts.context, site.relocations, &site.relocation)?;
     if fits(parts, site, &member) {
         None
     } else {
@@ -282,6 +269,7 @@ pub fn survey_global_pointer(
         context,
         gp,
         ascends: is_ascending(relocations),
+        kept: &[],
     };
     for index in 0..relocations_len(relocations) {
         let site = site!(relocations, section, index);
@@ -308,59 +296,14 @@ fn part_decision(part: Part, subject: &Rela) -> Decision
     }
 }
 
-/// The rule of parts: all of a symbol are rewritten, or none is.
-#[derive(Clone, Copy)]
-struct Symbols<'a, 'b> {
-    parts: Parts<'a>,
-    kept: &'b [bool],
-}
+impl Rule for Parts<'_> {
+    ghost decides = { λ s bytes section n taken r d. spec.IsPartDecided (context_of s.context.now)
+        s.gp s.kept.now bytes section n r (Some d) };
 
-/// What becomes of a relocation. None if its symbol doesn't stay, but it can't be rewritten.
-fn decide_part(rule: &Symbols<'_, '_>, site: &Site<'_>) -> Option<Decision>
-    requires index { site.now.index < length site.now.relocations.now / 24 }
-    requires ascending { IsTrue rule.now.parts.ascends ↔ IsAscending site.now.relocations.now }
-    ensures decision { at_site (λ s. spec.IsPartDecided s rule.now.parts.gp rule.now.kept.now)
-        rule.now.parts.context.now site.now result }
-    ensures there { CanStand site.now result }
-    ensures within { IfSome result (IsWithin spec.part_start spec.part_end
-        site.now.relocation.offset) }
-    ensures ends { IfSome result (λ d. (limit : ℕ) → site.now.relocation.offset ≤ limit → length
-        site.now.section.now ≤ limit → spec.part_end d site.now.relocation.offset ≤ limit) }
-{
-    let parts = &rule.parts;
-    let Some(member) = member_of(parts.context, site.relocations, &site.relocation) else {
-        return Some(Decision::Kept);
-    };
-    if word_stays(rule.kept, member.1.symbol as usize) {
-        return Some(Decision::Kept);
-    }
-    if fits(parts, site, &member) {
-        Some(part_decision(member.0, &member.1))
-    } else {
-        None
-    }
-}
+    ghost lacks = { λ s bytes section n r. spec.IsPartDecided (context_of s.context.now) s.gp
+        s.kept.now bytes section n r None };
 
-/// Where the instruction of a part ends, by its offset. That of a part that stays has no bytes
-/// here.
-fn part_end(decision: &Decision, offset: u64) -> u64
-    requires { spec.part_end decision.now offset ≤ u64.MAX }
-    ensures { result ≡ spec.part_end decision.now offset }
-{
-    match decision {
-        Decision::Rewritten(_) | Decision::RewrittenWithSymbol(_, _) => offset + 4,
-        Decision::Kept | Decision::Consumed => offset,
-    }
-}
-
-impl Rule for Symbols<'_, '_> {
-    ghost decides = { λ s bytes section. spec.DecidesPart (context_of s.parts.context.now)
-        s.parts.gp s.kept.now bytes section };
-
-    ghost lacks = { λ s bytes section n. spec.IsPartDecided (context_of s.parts.context.now)
-        s.parts.gp s.kept.now bytes section n (relocation_in bytes n) None };
-
-    ghost is_valid = { λ s bytes. IsTrue s.parts.ascends ↔ IsAscending bytes };
+    ghost is_valid = { λ s bytes. IsTrue s.ascends ↔ IsAscending bytes };
 
     ghost is_noted = { λ s bytes section n stays. ⊤ };
 
@@ -370,12 +313,26 @@ impl Rule for Symbols<'_, '_> {
 
     #[inline(always)]
     fn decide(&self, _is_taken: bool, _stays: bool, site: &Site<'_>) -> Option<Decision> {
-        decide_part(self, site)
+        let Some(member) = member_of(self.context, site.relocations, &site.relocation) else {
+            return Some(Decision::Kept);
+        };
+        if word_stays(self.kept, member.1.symbol as usize) {
+            return Some(Decision::Kept);
+        }
+        if fits(self, site, &member) {
+            Some(part_decision(member.0, &member.1))
+        } else {
+            None
+        }
     }
 
+    /// A part that stays has no bytes here.
     #[inline(always)]
     fn span(&self, decision: &Decision, offset: u64) -> (u64, u64) {
-        (offset, part_end(decision, offset))
+        match decision {
+            Decision::Rewritten(_) | Decision::RewrittenWithSymbol(_, _) => (offset, offset + 4),
+            Decision::Kept | Decision::Consumed => (offset, offset),
+        }
     }
 }
 
@@ -504,9 +461,15 @@ pub fn rewrite_global_pointer(
         context,
         gp,
         ascends: is_ascending(relocations),
+        kept,
     };
-    let rule = Symbols { parts, kept };
-    decide_by(&rule, context.architecture, relocations, section, decisions)?;
+    decide_by(
+        &parts,
+        context.architecture,
+        relocations,
+        section,
+        decisions,
+    )?;
     let Some(len) = list_deletions(true, relocations, decisions, deleted) else {
         return Err(RewritingError::TooShort);
     };

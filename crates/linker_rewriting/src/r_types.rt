@@ -5,8 +5,8 @@
 
 ghost use Rattle.std.specs.Prelude.{◌≡◌, ◌/◌, length, false, slice_get};
 ghost use Rattle.linker_rewriting.specs.Inner.Calls as calls;
-ghost use Rattle.linker_rewriting.specs.Inner.RelocationTypes.{IsListed, IsUngroupedUnless};
-ghost use Rattle.linker_rewriting.specs.Inner.Left.{AreUnlisted};
+ghost use Rattle.linker_rewriting.specs.Inner.RelocationTypes.{AreUnlisted, IsListed};
+ghost use Rattle.linker_rewriting.specs.Inner.RelocationTypes.{IsUngroupedUnless};
 
 use crate::facts::{SymbolFacts, may_change_toc};
 use crate::groups::{Scope, scope_in};

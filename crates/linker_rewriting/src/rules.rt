@@ -6,9 +6,12 @@ ghost use Rattle.std.specs.Prelude.{IfErr, IfNone, IfSome, OnOk, true, false};
 ghost use Rattle.linker_rewriting.specs.Numbers.{decisions_in, IsWrittenDecision};
 ghost use Rattle.linker_rewriting.specs.declared.decisions.Decision.{Decision as decisions};
 ghost use Rattle.linker_rewriting.specs.Decisions.{AreAllDecided, Bound, IsMadeBy, IsRejectedBy};
-ghost use Rattle.linker_rewriting.specs.Decisions.{EachIs, RestStays, decision_at};
+ghost use Rattle.linker_rewriting.specs.Decisions.{EachIs, IsWithin, RestStays, by_index};
+ghost use Rattle.linker_rewriting.specs.Decisions.{decision_at};
+ghost use Rattle.linker_rewriting.specs.Inner.Passed.{CanStand};
 ghost use Rattle.linker_rewriting.specs.Notes.{is_note};
 ghost use Rattle.linker_section.specs.Relocations.{relocation_in};
+ghost use Rattle.linker_section.specs.declared.relocations.Rela.{Rela as relas};
 
 use crate::covered::first_covered;
 use crate::decisions::{Decision, DecisionNumbers, RewritingError, decision_in, end_after};
@@ -21,10 +24,10 @@ use linker_utils::elf::Architecture;
 pub(crate) trait Rule {
     /// What it decides of the relocation with an index, which another one takes along or doesn't,
     /// in a contract.
-    ghost decides: { Self → List ℕ → List ℕ → ℕ → Bool → decisions → Type 0 };
+    ghost decides: { Self → List ℕ → List ℕ → ℕ → Bool → relas → decisions → Type 0 };
 
     /// That the group of a relocation doesn't stay, but it has no rewrite, in a contract.
-    ghost lacks: { Self → List ℕ → List ℕ → ℕ → Type 0 };
+    ghost lacks: { Self → List ℕ → List ℕ → ℕ → relas → Type 0 };
 
     /// What it takes as given of a section's relocations, in a contract.
     ghost is_valid: { Self → List ℕ → Type 0 };
@@ -45,8 +48,8 @@ pub(crate) trait Rule {
         requires within { _index < length _relocations.now / 24 }
         requires valid { is_valid self.now _relocations.now }
         ensures not_taken { result ≡ true → _is_taken ≡ false }
-        ensures left { result ≡ true → (section : List ℕ) → IsMadeBy
-            (decides self.now _relocations.now section) start end _relocations.now section _index
+        ensures left { result ≡ true → (section : List ℕ) → IsMadeBy (by_index _relocations.now
+            (decides self.now _relocations.now section)) start end _relocations.now section _index
             false decisions.Kept }
         ensures none { result ≡ true
             → end decisions.Kept (relocation_in _relocations.now _index).offset
@@ -65,11 +68,12 @@ pub(crate) trait Rule {
         requires valid { is_valid self.now site.now.relocations.now }
         requires noted { is_noted self.now site.now.relocations.now site.now.section.now
             site.now.index stays }
-        ensures decided { IfSome result (IsMadeBy
-            (decides self.now site.now.relocations.now site.now.section.now) start end
-            site.now.relocations.now site.now.section.now site.now.index is_taken) }
-        ensures lacking { IfNone result
-            (lacks self.now site.now.relocations.now site.now.section.now site.now.index) }
+        ensures decided { IfSome result (decides self.now site.now.relocations.now
+            site.now.section.now site.now.index is_taken site.now.relocation) }
+        ensures lacking { IfNone result (lacks self.now site.now.relocations.now
+            site.now.section.now site.now.index site.now.relocation) }
+        ensures there { CanStand site.now result }
+        ensures within { IfSome result (IsWithin start end site.now.relocation.offset) }
         ensures ends { IfSome result (λ d. (limit : ℕ) → site.now.relocation.offset ≤ limit
             → length site.now.section.now ≤ limit → end d site.now.relocation.offset ≤ limit) };
 
@@ -94,13 +98,15 @@ pub(crate) fn decide_by<R: Rule>(
     requires noted { (n : ℕ) → n < length relocations.now / 24
         → R.is_noted rule.now relocations.now section.now n
         (is_note (decision_at (decisions_in decisions.old) n)) }
-    ensures decided { OnOk result (AreAllDecided (R.decides rule.now relocations.now section.now)
-        R.start R.end architecture relocations.now section.now (decisions_in decisions.new)) }
+    ensures decided { OnOk result (AreAllDecided (by_index relocations.now
+        (R.decides rule.now relocations.now section.now)) R.start R.end architecture
+        relocations.now section.now (decisions_in decisions.new)) }
     ensures form { OnOk result (EachIs IsWrittenDecision relocations.now decisions.new) }
     ensures others_stay { RestStays relocations.now decisions.old decisions.new }
-    ensures rejected { IfErr result (IsRejectedBy (R.decides rule.now relocations.now section.now)
-        (R.lacks rule.now relocations.now section.now) R.start R.end architecture relocations.now
-        section.now (decisions_in decisions.new)) }
+    ensures rejected { IfErr result (IsRejectedBy (by_index relocations.now
+        (R.decides rule.now relocations.now section.now))
+        (λ n. R.lacks rule.now relocations.now section.now n (relocation_in relocations.now n))
+        R.start R.end architecture relocations.now section.now (decisions_in decisions.new)) }
 {
     let mut end = 0;
     let mut is_taken = false;

@@ -37,14 +37,6 @@ use linker_section::relocations::{Rela, relocations_len, set_relocation};
 use linker_utils::architecture::Relaxation;
 use linker_utils::elf::{Architecture, InstructionRewrite};
 
-/// The bits of a number, turned up by 8.
-#[inline(always)]
-fn turned(number: u32) -> u32
-    ensures { result ≡ spec.turned number }
-{
-    number % (1 << 24) * (1 << 8) + number / (1 << 24)
-}
-
 /// A number of the bytes of a section from a place on, which is another where one of them is.
 fn bytes_number(section: &[u8], start: u64, len: u64) -> u32
     requires { start + len ≤ length section.now }
@@ -52,7 +44,8 @@ fn bytes_number(section: &[u8], start: u64, len: u64) -> u32
 {
     let mut number: u32 = 0;
     for index in 0..len {
-        number = turned(number).wrapping_add(u32::from(section[(start + index) as usize]));
+        let turned = number % (1 << 24) * (1 << 8) + number / (1 << 24);
+        number = turned.wrapping_add(u32::from(section[(start + index) as usize]));
     }
     number
 }
@@ -169,15 +162,17 @@ fn make(decision: Decision, relocation: &mut Rela, section: &mut [u8])
         Decision::Kept => {}
         Decision::Consumed => relocation.r_type = 0,
         Decision::Rewritten(choice) => {
-            let kind = choice.kind;
-            kind.apply(section, &mut relocation.offset, &mut relocation.addend);
+            choice
+                .kind
+                .apply(section, &mut relocation.offset, &mut relocation.addend);
             relocation.r_type = choice.relocation;
         }
         Decision::RewrittenWithSymbol(choice, subject) => {
             relocation.symbol = subject.symbol;
             relocation.addend = subject.addend;
-            let kind = choice.kind;
-            kind.apply(section, &mut relocation.offset, &mut relocation.addend);
+            choice
+                .kind
+                .apply(section, &mut relocation.offset, &mut relocation.addend);
             relocation.r_type = choice.relocation;
         }
     }

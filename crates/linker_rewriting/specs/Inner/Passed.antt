@@ -1,10 +1,10 @@
 -- What contracts say of contexts, sites and decisions, as the code has them.
-use Rattle.std.specs.Prelude.{◌≡◌, ◌<◌, ◌/◌, ℕ, List, Bool, false, length, Option, IfSome}
-use Rattle.linker_rewriting.specs.Imports.{Addresses, Choice, Decision, DecisionNumbers, Rela}
+use Rattle.std.specs.Prelude.{◌≡◌, ◌<◌, ◌/◌, ℕ, List, Bool, false, length, Option, None, Some}
+use Rattle.std.specs.Prelude.{IfSome}
+use Rattle.linker_rewriting.specs.Imports.{Addresses, Choice, Decision, DecisionNumbers, Kept, Rela}
 use Rattle.linker_rewriting.specs.Imports.{RelaxContext as Passed, Relaxation, Rewritten, Symbol}
 use Rattle.linker_rewriting.specs.Decisions.{AreApart, IsThere, decision_at}
 use Rattle.linker_rewriting.specs.Facts.{RelaxContext, context_of}
-use Rattle.linker_rewriting.specs.Inner.Left.{AreKept}
 use Rattle.linker_rewriting.specs.Notes.{AreHighsNoted, AreLabelsNoted}
 use Rattle.linker_rewriting.specs.Numbers.{decisions_in}
 use Rattle.linker_rewriting.specs.declared.global_pointer.Bases.{Bases}
@@ -28,6 +28,10 @@ CanBeRewritten site = λ chosen.
 abbrev pub by_bases {ℓ} : {X : Type ℓ} → (Addresses → List Symbol → ℕ → X) → Bases → X
 by_bases Is bases = Is bases.addresses.now bases.values.now bases.gp
 
+-- the decisions below a limit leave their relocations as they are
+abbrev pub AreKept : List Decision → ℕ → Type 0
+AreKept decisions limit = (n : ℕ) → n < limit → decision_at decisions n ≡ Kept
+
 -- the bytes of decisions are apart
 abbrev pub AreAllApart : List ℕ → List DecisionNumbers → Type 0
 AreAllApart bytes decisions = AreApart bytes (decisions_in decisions) (length bytes / 24)
@@ -36,6 +40,15 @@ AreAllApart bytes decisions = AreApart bytes (decisions_in decisions) (length by
 abbrev pub StayUnless : Bool → List ℕ → List DecisionNumbers → Type 0
 StayUnless changes bytes decisions =
     changes ≡ false → AreKept (decisions_in decisions) (length bytes / 24)
+
+-- a relocation with another `r_type`
+abbrev pub with_r_type : ℕ → Rela → Rela
+with_r_type r_type r = record r { r_type = r_type }
+
+-- a word is the one, if any
+abbrev pub IsThatWord : Option ℕ → ℕ → Type 0
+IsThatWord None word = ⊥
+IsThatWord (Some that) word = word ≡ that
 
 -- each is the same decision
 abbrev pub AreSet : List ℕ → Decision → List DecisionNumbers → Type 0

@@ -11,6 +11,11 @@ abbrev pub IsListed : Architecture → Phase → ℕ → Bool → Type 0
 IsListed architecture phase r_type listed =
     listed ≡ false → IsScopeIn architecture phase r_type NotRelaxable
 
+-- no relocation with an index below a limit may be rewritten, by its `r_type`
+abbrev pub AreUnlisted : Architecture → Phase → List ℕ → ℕ → Type 0
+AreUnlisted architecture phase bytes limit =
+    (n : ℕ) → n < limit → IsScopeIn architecture phase (relocation_in bytes n).r_type NotRelaxable
+
 -- a survey asks for the rewrite of what is of a group
 abbrev pub is_of_group : Scope → Bool
 is_of_group (Grouped group) = true

@@ -6,13 +6,14 @@ ghost use Rattle.linker_rewriting.specs.Numbers as spec;
 ghost use Rattle.linker_utils.specs.Relaxations.{relaxation_architecture};
 
 use super::{Decision, Subject};
+use crate::candidates::Chosen;
 use linker_utils::architecture::Relaxation;
 use linker_utils::elf::{Architecture, Choice};
 
 /// What becomes of a relocation and of its instruction, in numbers, as C has it. Any numbers are a
 /// decision.
 #[repr(C)]
-#[derive(Clone, Copy)]
+#[derive(Default, Clone, Copy)]
 pub struct DecisionNumbers {
     /// The addend that the relocation gets before the rewrite, if its fate is 3; else 0.
     pub addend: i64,
@@ -40,13 +41,8 @@ fn of_fate(fate: u8) -> DecisionNumbers
     ensures { result ≡ spec.of_fate fate }
 {
     DecisionNumbers {
-        addend: 0,
-        symbol: 0,
-        rewrite: 0,
-        relocation: 0,
-        machine: 0,
         fate,
-        opcode_len: 0,
+        ..DecisionNumbers::default()
     }
 }
 
@@ -65,7 +61,7 @@ fn machine_of(kind: Relaxation) -> u16
 
 /// One that rewrites an instruction.
 #[inline(always)]
-fn of_choice(fate: u8, choice: Choice<Relaxation, u32>, subject: Subject) -> DecisionNumbers
+fn of_choice(fate: u8, choice: Chosen, subject: Subject) -> DecisionNumbers
     ensures fate { result.fate ≡ fate }
     ensures choice { spec.choice_in result ≡ Some choice }
     ensures subject { spec.subject_in result ≡ subject }
@@ -85,7 +81,7 @@ fn of_choice(fate: u8, choice: Choice<Relaxation, u32>, subject: Subject) -> Dec
 impl DecisionNumbers {
     /// The rewrite and the relocation after it, if its machine has a rewrite of these numbers.
     #[inline(always)]
-    fn choice(self) -> Option<Choice<Relaxation, u32>>
+    fn choice(self) -> Option<Chosen>
         ensures { result ≡ spec.choice_in self }
     {
         let architecture = Architecture::from_machine(self.machine)?;
@@ -151,7 +147,7 @@ impl DecisionNumbers {
 
     /// The numbers of a rewrite that is kept, with a number of the bytes that it rewrites.
     #[inline(always)]
-    pub(crate) fn from_choice(choice: Choice<Relaxation, u32>, number: u32) -> DecisionNumbers
+    pub(crate) fn from_choice(choice: Chosen, number: u32) -> DecisionNumbers
         ensures decision { spec.decision_in result ≡ Decision.Rewritten choice }
         ensures bytes { spec.number_of result ≡ number }
         ensures form { spec.IsKeptDecision result }

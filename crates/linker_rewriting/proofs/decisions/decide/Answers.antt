@@ -2,8 +2,8 @@ use Rattle.linker_rewriting.proofs.Imports.{Grouped, IfGroupMatches, Independent
 use Rattle.linker_rewriting.proofs.decisions.decide.Goals as goal
 use Rattle.linker_rewriting.proofs.decisions.decide.Goals.{in-Grouped+else-group_stays, in-IfGroupMatches+else-group_stays-2, in-Independent}
 
-pub returns-in-Some-clause-decision : goal.returns-in-Some-clause-decision
-returns-in-Some-clause-decision c =
+pub returns-in-Some-clause-decided : goal.returns-in-Some-clause-decided
+returns-in-Some-clause-decided c =
     let a = c.args in
     let s = context_of a.rule.now.context.now in
     let r = a.site.now.relocation in

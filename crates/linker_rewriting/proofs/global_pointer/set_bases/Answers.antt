@@ -6,8 +6,7 @@ pub set_base-based-requires : goal.set_base-based-requires
 set_base-based-requires c =
     let a = c.args in
     let k = c.loop-index.index in
-    let less : k < length a.relocations.now / 24 =
-    (let t = c.loop-index-test.true in let e = c.relocations_len-index-end.ensures in omega arith) in
+    let less = subst (λ n. k < n) c.relocations_len-index-end.ensures c.loop-index-test.true in
     let same : c.relocation_in-relocation.result ≡ relocation_in a.relocations.now k =
     c.relocation_in-relocation.ensures ∙ c.loop-index.invariant.turned.above k (omega arith) less in
     same_placed a.bases.now.addresses.now a.bases.now.values.now a.bases.now.gp c.loop-index.section a.section.now c.relocation_in-relocation.result
@@ -20,8 +19,7 @@ loop-index-preserved c =
     let k = c.loop-index.index in
     let r = c.relocation_in-relocation.result in
     let limit = length a.relocations.now / 24 in
-    let less : k < limit =
-    (let t = c.loop-index-test.true in let e = c.relocations_len-index-end.ensures in omega arith) in
+    let less = subst (λ n. k < n) c.relocations_len-index-end.ensures c.loop-index-test.true in
     let turned = c.loop-index.invariant.turned in
     let same : r ≡ relocation_in a.relocations.now k =
     c.relocation_in-relocation.ensures ∙ turned.above k (omega arith) less in

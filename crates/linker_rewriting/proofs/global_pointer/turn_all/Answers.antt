@@ -1,4 +1,4 @@
-use Rattle.linker_rewriting.proofs.Imports.{Decision, List, arith, decision_at, decision_in, length, map, relocation_by, rules, subst, sym, ◌/◌, ◌<◌, ◌≡◌}
+use Rattle.linker_rewriting.proofs.Imports.{Decision, List, decision_at, decision_in, length, map, relocation_by, rules, subst, sym, ◌/◌, ◌<◌, ◌≡◌}
 use Rattle.linker_rewriting.proofs.GlobalPointer.{turned_next}
 use Rattle.linker_rewriting.proofs.global_pointer.turn_all.Goals as goal
 
@@ -10,8 +10,7 @@ loop-index-preserved c =
     let k = c.loop-index.index in
     let r = c.relocation_in.result in
     let limit = length a.relocations.now / 24 in
-    let less : k < limit =
-    (let t = c.loop-index-test.true in let e = c.relocations_len-index-end.ensures in omega arith) in
+    let less = subst (λ n. k < n) c.relocations_len-index-end.ensures c.loop-index-test.true in
     let same_len : length c.loop-index.relocations ≡ length a.relocations.now =
     c.loop-index.invariant.same_len in
     turned_next (λ n x. relocation_by (decision_at ds n) x) a.relocations.now c.loop-index.relocations c.set_relocation.new.relocations limit k

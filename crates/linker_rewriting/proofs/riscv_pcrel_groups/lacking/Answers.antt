@@ -9,12 +9,12 @@ returns-then-not-is_in_label-clause-lacking c =
     a.site.now.relocations.now a.site.now.section.now a.site.now.index a.site.now.relocation
     (subst (IsInLabel a.context.now.architecture a.context.now.phase a.site.now.relocation.r_type) c.if-not-is_in_label.true c.is_in_label.ensures)
 
-pub returns-in-Some-label_candidate-clause-lacking : goal.returns-in-Some-label_candidate-clause-lacking
-returns-in-Some-label_candidate-clause-lacking c =
+pub returns-in-Some-clause-lacking : goal.returns-in-Some-clause-lacking
+returns-in-Some-clause-lacking c =
     let a = c.args in
     λ ascending. rewritten_lacks (context_of a.context.now)
-    a.site.now.relocations.now a.site.now.section.now a.site.now.index a.site.now.relocation c.in-Some.high _
-    (subst (IsHighOf a.context.now.phase a.context.now.addresses.now a.context.now.values.now a.site.now.relocations.now a.site.now.relocation) c.in-Some.is
+    a.site.now.relocations.now a.site.now.section.now a.site.now.index a.site.now.relocation c.in_ok-high.high _
+    (subst (IsHighOf a.context.now.phase a.context.now.addresses.now a.context.now.values.now a.site.now.relocations.now a.site.now.relocation) c.in_ok-high.was
     (c.high_of.ensures.high ascending))
-    (subst (IsLabelCandidate (context_of a.context.now) a.site.now.relocations.now a.site.now.section.now a.site.now.index a.site.now.relocation c.in-Some.high)
-    c.in-Some-label_candidate.is c.label_candidate.ensures.candidate)
+    (subst (IsLabelCandidate (context_of a.context.now) a.site.now.relocations.now a.site.now.section.now a.site.now.index a.site.now.relocation c.in_ok-high.high)
+    c.in-Some.is c.label_candidate.ensures.candidate)

@@ -1,5 +1,5 @@
-use Rattle.linker_rewriting.proofs.Imports.{All, Decision, IfNone, IfSome, IsEndAfter, IsMadeBy, IsWrittenDecision, Kept, None, Some, ap, arith, decision_in, drop-set-lt, inl, inr, is_note, length, length-map, map, map-set, slice_set, subst, sym, take, written_more, ℕ, ◌+◌, ◌/◌, ◌<◌, ◌∙◌, ◌≡◌, ◌≤◌}
-use Rattle.linker_rewriting.proofs.Deciding.{AreDecidedTo, IsGrown, all_decided, bytes_apart, more_decided, more_kept, overlapping}
+use Rattle.linker_rewriting.proofs.Imports.{All, Decision, IfNone, IfSome, IsEndAfter, IsMadeBy, IsWrittenDecision, Kept, None, Some, ap, arith, by_index, decision_in, drop-set-lt, inl, inr, is_note, length, length-map, map, map-set, slice_set, subst, sym, take, written_more, ℕ, ◌+◌, ◌/◌, ◌<◌, ◌∙◌, ◌≡◌, ◌≤◌}
+use Rattle.linker_rewriting.proofs.Deciding.{AreDecidedTo, IsGrown, all_decided, by_rule, bytes_apart, more_decided, more_kept, overlapping}
 use Rattle.linker_rewriting.proofs.rules.decide_by.Goals as goal
 
 pub returns-in_default-clause-rejected : goal.returns-in_default-clause-rejected
@@ -12,7 +12,8 @@ returns-in_default-clause-rejected g c =
     (let t = c.loop-index-test.true in let e = c.relocations_len-index-end.ensures in omega (arith, t, e)) in (
       less,
       λ n below. (c.loop-index.invariant.decided.decided n below).decides,
-      subst (λ x. IfNone x (g.R.Rule.lacks a.rule.now a.relocations.now a.section.now k)) c.in_default.is c.decide.ensures.lacking,
+      subst (g.R.Rule.lacks a.rule.now a.relocations.now a.section.now k) c.relocation_in.ensures
+          (subst (λ x. IfNone x (g.R.Rule.lacks a.rule.now a.relocations.now a.section.now k c.relocation_in.result)) c.in_default.is c.decide.ensures.lacking),
       enough,
     )
 
@@ -22,15 +23,17 @@ returns-in_default-end_after-clause-rejected g c =
     let k = c.loop-index.index in
     let S = g.R.Rule.start in
     let E = g.R.Rule.end in
-    let Decides = g.R.Rule.decides a.rule.now a.relocations.now a.section.now in
+    let D = g.R.Rule.decides a.rule.now a.relocations.now a.section.now in
+    let Decides = by_index a.relocations.now D in
     let d = c.in-Some.decision in
     let end = c.loop-index.end in
     let are = c.loop-index.invariant.decided in
     let enough : length a.relocations.now / 24 ≤ length (map decision_in c.loop-index.decisions) =
     (let e = c.relocations_len-index-end.ensures in let f = c.requires.enough in let l = c.loop-index.auto.decisions in let m = length-map c.loop-index.decisions decision_in in omega (arith, e, f, l, m)) in
-    let less : k < length a.relocations.now / 24 =
-    (let t = c.loop-index-test.true in let e = c.relocations_len-index-end.ensures in omega (arith, t, e)) in
-    let made = subst (λ x. IfSome x (IsMadeBy Decides S E a.relocations.now a.section.now k c.loop-index.is_taken)) c.in-Some.is c.decide.ensures.decided in
+    let less = subst (λ n. k < n) c.relocations_len-index-end.ensures c.loop-index-test.true in
+    let e = c.decide.ensures in
+    let made = subst (λ x. IfSome x (IsMadeBy Decides S E a.relocations.now a.section.now k c.loop-index.is_taken)) c.in-Some.is
+    (by_rule D S E a.relocations.now a.section.now k c.loop-index.is_taken c.relocation_in.result c.decide.result c.relocation_in.ensures e.decided e.there e.within) in
     inl (
       less,
       λ n below. (are.decided n below).decides,
@@ -49,9 +52,11 @@ loop-index-preserved g c =
     let k = c.loop-index.index in
     let S = g.R.Rule.start in
     let E = g.R.Rule.end in
-    let Each = IsMadeBy (g.R.Rule.decides a.rule.now a.relocations.now a.section.now) S E a.relocations.now a.section.now in
+    let D = g.R.Rule.decides a.rule.now a.relocations.now a.section.now in
+    let Each = IsMadeBy (by_index a.relocations.now D) S E a.relocations.now a.section.now in
     let IsNoted : ℕ → Decision → Type 0 = λ n d. g.R.Rule.is_noted a.rule.now a.relocations.now a.section.now n (is_note d) in
     let d = c.in-Some.decision in
+    let e = c.decide.ensures in
     let end = c.in-Some-end_after.new_end in
     let len = length a.relocations.now / 24 in
     let less : k < len = (let t = c.loop-index-test.true in let e = c.relocations_len-index-end.ensures in omega (arith, t, e)) in
@@ -73,7 +78,8 @@ loop-index-preserved g c =
           (subst (λ t. AreDecidedTo Each IsNoted S E a.relocations.now (slice_set ds k d) end t len (k + 1)) (sym c.takes_next-is_taken.ensures)
           (more_decided Each IsNoted S E a.relocations.now ds c.loop-index.end end c.loop-index.is_taken len k d
           c.loop-index.invariant.decided within_map
-          (subst (λ x. IfSome x (Each k c.loop-index.is_taken)) c.in-Some.is c.decide.ensures.decided)
+          (subst (λ x. IfSome x (Each k c.loop-index.is_taken)) c.in-Some.is
+          (by_rule D S E a.relocations.now a.section.now k c.loop-index.is_taken c.relocation_in.result c.decide.result c.relocation_in.ensures e.decided e.there e.within))
           grow));
       form = written_more IsWrittenDecision xs k x within c.from_decision-in-loop-index.ensures.form c.loop-index.invariant.form;
       others = drop-set-lt len xs k x less ∙ c.loop-index.invariant.others;
@@ -85,7 +91,7 @@ loop-index-preserved-then-leaves g c =
     let k = c.loop-index.index in
     let S = g.R.Rule.start in
     let E = g.R.Rule.end in
-    let Each = IsMadeBy (g.R.Rule.decides a.rule.now a.relocations.now a.section.now) S E a.relocations.now a.section.now in
+    let Each = IsMadeBy (by_index a.relocations.now (g.R.Rule.decides a.rule.now a.relocations.now a.section.now)) S E a.relocations.now a.section.now in
     let IsNoted : ℕ → Decision → Type 0 = λ n d. g.R.Rule.is_noted a.rule.now a.relocations.now a.section.now n (is_note d) in
     let len = length a.relocations.now / 24 in
     let less : k < len = (let t = c.loop-index-test.true in let e = c.relocations_len-index-end.ensures in omega (arith, t, e)) in
@@ -111,8 +117,7 @@ pub decide-requires-clause-noted : goal.decide-requires-clause-noted
 decide-requires-clause-noted g c =
     let a = c.args in
     let k = c.loop-index.index in
-    let less : k < length a.relocations.now / 24 =
-    (let t = c.loop-index-test.true in let e = c.relocations_len-index-end.ensures in omega (arith, t, e)) in
+    let less = subst (λ n. k < n) c.relocations_len-index-end.ensures c.loop-index-test.true in
     subst (g.R.Rule.is_noted a.rule.now a.relocations.now a.section.now k) (ap is_note (sym c.decision_in.ensures) ∙ sym c.is_note-stays.ensures)
     (c.loop-index.invariant.decided.noted k (omega arith) less)
 
@@ -140,7 +145,7 @@ first_covered-requires-clause-apart g c =
     let t = c.loop-index-test.false in
     let e = c.relocations_len-index-end.ensures in
     let are = c.loop-index.invariant.decided in
-    bytes_apart (g.R.Rule.decides a.rule.now a.relocations.now a.section.now) g.R.Rule.start g.R.Rule.end a.relocations.now a.section.now
+    bytes_apart (by_index a.relocations.now (g.R.Rule.decides a.rule.now a.relocations.now a.section.now)) g.R.Rule.start g.R.Rule.end a.relocations.now a.section.now
     (map decision_in c.loop-index.decisions) (length a.relocations.now / 24)
     (λ n less. are.decided n (omega (arith, t, e, less)))
     (λ i j ij less some_i some_j. are.apart i j ij (omega (arith, t, e, less)) some_i some_j)
@@ -163,7 +168,7 @@ returns-in-None-clause-decided g c =
     let t = c.loop-index-test.false in
     let e = c.relocations_len-index-end.ensures in
     let are = c.loop-index.invariant.decided in
-    all_decided (g.R.Rule.decides a.rule.now a.relocations.now a.section.now) g.R.Rule.start g.R.Rule.end a.architecture a.relocations.now a.section.now
+    all_decided (by_index a.relocations.now (g.R.Rule.decides a.rule.now a.relocations.now a.section.now)) g.R.Rule.start g.R.Rule.end a.architecture a.relocations.now a.section.now
     (map decision_in c.loop-index.decisions)
     (λ n less. are.decided n (omega (arith, t, e, less)))
     (λ i j ij less some_i some_j. are.apart i j ij (omega (arith, t, e, less)) some_i some_j) c.in-None.ensures

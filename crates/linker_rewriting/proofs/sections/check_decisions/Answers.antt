@@ -25,8 +25,7 @@ returns-in_default-end_after-clause-unmade c =
     let k = c.loop-index.index in
     let d = c.decision_in-decision.result in
     let same = c.relocation_in-offset.ensures in
-    let less : k < length a.relocations.now / 24 =
-    (let t = c.loop-index-test.true in let e = c.relocations_len-len.ensures in omega arith) in
+    let less = subst (λ n. k < n) c.relocations_len-len.ensures c.loop-index-test.true in
     let within : k < length a.decisions.now =
     (let t = c.loop-index-test.true in let e = c.relocations_len-len.ensures in let n = c.if-decisions-len.false in omega arith) in
     let enough : length a.relocations.now / 24 ≤ length (map f a.decisions.now) =

@@ -12,8 +12,7 @@ loop-index-preserved c =
     let d = of_fate 0 in
     let x = c.from_choice.result in
     let choice = c.in-Rewritten.choice in
-    let less : k < length a.relocations.now / 24 =
-    (let t = c.loop-index-test.true in let e = c.relocations_len-index-end.ensures in omega arith) in
+    let less = subst (λ n. k < n) c.relocations_len-index-end.ensures c.loop-index-test.true in
     let within : k < length now = (let n = c.requires.enough in let l = c.loop-index.auto.decisions in omega (arith, n, l, less)) in
     let held : f (get_or now k d) ≡ c.decision_in.result = sym (c.decision_in.ensures ∙ get_or-map f now k d Kept within) in
     let keeps : KeepsBytes (Rewritten choice) (h x) a.section.now (relocation_in a.relocations.now k).offset =
@@ -33,8 +32,7 @@ loop-index-preserved-in_default c =
     let k = c.loop-index.index in
     let now = c.loop-index.decisions in
     let d = of_fate 0 in
-    let less : k < length a.relocations.now / 24 =
-    (let t = c.loop-index-test.true in let e = c.relocations_len-index-end.ensures in omega arith) in
+    let less = subst (λ n. k < n) c.relocations_len-index-end.ensures c.loop-index-test.true in
     let within : k < length now = (let n = c.requires.enough in let l = c.loop-index.auto.decisions in omega (arith, n, l, less)) in
     let held : f (get_or now k d) ≡ c.decision_in.result = sym (c.decision_in.ensures ∙ get_or-map f now k d Kept within) in
     passed f h IsKept a.relocations.now a.section.now a.decisions.now now k d c.loop-index.invariant within
@@ -52,8 +50,7 @@ window_number-number-requires c =
     let now = c.loop-index.decisions in
     let d = of_fate 0 in
     let choice = c.in-Rewritten.choice in
-    let less : k < length a.relocations.now / 24 =
-    (let t = c.loop-index-test.true in let e = c.relocations_len-index-end.ensures in omega arith) in
+    let less = subst (λ n. k < n) c.relocations_len-index-end.ensures c.loop-index-test.true in
     let within : k < length now = (let n = c.requires.enough in let l = c.loop-index.auto.decisions in omega (arith, n, l, less)) in
     let held : f (get_or now k d) ≡ c.decision_in.result = sym (c.decision_in.ensures ∙ get_or-map f now k d Kept within) in
     let is : decision_at (map f a.decisions.now) k ≡ Rewritten choice =

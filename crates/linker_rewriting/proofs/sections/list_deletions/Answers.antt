@@ -9,8 +9,7 @@ returns-then-deleted-len-clause-short c =
     let a = c.args in
     let f = decision_in in
     let k = c.loop-index.index in
-    let less : k < length a.relocations.now / 24 =
-    (let t = c.loop-index-test.true in let e = c.relocations_len-index-end.ensures in omega arith) in
+    let less = subst (λ n. k < n) c.relocations_len-index-end.ensures c.loop-index-test.true in
     let at = sym c.decision_in.ensures in
     let full : length (pairs_in c.loop-index.deleted) ≤ c.loop-index.len =
     (let e = length-map c.loop-index.deleted pair_of in let n = c.if-deleted-len.true in omega (arith, e, n)) in
@@ -37,8 +36,7 @@ overflow_add-deleted c =
     let a = c.args in
     let f = decision_in in
     let k = c.loop-index.index in
-    let less : k < length a.relocations.now / 24 =
-    (let t = c.loop-index-test.true in let e = c.relocations_len-index-end.ensures in omega arith) in
+    let less = subst (λ n. k < n) c.relocations_len-index-end.ensures c.loop-index-test.true in
     let at = sym c.decision_in.ensures in
     let is : deleted_of (decision_at (map f a.decisions.now) k) ≡ Some c.in-Some.bytes =
     ap deleted_of at ∙ sym c.deleted.ensures ∙ c.in-Some.is in

@@ -7,8 +7,7 @@ loop-index-preserved c =
     let a = c.args in
     let r = c.relocation_in-relocation.result in
     let limit = length a.relocations.now / 24 in
-    let less : c.loop-index.index < limit =
-    (let t = c.loop-index-test.true in let e = c.relocations_len-index-end.ensures in omega arith) in
+    let less = subst (λ n. c.loop-index.index < n) c.relocations_len-index-end.ensures c.loop-index-test.true in
     let is = c.decision_in-decision.ensures in
     let same_len : length c.loop-index.relocations ≡ length a.relocations.now =
     c.loop-index.invariant.same_entries_len in
@@ -26,8 +25,7 @@ pub loop-index-preserved-in-Kept : goal.loop-index-preserved-in-Kept
 loop-index-preserved-in-Kept c =
     let a = c.args in
     let limit = length a.relocations.now / 24 in
-    let less : c.loop-index.index < limit =
-    (let t = c.loop-index-test.true in let e = c.relocations_len-index-end.ensures in omega arith) in
+    let less = subst (λ n. c.loop-index.index < n) c.relocations_len-index-end.ensures c.loop-index-test.true in
     kept_next (map decision_in a.decisions.now) a.relocations.now c.loop-index.relocations a.section.now
     c.loop-index.section limit c.loop-index.index c.loop-index.invariant less c.requires.made
     (windows_apart _ _ _ c.requires.apart) (sym c.decision_in-decision.ensures ∙ c.in-Kept.is)
@@ -37,8 +35,7 @@ make-requires c =
     let a = c.args in
     let r = c.relocation_in-relocation.result in
     let limit = length a.relocations.now / 24 in
-    let less : c.loop-index.index < limit =
-    (let t = c.loop-index-test.true in let e = c.relocations_len-index-end.ensures in omega arith) in
+    let less = subst (λ n. c.loop-index.index < n) c.relocations_len-index-end.ensures c.loop-index-test.true in
     subst (λ y. CanBeMade y c.loop-index.section r.offset) (sym c.decision_in-decision.ensures)
     (can_next (map decision_in a.decisions.now) a.relocations.now c.loop-index.relocations a.section.now
     c.loop-index.section limit c.loop-index.index r c.loop-index.invariant less
