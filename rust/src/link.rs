@@ -312,7 +312,8 @@ fn explained<S: Symbols>(
             return None;
         };
         let (index, relocation) = (found.index, relocation_at(relocations, found.index)?);
-        let valued = symbols.row_value(architecture, addresses, relocations, index, &relocation);
+        let valued =
+            sections::row_value(architecture, addresses, relocations, symbols, index, &relocation);
         let (row, value) = valued.ok()??;
         let is_told = match error {
             RelocateError::Misaligned => true,

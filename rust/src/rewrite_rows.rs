@@ -449,8 +449,8 @@ macro_rules! replacement {
     };
 }
 
-/// What a part of a row, by the macro of its name, is used for, in an arm for each rewrite, and
-/// there of constants; or the rewrite with a number.
+/// Matches a rewrite, and evaluates an expression over one part of its row, which the macro of that
+/// name makes: in each arm it is a constant. Or the rewrite with a number.
 macro_rules! by_row {
     ($tests:ident, numbered $number:expr; $($kind:ident { $($row:tt)* })*) => {
         match $number {

@@ -2,25 +2,11 @@
 // Made by tools/generate of crates/linker_utils_c/src/pack_runs.rt.
 //! The sections of a relaxed run, packed.
 
+pub(crate) use crate::riscv32::packing_machine;
 use crate::status::{Status, or_return};
 use linker_utils::source::runs::ItemNumbers;
-use linker_utils::source::runs::{
-    Isa, ItemError, Machine, has_its_instructions, pack_run, packed_run_len,
-};
-use linker_utils::elf::Architecture;
+use linker_utils::source::runs::{ItemError, Machine, has_its_instructions, pack_run, packed_run_len};
 use linker_utils::relaxation::RelaxDelta;
-
-/// `e_machine` of RISC-V and `LINKER_UTILS_CLASS32`, which is added for files of ELFCLASS32.
-const RISCV32: u16 = 0x80f3;
-
-/// The machine whose code becomes shorter, by `e_machine` and class.
-#[inline]
-pub(crate) fn packing_machine(machine: u16) -> Option<Machine> {
-    if machine == RISCV32 {
-        return Some(Machine::RiscV(Isa::Rv32));
-    }
-    Machine::of(Architecture::from_machine(machine)?)
-}
 
 #[inline]
 fn status_of(error: ItemError) -> u32 {

@@ -1,12 +1,25 @@
 // SPDX-License-Identifier: MIT OR Apache-2.0
 // Made by tools/generate of crates/linker_utils_c/src/riscv32.rt.
-//! Relocations of RV32.
+//! Relocations of RV32, and the machine of its code.
 
 use crate::status::Status;
+use linker_utils::source::runs::{Isa, Machine};
 use linker_utils::source::section::{Addresses, Symbol};
 use linker_utils::source::section::relocations_len;
 use linker_utils::source::section::{read_rela32, relocations32_len, wrap_addends};
 use linker_utils::elf::Architecture;
+
+/// `e_machine` of RISC-V and `LINKER_UTILS_CLASS32`, which is added for files of ELFCLASS32.
+const RISCV32: u16 = 0x80f3;
+
+/// The machine whose code becomes shorter, by `e_machine` and class.
+#[inline]
+pub(crate) fn packing_machine(machine: u16) -> Option<Machine> {
+    if machine == RISCV32 {
+        return Some(Machine::RiscV(Isa::Rv32));
+    }
+    Machine::of(Architecture::from_machine(machine)?)
+}
 
 /// Whether a machine has files of ELFCLASS32 whose relocations these are.
 #[inline(always)]

@@ -398,15 +398,23 @@ pub trait InstructionRewrite: Copy {
     /// - `self.can_apply(section, *offset)`
     fn apply(self, section: &mut [u8], offset: &mut u64, addend: &mut i64);
 
-    /// Whether `apply` may be called at an offset of a section.
+    /// Whether `apply` may be called at an offset of a section: the bytes that it writes lie in the
+    /// section, and the instruction meets what the rewrite requires of it. Most rewrites require
+    /// nothing; then the instruction isn't tested, as `matches` of the library's rewrites tests it.
     #[must_use]
     fn can_apply(self, section: &[u8], offset: u64) -> bool;
 
-    /// The bytes that `apply` writes at an offset.
+    /// The bytes that `apply` writes: from how far before the offset, and how many. `NoOp`,
+    /// `Delete` and other rewrites that leave the instruction write none. On x86-64 the field whose
+    /// value is written afterwards lies after them, but for `JmpIndirectToRelative` and
+    /// `TlsGdToLocalExecLarge`, which write 0 to it.
     #[must_use]
     fn window(self) -> RewriteWindow;
 
-    /// What becomes of the relocation after the rewritten one.
+    /// What becomes of the relocation after the rewritten one. It is skipped where it is that of
+    /// the call in a TLS sequence, which the rewrite removes, or the mark `R_RISCV_RELAX` of a call
+    /// that becomes a jump or of a `lui` that `Hi20Delete` deletes. Else it is applied as usual.
+    /// `skipped_offset` of the library's rewrites says where it is.
     #[must_use]
     fn next_modifier(&self) -> RelocationModifier;
 

@@ -2,15 +2,13 @@
 // Made by tools/generate of crates/linker_output/src/aarch64.rt.
 //! What a linker adds to an output of AArch64.
 
-use crate::linker_output::description::Target;
-use crate::linker_output::dynamic::{DynamicType, DynamicTypes, named};
-use crate::linker_output::flags::FlagRules;
-use crate::linker_output::got::{GotLayout, ThreadPointer};
-use crate::linker_output::layout::{Interpreter, WORDS, interpreter};
+use crate::linker_output::description::{Target, plain};
+use crate::linker_output::dynamic::{DynamicTypes, named};
+use crate::linker_output::got::ThreadPointer;
+use crate::linker_output::layout::interpreter;
 use crate::linker_output::properties::LandingProperty;
-use crate::linker_output::stubs::{Stub, StubField, field, stub, words};
-use crate::linker_output::tags::{DynamicTag, TagRule, tag};
-use crate::elf::{AllowedRange, Architecture};
+use crate::linker_output::stubs::{field, stub, words};
+use crate::linker_output::tags::tag;
 
 /// The stub to the address that a word has, after other code of a length.
 macro_rules! load_stub {
@@ -30,18 +28,6 @@ macro_rules! load_stub {
 
 /// The description.
 pub(crate) static TARGET: Target = Target {
-    dynamic: DynamicTypes {
-        word: named!(257, "R_AARCH64_ABS64"),
-        relative: named!(1027, "R_AARCH64_RELATIVE"),
-        glob_dat: named!(1025, "R_AARCH64_GLOB_DAT"),
-        jump_slot: named!(1026, "R_AARCH64_JUMP_SLOT"),
-        copy: named!(1024, "R_AARCH64_COPY"),
-        irelative: named!(1032, "R_AARCH64_IRELATIVE"),
-        module_number: named!(1028, "R_AARCH64_TLS_DTPMOD"),
-        module_offset: named!(1029, "R_AARCH64_TLS_DTPREL"),
-        thread_offset: named!(1030, "R_AARCH64_TLS_TPREL"),
-        descriptor: Some(named!(1031, "R_AARCH64_TLSDESC")),
-    },
     dynamic_tags: &[
         tag!(0x7000_0001, LandingPlt), // DT_AARCH64_BTI_PLT
         tag!(0x7000_0003, SignedPlt), // DT_AARCH64_PAC_PLT
@@ -51,31 +37,12 @@ pub(crate) static TARGET: Target = Target {
         reserved: 16,
         bias: 0,
     },
-    module_bias: 0,
-    got: GotLayout {
-        header: None,
-        bias: 0,
-    },
-    address_section: None,
-    page: 0x10000,
-    code_unit: WORDS,
-    filler: [0, 0, 0, 0],
-    flags: FlagRules {
-        same: 0,
-        joined: 0,
-        own: 0,
-    },
-    symbols: &[],
-    runs: &[],
-    interpreter_flags: 0,
     interpreters: &[interpreter!(0, "/lib/ld-linux-aarch64.so.1")],
     // GNU_PROPERTY_AARCH64_FEATURE_1_AND, and its bit BTI
     landing_property: Some(LandingProperty {
         kind: 0xc000_0000,
         bit: 1,
     }),
-    instructions: Architecture::AArch64,
-    load_stub: load_stub!(&[], 0),
     landing_load_stub: Some(load_stub!(&words!(0xd503_245f), 4)), // bti c
     jump_stub: Some(stub!(
         &[],
@@ -105,8 +72,20 @@ pub(crate) static TARGET: Target = Target {
         16,
         12 // from `adr`
     )),
-    toc_load_stub: None,
-    toc_far_stub: None,
-    prefixed_load_stub: None,
-    prefixed_jump_stub: None,
+    ..plain!(
+        AArch64,
+        DynamicTypes {
+            word: named!(257, "R_AARCH64_ABS64"),
+            relative: named!(1027, "R_AARCH64_RELATIVE"),
+            glob_dat: named!(1025, "R_AARCH64_GLOB_DAT"),
+            jump_slot: named!(1026, "R_AARCH64_JUMP_SLOT"),
+            copy: named!(1024, "R_AARCH64_COPY"),
+            irelative: named!(1032, "R_AARCH64_IRELATIVE"),
+            module_number: named!(1028, "R_AARCH64_TLS_DTPMOD"),
+            module_offset: named!(1029, "R_AARCH64_TLS_DTPREL"),
+            thread_offset: named!(1030, "R_AARCH64_TLS_TPREL"),
+            descriptor: Some(named!(1031, "R_AARCH64_TLSDESC")),
+        },
+        load_stub!(&[], 0)
+    )
 };

@@ -79,6 +79,52 @@ pub struct Target {
     pub prefixed_jump_stub: Option<Stub>,
 }
 
+/// A description with the types of dynamic relocations and the stub `Load`. Of all else it has what
+/// most architectures have, and none of the optional stubs.
+macro_rules! plain {
+    ($instructions:ident, $dynamic:expr, $load_stub:expr) => {
+        $crate::linker_output::description::Target {
+            dynamic: $dynamic,
+            dynamic_tags: &[],
+            thread_pointer: $crate::linker_output::got::ThreadPointer::BelowImage {
+                reserved: 0,
+                bias: 0,
+            },
+            module_bias: 0,
+            got: $crate::linker_output::got::GotLayout {
+                header: None,
+                bias: 0,
+            },
+            address_section: None,
+            page: 0x10000,
+            code_unit: $crate::linker_output::layout::WORDS,
+            filler: [0, 0, 0, 0],
+            flags: $crate::linker_output::flags::FlagRules {
+                same: 0,
+                joined: 0,
+                own: 0,
+            },
+            symbols: &[],
+            runs: &[],
+            interpreter_flags: 0,
+            interpreters: &[],
+            landing_property: None,
+            instructions: crate::elf::Architecture::$instructions,
+            load_stub: $load_stub,
+            landing_load_stub: None,
+            jump_stub: None,
+            far_stub: None,
+            far_relative_stub: None,
+            toc_load_stub: None,
+            toc_far_stub: None,
+            prefixed_load_stub: None,
+            prefixed_jump_stub: None,
+        }
+    };
+}
+
+pub(crate) use plain;
+
 impl Target {
     /// The description of an architecture.
     ///

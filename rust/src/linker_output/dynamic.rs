@@ -42,7 +42,7 @@ pub struct DynamicTypes {
 /// A type with an `r_type` and a name.
 macro_rules! named {
     ($r_type:literal, $name:literal) => {
-        DynamicType {
+        $crate::linker_output::dynamic::DynamicType {
             r_type: $r_type,
             name: $name,
         }

@@ -127,8 +127,9 @@ impl Target {
         let thread_pointer = match self.thread_pointer {
             ThreadPointer::AboveImage => at_or_above(alignment, image.wrapping_add(len)),
             ThreadPointer::BelowImage { reserved, bias } => {
-                let above = image.wrapping_sub(reserved);
-                (above - above % unit_of(alignment)).wrapping_add(bias)
+                let highest = image.wrapping_sub(reserved);
+                let rounded_down = highest - highest % unit_of(alignment);
+                rounded_down.wrapping_add(bias)
             }
         };
         Origins {

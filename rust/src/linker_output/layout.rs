@@ -145,7 +145,7 @@ pub struct Interpreter {
 /// A path, and the bits of `e_flags` that it is for.
 macro_rules! interpreter {
     ($flags:literal, $path:literal) => {
-        Interpreter {
+        $crate::linker_output::layout::Interpreter {
             flags: $flags,
             path: $path,
         }

@@ -3,8 +3,8 @@
 //! The lazy PLTs of the architectures.
 
 use crate::linker_output::lazy_plt::{LazyField, LazyPiece, LazyPlt, LazyTarget, LazyWord};
-use crate::linker_output::stubs::{StubField, field, words};
-use crate::elf::{AllowedRange, Architecture};
+use crate::linker_output::stubs::{field, words};
+use crate::elf::Architecture;
 
 /// Code of a length, and its field: the place, the relocation, what the value is computed from, the
 /// origin and the addend.

@@ -2,65 +2,26 @@
 // Made by tools/generate of crates/linker_output/src/loongarch64.rt.
 //! What a linker adds to an output of LoongArch.
 
-use crate::linker_output::description::Target;
-use crate::linker_output::dynamic::{DynamicType, DynamicTypes, named};
+use crate::linker_output::description::{Target, plain};
+use crate::linker_output::dynamic::{DynamicTypes, named};
 use crate::linker_output::flags::FlagRules;
-use crate::linker_output::got::{GotLayout, ThreadPointer};
-use crate::linker_output::layout::{Interpreter, WORDS, interpreter};
-use crate::linker_output::stubs::{Stub, StubField, field, stub, words};
-use crate::elf::{AllowedRange, Architecture};
+use crate::linker_output::layout::interpreter;
+use crate::linker_output::stubs::{field, stub, words};
 
 /// The description.
 pub(crate) static TARGET: Target = Target {
-    dynamic: DynamicTypes {
-        word: named!(2, "R_LARCH_64"),
-        relative: named!(3, "R_LARCH_RELATIVE"),
-        glob_dat: named!(2, "R_LARCH_64"),
-        jump_slot: named!(5, "R_LARCH_JUMP_SLOT"),
-        copy: named!(4, "R_LARCH_COPY"),
-        irelative: named!(12, "R_LARCH_IRELATIVE"),
-        module_number: named!(7, "R_LARCH_TLS_DTPMOD64"),
-        module_offset: named!(9, "R_LARCH_TLS_DTPREL64"),
-        thread_offset: named!(11, "R_LARCH_TLS_TPREL64"),
-        descriptor: Some(named!(14, "R_LARCH_TLS_DESC64")),
-    },
-    dynamic_tags: &[],
-    thread_pointer: ThreadPointer::BelowImage {
-        reserved: 0,
-        bias: 0,
-    },
-    module_bias: 0,
-    got: GotLayout {
-        header: None,
-        bias: 0,
-    },
-    address_section: None,
-    page: 0x10000,
-    code_unit: WORDS,
     filler: [0, 0, 0x2a, 0],
     flags: FlagRules {
         same: 0xc7,
         joined: 0,
         own: 0,
     },
-    symbols: &[],
-    runs: &[],
     interpreter_flags: 7,
     interpreters: &[
         interpreter!(1, "/lib64/ld-linux-loongarch-lp64s.so.1"),
         interpreter!(2, "/lib64/ld-linux-loongarch-lp64f.so.1"),
         interpreter!(3, "/lib64/ld-linux-loongarch-lp64d.so.1"),
     ],
-    landing_property: None,
-    instructions: Architecture::LoongArch64,
-    load_stub: stub!(
-        &[],
-        words!(0x1a00_000f, 0x28c0_01ef), // pcalau12i $t3, 0; ld.d $t3, $t3, 0
-        field!(0, (R_LARCH_GOT_PC_HI20, signed 32)),
-        Some(field!(4, R_LARCH_GOT_PC_LO12)),
-        &words!(0x4c00_01e0) // jirl $zero, $t3, 0
-    ),
-    landing_load_stub: None,
     jump_stub: Some(stub!(
         &[],
         words!(0x1e00_000f, 0x4c00_01e0), // pcaddu18i $t3, 0; jirl $zero, $t3, 0
@@ -68,10 +29,26 @@ pub(crate) static TARGET: Target = Target {
         None,
         &[]
     )),
-    far_stub: None,
-    far_relative_stub: None,
-    toc_load_stub: None,
-    toc_far_stub: None,
-    prefixed_load_stub: None,
-    prefixed_jump_stub: None,
+    ..plain!(
+        LoongArch64,
+        DynamicTypes {
+            word: named!(2, "R_LARCH_64"),
+            relative: named!(3, "R_LARCH_RELATIVE"),
+            glob_dat: named!(2, "R_LARCH_64"),
+            jump_slot: named!(5, "R_LARCH_JUMP_SLOT"),
+            copy: named!(4, "R_LARCH_COPY"),
+            irelative: named!(12, "R_LARCH_IRELATIVE"),
+            module_number: named!(7, "R_LARCH_TLS_DTPMOD64"),
+            module_offset: named!(9, "R_LARCH_TLS_DTPREL64"),
+            thread_offset: named!(11, "R_LARCH_TLS_TPREL64"),
+            descriptor: Some(named!(14, "R_LARCH_TLS_DESC64")),
+        },
+        stub!(
+            &[],
+            words!(0x1a00_000f, 0x28c0_01ef), // pcalau12i $t3, 0; ld.d $t3, $t3, 0
+            field!(0, (R_LARCH_GOT_PC_HI20, signed 32)),
+            Some(field!(4, R_LARCH_GOT_PC_LO12)),
+            &words!(0x4c00_01e0) // jirl $zero, $t3, 0
+        )
+    )
 };

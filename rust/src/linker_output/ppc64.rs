@@ -3,17 +3,14 @@
 //! What a linker adds to an output of PowerPC64.
 
 use crate::linker_output::addresses::{AddressSection, WordLoad};
-use crate::linker_output::description::Target;
-use crate::linker_output::dynamic::{DynamicType, DynamicTypes, named};
+use crate::linker_output::description::{Target, plain};
+use crate::linker_output::dynamic::{DynamicTypes, named};
 use crate::linker_output::flags::FlagRules;
 use crate::linker_output::got::{GotHeader, GotLayout, ThreadPointer};
-use crate::linker_output::layout::{
-    Interpreter, ProvidedSymbol, RunWord, SaveRestoreRoutines, SymbolPlace, WORDS, interpreter,
-};
+use crate::linker_output::layout::{ProvidedSymbol, RunWord, SaveRestoreRoutines, SymbolPlace, interpreter};
 use crate::linker_output::r_types::r_type;
-use crate::linker_output::stubs::{Stub, StubField, field, stub, words};
-use crate::linker_output::tags::{DynamicTag, TagRule, tag};
-use crate::elf::{AllowedRange, Architecture};
+use crate::linker_output::stubs::{field, stub, words};
+use crate::linker_output::tags::tag;
 
 /// `std 0, 16(1)`.
 const SAVE_LINK: u32 = 0xf801_0010;
@@ -110,18 +107,6 @@ macro_rules! by_prefixed {
 
 /// The description.
 pub(crate) static TARGET: Target = Target {
-    dynamic: DynamicTypes {
-        word: named!(38, "R_PPC64_ADDR64"),
-        relative: named!(22, "R_PPC64_RELATIVE"),
-        glob_dat: named!(20, "R_PPC64_GLOB_DAT"),
-        jump_slot: named!(21, "R_PPC64_JMP_SLOT"),
-        copy: named!(19, "R_PPC64_COPY"),
-        irelative: named!(248, "R_PPC64_IRELATIVE"),
-        module_number: named!(68, "R_PPC64_DTPMOD64"),
-        module_offset: named!(78, "R_PPC64_DTPREL64"),
-        thread_offset: named!(73, "R_PPC64_TPREL64"),
-        descriptor: None,
-    },
     dynamic_tags: &[
         tag!(0x7000_0000, LazyPlt), // DT_PPC64_GLINK
         tag!(0x7000_0003, Options), // DT_PPC64_OPT
@@ -152,8 +137,6 @@ pub(crate) static TARGET: Target = Target {
             },
         ],
     }),
-    page: 0x10000,
-    code_unit: WORDS,
     filler: [0x8, 0, 0xe0, 0x7f],
     flags: FlagRules {
         same: 0,
@@ -175,17 +158,26 @@ pub(crate) static TARGET: Target = Target {
         of_vectors!("_savevr_", 0x7e8c_01ce), // stvx 20,12,0
         of_vectors!("_restvr_", 0x7e8c_00ce), // lvx 20,12,0
     ],
-    interpreter_flags: 0,
     interpreters: &[interpreter!(0, "/lib64/ld64.so.2")],
-    landing_property: None,
-    instructions: Architecture::Ppc64,
-    load_stub: by_address!(0xe98c_0000, R_PPC64_TOC16_LO_DS), // ld 12, 0(12)
-    landing_load_stub: None,
-    jump_stub: Some(by_address!(0x398c_0000, R_PPC64_TOC16_LO)), // addi 12, 12, 0
-    far_stub: None,
-    far_relative_stub: None,
-    toc_load_stub: by_toc!(&words!(0xf841_0018), 4), // std 2, 24(1)
-    toc_far_stub: by_toc!(&[], 0),
     prefixed_load_stub: by_prefixed!(0x0410_0000, 0xe580_0000), // pld 12, 0(0), 1
     prefixed_jump_stub: by_prefixed!(0x0610_0000, 0x3980_0000), // paddi 12, 0, 0, 1
+    jump_stub: Some(by_address!(0x398c_0000, R_PPC64_TOC16_LO)), // addi 12, 12, 0
+    toc_load_stub: by_toc!(&words!(0xf841_0018), 4), // std 2, 24(1)
+    toc_far_stub: by_toc!(&[], 0),
+    ..plain!(
+        Ppc64,
+        DynamicTypes {
+            word: named!(38, "R_PPC64_ADDR64"),
+            relative: named!(22, "R_PPC64_RELATIVE"),
+            glob_dat: named!(20, "R_PPC64_GLOB_DAT"),
+            jump_slot: named!(21, "R_PPC64_JMP_SLOT"),
+            copy: named!(19, "R_PPC64_COPY"),
+            irelative: named!(248, "R_PPC64_IRELATIVE"),
+            module_number: named!(68, "R_PPC64_DTPMOD64"),
+            module_offset: named!(78, "R_PPC64_DTPREL64"),
+            thread_offset: named!(73, "R_PPC64_TPREL64"),
+            descriptor: None,
+        },
+        by_address!(0xe98c_0000, R_PPC64_TOC16_LO_DS) // ld 12, 0(12)
+    )
 };

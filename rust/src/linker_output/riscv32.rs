@@ -3,8 +3,8 @@
 //! What a linker adds to an output of RV32.
 
 use crate::linker_output::description::Target;
-use crate::linker_output::dynamic::{DynamicType, DynamicTypes, named};
-use crate::linker_output::layout::{Interpreter, interpreter};
+use crate::linker_output::dynamic::{DynamicTypes, named};
+use crate::linker_output::layout::interpreter;
 #[cfg(feature = "riscv64")]
 use crate::linker_output::riscv64::TARGET;
 use crate::linker_output::stubs::{Stub, words};

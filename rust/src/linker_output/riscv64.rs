@@ -2,49 +2,30 @@
 // Made by tools/generate of crates/linker_output/src/riscv64.rt.
 //! What a linker adds to an output of RISC-V.
 
-use crate::linker_output::description::Target;
-use crate::linker_output::dynamic::{DynamicType, DynamicTypes, named};
+use crate::linker_output::description::{Target, plain};
+use crate::linker_output::dynamic::{DynamicTypes, named};
 use crate::linker_output::flags::FlagRules;
-use crate::linker_output::got::{GotHeader, GotLayout, ThreadPointer};
-use crate::linker_output::layout::{CodeUnit, Interpreter, ProvidedSymbol, SymbolPlace, interpreter};
-use crate::linker_output::stubs::{Stub, StubField, field, stub, words};
-use crate::linker_output::tags::{DynamicTag, TagRule, tag};
-use crate::elf::{AllowedRange, Architecture};
+use crate::linker_output::got::{GotHeader, GotLayout};
+use crate::linker_output::layout::{CodeUnit, ProvidedSymbol, SymbolPlace, interpreter};
+use crate::linker_output::stubs::{field, stub, words};
+use crate::linker_output::tags::tag;
 
 /// The description.
 pub(crate) static TARGET: Target = Target {
-    dynamic: DynamicTypes {
-        word: named!(2, "R_RISCV_64"),
-        relative: named!(3, "R_RISCV_RELATIVE"),
-        glob_dat: named!(2, "R_RISCV_64"),
-        jump_slot: named!(5, "R_RISCV_JUMP_SLOT"),
-        copy: named!(4, "R_RISCV_COPY"),
-        irelative: named!(58, "R_RISCV_IRELATIVE"),
-        module_number: named!(7, "R_RISCV_TLS_DTPMOD64"),
-        module_offset: named!(9, "R_RISCV_TLS_DTPREL64"),
-        thread_offset: named!(11, "R_RISCV_TLS_TPREL64"),
-        descriptor: Some(named!(12, "R_RISCV_TLSDESC")),
-    },
     dynamic_tags: &[
         tag!(0x7000_0001, VariantCalls), // DT_RISCV_VARIANT_CC
     ],
-    thread_pointer: ThreadPointer::BelowImage {
-        reserved: 0,
-        bias: 0,
-    },
     module_bias: 0x800,
     got: GotLayout {
         header: Some(GotHeader::Dynamic),
         bias: 0,
     },
-    address_section: None,
     page: 0x1000,
     code_unit: CodeUnit {
         len: 4,
         flag: 1,
         flagged_len: 2,
     },
-    filler: [0, 0, 0, 0],
     flags: FlagRules {
         same: 0xe,
         joined: 0x11,
@@ -55,28 +36,32 @@ pub(crate) static TARGET: Target = Target {
         place: SymbolPlace::SmallData,
         offset: 0x800,
     }],
-    runs: &[],
     interpreter_flags: 0xe,
     interpreters: &[
         interpreter!(0, "/lib/ld-linux-riscv64-lp64.so.1"),
         interpreter!(2, "/lib/ld-linux-riscv64-lp64f.so.1"),
         interpreter!(4, "/lib/ld-linux-riscv64-lp64d.so.1"),
     ],
-    landing_property: None,
-    instructions: Architecture::RiscV,
-    load_stub: stub!(
-        &[],
-        words!(0x0000_0e17, 0x000e_3e03), // auipc t3, 0; ld t3, 0(t3)
-        field!(0, R_RISCV_PCREL_HI20),
-        Some(field!(4, R_RISCV_PCREL_LO12_I)),
-        &words!(0x000e_0067) // jr t3
-    ),
-    landing_load_stub: None,
-    jump_stub: None,
-    far_stub: None,
-    far_relative_stub: None,
-    toc_load_stub: None,
-    toc_far_stub: None,
-    prefixed_load_stub: None,
-    prefixed_jump_stub: None,
+    ..plain!(
+        RiscV,
+        DynamicTypes {
+            word: named!(2, "R_RISCV_64"),
+            relative: named!(3, "R_RISCV_RELATIVE"),
+            glob_dat: named!(2, "R_RISCV_64"),
+            jump_slot: named!(5, "R_RISCV_JUMP_SLOT"),
+            copy: named!(4, "R_RISCV_COPY"),
+            irelative: named!(58, "R_RISCV_IRELATIVE"),
+            module_number: named!(7, "R_RISCV_TLS_DTPMOD64"),
+            module_offset: named!(9, "R_RISCV_TLS_DTPREL64"),
+            thread_offset: named!(11, "R_RISCV_TLS_TPREL64"),
+            descriptor: Some(named!(12, "R_RISCV_TLSDESC")),
+        },
+        stub!(
+            &[],
+            words!(0x0000_0e17, 0x000e_3e03), // auipc t3, 0; ld t3, 0(t3)
+            field!(0, R_RISCV_PCREL_HI20),
+            Some(field!(4, R_RISCV_PCREL_LO12_I)),
+            &words!(0x000e_0067) // jr t3
+        )
+    )
 };

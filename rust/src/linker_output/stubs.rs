@@ -87,10 +87,10 @@ macro_rules! field {
         field!($offset, $relocation, Some((-0x8000_0000, 0x8000_0000)))
     };
     ($offset:literal, $relocation:ident, $bounds:expr) => {
-        StubField {
+        $crate::linker_output::stubs::StubField {
             offset: $offset,
             relocation: $crate::linker_output::r_types::r_type!($relocation),
-            range: AllowedRange { bounds: $bounds },
+            range: crate::elf::AllowedRange { bounds: $bounds },
         }
     };
 }
@@ -121,7 +121,7 @@ macro_rules! stub {
         $head:expr, $pair:expr, $first:expr, $second:expr, $tail:expr, $entry:expr, $origin:expr,
         $addend:expr
     ) => {
-        Stub {
+        $crate::linker_output::stubs::Stub {
             head: $head,
             pair: $pair,
             first: $first,
@@ -275,9 +275,9 @@ impl Target {
             Err(error) => return Err(StubError::Field(error)),
         };
         let head_len = stub.head.len() as u64;
-        overwrite(out, 0, stub.head);
-        overwrite(out, head_len, &pair);
         overwrite(out, head_len + 8, stub.tail);
+        overwrite(out, head_len, &pair);
+        overwrite(out, 0, stub.head);
         Ok(())
     }
 }

@@ -31,9 +31,9 @@ pub struct DynamicTag {
 /// A tag with a number and a rule.
 macro_rules! tag {
     ($tag:literal, $rule:ident) => {
-        DynamicTag {
+        $crate::linker_output::tags::DynamicTag {
             tag: $tag,
-            rule: TagRule::$rule,
+            rule: $crate::linker_output::tags::TagRule::$rule,
         }
     };
 }

@@ -2,37 +2,16 @@
 // Made by tools/generate of crates/linker_output/src/x86_64.rt.
 //! What a linker adds to an output of x86-64.
 
-use crate::linker_output::description::Target;
-use crate::linker_output::dynamic::{DynamicType, DynamicTypes, named};
-use crate::linker_output::flags::FlagRules;
-use crate::linker_output::got::{GotLayout, ThreadPointer};
-use crate::linker_output::layout::{CodeUnit, Interpreter, ProvidedSymbol, SymbolPlace, interpreter};
+use crate::linker_output::description::{Target, plain};
+use crate::linker_output::dynamic::{DynamicTypes, named};
+use crate::linker_output::got::ThreadPointer;
+use crate::linker_output::layout::{CodeUnit, ProvidedSymbol, SymbolPlace, interpreter};
 use crate::linker_output::properties::LandingProperty;
-use crate::linker_output::stubs::{Stub, StubField, field, stub};
-use crate::elf::{AllowedRange, Architecture};
+use crate::linker_output::stubs::{field, stub};
 
 /// The description.
 pub(crate) static TARGET: Target = Target {
-    dynamic: DynamicTypes {
-        word: named!(1, "R_X86_64_64"),
-        relative: named!(8, "R_X86_64_RELATIVE"),
-        glob_dat: named!(6, "R_X86_64_GLOB_DAT"),
-        jump_slot: named!(7, "R_X86_64_JUMP_SLOT"),
-        copy: named!(5, "R_X86_64_COPY"),
-        irelative: named!(37, "R_X86_64_IRELATIVE"),
-        module_number: named!(16, "R_X86_64_DTPMOD64"),
-        module_offset: named!(17, "R_X86_64_DTPOFF64"),
-        thread_offset: named!(18, "R_X86_64_TPOFF64"),
-        descriptor: Some(named!(36, "R_X86_64_TLSDESC")),
-    },
-    dynamic_tags: &[],
     thread_pointer: ThreadPointer::AboveImage,
-    module_bias: 0,
-    got: GotLayout {
-        header: None,
-        bias: 0,
-    },
-    address_section: None,
     page: 0x1000,
     code_unit: CodeUnit {
         len: 1,
@@ -40,35 +19,17 @@ pub(crate) static TARGET: Target = Target {
         flagged_len: 1,
     },
     filler: [0xcc, 0xcc, 0xcc, 0xcc],
-    flags: FlagRules {
-        same: 0,
-        joined: 0,
-        own: 0,
-    },
     symbols: &[ProvidedSymbol {
         name: "_TLS_MODULE_BASE_",
         place: SymbolPlace::ThreadLocal,
         offset: 0,
     }],
-    runs: &[],
-    interpreter_flags: 0,
     interpreters: &[interpreter!(0, "/lib64/ld-linux-x86-64.so.2")],
     // GNU_PROPERTY_X86_FEATURE_1_AND, and its bit IBT
     landing_property: Some(LandingProperty {
         kind: 0xc000_0002,
         bit: 1,
     }),
-    instructions: Architecture::X86_64,
-    load_stub: stub!(
-        &[],
-        [0xff, 0x25, 0, 0, 0, 0, 0xcc, 0xcc],
-        field!(2, R_X86_64_PC32),
-        None,
-        &[],
-        0,
-        2,
-        -4
-    ),
     landing_load_stub: Some(stub!(
         &[0xf3, 0x0f, 0x1e, 0xfa], // endbr64
         [0xff, 0x25, 0, 0, 0, 0, 0x66, 0x0f],
@@ -79,11 +40,29 @@ pub(crate) static TARGET: Target = Target {
         6,
         -4
     )),
-    jump_stub: None,
-    far_stub: None,
-    far_relative_stub: None,
-    toc_load_stub: None,
-    toc_far_stub: None,
-    prefixed_load_stub: None,
-    prefixed_jump_stub: None,
+    ..plain!(
+        X86_64,
+        DynamicTypes {
+            word: named!(1, "R_X86_64_64"),
+            relative: named!(8, "R_X86_64_RELATIVE"),
+            glob_dat: named!(6, "R_X86_64_GLOB_DAT"),
+            jump_slot: named!(7, "R_X86_64_JUMP_SLOT"),
+            copy: named!(5, "R_X86_64_COPY"),
+            irelative: named!(37, "R_X86_64_IRELATIVE"),
+            module_number: named!(16, "R_X86_64_DTPMOD64"),
+            module_offset: named!(17, "R_X86_64_DTPOFF64"),
+            thread_offset: named!(18, "R_X86_64_TPOFF64"),
+            descriptor: Some(named!(36, "R_X86_64_TLSDESC")),
+        },
+        stub!(
+            &[],
+            [0xff, 0x25, 0, 0, 0, 0, 0xcc, 0xcc],
+            field!(2, R_X86_64_PC32),
+            None,
+            &[],
+            0,
+            2,
+            -4
+        )
+    )
 };

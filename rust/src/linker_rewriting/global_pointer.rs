@@ -66,14 +66,10 @@ fn part_of(architecture: Architecture, r_type: u32) -> Option<Part> {
 
 /// The high part at the label of a low part.
 fn labelled(context: &RelaxContext<'_>, relocations: &[u8], relocation: &Rela) -> Option<Rela> {
-    let Some(at) = label_at(context, relocation) else {
-        return None;
-    };
+    let at = label_at(context, relocation)?;
     let r_type = RiscVRelocation::R_RISCV_PCREL_HI20.r_type();
-    match high_at(relocations, r_type, at) {
-        Some(high) => Some(relocation_in(relocations, high)),
-        None => None,
-    }
+    let high = high_at(relocations, r_type, at)?;
+    Some(relocation_in(relocations, high))
 }
 
 /// What a relocation is of an address, and the relocation whose symbol and addend are its own.
@@ -126,18 +122,13 @@ fn window_at(section: &[u8], offset: u64) -> u32 {
     u32_from_slice(&section[offset as usize..])
 }
 
-/// Whether an instruction adds 12 bits to a register.
-fn adds_low(section: &[u8], offset: u64) -> bool {
-    RewriteKind::Lo12Rs1ToZero.matches(section, offset)
-}
-
 /// Whether an instruction adds 12 bits to another register than x0, doesn't store what that holds,
 /// and doesn't write x3.
 fn is_low_at(section: &[u8], offset: u64) -> bool {
     let word = word_at(section, offset);
     // a store, or a load of a number of floating point
     let writes_none = opcode(word) == 0x23 || opcode(word) == 0x27 || opcode(word) == 0x07;
-    adds_low(section, offset)
+    RewriteKind::Lo12Rs1ToZero.matches(section, offset)
         && base(word) != 0
         && !stores_base(word)
         && (writes_none || destination(word) != 3)
@@ -164,12 +155,15 @@ fn is_expected(section: &[u8], relocation: &Rela, part: Part, subject: &Rela) ->
     }
 }
 
+/// What parts are chosen by. As a rule all of a symbol are rewritten, or none is.
 #[derive(Clone, Copy)]
 struct Parts<'a> {
     context: &'a RelaxContext<'a>,
     gp: u64,
     /// Whether the relocations ascend.
     ascends: bool,
+    /// Which symbols stay.
+    kept: &'a [bool],
 }
 
 /// Whether a part can be rewritten, if all of its symbol can.
@@ -188,9 +182,7 @@ fn fits(parts: &Parts<'_>, site: &Site<'_>, member: &(Part, Rela)) -> bool {
 
 /// The symbol that a relocation keeps, since it is of an address and doesn't fit.
 fn keeping_symbol(parts: &Parts<'_>, site: &Site<'_>) -> Option<usize> {
-    let Some(member) = member_of(parts.context, site.relocations, &site.relocation) else {
-        return None;
-    };
+    let member = member_of(parts.context, site.relocations, &site.relocation)?;
     if fits(parts, site, &member) {
         None
     } else {
@@ -213,6 +205,7 @@ pub fn survey_global_pointer(
         context,
         gp,
         ascends: is_ascending(relocations),
+        kept: &[],
     };
     for index in 0..relocations_len(relocations) {
         let site = site!(relocations, section, index);
@@ -237,47 +230,29 @@ fn part_decision(part: Part, subject: &Rela) -> Decision {
     }
 }
 
-/// The rule of parts: all of a symbol are rewritten, or none is.
-#[derive(Clone, Copy)]
-struct Symbols<'a, 'b> {
-    parts: Parts<'a>,
-    kept: &'b [bool],
-}
-
-/// What becomes of a relocation. None if its symbol doesn't stay, but it can't be rewritten.
-fn decide_part(rule: &Symbols<'_, '_>, site: &Site<'_>) -> Option<Decision> {
-    let parts = &rule.parts;
-    let Some(member) = member_of(parts.context, site.relocations, &site.relocation) else {
-        return Some(Decision::Kept);
-    };
-    if word_stays(rule.kept, member.1.symbol as usize) {
-        return Some(Decision::Kept);
-    }
-    if fits(parts, site, &member) {
-        Some(part_decision(member.0, &member.1))
-    } else {
-        None
-    }
-}
-
-/// Where the instruction of a part ends, by its offset. That of a part that stays has no bytes
-/// here.
-fn part_end(decision: &Decision, offset: u64) -> u64 {
-    match decision {
-        Decision::Rewritten(_) | Decision::RewrittenWithSymbol(_, _) => offset + 4,
-        Decision::Kept | Decision::Consumed => offset,
-    }
-}
-
-impl Rule for Symbols<'_, '_> {
+impl Rule for Parts<'_> {
     #[inline(always)]
     fn decide(&self, _is_taken: bool, _stays: bool, site: &Site<'_>) -> Option<Decision> {
-        decide_part(self, site)
+        let Some(member) = member_of(self.context, site.relocations, &site.relocation) else {
+            return Some(Decision::Kept);
+        };
+        if word_stays(self.kept, member.1.symbol as usize) {
+            return Some(Decision::Kept);
+        }
+        if fits(self, site, &member) {
+            Some(part_decision(member.0, &member.1))
+        } else {
+            None
+        }
     }
 
+    /// A part that stays has no bytes here.
     #[inline(always)]
     fn span(&self, decision: &Decision, offset: u64) -> (u64, u64) {
-        (offset, part_end(decision, offset))
+        match decision {
+            Decision::Rewritten(_) | Decision::RewrittenWithSymbol(_, _) => (offset, offset + 4),
+            Decision::Kept | Decision::Consumed => (offset, offset),
+        }
     }
 }
 
@@ -366,9 +341,15 @@ pub fn rewrite_global_pointer(
         context,
         gp,
         ascends: is_ascending(relocations),
+        kept,
     };
-    let rule = Symbols { parts, kept };
-    decide_by(&rule, context.architecture, relocations, section, decisions)?;
+    decide_by(
+        &parts,
+        context.architecture,
+        relocations,
+        section,
+        decisions,
+    )?;
     let Some(len) = list_deletions(true, relocations, decisions, deleted) else {
         return Err(RewritingError::TooShort);
     };

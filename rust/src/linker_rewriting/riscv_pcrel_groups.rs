@@ -130,9 +130,7 @@ fn lacking(context: &RelaxContext<'_>, site: &Site<'_>) -> Option<usize> {
     if !is_in_label(context.architecture, context.phase, site.relocation.r_type) {
         return None;
     }
-    let Some(high) = high_of(context, site.relocations, &site.relocation) else {
-        return None;
-    };
+    let high = high_of(context, site.relocations, &site.relocation)?;
     match label_candidate(context, site, high) {
         Some(_) => None,
         None => Some(high),

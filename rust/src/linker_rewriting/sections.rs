@@ -19,17 +19,12 @@ use crate::linker_section::relocations::{Rela, relocations_len, set_relocation};
 use crate::architecture::Relaxation;
 use crate::elf::{Architecture, InstructionRewrite};
 
-/// The bits of a number, turned up by 8.
-#[inline(always)]
-fn turned(number: u32) -> u32 {
-    number % (1 << 24) * (1 << 8) + number / (1 << 24)
-}
-
 /// A number of the bytes of a section from a place on, which is another where one of them is.
 fn bytes_number(section: &[u8], start: u64, len: u64) -> u32 {
     let mut number: u32 = 0;
     for index in 0..len {
-        number = turned(number).wrapping_add(u32::from(section[(start + index) as usize]));
+        let turned = number % (1 << 24) * (1 << 8) + number / (1 << 24);
+        number = turned.wrapping_add(u32::from(section[(start + index) as usize]));
     }
     number
 }
@@ -114,15 +109,17 @@ fn make(decision: Decision, relocation: &mut Rela, section: &mut [u8]) {
         Decision::Kept => {}
         Decision::Consumed => relocation.r_type = 0,
         Decision::Rewritten(choice) => {
-            let kind = choice.kind;
-            kind.apply(section, &mut relocation.offset, &mut relocation.addend);
+            choice
+                .kind
+                .apply(section, &mut relocation.offset, &mut relocation.addend);
             relocation.r_type = choice.relocation;
         }
         Decision::RewrittenWithSymbol(choice, subject) => {
             relocation.symbol = subject.symbol;
             relocation.addend = subject.addend;
-            let kind = choice.kind;
-            kind.apply(section, &mut relocation.offset, &mut relocation.addend);
+            choice
+                .kind
+                .apply(section, &mut relocation.offset, &mut relocation.addend);
             relocation.r_type = choice.relocation;
         }
     }

@@ -74,13 +74,16 @@ fn word_offset(context: &RelaxContext<'_>, start: u64, relocation: &Rela) -> Opt
     Some(address.wrapping_sub(start))
 }
 
-/// The words of an object's section of addresses, and what loads of them are chosen by.
+/// The words of an object's section of addresses, and what loads of them are chosen by. As a rule
+/// all loads of a word are rewritten, or none is.
 #[derive(Clone, Copy)]
 struct Words<'a> {
     context: &'a RelaxContext<'a>,
     /// The address of their section.
     start: u64,
     relocations: &'a [u8],
+    /// Which of them stay.
+    kept: &'a [bool],
 }
 
 /// What a relocation loads: the `r_type` for an entry of the GOT, and the index of the word's
@@ -93,17 +96,11 @@ fn load_of(words: &Words<'_>, relocation: &Rela) -> Option<(u32, usize)> {
     #[cfg(feature = "ppc64")]
     {
     let context = words.context;
-    let Some(entry) = entry_r_type(context.architecture, relocation.r_type) else {
-        return None;
-    };
-    let Some(at) = word_offset(context, words.start, relocation) else {
-        return None;
-    };
+    let entry = entry_r_type(context.architecture, relocation.r_type)?;
+    let at = word_offset(context, words.start, relocation)?;
     let r_type = Ppc64Relocation::R_PPC64_ADDR64.r_type();
-    match high_at(words.relocations, r_type, at) {
-        Some(word) => Some((entry, word)),
-        None => None,
-    }
+    let word = high_at(words.relocations, r_type, at)?;
+    Some((entry, word))
     }
 }
 
@@ -171,6 +168,7 @@ pub fn survey_toc_loads(
         context,
         start: words_start,
         relocations: words,
+        kept: &[],
     };
     for index in 0..relocations_len(relocations) {
         let site = site!(relocations, section, index);
@@ -179,35 +177,18 @@ pub fn survey_toc_loads(
     Ok(())
 }
 
-/// The rule of loads: all of a word are rewritten, or none is.
-#[derive(Clone, Copy)]
-struct Loads<'a, 'b> {
-    words: Words<'a>,
-    kept: &'b [bool],
-}
-
-/// What becomes of a relocation. None if it loads a word that doesn't stay, but can't be rewritten.
-fn decide_load(rule: &Loads<'_, '_>, site: &Site<'_>) -> Option<Decision> {
-    let words = &rule.words;
-    let Some(load) = load_of(words, &site.relocation) else {
-        return Some(Decision::Kept);
-    };
-    if word_stays(rule.kept, load.1) {
-        return Some(Decision::Kept);
-    }
-    match load_candidate(words, site, load) {
-        Some(chosen) => {
-            let subject = subject_of(&relocation_in(words.relocations, load.1));
-            Some(Decision::RewrittenWithSymbol(chosen, subject))
-        }
-        None => None,
-    }
-}
-
-impl Rule for Loads<'_, '_> {
+impl Rule for Words<'_> {
     #[inline(always)]
     fn decide(&self, _is_taken: bool, _stays: bool, site: &Site<'_>) -> Option<Decision> {
-        decide_load(self, site)
+        let Some(load) = load_of(self, &site.relocation) else {
+            return Some(Decision::Kept);
+        };
+        if word_stays(self.kept, load.1) {
+            return Some(Decision::Kept);
+        }
+        let chosen = load_candidate(self, site, load)?;
+        let subject = subject_of(&relocation_in(self.relocations, load.1));
+        Some(Decision::RewrittenWithSymbol(chosen, subject))
     }
 
     #[inline(always)]
@@ -277,9 +258,15 @@ pub fn rewrite_toc_loads(
         context,
         start: words_start,
         relocations: words,
+        kept,
     };
-    let rule = Loads { words, kept };
-    decide_by(&rule, context.architecture, relocations, section, decisions)?;
+    decide_by(
+        &words,
+        context.architecture,
+        relocations,
+        section,
+        decisions,
+    )?;
     make_all(true, decisions, relocations, section);
     Ok(())
 }

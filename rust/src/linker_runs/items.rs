@@ -171,7 +171,7 @@ fn item_at<R: AsRelocation>(
 ) -> Option<Item> {
     match machine {
         #[cfg(feature = "riscv64")]
-        Machine::RiscV(isa) => { riscv64::item_at(isa, section, base, relocations, index, ahead) }
+        Machine::RiscV(_) => { riscv64::item_at(machine, section, base, relocations, index, ahead) }
         #[cfg(feature = "loongarch64")]
         Machine::LoongArch64 => loongarch64::item_at(section, base, relocations, index),
     }

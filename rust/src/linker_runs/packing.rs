@@ -7,25 +7,20 @@ mod code;
 mod loongarch64;
 mod moved;
 #[cfg(feature = "riscv64")]
+mod riscv32;
+#[cfg(feature = "riscv64")]
 mod riscv64;
 
 use crate::linker_runs::items::{ItemList, ItemNumbers, has_bytes};
 use crate::linker_runs::packing::code::Code;
 use crate::linker_runs::packing::moved::move_relocations;
+#[cfg(feature = "riscv64")]
+pub use crate::linker_runs::packing::riscv32::Isa;
 use crate::linker_runs::relaxation::{Item, Site};
 use crate::linker_base::packing::{Position, copy_kept, position_from, position_of};
 use crate::linker_base::relaxation::{DeltaSlice, RelaxDelta};
 use crate::linker_base::rewrite::overwrite;
 use crate::elf::Architecture;
-
-/// The base instruction set of RISC-V code.
-#[derive(Clone, Copy, Debug, PartialEq, Eq, Hash)]
-pub enum Isa {
-    /// RV32, whose C extension has `c.jal`.
-    Rv32,
-    /// RV64.
-    Rv64,
-}
 
 /// The architecture of a section's code.
 #[derive(Clone, Copy, Debug, PartialEq, Eq, Hash)]
@@ -138,8 +133,8 @@ fn code_of_site(
     let target = start.wrapping_add(position_of(deltas, site.target).output_offset);
     match machine {
         #[cfg(feature = "riscv64")]
-        Machine::RiscV(isa) => {
-            riscv64::code_of(isa, section, site.offset - base, kept, place, target)
+        Machine::RiscV(_) => {
+            riscv64::code_of(machine, section, site.offset - base, kept, place, target)
         }
         #[cfg(feature = "loongarch64")]
         Machine::LoongArch64 => {
@@ -305,7 +300,7 @@ fn put_words(packed: &mut [u8], at: u64, word: [u8; 4], count: u64) {
 fn put_nops(machine: Machine, packed: &mut [u8], at: u64, len: u64) {
     match machine {
         #[cfg(feature = "riscv64")]
-        Machine::RiscV(_isa) => {
+        Machine::RiscV(_) => {
             put_words(packed, at, [0x13, 0x00, 0x00, 0x00], len / 4);
             if len % 4 == 2 {
                 put_bytes(packed, at.wrapping_add(len - 2), &[0x01, 0x00]);
@@ -394,7 +389,7 @@ pub fn has_its_instructions(machine: Machine, section: &[u8], base: u64, item: &
     let offset = site.offset - base;
     match machine {
         #[cfg(feature = "riscv64")]
-        Machine::RiscV(isa) => riscv64::has_shapes(isa, section, offset, &site.shapes),
+        Machine::RiscV(_) => riscv64::has_shapes(machine, section, offset, &site.shapes),
         #[cfg(feature = "loongarch64")]
         Machine::LoongArch64 => loongarch64::has_shapes(section, offset, &site.shapes),
     }

@@ -5,7 +5,7 @@
 use crate::linker_runs::items::{
     AsRelocation, Relocation, has_bytes, is_marked, relocation_at, unsigned_addend,
 };
-use crate::linker_runs::packing::Isa;
+use crate::linker_runs::packing::Machine;
 use crate::linker_runs::relaxation::{Alignment, Item, Shapes, Site};
 use crate::linker_runs::shapes::riscv64::{CALL, TAIL_C};
 use crate::riscv64::{LinkRegister, RiscVRelocation};
@@ -96,21 +96,10 @@ pub(crate) fn link_at(section: &[u8], offset: u64) -> Option<u32> {
     LinkRegister::OfJalr.named_at(section, offset)
 }
 
-impl Isa {
-    /// Whether a jump of two bytes links a register: `c.j` none, and RV32's `c.jal` x1.
-    #[inline(always)]
-    pub(crate) fn links_short(self, link: u32) -> bool {
-        match self {
-            Isa::Rv32 => link == 0 || link == 1,
-            Isa::Rv64 => link == 0,
-        }
-    }
-}
-
 /// What a call at an index can become that links a register.
 #[inline]
 fn shapes_of<R: AsRelocation>(
-    isa: Isa,
+    machine: Machine,
     link: u32,
     section: &[u8],
     relocations: &[R],
@@ -118,7 +107,7 @@ fn shapes_of<R: AsRelocation>(
     next: usize,
 ) -> Shapes {
     let may_compress = relocation_at(relocations, index).may_compress;
-    if may_compress && isa.links_short(link) && may_free(6, relocations, index, next) {
+    if may_compress && machine.links_short(link) && may_free(6, relocations, index, next) {
         TAIL_C
     } else {
         CALL
@@ -128,7 +117,7 @@ fn shapes_of<R: AsRelocation>(
 /// The site of a call's relocation, if it may be relaxed.
 #[inline]
 fn site_at<R: AsRelocation>(
-    isa: Isa,
+    machine: Machine,
     section: &[u8],
     base: u64,
     relocations: &[R],
@@ -148,7 +137,7 @@ fn site_at<R: AsRelocation>(
         offset: base + relocation.offset,
         len: 8,
         target,
-        shapes: shapes_of(isa, link, section, relocations, index, next),
+        shapes: shapes_of(machine, link, section, relocations, index, next),
     })
 }
 
@@ -170,7 +159,7 @@ pub(crate) fn is_formed(section: &[u8], relocation: &Relocation) -> bool {
 /// The item that the relocation at an index makes, if it makes one.
 #[inline]
 pub(crate) fn item_at<R: AsRelocation>(
-    isa: Isa,
+    machine: Machine,
     section: &[u8],
     base: u64,
     relocations: &[R],
@@ -179,7 +168,7 @@ pub(crate) fn item_at<R: AsRelocation>(
 ) -> Option<Item> {
     let relocation = relocation_at(relocations, index);
     if is_of_call(&relocation) {
-        let site = site_at(isa, section, base, relocations, index, next)?;
+        let site = site_at(machine, section, base, relocations, index, next)?;
         return Some(Item::Site(site));
     }
     if !aligns(&relocation) {

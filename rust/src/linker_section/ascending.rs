@@ -6,7 +6,7 @@ use crate::linker_section::conditions::begins_with;
 use crate::linker_section::facts::Addresses;
 use crate::linker_section::fields::Field;
 use crate::linker_section::order::are_runs_apart;
-use crate::linker_section::quick::{HighPart, high_after};
+use crate::linker_section::quick::{HighPart, high_after, quick_value};
 use crate::linker_section::relocations::{
     RELA_LEN, Rela, offset_at, relocation_in, relocation_of, relocations_from, relocations_len,
 };
@@ -49,10 +49,11 @@ fn write_quickly<S: Symbols>(
     }
     // stored before the value is found, so that the word takes no register
     memory[index] = word;
-    let Some(value) = symbols.quick_value(
+    let Some(value) = quick_value(
         architecture,
         addresses,
         relocations,
+        symbols,
         &row,
         index,
         relocation,

@@ -4,6 +4,7 @@
 
 use crate::linker_section::facts::{Addresses, Symbol};
 use crate::linker_section::relocations::{Rela, first_from, relocation_in, relocations_len};
+use crate::linker_section::symbols::Known;
 use crate::linker_base::utils::u32_from_slice;
 use crate::linker_elf::elf::{AnyForm, Architecture, Length, RelocationKind, Row, RowSize};
 #[cfg(feature = "loongarch64")]
@@ -20,13 +21,13 @@ use crate::linker_elf::riscv64::RiscVRelocation;
 /// Whether a symbol is a function of the output that may return with another TOC pointer, and has
 /// no stub that keeps the caller's.
 #[inline(always)]
-pub(crate) fn changes_toc(symbol: &Symbol) -> bool {
+fn changes_toc(symbol: &Symbol) -> bool {
     symbol.stub == 0 && !symbol.is_undefined_weak && symbol.other / 32 == 1
 }
 
 /// Whether a relocation is a call that keeps its TOC pointer.
 #[inline(always)]
-pub(crate) fn keeps_toc(architecture: Architecture, relocation: &Rela) -> bool {
+fn keeps_toc(architecture: Architecture, relocation: &Rela) -> bool {
     #[cfg(not(feature = "ppc64"))]
     {
         false
@@ -40,12 +41,16 @@ pub(crate) fn keeps_toc(architecture: Architecture, relocation: &Rela) -> bool {
 
 /// Whether a relocation is such a call, of such a symbol.
 #[inline(always)]
-pub(crate) fn lacks_stub(architecture: Architecture, symbols: &[Symbol], relocation: &Rela) -> bool {
+pub(crate) fn lacks_stub<K: Known>(
+    architecture: Architecture,
+    relocation: &Rela,
+    known: Option<K>,
+) -> bool {
     if !keeps_toc(architecture, relocation) {
         return false;
     }
-    match symbols.get(relocation.symbol as usize) {
-        Some(symbol) => changes_toc(symbol),
+    match known {
+        Some(known) => changes_toc(&known.symbol()),
         None => false,
     }
 }

@@ -9,6 +9,7 @@ use crate::linker_section::conditions::{lacks_stub, needs_upper};
 use crate::linker_section::facts::{Addresses, Symbol};
 use crate::linker_section::needed::entry_by;
 use crate::linker_section::relocations::Rela;
+use crate::linker_section::symbols::{Known, Symbols};
 use crate::linker_section::values::{entry_address, is_of_got, local_entry, target_of};
 use crate::linker_elf::elf::{Architecture, EntryUse, Operands, Row, RowFacts, Way};
 
@@ -39,11 +40,16 @@ fn address_of_entry(
 
 /// The address of the entry that a relocation requires; 0 where it requires none.
 #[inline(always)]
-fn required_address(addresses: &Addresses, symbol: &Symbol, row: &Row, addend: i64) -> Option<u64> {
+pub(crate) fn required_address(
+    addresses: &Addresses,
+    symbol: &Symbol,
+    row: &Row,
+    relocation: &Rela,
+) -> Option<u64> {
     if matches!(row.facts().entry, EntryUse::Without) {
         Some(0)
     } else {
-        address_of_entry(addresses, symbol, row.facts(), addend)
+        address_of_entry(addresses, symbol, row.facts(), relocation.addend)
     }
 }
 
@@ -59,44 +65,45 @@ fn own_address(architecture: Architecture, row: &Row, symbol: &Symbol) -> u64 {
 
 /// `target_of`, where a symbol has a stub or may be undefined. By itself, since most have none.
 #[inline(never)]
-fn other_target(
+fn other_target<K: Known>(
     architecture: Architecture,
     addresses: &Addresses,
     row: &Row,
-    symbol: &Symbol,
+    known: &K,
     place: u64,
 ) -> u64 {
-    target_of(architecture, addresses, row, symbol, place)
+    target_of(architecture, addresses, row, &known.symbol(), place)
 }
 
 /// The same of any symbol.
 #[inline(always)]
-fn quick_target(
+fn quick_target<K: Known>(
     architecture: Architecture,
     addresses: &Addresses,
     row: &Row,
-    symbol: &Symbol,
+    known: &K,
     place: u64,
 ) -> u64 {
+    let symbol = known.symbol();
     if symbol.stub != 0 || symbol.is_undefined_weak {
-        other_target(architecture, addresses, row, symbol, place)
+        other_target(architecture, addresses, row, known, place)
     } else {
-        own_address(architecture, row, symbol)
+        own_address(architecture, row, &symbol)
     }
 }
 
 /// The operands of a plain relocation's formula, with the address of the entry that it requires.
 #[inline(always)]
-pub(crate) fn plain_operands(
+fn plain_operands<K: Known>(
     architecture: Architecture,
     addresses: &Addresses,
     row: &Row,
-    symbol: &Symbol,
+    known: &K,
     relocation: &Rela,
     entry: u64,
 ) -> Operands {
     let place = addresses.section.wrapping_add(relocation.offset);
-    let target = quick_target(architecture, addresses, row, symbol, place);
+    let target = quick_target(architecture, addresses, row, known, place);
     Operands {
         symbol: target,
         addend: relocation.addend,
@@ -104,7 +111,7 @@ pub(crate) fn plain_operands(
         got_entry: entry,
         got_base: addresses.got_base,
         plt_entry: target,
-        symbol_size: symbol.size,
+        symbol_size: known.symbol().size,
         tls_base: addresses.module_origin,
         has_got_entry: true,
         has_plt_entry: true,
@@ -112,42 +119,25 @@ pub(crate) fn plain_operands(
     }
 }
 
-/// The value of a plain relocation; none where its symbol or its entry isn't there.
+/// The value of a plain relocation. None where its entry is missing or its formula has no value.
 #[inline(always)]
-fn plain_value(
+fn plain_value<K: Known>(
     architecture: Architecture,
     addresses: &Addresses,
-    symbols: &[Symbol],
     row: &Row,
     relocation: &Rela,
+    known: &K,
 ) -> Option<i64> {
-    let Some(symbol) = symbols.get(relocation.symbol as usize) else {
+    let Some(entry) = known.entry(addresses, row, relocation) else {
         return None;
     };
-    let Some(entry) = required_address(addresses, symbol, row, relocation.addend) else {
-        return None;
-    };
-    let operands = plain_operands(architecture, addresses, row, symbol, relocation, entry);
+    let operands = plain_operands(architecture, addresses, row, known, relocation, entry);
     row.formula_value(&operands)
-}
-
-/// The value of a low part, if it is that of a high part.
-#[inline(always)]
-fn value_of_high(
-    addresses: &Addresses,
-    symbols: &[Symbol],
-    relocation: &Rela,
-    high: Option<HighPart>,
-) -> Option<i64> {
-    let Some(label) = symbols.get(relocation.symbol as usize) else {
-        return None;
-    };
-    value_at(label.address.wrapping_sub(addresses.section), high)
 }
 
 /// The value of a high part, if it is at an offset.
 #[inline(always)]
-pub(crate) fn value_at(at: u64, high: Option<HighPart>) -> Option<i64> {
+fn value_at(at: u64, high: Option<HighPart>) -> Option<i64> {
     let Some(high) = high else {
         return None;
     };
@@ -161,7 +151,7 @@ pub(crate) fn value_at(at: u64, high: Option<HighPart>) -> Option<i64> {
 /// Whether the value is that of the row's own formula: of a high part only on RISC-V, and of an
 /// offset in a TLS block only where the output has one.
 #[inline(always)]
-pub(crate) fn has_plain_way(architecture: Architecture, addresses: &Addresses, way: Way) -> bool {
+fn has_plain_way(architecture: Architecture, addresses: &Addresses, way: Way) -> bool {
     match way {
         Way::Plain => true,
         Way::ModuleOffset => addresses.has_tls,
@@ -170,51 +160,65 @@ pub(crate) fn has_plain_way(architecture: Architecture, addresses: &Addresses, w
     }
 }
 
-/// The value of a relocation; none where it isn't found so. Only the contract uses `_relocations`.
+/// The value of a relocation of whose symbol something is known. None where it has no plain way,
+/// its entry is missing or its formula has no value.
+/// Only the contract uses `_relocations`, `_symbols` and `_index`.
 #[inline(always)]
-fn found_value(
+fn found_value<S: Symbols>(
     architecture: Architecture,
     addresses: &Addresses,
     _relocations: &[u8],
-    symbols: &[Symbol],
+    _symbols: S,
     row: &Row,
+    _index: usize,
     relocation: &Rela,
+    known: &S::Found,
     high: Option<HighPart>,
 ) -> Option<i64> {
-    if lacks_stub(architecture, symbols, relocation) || is_of_got(architecture, relocation.r_type) {
+    if known.is_left_out()
+        || lacks_stub(architecture, relocation, Some(*known))
+        || is_of_got(architecture, relocation.r_type)
+    {
         return None;
     }
     let way = row.facts().way;
     if has_plain_way(architecture, addresses, way) {
-        return plain_value(architecture, addresses, symbols, row, relocation);
+        return plain_value(architecture, addresses, row, relocation, known);
     }
     match way {
         #[cfg(feature = "riscv64")]
         Way::Low if matches_any!(architecture, #[cfg(feature = "riscv64")] Architecture::RiscV) => {
-            value_of_high(addresses, symbols, relocation, high)
+            let label = known.symbol().address;
+            value_at(label.wrapping_sub(addresses.section), high)
         }
         _ => None,
     }
 }
 
-/// The same, of a value that its own instructions reach.
+/// The value of a relocation, if it is found with few tests, and its own instructions reach it.
 #[inline(always)]
-pub(crate) fn quick_value(
+pub(crate) fn quick_value<S: Symbols>(
     architecture: Architecture,
     addresses: &Addresses,
     relocations: &[u8],
-    symbols: &[Symbol],
+    symbols: S,
     row: &Row,
+    index: usize,
     relocation: &Rela,
     high: Option<HighPart>,
 ) -> Option<i64> {
+    let Some(known) = symbols.find(index, relocation) else {
+        return None;
+    };
     let Some(value) = found_value(
         architecture,
         addresses,
         relocations,
         symbols,
         row,
+        index,
         relocation,
+        &known,
         high,
     ) else {
         return None;

@@ -3,19 +3,12 @@
 //! Symbols by look-up: what a linker knows of each relocation's symbol. No table of an object's
 //! symbols has to exist.
 
-use crate::linker_section::conditions::{changes_toc, is_filled, is_in_reach, keeps_toc, needs_upper};
 use crate::linker_section::facts::{Addresses, Symbol};
-use crate::linker_section::fields::is_of_pair;
-use crate::linker_section::needed::Entry;
-use crate::linker_section::quick::{HighPart, has_plain_way, plain_operands, value_at};
-use crate::linker_section::relocations::{Rela, relocation_in};
+use crate::linker_section::relocations::Rela;
 use crate::linker_section::sections::{SectionError, relocate_values};
-use crate::linker_section::symbols::Symbols;
-use crate::linker_section::values::{
-    ValueError, has_value, indexed_high_part, is_of_got, low_operands, names_label, operands_by,
-    required,
-};
-use crate::linker_elf::elf::{Architecture, EntryUse, Operands, Row, Way};
+use crate::linker_section::symbols::{Known, Symbols};
+use crate::linker_section::values::required;
+use crate::linker_elf::elf::{Architecture, Row};
 
 /// What a linker knows of the symbol of one relocation, once addresses are known: what its psABI's
 /// formula takes, with the stub and the entry of the GOT that serve this relocation.
@@ -87,271 +80,33 @@ fn symbol_of(resolved: &Resolved) -> Symbol {
     }
 }
 
-/// The address of the entry that is required; 0 where none is, and none where there isn't one.
-#[inline(always)]
-fn resolved_entry(resolved: &Resolved, entry: Option<Entry>) -> Option<u64> {
-    match entry {
-        None => Some(0),
-        Some(_) => {
-            if resolved.entry == 0 {
-                None
-            } else {
-                Some(resolved.entry)
+impl Known for Resolved {
+    #[inline(always)]
+    fn symbol(&self) -> Symbol {
+        symbol_of(self)
+    }
+
+    #[inline(always)]
+    fn entry(&self, _addresses: &Addresses, row: &Row, relocation: &Rela) -> Option<u64> {
+        match required(row, relocation, &self.symbol()) {
+            None => Some(0),
+            Some(_) => {
+                if self.entry == 0 {
+                    None
+                } else {
+                    Some(self.entry)
+                }
             }
         }
     }
-}
 
-/// The operands of a relocation's formula.
-#[inline(always)]
-fn resolved_operands(
-    architecture: Architecture,
-    addresses: &Addresses,
-    row: &Row,
-    relocation: &Rela,
-    resolved: Option<Resolved>,
-) -> Result<Operands, ValueError> {
-    let Some(resolved) = resolved else {
-        return Err(ValueError::NoSymbol);
-    };
-    let symbol = symbol_of(&resolved);
-    let entry = resolved_entry(&resolved, required(row, relocation, &symbol));
-    operands_by(architecture, addresses, row, relocation, &symbol, entry)
-}
-
-/// Whether there is a symbol, and it isn't an undefined weak one.
-#[inline(always)]
-fn is_defined(resolved: Option<Resolved>) -> bool {
-    match resolved {
-        Some(resolved) => !resolved.is_undefined_weak,
-        None => false,
+    #[inline(always)]
+    fn is_left_out(&self) -> bool {
+        self.is_left_out
     }
 }
 
-/// The value of a relocation that stands alone.
-#[inline(always)]
-fn resolved_value(
-    architecture: Architecture,
-    addresses: &Addresses,
-    row: &Row,
-    relocation: &Rela,
-    resolved: Option<Resolved>,
-) -> Result<Option<i64>, ValueError> {
-    if !has_value(row.kind()) {
-        return Ok(None);
-    }
-    match resolved_operands(architecture, addresses, row, relocation, resolved) {
-        Ok(operands) => {
-            if row.kind().is_offset() && !addresses.has_tls && is_defined(resolved) {
-                Err(ValueError::NoTlsBase)
-            } else {
-                Ok(row.formula_value(&operands))
-            }
-        }
-        Err(error) => Err(error),
-    }
-}
-
-/// The value of the relocation with an index among those of its section. None of a type without a
-/// value.
-#[inline(always)]
-fn value_by<L: Lookup>(
-    architecture: Architecture,
-    addresses: &Addresses,
-    relocations: &[u8],
-    lookup: L,
-    row: &Row,
-    relocation: &Rela,
-    resolved: Option<Resolved>,
-) -> Result<Option<i64>, ValueError> {
-    if !names_label(row.info().size, row.kind()) {
-        return resolved_value(architecture, addresses, row, relocation, resolved);
-    }
-    let Some(label) = resolved else {
-        return Err(ValueError::NoSymbol);
-    };
-    let at = label.address.wrapping_sub(addresses.section);
-    let Some((index, high, high_row)) = indexed_high_part(architecture, relocations, row.kind(), at)
-    else {
-        return Err(ValueError::NoHighPart);
-    };
-    let resolved = lookup.resolved(index, &high);
-    match resolved_operands(architecture, addresses, &high_row, &high, resolved) {
-        Ok(operands) => Ok(row.formula_value(&low_operands(&high_row, operands))),
-        Err(error) => Err(error),
-    }
-}
-
-/// Whether a relocation is a call that keeps its TOC pointer, of a function that may return with
-/// another one.
-#[inline(always)]
-fn lacks_known_stub(architecture: Architecture, relocation: &Rela, known: &Resolved) -> bool {
-    keeps_toc(architecture, relocation) && changes_toc(&symbol_of(known))
-}
-
-/// The same, if something is known of it.
-#[inline(always)]
-fn lacks_resolved_stub(
-    architecture: Architecture,
-    relocation: &Rela,
-    resolved: Option<Resolved>,
-) -> bool {
-    match resolved {
-        Some(resolved) => lacks_known_stub(architecture, relocation, &resolved),
-        None => false,
-    }
-}
-
-/// Whether the value isn't written.
-#[inline(always)]
-fn is_left_out(resolved: Option<Resolved>) -> bool {
-    match resolved {
-        Some(resolved) => resolved.is_left_out,
-        None => false,
-    }
-}
-
-/// Whether the value of a relocation with a row isn't written.
-#[inline(always)]
-fn is_skipped(row: &Row, resolved: Option<Resolved>) -> bool {
-    is_left_out(resolved) && !is_of_pair(&row.info())
-}
-
-/// The row and the value of the relocation with an index. None of one without a value, and of one
-/// that is left out.
-fn resolved_row_value<L: Lookup>(
-    architecture: Architecture,
-    addresses: &Addresses,
-    relocations: &[u8],
-    lookup: L,
-    index: usize,
-    relocation: &Rela,
-) -> Result<Option<(Row, i64)>, ValueError> {
-    let Some(row) = architecture.row(relocation.r_type) else {
-        return Err(ValueError::UnknownType);
-    };
-    let known = lookup.resolved(index, relocation);
-    if is_skipped(&row, known) {
-        return Ok(None);
-    }
-    match value_by(
-        architecture,
-        addresses,
-        relocations,
-        lookup,
-        &row,
-        relocation,
-        known,
-    ) {
-        Ok(Some(value)) => {
-            if lacks_resolved_stub(architecture, relocation, known) {
-                Err(ValueError::NeedsStub)
-            } else if !is_in_reach(architecture, relocations, relocation, value) {
-                Err(ValueError::OutOfReach)
-            } else {
-                Ok(Some((row, value)))
-            }
-        }
-        Ok(None) => {
-            if is_filled(architecture, addresses, relocation) {
-                Ok(None)
-            } else {
-                Err(ValueError::NotAligned)
-            }
-        }
-        Err(error) => Err(error),
-    }
-}
-
-/// The value of a plain relocation; none where it isn't found with few tests.
-#[inline(always)]
-fn plain_value(
-    architecture: Architecture,
-    addresses: &Addresses,
-    row: &Row,
-    relocation: &Rela,
-    resolved: &Resolved,
-) -> Option<i64> {
-    let entry = if matches!(row.facts().entry, EntryUse::Without) {
-        0
-    } else if resolved.entry == 0 {
-        return None;
-    } else {
-        resolved.entry
-    };
-    let symbol = symbol_of(resolved);
-    let operands = plain_operands(architecture, addresses, row, &symbol, relocation, entry);
-    row.formula_value(&operands)
-}
-
-/// The value of a relocation of which something is known; none where it isn't found with few tests.
-/// Only the contract uses `_relocations`, `_lookup` and `_index`.
-#[inline(always)]
-fn found_resolved<L: Lookup>(
-    architecture: Architecture,
-    addresses: &Addresses,
-    _relocations: &[u8],
-    _lookup: L,
-    row: &Row,
-    _index: usize,
-    relocation: &Rela,
-    known: &Resolved,
-    high: Option<HighPart>,
-) -> Option<i64> {
-    if known.is_left_out
-        || lacks_known_stub(architecture, relocation, known)
-        || is_of_got(architecture, relocation.r_type)
-    {
-        return None;
-    }
-    let way = row.facts().way;
-    if has_plain_way(architecture, addresses, way) {
-        return plain_value(architecture, addresses, row, relocation, known);
-    }
-    match way {
-        #[cfg(feature = "riscv64")]
-        Way::Low if matches_any!(architecture, #[cfg(feature = "riscv64")] Architecture::RiscV) => {
-            value_at(known.address.wrapping_sub(addresses.section), high)
-        }
-        _ => None,
-    }
-}
-
-/// The same of any relocation, of a value that its own instructions reach.
-#[inline(always)]
-fn quick_resolved<L: Lookup>(
-    architecture: Architecture,
-    addresses: &Addresses,
-    relocations: &[u8],
-    lookup: L,
-    row: &Row,
-    index: usize,
-    relocation: &Rela,
-    high: Option<HighPart>,
-) -> Option<i64> {
-    let Some(known) = lookup.resolved(index, relocation) else {
-        return None;
-    };
-    let Some(value) = found_resolved(
-        architecture,
-        addresses,
-        relocations,
-        lookup,
-        row,
-        index,
-        relocation,
-        &known,
-        high,
-    ) else {
-        return None;
-    };
-    if needs_upper(architecture, relocation, value) {
-        return None;
-    }
-    Some(value)
-}
-
-/// How values are found by a look-up.
+/// The symbols that a look-up knows.
 #[derive(Clone, Copy)]
 pub(crate) struct ByLookup<L> {
     /// The look-up.
@@ -359,54 +114,11 @@ pub(crate) struct ByLookup<L> {
 }
 
 impl<L: Lookup> Symbols for ByLookup<L> {
-    #[inline(always)]
-    fn is_left_out(self, relocations: &[u8], index: usize) -> bool {
-        is_left_out(
-            self.lookup
-                .resolved(index, &relocation_in(relocations, index)),
-        )
-    }
+    type Found = Resolved;
 
     #[inline(always)]
-    fn row_value(
-        self,
-        architecture: Architecture,
-        addresses: &Addresses,
-        relocations: &[u8],
-        index: usize,
-        relocation: &Rela,
-    ) -> Result<Option<(Row, i64)>, ValueError> {
-        resolved_row_value(
-            architecture,
-            addresses,
-            relocations,
-            self.lookup,
-            index,
-            relocation,
-        )
-    }
-
-    #[inline(always)]
-    fn quick_value(
-        self,
-        architecture: Architecture,
-        addresses: &Addresses,
-        relocations: &[u8],
-        row: &Row,
-        index: usize,
-        relocation: &Rela,
-        high: Option<HighPart>,
-    ) -> Option<i64> {
-        quick_resolved(
-            architecture,
-            addresses,
-            relocations,
-            self.lookup,
-            row,
-            index,
-            relocation,
-            high,
-        )
+    fn find(self, index: usize, relocation: &Rela) -> Option<Resolved> {
+        self.lookup.resolved(index, relocation)
     }
 }
 

@@ -11,6 +11,7 @@
 
 use crate::linker_section::facts::{Addresses, Symbol};
 use crate::linker_section::relocations::{RELA_LEN, Rela, relocation_in, relocations_len, set_relocation, u32_at};
+use crate::linker_section::symbols::{ByIndex, Symbols};
 use crate::linker_section::values::{names_label, own_value};
 use crate::linker_base::utils::u32_from_slice;
 use crate::linker_elf::elf::{Architecture, Row};
@@ -117,7 +118,8 @@ fn wrap_addend(addresses: &Addresses, symbols: &[Symbol], relocation: &Rela) -> 
     let Some(least) = held_from(&row) else {
         return *relocation;
     };
-    match own_value(Architecture::RiscV, addresses, symbols, &row, relocation) {
+    let known = ByIndex { symbols }.find(0, relocation);
+    match own_value(Architecture::RiscV, addresses, &row, relocation, known) {
         Ok(Some(value)) => with_value(relocation, value, wrapped(least, value)),
         _ => *relocation,
     }

@@ -9,7 +9,7 @@ use crate::linker_section::fields::{Field, begins_pair, ends_pair, is_of_pair, u
 use crate::linker_section::order::{field_in, first_overlap};
 use crate::linker_section::relocations::{Rela, is_ascending, relocation_in, relocations_len};
 use crate::linker_section::saved::{restore, word_at};
-use crate::linker_section::symbols::{ByIndex, Symbols};
+use crate::linker_section::symbols::{ByIndex, Known, Symbols};
 use crate::linker_section::values::{ValueError, value_of};
 use crate::linker_base::utils::{self, Uleb128Error};
 use crate::linker_elf::elf::architecture::pair_number;
@@ -69,17 +69,44 @@ fn write_at(row: &Row, value: i64, offset: u64, section: &mut [u8]) -> Result<()
     write_held_at(row, value, offset, section)
 }
 
-/// The row and the value of a relocation among those of its section.
-pub(crate) fn row_value(
+/// Whether the value of a relocation isn't written, by what is known of its symbol.
+#[inline(always)]
+fn is_known_left_out<K: Known>(known: Option<K>) -> bool {
+    match known {
+        Some(known) => known.is_left_out(),
+        None => false,
+    }
+}
+
+/// Whether the value of the relocation with an index isn't written.
+#[inline(always)]
+fn is_left_out<S: Symbols>(symbols: S, relocations: &[u8], index: usize) -> bool {
+    is_known_left_out(symbols.find(index, &relocation_in(relocations, index)))
+}
+
+/// Whether the value of a relocation with a row isn't written.
+#[inline(always)]
+fn is_skipped<K: Known>(row: &Row, known: Option<K>) -> bool {
+    is_known_left_out(known) && !is_of_pair(&row.info())
+}
+
+/// The row and the value of the relocation with an index. None of one without a value, and of one
+/// that is left out, except for those of a pair at a ULEB128 number.
+pub(crate) fn row_value<S: Symbols>(
     architecture: Architecture,
     addresses: &Addresses,
     relocations: &[u8],
-    symbols: &[Symbol],
+    symbols: S,
+    index: usize,
     relocation: &Rela,
 ) -> Result<Option<(Row, i64)>, ValueError> {
     let Some(row) = architecture.row(relocation.r_type) else {
         return Err(ValueError::UnknownType);
     };
+    let known = symbols.find(index, relocation);
+    if is_skipped(&row, known) {
+        return Ok(None);
+    }
     match value_of(
         architecture,
         addresses,
@@ -87,9 +114,10 @@ pub(crate) fn row_value(
         symbols,
         &row,
         relocation,
+        known,
     ) {
         Ok(Some(value)) => {
-            if lacks_stub(architecture, symbols, relocation) {
+            if lacks_stub(architecture, relocation, known) {
                 Err(ValueError::NeedsStub)
             } else if !is_in_reach(architecture, relocations, relocation, value) {
                 Err(ValueError::OutOfReach)
@@ -243,10 +271,11 @@ fn relocate_pair<S: Symbols>(
     second: &Rela,
     section: &mut [u8],
 ) -> Result<(), SectionError> {
-    let (row, subtracted) = match symbols.row_value(
+    let (row, subtracted) = match row_value(
         architecture,
         addresses,
         relocations,
+        symbols,
         index + 1,
         second,
     ) {
@@ -332,16 +361,17 @@ pub(crate) fn write_one<S: Symbols>(
 ) -> Result<Step, SectionError> {
     let relocation = relocation_in(relocations, index);
     memory[index] = word_at(section, relocation.offset);
-    let (row, value) = match symbols.row_value(
+    let (row, value) = match row_value(
         architecture,
         addresses,
         relocations,
+        symbols,
         index,
         &relocation,
     ) {
         Ok(Some(found)) => found,
         Ok(None) => {
-            if symbols.is_left_out(relocations, index) {
+            if is_left_out(symbols, relocations, index) {
                 return leave_out(architecture, relocations, limit, index, last, section);
             }
             let index = index + 1;

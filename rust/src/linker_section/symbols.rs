@@ -1,41 +1,57 @@
 // SPDX-License-Identifier: MIT OR Apache-2.0
 // Made by tools/generate of crates/linker_section/src/symbols.rt.
-//! How the values of a section's relocations are found.
+//! What is known of the symbols that a section's relocations name, by a table or by a look-up.
 
 use crate::linker_section::facts::{Addresses, Symbol};
-use crate::linker_section::quick::{HighPart, quick_value};
+use crate::linker_section::quick::required_address;
 use crate::linker_section::relocations::Rela;
-use crate::linker_section::sections::row_value;
-use crate::linker_section::values::ValueError;
-use crate::linker_elf::elf::{Architecture, Row};
+use crate::linker_elf::elf::Row;
 
-/// What finds the value of each of a section's relocations.
+/// What is known of the symbol of a relocation.
+pub(crate) trait Known: Copy {
+    /// The symbol. Its entries aren't read.
+    fn symbol(&self) -> Symbol;
+
+    /// The address of the entry that a relocation of a row requires; 0 where it requires none, and
+    /// none where there isn't one.
+    fn entry(&self, addresses: &Addresses, row: &Row, relocation: &Rela) -> Option<u64>;
+
+    /// Whether the value isn't written.
+    fn is_left_out(&self) -> bool;
+}
+
+/// What finds the symbol of each of a section's relocations.
 pub(crate) trait Symbols: Copy {
-    /// Whether the value of the relocation with an index isn't written.
-    fn is_left_out(self, relocations: &[u8], index: usize) -> bool;
+    /// What is known of a relocation's symbol.
+    type Found: Known;
 
-    /// The row and the value of the relocation with an index. None of one without a value, and of
-    /// one that is left out, except for those of a pair at a ULEB128 number.
-    fn row_value(
-        self,
-        architecture: Architecture,
-        addresses: &Addresses,
-        relocations: &[u8],
-        index: usize,
-        relocation: &Rela,
-    ) -> Result<Option<(Row, i64)>, ValueError>;
+    /// What is known of the symbol of the relocation with an index. None if there is no such
+    /// symbol.
+    fn find(self, index: usize, relocation: &Rela) -> Option<Self::Found>;
+}
 
-    /// The value of a relocation, if it is found with few tests.
-    fn quick_value(
-        self,
-        architecture: Architecture,
-        addresses: &Addresses,
-        relocations: &[u8],
-        row: &Row,
-        index: usize,
-        relocation: &Rela,
-        high: Option<HighPart>,
-    ) -> Option<i64>;
+/// A symbol of a table.
+#[derive(Clone, Copy)]
+pub(crate) struct Listed<'a> {
+    /// The symbol.
+    pub(crate) symbol: &'a Symbol,
+}
+
+impl Known for Listed<'_> {
+    #[inline(always)]
+    fn symbol(&self) -> Symbol {
+        *self.symbol
+    }
+
+    #[inline(always)]
+    fn entry(&self, addresses: &Addresses, row: &Row, relocation: &Rela) -> Option<u64> {
+        required_address(addresses, self.symbol, row, relocation)
+    }
+
+    #[inline(always)]
+    fn is_left_out(&self) -> bool {
+        false
+    }
 }
 
 /// A table of symbols at the indexes that relocations name.
@@ -45,49 +61,14 @@ pub(crate) struct ByIndex<'a> {
     pub(crate) symbols: &'a [Symbol],
 }
 
-impl Symbols for ByIndex<'_> {
-    #[inline(always)]
-    fn is_left_out(self, _relocations: &[u8], _index: usize) -> bool {
-        false
-    }
+impl<'a> Symbols for ByIndex<'a> {
+    type Found = Listed<'a>;
 
     #[inline(always)]
-    fn row_value(
-        self,
-        architecture: Architecture,
-        addresses: &Addresses,
-        relocations: &[u8],
-        _index: usize,
-        relocation: &Rela,
-    ) -> Result<Option<(Row, i64)>, ValueError> {
-        row_value(
-            architecture,
-            addresses,
-            relocations,
-            self.symbols,
-            relocation,
-        )
-    }
-
-    #[inline(always)]
-    fn quick_value(
-        self,
-        architecture: Architecture,
-        addresses: &Addresses,
-        relocations: &[u8],
-        row: &Row,
-        _index: usize,
-        relocation: &Rela,
-        high: Option<HighPart>,
-    ) -> Option<i64> {
-        quick_value(
-            architecture,
-            addresses,
-            relocations,
-            self.symbols,
-            row,
-            relocation,
-            high,
-        )
+    fn find(self, _index: usize, relocation: &Rela) -> Option<Listed<'a>> {
+        match self.symbols.get(relocation.symbol as usize) {
+            Some(symbol) => Some(Listed { symbol }),
+            None => None,
+        }
     }
 }

@@ -5,6 +5,7 @@
 use crate::linker_section::facts::{Addresses, Symbol};
 use crate::linker_section::needed::{Entry, EntryClass, entry_by};
 use crate::linker_section::relocations::{Rela, first_from, offset_at, relocation_in, relocations_len};
+use crate::linker_section::symbols::{ByIndex, Known, Symbols};
 use crate::linker_elf::elf::{
     AnyForm, Architecture, Operands, RelocationKind, Row, RowInfo, RowSize,
 };
@@ -248,36 +249,22 @@ pub(crate) fn required(row: &Row, relocation: &Rela, symbol: &Symbol) -> Option<
     entry_by(row.facts(), relocation.addend, symbol.is_thread_local)
 }
 
-/// The same, where there may be no such entry.
+/// The operands of a relocation's formula, by what is known of its symbol.
 #[inline(always)]
-pub(crate) fn operands_by(
+fn operands_of<K: Known>(
     architecture: Architecture,
     addresses: &Addresses,
     row: &Row,
     relocation: &Rela,
-    symbol: &Symbol,
-    entry: Option<u64>,
+    known: &K,
 ) -> Result<Operands, ValueError> {
-    match entry {
-        Some(entry) => Ok(operands_with(architecture, addresses, row, symbol, relocation, entry)),
+    match known.entry(addresses, row, relocation) {
+        Some(entry) => {
+            let symbol = known.symbol();
+            Ok(operands_with(architecture, addresses, row, &symbol, relocation, entry))
+        }
         None => Err(ValueError::NoEntry),
     }
-}
-
-/// The operands of a relocation's formula.
-#[inline(always)]
-fn operands_of(
-    architecture: Architecture,
-    addresses: &Addresses,
-    symbols: &[Symbol],
-    row: &Row,
-    relocation: &Rela,
-) -> Result<Operands, ValueError> {
-    let Some(symbol) = symbols.get(relocation.symbol as usize) else {
-        return Err(ValueError::NoSymbol);
-    };
-    let entry = entry_address(addresses, symbol, required(row, relocation, symbol));
-    operands_by(architecture, addresses, row, relocation, symbol, entry)
 }
 
 /// Whether a relocation of a kind has a value.
@@ -289,36 +276,25 @@ pub(crate) fn has_value(kind: RelocationKind) -> bool {
     )
 }
 
-/// Whether there is a symbol, and it isn't an undefined weak one.
-#[inline(always)]
-fn is_defined(symbols: &[Symbol], index: u32) -> bool {
-    match symbols.get(index as usize) {
-        Some(symbol) => !symbol.is_undefined_weak,
-        None => false,
-    }
-}
-
-/// Whether the formula counts from an origin, and the output has no TLS segment.
-#[inline(always)]
-fn lacks_origin(addresses: &Addresses, symbols: &[Symbol], row: &Row, relocation: &Rela) -> bool {
-    row.kind().is_offset() && !addresses.has_tls && is_defined(symbols, relocation.symbol)
-}
-
 /// The value of a relocation that stands alone.
 #[inline(always)]
-pub(crate) fn own_value(
+pub(crate) fn own_value<K: Known>(
     architecture: Architecture,
     addresses: &Addresses,
-    symbols: &[Symbol],
     row: &Row,
     relocation: &Rela,
+    known: Option<K>,
 ) -> Result<Option<i64>, ValueError> {
     if !has_value(row.kind()) {
         return Ok(None);
     }
-    match operands_of(architecture, addresses, symbols, row, relocation) {
+    let Some(known) = &known else {
+        return Err(ValueError::NoSymbol);
+    };
+    match operands_of(architecture, addresses, row, relocation, known) {
         Ok(operands) => {
-            if lacks_origin(addresses, symbols, row, relocation) {
+            let is_undefined = known.symbol().is_undefined_weak;
+            if row.kind().is_offset() && !addresses.has_tls && !is_undefined {
                 Err(ValueError::NoTlsBase)
             } else {
                 Ok(row.formula_value(&operands))
@@ -421,7 +397,7 @@ fn ascending_high_part(
 }
 
 /// The same in any order: where the search doesn't find it, all relocations are looked at.
-pub(crate) fn indexed_high_part(
+fn high_part(
     architecture: Architecture,
     relocations: &[u8],
     low: RelocationKind,
@@ -438,23 +414,9 @@ pub(crate) fn indexed_high_part(
     None
 }
 
-/// The high part at an offset, without its index.
-#[inline(always)]
-fn high_part(
-    architecture: Architecture,
-    relocations: &[u8],
-    low: RelocationKind,
-    at: u64,
-) -> Option<(Rela, Row)> {
-    match indexed_high_part(architecture, relocations, low, at) {
-        Some((_, relocation, row)) => Some((relocation, row)),
-        None => None,
-    }
-}
-
 /// The operands of a low part, of those of its high part.
 #[inline(always)]
-pub(crate) fn low_operands(high: &Row, operands: Operands) -> Operands {
+fn low_operands(high: &Row, operands: Operands) -> Operands {
     if high.kind().names_got_entry() {
         Operands {
             symbol: operands.got_entry,
@@ -465,43 +427,35 @@ pub(crate) fn low_operands(high: &Row, operands: Operands) -> Operands {
     }
 }
 
-/// The value of a low part, by its high part.
+/// The value of a relocation among those of its section, by what is known of its symbol. None of a
+/// type without a value.
 #[inline(always)]
-fn low_value(
-    architecture: Architecture,
-    addresses: &Addresses,
-    symbols: &[Symbol],
-    row: &Row,
-    high: Option<(Rela, Row)>,
-) -> Result<Option<i64>, ValueError> {
-    let Some((relocation, high)) = high else {
-        return Err(ValueError::NoHighPart);
-    };
-    match operands_of(architecture, addresses, symbols, &high, &relocation) {
-        Ok(operands) => Ok(row.formula_value(&low_operands(&high, operands))),
-        Err(error) => Err(error),
-    }
-}
-
-/// The value of a relocation among those of its section. None of a type without a value.
-#[inline(always)]
-pub(crate) fn value_of(
+pub(crate) fn value_of<S: Symbols>(
     architecture: Architecture,
     addresses: &Addresses,
     relocations: &[u8],
-    symbols: &[Symbol],
+    symbols: S,
     row: &Row,
     relocation: &Rela,
+    known: Option<S::Found>,
 ) -> Result<Option<i64>, ValueError> {
     if !names_label(row.info().size, row.kind()) {
-        return own_value(architecture, addresses, symbols, row, relocation);
+        return own_value(architecture, addresses, row, relocation, known);
     }
-    let Some(label) = symbols.get(relocation.symbol as usize) else {
+    let Some(label) = known else {
         return Err(ValueError::NoSymbol);
     };
-    let at = label.address.wrapping_sub(addresses.section);
-    let high = high_part(architecture, relocations, row.kind(), at);
-    low_value(architecture, addresses, symbols, row, high)
+    let at = label.symbol().address.wrapping_sub(addresses.section);
+    let Some((index, high, high_row)) = high_part(architecture, relocations, row.kind(), at) else {
+        return Err(ValueError::NoHighPart);
+    };
+    let Some(known) = symbols.find(index, &high) else {
+        return Err(ValueError::NoSymbol);
+    };
+    match operands_of(architecture, addresses, &high_row, &high, &known) {
+        Ok(operands) => Ok(row.formula_value(&low_operands(&high_row, operands))),
+        Err(error) => Err(error),
+    }
 }
 
 /// The value of a relocation among those of its section, which [`relocation_at`](crate::section::relocation_at()) reads. None of a
@@ -547,15 +501,18 @@ pub fn value(
     symbols: &[Symbol],
     relocation: &Rela,
 ) -> Result<Option<i64>, ValueError> {
-    match architecture.row(relocation.r_type) {
-        Some(row) => value_of(
-            architecture,
-            addresses,
-            relocations,
-            symbols,
-            &row,
-            relocation,
-        ),
-        None => Err(ValueError::UnknownType),
-    }
+    let Some(row) = architecture.row(relocation.r_type) else {
+        return Err(ValueError::UnknownType);
+    };
+    let symbols = ByIndex { symbols };
+    let known = symbols.find(0, relocation);
+    value_of(
+        architecture,
+        addresses,
+        relocations,
+        symbols,
+        &row,
+        relocation,
+        known,
+    )
 }

@@ -2,7 +2,7 @@
 // Made by tools/generate of crates/linker_elf/src/aarch64/forms.rt.
 //! AArch64 instructions that hold a value.
 
-use crate::linker_elf::elf::engine::{self, Encoding, Step, Window, forms};
+use crate::linker_elf::elf::engine::{self, Encoding, Step, Window, form};
 use crate::linker_elf::elf::{AnyForm, InstructionForm};
 use crate::linker_base::bit_misc::{BitExtraction, BitRange};
 
@@ -45,31 +45,38 @@ pub enum AArch64Instruction {
     MachOLow12,
 }
 
-/// The forms, in the order of their enum.
-macro_rules! aarch64_forms {
-    ($($part:tt)+) => { forms! { [$($part)+]
-        (Adr Four, 0..21, [0, 29, 2 or] [2, 5, 19 or]; signs: 1 << 20)
-        (Movkz Four, 0..16, [0, 5, 16 or]; signs: 1 << 15)
-        (Movnz Four, 0..16, [0, 5, 16])
-        (Ldr Four, 0..19, [0, 5, 19 or]; signs: 1 << 18)
-        (LdrRegister Four, 0..12, [0, 10, 12 or])
-        (Add Four, 0..12, [0, 10, 12 or])
-        (LdSt Four, 0..12, [0, 10, 12 or]; signs: 1 << 11)
-        (TstBr Four, 0..14, [0, 5, 14 or]; signs: 1 << 13)
-        (Bcond Four, 0..19, [0, 5, 19 or]; signs: 1 << 18)
-        (JumpCall Four, 0..26, [0, 0, 26 or]; signs: 1 << 25)
-        (MachOLow12 Four, 0..12, [0, 10, 12])
-    } };
+/// A form by its name, or with `each` all in the order of their enum.
+macro_rules! form_of {
+    (Adr $part:tt) => { form!($part
+        (Adr Four, 0..21, [0, 29, 2 or] [2, 5, 19 or]; signs: 1 << 20)) };
+    (Movkz $part:tt) => { form!($part (Movkz Four, 0..16, [0, 5, 16 or]; signs: 1 << 15)) };
+    (Movnz $part:tt) => { form!($part (Movnz Four, 0..16, [0, 5, 16])) };
+    (Ldr $part:tt) => { form!($part (Ldr Four, 0..19, [0, 5, 19 or]; signs: 1 << 18)) };
+    (LdrRegister $part:tt) => { form!($part (LdrRegister Four, 0..12, [0, 10, 12 or])) };
+    (Add $part:tt) => { form!($part (Add Four, 0..12, [0, 10, 12 or])) };
+    (LdSt $part:tt) => { form!($part (LdSt Four, 0..12, [0, 10, 12 or]; signs: 1 << 11)) };
+    (TstBr $part:tt) => { form!($part (TstBr Four, 0..14, [0, 5, 14 or]; signs: 1 << 13)) };
+    (Bcond $part:tt) => { form!($part (Bcond Four, 0..19, [0, 5, 19 or]; signs: 1 << 18)) };
+    (JumpCall $part:tt) => { form!($part (JumpCall Four, 0..26, [0, 0, 26 or]; signs: 1 << 25)) };
+    (MachOLow12 $part:tt) => { form!($part (MachOLow12 Four, 0..12, [0, 10, 12])) };
+    (each $($part:tt)+) => {
+        form_of!(
+            @ [$($part)+] Adr Movkz Movnz Ldr LdrRegister Add LdSt TstBr Bcond JumpCall MachOLow12
+        )
+    };
+    (@ $part:tt $($name:ident)+) => { [$(form_of!($name $part)),+] };
 }
 
-// Tables, since with a match LLVM would jump by the form.
-const CODES: [Encoding; 11] = aarch64_forms!(code);
+pub(super) use form_of;
 
-const STEPS: [[Step; 2]; 11] = aarch64_forms!(2 steps);
+// Tables, since with a match LLVM would jump by the form.
+const CODES: [Encoding; 11] = form_of!(each code);
+
+const STEPS: [[Step; 2]; 11] = form_of!(each 2 steps);
 
 /// The forms by their numbers. A table, since a match becomes a jump by the number where what
 /// follows differs by the form.
-const FORMS: &[AArch64Instruction] = &aarch64_forms!(variant AArch64Instruction);
+const FORMS: &[AArch64Instruction] = &form_of!(each variant AArch64Instruction);
 
 /// The 16 bits and the opcode that `Movnz` writes, the latter where it stands in the instruction
 /// (DDI 0487, "MOVN" and "MOVZ").
@@ -132,12 +139,17 @@ impl AArch64Instruction {
         match self {
             AArch64Instruction::Movnz => {
                 let (bits, opcode) = move_bits(value, negative);
-                engine::window_with(code, steps, bits, word & 0x007f_ffff | opcode)
+                engine::window_with(code.replaced, steps, bits, word & 0x007f_ffff | opcode)
             }
             AArch64Instruction::MachOLow12 => {
-                engine::window_with(code, &scaled(steps[0], scale_of(word)), value, word)
+                engine::window_with(
+                    code.replaced,
+                    &scaled(steps[0], scale_of(word)),
+                    value,
+                    word,
+                )
             }
-            _ => engine::window_with(code, steps, value, word),
+            _ => engine::window_with(code.replaced, steps, value, word),
         }
     }
 

@@ -2,8 +2,10 @@
 // Made by tools/generate of crates/linker_elf/src/aarch64/relocations.rt.
 //! What the relocations of AArch64 mean.
 
+use super::forms::form_of;
 use crate::linker_elf::elf::choice_table::RelocationName;
-use crate::linker_elf::elf::rows::{TableRow, info_in, listed, row_in, text_at};
+use crate::linker_elf::elf::engine::form;
+use crate::linker_elf::elf::rows::{TableRow, listed, row_in, text_at};
 use crate::linker_elf::elf::{Row, RowInfo};
 use core::fmt;
 
@@ -334,5 +336,8 @@ impl RelocationName for AArch64Relocation {
 #[must_use]
 #[inline(always)]
 pub const fn upstream_row(name: AArch64Relocation) -> Option<RowInfo> {
-    info_in(row(name))
+    match row(name) {
+        Some(row) => Some(row.info()),
+        None => None,
+    }
 }

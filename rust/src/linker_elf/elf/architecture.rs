@@ -399,7 +399,7 @@ pub fn pair_number(role: Uleb128Role, bytes: &[u8], first: u64, second: u64) -> 
     }
 }
 
-/// Writes that number.
+/// Writes that number over the one that `dest` begins with.
 fn write_pair_number(
     role: Uleb128Role,
     dest: &mut [u8],
@@ -407,7 +407,7 @@ fn write_pair_number(
     second: u64,
 ) -> Result<(), Uleb128PairError> {
     let number = pair_number(role, dest, first, second);
-    write_number(number, dest)
+    utils::write_uleb128(dest, number).map_err(Uleb128PairError::Number)
 }
 
 /// Writes it if the role is one of a first relocation.
@@ -422,11 +422,6 @@ fn write_pair(
         Some(Uleb128Role::Adds) => write_pair_number(Uleb128Role::Adds, dest, first, second),
         _ => Err(Uleb128PairError::NotFirst),
     }
-}
-
-/// Writes a number over the ULEB128 number that `dest` begins with.
-fn write_number(number: u64, dest: &mut [u8]) -> Result<(), Uleb128PairError> {
-    utils::write_uleb128(dest, number).map_err(Uleb128PairError::Number)
 }
 
 #[cfg(feature = "aarch64")]

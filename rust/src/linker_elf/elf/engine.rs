@@ -16,6 +16,22 @@ pub(crate) struct Step {
     pub(crate) mask: u64,
 }
 
+/// How a row writes a value into an instruction, if its form has at most two steps and a window of
+/// 4 or 8 bytes.
+#[derive(Clone, Copy)]
+pub(crate) struct WritePlan {
+    /// Whether the window has 4 bytes.
+    pub(crate) is_word: bool,
+    /// The lowest of the value's bits that are taken.
+    pub(crate) start: u32,
+    /// The bits that are taken of the value from there up.
+    pub(crate) taken: u64,
+    /// The window's bits that are cleared first.
+    pub(crate) replaced: u64,
+    pub(crate) first: Step,
+    pub(crate) second: Step,
+}
+
 /// What a form is beside its steps.
 #[derive(Clone, Copy)]
 pub(crate) struct Encoding {
@@ -49,25 +65,27 @@ pub(crate) const UNSIGNED: Encoding = Encoding {
     flag: !0,
 };
 
-/// A part of each form: with `code` what it is beside its steps; with `2 steps` or `6 steps` these,
-/// and as many that move nothing as are left; with `variant` and the forms' enum its variant; with
-/// `window` the length of its window in bytes. With `by`, what is done with a form, in an arm for
-/// each. A form is its name, its window, which bits of its number the immediate has, its steps and
-/// how it is read. A step is its runs, each a bit of the value, one of the window, and their
-/// length; with `or` a run is only ORed.
-macro_rules! forms {
-    ([by $forms:ident $value:expr, $form:ident: $done:expr] $(($name:ident $($part:tt)+))+) => {
-        match $value {
-            $($forms::$name => {
-                let $form = $forms::$name;
-                $done
-            })+
-        }
-    };
-    ($part:tt $($form:tt)+) => { [$($crate::linker_elf::elf::engine::form!($part $form)),+] };
-}
-
+/// A part of a form, which each architecture's `form_of` gives by its name: with `code` what it is
+/// beside its steps; with `2 steps` or `6 steps` these, and as many that move nothing as are left;
+/// with `variant` and the forms' enum its variant; with `window` the length of its window in bytes;
+/// with `plan`, the runs that are cleared first and a row's bits, the row's plan if there is one. A
+/// form is its name, its window, which bits of its number the immediate has, its steps and how it
+/// is read. A step is its runs, each a bit of the value, one of the window, and their length; with
+/// `or` a run is only ORed.
 macro_rules! form {
+    ([plan $cleared:ident $first:tt $last:tt] (
+        $name:ident $window:ident, $start:literal .. $end:literal,
+        $([$(added $added:literal:)? $($from:literal, $to:literal, $len:literal $($or:ident)?);+])+
+        $(clear $clear:literal, $clear_len:literal)?
+        $(; $($field:ident: $read:expr),+)?
+    )) => {
+        $crate::linker_elf::elf::engine::plan!(
+            $window $first $last
+            [$($($crate::linker_elf::elf::engine::run!($cleared $to, $len $($or)?) |)+)+
+                $($crate::linker_elf::elf::engine::run!(bits $clear, $clear_len) |)? 0]
+            $([0 $(+ $added)?; $($from, $to, $len);+])+
+        )
+    };
     ([variant $forms:ident] ($name:ident $($part:tt)+)) => { $forms::$name };
     ([window] ($name:ident Two, $($part:tt)+)) => { 2 };
     ([window] ($name:ident Four, $($part:tt)+)) => { 4 };
@@ -98,6 +116,24 @@ macro_rules! form {
     };
 }
 
+/// A plan, or none where the window has 2 bytes or there are more than two steps.
+macro_rules! plan {
+    (Four) => { true };
+    (Eight) => { false };
+    (Two $($row:tt)+) => { None };
+    ($window:ident $start:tt $end:tt [$replaced:expr] $first:tt $($second:tt)?) => {
+        Some($crate::linker_elf::elf::engine::WritePlan {
+            is_word: $crate::linker_elf::elf::engine::plan!($window),
+            start: $start,
+            taken: u64::MAX >> (64 - ($end - $start)),
+            replaced: $replaced,
+            first: $crate::linker_elf::elf::engine::steps!($first),
+            second: $crate::linker_elf::elf::engine::steps!($($second)? none),
+        })
+    };
+    ($($row:tt)+) => { None };
+}
+
 /// The steps, and in the slots that are left such as move nothing. A step moves by the distance of
 /// its first run. The mask would be another if that of a further run were another.
 macro_rules! steps {
@@ -108,33 +144,30 @@ macro_rules! steps {
     };
     (none) => { $crate::linker_elf::elf::engine::Step { added: 0, up: 0, mask: 0 } };
     (
-        [none $($slot:ident)*] [$($step:expr,)*]
         [
             $added:expr; $from:literal, $to:literal, $len:literal
             $(; $more:literal, $more_to:literal, $more_len:literal)*
         ]
-        $($rest:tt)*
+        $(none)?
     ) => {
+        $crate::linker_elf::elf::engine::Step {
+            added: $added,
+            up: (64 + $to - $from) % 64,
+            mask: $crate::linker_elf::elf::engine::run!(bits $to, $len)
+                $(| $crate::linker_elf::elf::engine::run!(bits $more_to, $more_len)
+                    << ((128 + $more_to - $more - (64 + $to - $from) % 64) % 64))*,
+        }
+    };
+    ([none $($slot:ident)*] [$($step:expr,)*] $next:tt $($rest:tt)*) => {
         $crate::linker_elf::elf::engine::steps!(
-            [$($slot)*]
-            [
-                $($step,)*
-                $crate::linker_elf::elf::engine::Step {
-                    added: $added,
-                    up: (64 + $to - $from) % 64,
-                    mask: $crate::linker_elf::elf::engine::run!(bits $to, $len)
-                        $(| $crate::linker_elf::elf::engine::run!(bits $more_to, $more_len)
-                            << ((128 + $more_to - $more - (64 + $to - $from) % 64) % 64))*,
-                },
-            ]
-            $($rest)*
+            [$($slot)*] [$($step,)* $crate::linker_elf::elf::engine::steps!($next),] $($rest)*
         )
     };
 }
 
 /// A run's bits of the window: all, those that are replaced, and those that are only ORed.
 macro_rules! run {
-    (bits $to:literal, $len:literal) => { (((1 << $len) - 1) << $to) };
+    (bits $to:literal, $len:literal $(or)?) => { (((1 << $len) - 1) << $to) };
     (replaced $to:literal, $len:literal) => { $crate::linker_elf::elf::engine::run!(bits $to, $len) };
     (replaced $to:literal, $len:literal or) => { 0 };
     (ored $to:literal, $len:literal) => { 0 };
@@ -142,7 +175,7 @@ macro_rules! run {
 }
 
 pub(crate) use form;
-pub(crate) use forms;
+pub(crate) use plan;
 pub(crate) use run;
 pub(crate) use steps;
 
@@ -190,8 +223,8 @@ impl Window {
 
 /// The window after a value is written. A step that moves nothing ORs nothing.
 #[inline(always)]
-pub(crate) fn window_with(code: &Encoding, steps: &[Step], value: u64, window: u64) -> u64 {
-    let mut written = window & !code.replaced;
+pub(crate) fn window_with(replaced: u64, steps: &[Step], value: u64, window: u64) -> u64 {
+    let mut written = window & !replaced;
     for step in steps {
         written |= value.wrapping_add(step.added).rotate_left(step.up) & step.mask;
     }
@@ -219,7 +252,7 @@ pub(crate) fn write(
     _negative: bool,
     dest: &mut [u8],
 ) {
-    let window = window_with(code, steps, value, code.window.load(dest));
+    let window = window_with(code.replaced, steps, value, code.window.load(dest));
     code.window.store(window, dest);
 }
 

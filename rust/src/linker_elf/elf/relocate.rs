@@ -137,14 +137,6 @@ pub(crate) fn write_field(insn: AnyForm, bits: BitRange, value: i64, dest: &mut 
     }
 }
 
-/// Writes bits of a number into an instruction of AArch64. By itself: with it LLVM compiles the
-/// match of the architectures in `rows::write_plain` to a jump.
-#[cfg(feature = "aarch64")]
-#[inline(never)]
-pub(crate) fn write_aarch64(insn: AArch64Instruction, bits: BitRange, value: i64, dest: &mut [u8]) {
-    write_field(AnyForm::AArch64(insn), bits, value, dest);
-}
-
 /// Whether an instruction is a MOVK, where a row is for MOVN and MOVZ.
 #[inline(always)]
 fn stays_movk(insn: AnyForm, bits: BitRange, dest: &[u8]) -> bool {

@@ -2,10 +2,9 @@
 // Made by tools/generate of crates/linker_elf/src/elf/rows.rt.
 //! Rows of the relocation tables, and the macros that make them from each architecture's list.
 
+use crate::linker_elf::elf::engine::{Window, WritePlan, window_with};
 use crate::linker_elf::elf::entries::{is_of_high_part, names_plt_entry};
 use crate::linker_elf::elf::relocate::{is_encoded, store, write_bits, write_field, write_number};
-#[cfg(feature = "aarch64")]
-use crate::linker_elf::elf::relocate::write_aarch64;
 use crate::linker_elf::elf::value::FormulaTerms;
 use crate::linker_elf::elf::{
     AllowedRange, AnyForm, ApplyError, Bias, FormulaError, Operands, PageMask, RelocateError,
@@ -21,6 +20,7 @@ pub(crate) struct TableRow {
     pub(crate) mask: Option<PageMask>,
     pub(crate) numbers: RelocationNumbers,
     pub(crate) tests: WriteTests,
+    pub(crate) plan: Option<WritePlan>,
     /// Which values can be written.
     pub(crate) reach: AllowedRange,
     pub(crate) terms: FormulaTerms,
@@ -91,15 +91,6 @@ pub(crate) const fn raw_info_in(entry: &'static Option<TableRow>) -> Option<RowI
         // by the entry: LLVM compiles a match of the name to a jump by the `r_type`
         Some(entry) if !entry.is_own => Some(Row::of(entry).info()),
         _ => None,
-    }
-}
-
-/// What a row means, if there is one.
-#[inline(always)]
-pub(crate) const fn info_in(row: Option<Row>) -> Option<RowInfo> {
-    match row {
-        Some(row) => Some(row.info()),
-        None => None,
     }
 }
 
@@ -349,7 +340,7 @@ fn has_no_bits(low_bits: u8, value: i64, _alignment: u64) -> bool {
 }
 
 /// [`Row::write`](crate::elf::Row::write), of the row of an entry. Only rows that don't take all values look at the
-/// instruction. `in_place` is as of `write_form`.
+/// instruction. With `in_place` the bits of one are written here even without a plan.
 #[inline(always)]
 fn write_row(
     entry: &'static TableRow,
@@ -369,7 +360,18 @@ fn write_row(
     match tests.bytes {
         4 => store(4, value as u64, dest),
         8 => store(8, value as u64, dest),
-        _ => write_form(entry, value, dest, in_place),
+        _ => match &entry.plan {
+            Some(plan) if plan.is_word => {
+                write_planned(entry, plan, Window::Four, value, dest);
+            }
+            Some(plan) => write_planned(entry, plan, Window::Eight, value, dest),
+            None => match entry.size {
+                RowSize::BitMasking { range, insn } if in_place => {
+                    write_field(insn, range, value, dest);
+                }
+                _ => write_plain(entry, value, dest),
+            },
+        },
     }
     Ok(())
 }
@@ -382,26 +384,34 @@ fn write_looking(entry: &'static TableRow, value: i64, dest: &mut [u8]) -> Resul
         .write_tested(&entry.tests, value, dest)
 }
 
-/// Writes a value of a row that takes all. By itself and with few arguments, so that a caller saves
-/// no registers, and none is passed on the stack.
+/// Writes a value of a row that takes all, by its plan: no branch depends on the form. The contract
+/// alone uses `_entry`.
+#[inline(always)]
+fn write_planned(
+    _entry: &'static TableRow,
+    plan: &WritePlan,
+    window: Window,
+    value: i64,
+    dest: &mut [u8],
+) {
+    let number = value as u64 >> plan.start & plan.taken;
+    let steps = [plan.first, plan.second];
+    let written = window_with(plan.replaced, &steps, number, window.load(dest));
+    window.store(written, dest);
+}
+
+/// The same without a plan. By itself and with few arguments, so that a caller saves no registers,
+/// and none is passed on the stack.
 #[inline(never)]
 fn write_plain(entry: &'static TableRow, value: i64, dest: &mut [u8]) {
     match entry.size {
         RowSize::ByteSize(len) => write_number(entry.kind, len as usize, value, dest),
         RowSize::BitMasking { range, insn } => match insn {
-            #[cfg(feature = "aarch64")]
-            AnyForm::AArch64(insn) => write_aarch64(insn, range, value, dest),
-            _ => write_field(insn, range, value, dest),
+            #[cfg(feature = "riscv64")]
+            AnyForm::RiscV(_) => write_field(insn, range, value, dest),
+            // not reached: only RISC-V has forms without a plan
+            _ => write_bits(entry.kind, insn, range, value, dest),
         },
-    }
-}
-
-/// The same. With `in_place` the bits of an instruction are written here.
-#[inline(always)]
-fn write_form(entry: &'static TableRow, value: i64, dest: &mut [u8], in_place: bool) {
-    match entry.size {
-        RowSize::BitMasking { range, insn } if in_place => { write_field(insn, range, value, dest) }
-        _ => write_plain(entry, value, dest),
     }
 }
 
@@ -543,7 +553,7 @@ pub(crate) const fn text_at(texts: &[&'static str], index: usize) -> &'static st
 macro_rules! row {
     ($forms:tt ($kind:ident, $bytes:tt bytes, $($rest:tt)+)) => {
         $crate::linker_elf::elf::rows::row!(
-            @ $kind [Bytes Bytes $kind 0 0 $bytes] [$crate::linker_elf::elf::RowSize::ByteSize($bytes)]
+            @ $kind [Bytes Bytes $kind 0 0 $bytes] [$crate::linker_elf::elf::RowSize::ByteSize($bytes)] [None]
             [form: 0, machine: 0, is_bits: 0, byte_size: $bytes, first_bit: 0, end_bit: 0]
             $($rest)+
         )
@@ -558,6 +568,7 @@ macro_rules! row {
                 range: crate::linker_base::bit_misc::BitRange { start: $start, end: $end },
                 insn: $crate::linker_elf::elf::AnyForm::$architecture($crate::linker_elf::elf::$forms::$form),
             }]
+            [$crate::linker_elf::elf::rows::plan!($architecture $form $start $end)]
             [
                 form: $crate::linker_elf::elf::$forms::$form as u32, machine: $crate::linker_elf::elf::$machine, is_bits: 1,
                 byte_size: 0, first_bit: $start, end_bit: $end
@@ -566,7 +577,7 @@ macro_rules! row {
         )
     };
     (
-        @ $kind:ident [$($row:tt)+] [$size:expr] [$($of_size:tt)+]
+        @ $kind:ident [$($row:tt)+] [$size:expr] [$plan:expr] [$($of_size:tt)+]
         $range:ident $($number:literal $(.. $end:literal)?)?
         $(, reach: $reach:ident $reach_number:literal $(.. $reach_end:literal)?)?
         $(, alignment: $alignment:literal)?
@@ -606,6 +617,7 @@ macro_rules! row {
                     $range $($number $(.. $end)?)?
                 ),
             },
+            plan: $plan,
             reach: $crate::linker_elf::elf::AllowedRange {
                 bounds: $crate::linker_elf::elf::rows::bound!(
                     reach [$($reach $reach_number $(.. $reach_end)?)?]
@@ -635,6 +647,16 @@ macro_rules! row {
             },
             is_own: false $(| $own)?,
         }
+    };
+}
+
+/// The plan of a row. A write clears the bits that AArch64's forms only OR, and those of a
+/// `Shift10` with an immediate of 16 bits: where it has 12, the opcode is there.
+macro_rules! plan {
+    (AArch64 $form:ident $start:tt $end:tt) => { form_of!($form [plan bits $start $end]) };
+    (LoongArch64 Shift10 2 $end:tt) => { form_of!(Shift10 [plan bits 2 $end]) };
+    ($architecture:ident $form:ident $start:tt $end:tt) => {
+        form_of!($form [plan replaced $start $end])
     };
 }
 
@@ -718,13 +740,7 @@ macro_rules! fact {
     (bytes Bytes Bytes $kind:ident 0 0 $bytes:tt) => { $bytes };
     (bytes $($row:tt)+) => { 0 };
     (window Bytes Bytes $kind:ident 0 0 $bytes:tt) => { $bytes };
-    (window $form:ident RiscV $($row:tt)+) => {
-        $crate::linker_elf::riscv64::forms::WINDOWS[$crate::linker_elf::elf::RiscVInstruction::$form as usize]
-    };
-    (window Call30 $($row:tt)+) => { 8 };
-    (window Call36 $($row:tt)+) => { 8 };
-    (window Prefixed $($row:tt)+) => { 8 };
-    (window $($row:tt)+) => { 4 };
+    (window $form:ident $($row:tt)+) => { form_of!($form [window]) };
     (length CbType $($row:tt)+) => { $crate::linker_elf::elf::Length::Two };
     (length CjType $($row:tt)+) => { $crate::linker_elf::elf::Length::Two };
     (length CluiType $($row:tt)+) => { $crate::linker_elf::elf::Length::Two };
@@ -858,4 +874,5 @@ pub(crate) use entry;
 pub(crate) use fact;
 pub(crate) use listed;
 pub(crate) use mask;
+pub(crate) use plan;
 pub(crate) use row;

@@ -2,7 +2,7 @@
 // Made by tools/generate of crates/linker_elf/src/loongarch64/forms.rt.
 //! LoongArch: the immediates of instructions.
 
-use crate::linker_elf::elf::engine::{self, Encoding, Step, Window, forms};
+use crate::linker_elf::elf::engine::{self, Encoding, Step, Window, form};
 use crate::linker_elf::elf::{AnyForm, InstructionForm};
 use crate::linker_base::bit_misc::BitRange;
 
@@ -33,27 +33,35 @@ pub enum LoongArch64Instruction {
     Call36,
 }
 
-/// The forms, in the order of their enum.
-macro_rules! loongarch_forms {
-    ($($part:tt)+) => { forms! { [$($part)+]
-        (Shift5 Four, 0..20, [0, 5, 20])
-        (Shift10 Four, 0..16, [0, 10, 12; 12, 22, 4 or]; returned: 0xfff)
-        (Branch26 Four, 0..26, [0, 10, 16] [16, 0, 10]; signs: 1 << 25, flag: 1 << 25)
-        (Branch21 Four, 0..21, [0, 10, 16] [16, 0, 5]; signs: 1 << 20, flag: 1 << 20)
-        (Call30 Eight, 0..20, [9, 14, 11] [0, 42, 9] clear 5, 9)
+/// A form by its name, or with `each` all in the order of their enum.
+macro_rules! form_of {
+    (Shift5 $part:tt) => { form!($part (Shift5 Four, 0..20, [0, 5, 20])) };
+    (Shift10 $part:tt) => { form!($part
+        (Shift10 Four, 0..16, [0, 10, 12; 12, 22, 4 or]; returned: 0xfff)) };
+    (Branch26 $part:tt) => { form!($part
+        (Branch26 Four, 0..26, [0, 10, 16] [16, 0, 10]; signs: 1 << 25, flag: 1 << 25)) };
+    (Branch21 $part:tt) => { form!($part
+        (Branch21 Four, 0..21, [0, 10, 16] [16, 0, 5]; signs: 1 << 20, flag: 1 << 20)) };
+    (Call30 $part:tt) => { form!($part (Call30 Eight, 0..20, [9, 14, 11] [0, 42, 9] clear 5, 9)) };
+    (Call36 $part:tt) => { form!($part
         (Call36 Eight, 0..36, [added 0x8000: 16, 5, 20] [0, 42, 16];
-            signs: 1 << 15, returned: (1 << 36) - 1)
-    } };
+            signs: 1 << 15, returned: (1 << 36) - 1)) };
+    (each $($part:tt)+) => {
+        form_of!(@ [$($part)+] Shift5 Shift10 Branch26 Branch21 Call30 Call36)
+    };
+    (@ $part:tt $($name:ident)+) => { [$(form_of!($name $part)),+] };
 }
 
-// Tables, since with a match LLVM would jump by the form.
-const CODES: [Encoding; 6] = loongarch_forms!(code);
+pub(super) use form_of;
 
-const STEPS: [[Step; 2]; 6] = loongarch_forms!(2 steps);
+// Tables, since with a match LLVM would jump by the form.
+const CODES: [Encoding; 6] = form_of!(each code);
+
+const STEPS: [[Step; 2]; 6] = form_of!(each 2 steps);
 
 /// The forms by their numbers. A table, since a match becomes a jump by the number where what
 /// follows differs by the form.
-const FORMS: &[LoongArch64Instruction] = &loongarch_forms!(variant LoongArch64Instruction);
+const FORMS: &[LoongArch64Instruction] = &form_of!(each variant LoongArch64Instruction);
 
 /// Whether the immediate of a `Shift10` has 16 bits, where those of a range are taken, and not 12.
 #[inline(always)]

@@ -2,7 +2,7 @@
 // Made by tools/generate of crates/linker_elf/src/ppc64/forms.rt.
 //! PowerPC64 instructions that hold a value.
 
-use crate::linker_elf::elf::engine::{self, Encoding, Step, Window, forms};
+use crate::linker_elf::elf::engine::{self, Encoding, Step, Window, form};
 use crate::linker_elf::elf::{AnyForm, InstructionForm};
 use crate::linker_base::bit_misc::BitRange;
 
@@ -33,26 +33,28 @@ pub enum Ppc64Form {
     DUnsigned,
 }
 
-/// The forms, in the order of their enum.
-macro_rules! ppc64_forms {
-    ($($part:tt)+) => { forms! { [$($part)+]
-        (D Four, 0..16, [0, 0, 16])
-        (Ds Four, 2..16, [2, 2, 14])
-        (Branch14 Four, 2..16, [2, 2, 14])
-        (Branch24 Four, 2..26, [2, 2, 24])
-        (Prefixed Eight, 0..34, [0, 32, 16] [16, 0, 18])
-        (DUnsigned Four, 0..16, [0, 0, 16])
-    } };
+/// A form by its name, or with `each` all in the order of their enum.
+macro_rules! form_of {
+    (D $part:tt) => { form!($part (D Four, 0..16, [0, 0, 16])) };
+    (Ds $part:tt) => { form!($part (Ds Four, 2..16, [2, 2, 14])) };
+    (Branch14 $part:tt) => { form!($part (Branch14 Four, 2..16, [2, 2, 14])) };
+    (Branch24 $part:tt) => { form!($part (Branch24 Four, 2..26, [2, 2, 24])) };
+    (Prefixed $part:tt) => { form!($part (Prefixed Eight, 0..34, [0, 32, 16] [16, 0, 18])) };
+    (DUnsigned $part:tt) => { form!($part (DUnsigned Four, 0..16, [0, 0, 16])) };
+    (each $($part:tt)+) => { form_of!(@ [$($part)+] D Ds Branch14 Branch24 Prefixed DUnsigned) };
+    (@ $part:tt $($name:ident)+) => { [$(form_of!($name $part)),+] };
 }
 
-// Tables, since with a match LLVM would jump by the form.
-const CODES: [Encoding; 6] = ppc64_forms!(code);
+pub(super) use form_of;
 
-const STEPS: [[Step; 2]; 6] = ppc64_forms!(2 steps);
+// Tables, since with a match LLVM would jump by the form.
+const CODES: [Encoding; 6] = form_of!(each code);
+
+const STEPS: [[Step; 2]; 6] = form_of!(each 2 steps);
 
 /// The forms by their numbers. A table, since a match becomes a jump by the number where what
 /// follows differs by the form.
-const FORMS: &[Ppc64Form] = &ppc64_forms!(variant Ppc64Form);
+const FORMS: &[Ppc64Form] = &form_of!(each variant Ppc64Form);
 
 /// The unit of the displacements of DQ-form: the lowest four bits of such a word are others.
 pub const DQ_UNIT: u64 = 16;

@@ -2,7 +2,9 @@
 // Made by tools/generate of crates/linker_elf/src/ppc64/relocations.rt.
 //! What the relocations of PowerPC64 mean.
 
+use super::forms::form_of;
 use crate::linker_elf::elf::choice_table::RelocationName;
+use crate::linker_elf::elf::engine::form;
 use crate::linker_elf::elf::rows::{TableRow, listed, raw_info_in, row_in, text_at};
 use crate::linker_elf::elf::{Row, RowInfo};
 use core::fmt;

@@ -2,7 +2,7 @@
 // Made by tools/generate of crates/linker_elf/src/riscv64/forms.rt.
 //! RISC-V: the immediates of instructions.
 
-use crate::linker_elf::elf::engine::{self, Encoding, Step, forms};
+use crate::linker_elf::elf::engine::{self, Encoding, Step, form};
 use crate::linker_elf::elf::{AnyForm, InstructionForm};
 use crate::linker_base::bit_misc::BitRange;
 
@@ -37,33 +37,54 @@ pub enum RiscVInstruction {
     UiType,
 }
 
-/// The forms, in the order of their enum.
-macro_rules! riscv_forms {
-    ($($part:tt)+) => { forms! { [$($part)+]
-        (UType Four, 12..32, [added 0x800: 12, 12, 20]; signs: 1 << 31, rounded: 0x800)
-        (IType Four, 0..12, [0, 20, 12]; signs: 1 << 11, flag: 1 << 11)
-        (SType Four, 0..12, [0, 7, 5] [5, 25, 7]; signs: 1 << 11, flag: 1 << 11)
+/// A form by its name, or with `each` all in the order of their enum.
+macro_rules! form_of {
+    (UType $part:tt) => { form!($part
+        (UType Four, 12..32, [added 0x800: 12, 12, 20]; signs: 1 << 31, rounded: 0x800)) };
+    (IType $part:tt) => { form!($part
+        (IType Four, 0..12, [0, 20, 12]; signs: 1 << 11, flag: 1 << 11)) };
+    (SType $part:tt) => { form!($part
+        (SType Four, 0..12, [0, 7, 5] [5, 25, 7]; signs: 1 << 11, flag: 1 << 11)) };
+    (BType $part:tt) => { form!($part
         (BType Four, 1..13, [11, 7, 1] [1, 8, 4] [5, 25, 6] [12, 31, 1];
-            signs: 1 << 12, flag: 1 << 12)
+            signs: 1 << 12, flag: 1 << 12)) };
+    (JType $part:tt) => { form!($part
         (JType Four, 1..21, [12, 12, 8] [11, 20, 1] [1, 21, 10] [20, 31, 1];
-            signs: 1 << 20, flag: 1 << 20)
+            signs: 1 << 20, flag: 1 << 20)) };
+    (CbType $part:tt) => { form!($part
         (CbType Two, 1..9, [5, 2, 1] [1, 3, 2] [6, 5, 2] [3, 10, 2] [8, 12, 1];
-            signs: 1 << 8, flag: 1 << 8)
-        (CjType Two, 1..12, [5, 2, 1] [1, 3, 3] [7, 6, 1] [6, 7, 1; 8, 9, 2; 11, 12, 1] [10, 8, 1]
-            [4, 11, 1]; signs: 1 << 11, flag: 1 << 11)
+            signs: 1 << 8, flag: 1 << 8)) };
+    (CjType $part:tt) => { form!($part
+        (CjType Two, 1..12, [5, 2, 1] [1, 3, 3] [7, 6, 1] [6, 7, 1; 8, 9, 2; 11, 12, 1]
+            [10, 8, 1] [4, 11, 1]; signs: 1 << 11, flag: 1 << 11)) };
+    (CluiType $part:tt) => { form!($part
         (CluiType Two, 12..18, [added 0x800: 12, 2, 5] [added 0x800: 17, 12, 1];
-            signs: 1 << 17, rounded: 0x800, flag: 1 << 17)
-        (UiType Eight, 0..32, [added 0x800: 12, 12, 20] [0, 52, 12]; signs: 1 << 31 | 1 << 11)
-    } };
+            signs: 1 << 17, rounded: 0x800, flag: 1 << 17)) };
+    (UiType $part:tt) => { form!($part
+        (UiType Eight, 0..32, [added 0x800: 12, 12, 20] [0, 52, 12]; signs: 1 << 31 | 1 << 11)) };
+    (each $($part:tt)+) => {
+        form_of!(@ [$($part)+] UType IType SType BType JType CbType CjType CluiType UiType)
+    };
+    (@ [by $value:expr, $form:ident: $done:expr] $($name:ident)+) => {
+        match $value {
+            $(RiscVInstruction::$name => {
+                let $form = RiscVInstruction::$name;
+                $done
+            })+
+        }
+    };
+    (@ $part:tt $($name:ident)+) => { [$(form_of!($name $part)),+] };
 }
 
-const CODES: [Encoding; 9] = riscv_forms!(code);
+pub(super) use form_of;
 
-const STEPS: [[Step; 6]; 9] = riscv_forms!(6 steps);
+const CODES: [Encoding; 9] = form_of!(each code);
+
+const STEPS: [[Step; 6]; 9] = form_of!(each 6 steps);
 
 /// The forms by their numbers. A table, since a match becomes a jump by the number where what
 /// follows differs by the form.
-const FORMS: &[RiscVInstruction] = &riscv_forms!(variant RiscVInstruction);
+const FORMS: &[RiscVInstruction] = &form_of!(each variant RiscVInstruction);
 
 impl RiscVInstruction {
     /// What the form is beside its steps.
@@ -82,8 +103,8 @@ impl RiscVInstruction {
     #[inline(always)]
     fn insert_into(self, value: u64, negative: bool, dest: &mut [u8]) {
         let insn = AnyForm::RiscV(self);
-        riscv_forms!(
-            by RiscVInstruction self,
+        form_of!(
+            each by self,
             form: engine::write(insn, form.code(), form.steps(), value, negative, dest)
         );
     }
@@ -119,8 +140,8 @@ impl RiscVInstruction {
     pub fn read_value(self, bytes: &[u8]) -> (u64, bool) {
         debug_assert!(self.window() <= bytes.len());
         let insn = AnyForm::RiscV(self);
-        riscv_forms!(
-            by RiscVInstruction self, form: engine::read(insn, form.code(), form.steps(), bytes)
+        form_of!(
+            each by self, form: engine::read(insn, form.code(), form.steps(), bytes)
         )
     }
 
@@ -163,7 +184,7 @@ impl RiscVInstruction {
 
 /// The lengths of the windows, by the forms' places in their enum. LLVM compiles a match to
 /// branches, and a processor may not predict the form.
-pub(crate) const WINDOWS: [usize; 9] = riscv_forms!(window);
+const WINDOWS: [usize; 9] = form_of!(each window);
 
 impl InstructionForm for RiscVInstruction {
     #[inline]

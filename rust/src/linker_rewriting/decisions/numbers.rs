@@ -3,13 +3,14 @@
 //! Decisions in numbers.
 
 use super::{Decision, Subject};
+use crate::linker_rewriting::candidates::Chosen;
 use crate::architecture::Relaxation;
 use crate::elf::{Architecture, Choice};
 
 /// What becomes of a relocation and of its instruction, in numbers, as C has it. Any numbers are a
 /// decision.
 #[repr(C)]
-#[derive(Clone, Copy, Debug, PartialEq, Eq, Default, Hash)]
+#[derive(Default, Clone, Copy, Debug, PartialEq, Eq, Hash)]
 pub struct DecisionNumbers {
     /// The addend that the relocation gets before the rewrite, if its fate is 3; else 0.
     pub addend: i64,
@@ -35,13 +36,8 @@ pub struct DecisionNumbers {
 #[inline(always)]
 fn of_fate(fate: u8) -> DecisionNumbers {
     DecisionNumbers {
-        addend: 0,
-        symbol: 0,
-        rewrite: 0,
-        relocation: 0,
-        machine: 0,
         fate,
-        opcode_len: 0,
+        ..DecisionNumbers::default()
     }
 }
 
@@ -63,7 +59,7 @@ fn machine_of(kind: Relaxation) -> u16 {
 
 /// One that rewrites an instruction.
 #[inline(always)]
-fn of_choice(fate: u8, choice: Choice<Relaxation, u32>, subject: Subject) -> DecisionNumbers {
+fn of_choice(fate: u8, choice: Chosen, subject: Subject) -> DecisionNumbers {
     let (rewrite, opcode_len) = choice.kind.number();
     DecisionNumbers {
         addend: subject.addend,
@@ -79,7 +75,7 @@ fn of_choice(fate: u8, choice: Choice<Relaxation, u32>, subject: Subject) -> Dec
 impl DecisionNumbers {
     /// The rewrite and the relocation after it, if its machine has a rewrite of these numbers.
     #[inline(always)]
-    fn choice(self) -> Option<Choice<Relaxation, u32>> {
+    fn choice(self) -> Option<Chosen> {
         let architecture = Architecture::from_machine(self.machine)?;
         let kind = Relaxation::from_number(architecture, self.rewrite, self.opcode_len)?;
         Some(Choice {
@@ -138,7 +134,7 @@ impl DecisionNumbers {
 
     /// The numbers of a rewrite that is kept, with a number of the bytes that it rewrites.
     #[inline(always)]
-    pub(crate) fn from_choice(choice: Choice<Relaxation, u32>, number: u32) -> DecisionNumbers {
+    pub(crate) fn from_choice(choice: Chosen, number: u32) -> DecisionNumbers {
         let bytes = Subject {
             symbol: number,
             addend: 0,

@@ -3,7 +3,7 @@
 //! RISC-V: what a call becomes.
 
 use crate::linker_runs::packing::code::{Code, Template, pair_at, relocated};
-use crate::linker_runs::packing::{Isa, ItemError};
+use crate::linker_runs::packing::{ItemError, Machine};
 use crate::linker_runs::relaxation::Shapes;
 use crate::linker_runs::riscv64::link_at;
 use crate::linker_runs::shapes::riscv64::{CALL, TAIL_C};
@@ -37,9 +37,15 @@ fn short_jump(link: u32) -> [u8; 2] {
 
 /// The instruction of which n bytes stay of a call that links a register.
 #[inline(always)]
-fn template_of(isa: Isa, section: &[u8], offset: u64, link: u32, kept: u64) -> Option<Template> {
+fn template_of(
+    machine: Machine,
+    section: &[u8],
+    offset: u64,
+    link: u32,
+    kept: u64,
+) -> Option<Template> {
     match kept {
-        2 if isa.links_short(link) => Some(Template {
+        2 if machine.links_short(link) => Some(Template {
             row: row_of(RiscVRelocation::R_RISCV_RVC_JUMP),
             code: Code::Half(short_jump(link)),
         }),
@@ -58,7 +64,7 @@ fn template_of(isa: Isa, section: &[u8], offset: u64, link: u32, kept: u64) -> O
 /// What a call becomes of which n bytes stay, at an address and for a target's.
 #[inline(always)]
 pub(crate) fn code_of(
-    isa: Isa,
+    machine: Machine,
     section: &[u8],
     offset: u64,
     kept: u64,
@@ -68,7 +74,7 @@ pub(crate) fn code_of(
     let Some(link) = link_at(section, offset) else {
         return Err(ItemError::NotItsInstructions);
     };
-    let Some(template) = template_of(isa, section, offset, link, kept) else {
+    let Some(template) = template_of(machine, section, offset, link, kept) else {
         return Err(ItemError::NoShape);
     };
     match relocated(template, place, target) {
@@ -78,14 +84,14 @@ pub(crate) fn code_of(
 }
 
 /// Whether a call that links a register can have the shapes.
-fn are_of_link(isa: Isa, link: u32, shapes: &Shapes) -> bool {
-    *shapes == CALL || (isa.links_short(link) && *shapes == TAIL_C)
+fn are_of_link(machine: Machine, link: u32, shapes: &Shapes) -> bool {
+    *shapes == CALL || (machine.links_short(link) && *shapes == TAIL_C)
 }
 
 /// Whether a call at an offset can have the shapes.
-pub(crate) fn has_shapes(isa: Isa, section: &[u8], offset: u64, shapes: &Shapes) -> bool {
+pub(crate) fn has_shapes(machine: Machine, section: &[u8], offset: u64, shapes: &Shapes) -> bool {
     match link_at(section, offset) {
-        Some(link) => are_of_link(isa, link, shapes),
+        Some(link) => are_of_link(machine, link, shapes),
         None => false,
     }
 }
