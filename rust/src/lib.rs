@@ -128,8 +128,10 @@ pub mod runs {
         AsRelocation, ItemNumbers, ItemsError, Relocation, RewrittenItemsError, SectionItems,
         first_malformed,
     };
+    #[cfg(feature = "riscv64")]
+    pub use crate::linker_runs::packing::Isa;
     pub use crate::linker_runs::packing::{
-        Isa, ItemError, Machine, RejectedItem, has_its_instructions, packed_run_len,
+        ItemError, Machine, RejectedItem, has_its_instructions, packed_run_len,
     };
     pub use crate::linker_runs::relaxation::{
         Alignment, Fault, Item, ItemFault, Plan, Shape, Shapes, Site, are_items, deletions,
