@@ -191,7 +191,7 @@ pub record IsMadeOf (name : RiscVRelocation) (made : List ℕ → List ℕ) (o :
   pub matches : riscv_matches kinds.CallToCJal call 0
   pub relocated : Relocated (riscv_row name) (record o { addend = addend }) (made call) code
 
--- what stands so where such a call was does something
+-- Code that is so made of a call does this, executed at its place.
 abbrev pub CallDoes : RiscVRelocation → (List ℕ → List ℕ) → (Operands → List ℕ → List ℕ → Hart → Type 0)
     → Type 0
 CallDoes name made Does =

@@ -70,8 +70,8 @@ functions words rows = record { words = words; rows = rows }
 
 -- ---- before
 
--- A pseudo-random number below the square of a root, which is a power of 2: the middle of a square.
--- Roots are written out, since `2 ^ n` takes n steps.
+-- A pseudo-random number below the square of a root: the middle of a square. The root is a power of
+-- 2, and written out, since `2 ^ n` takes n steps. `tools/oracle steps` takes the square's bits.
 abbrev pub noise : ℕ → ℕ → ℕ
 noise root k =
     let n = k * 0x9e3779b97f4a7c15f39cc0605cedc8341082276bf3a27251f86c6a11d0c18e95 % (root * root) in

@@ -59,12 +59,12 @@ two first second = fixed (code_of_words (first ∷ second ∷ []))
 abbrev pub one_with : ℕ → StubField → LazyTarget → ℕ → ℤ → LazyPiece
 one_with word = with_field (code_of_words (word ∷ []))
 
--- an instruction with the value of a relocation, of a word or so far above it
+-- an instruction with the value of a relocation, of an address that is an addend above a word
 abbrev pub aarch64_word : AArch64Relocation → ℕ → ℕ → ℕ → LazyPiece
 aarch64_word name word origin addend =
     one_with word (field_of 0 (aarch64_name name)) Word origin (pos addend)
 
--- The address of a word, or so far above it, gets into x16, and what the word there has into x17;
+-- An address that is an addend above a word gets into x16, and what the word there has into x17;
 -- then others. The first instruction is at an offset.
 abbrev pub aarch64_loads : ℕ → ℕ → List LazyPiece → List LazyPiece
 aarch64_loads origin addend others =

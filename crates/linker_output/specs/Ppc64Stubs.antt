@@ -64,7 +64,7 @@ stepped f opcode word c =
 abbrev pub step_counted : Formats → ℕ → Counted → Option Counted
 step_counted f word c = stepped f (opcode_of word) word c
 
--- what instructions make of the state, each the next one of that before it
+-- what instructions make of the state, each executed after the one before it
 abbrev pub run : Formats → List ℕ → Counted → Option Counted
 run f code c = run_by (λ c. c.state.pc) (step_counted f) code c
 

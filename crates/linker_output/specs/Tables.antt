@@ -80,8 +80,8 @@ data_stub words at field addend =
       addend = addend;
     }
 
--- a description with these types of dynamic relocations and the stub to the address that a word
--- has; of all else what most architectures have, and none of the optional stubs
+-- A description with these types of dynamic relocations and the stub to the address that a word
+-- has. It has none of the optional stubs. An architecture sets what differs, and always its paths.
 abbrev pub plain_output : Architecture → DynamicKinds → StubCode → Description
 plain_output instructions dynamic load_stub =
     record {

@@ -12,9 +12,9 @@ use Rattle.linker_runs.specs.Origins.{HasItsInstructions}
 use Rattle.linker_runs.specs.Packing.{section_of, IsUnwritable, IsFirstRejected}
 use Rattle.linker_runs.specs.declared.packing.RejectedItem.{RejectedItem}
 
--- An item of a relaxed run can be written with the deletions of the run, if IsSo holds for it and
--- the index of its shape and the section has its instructions: `pack_run` doesn't reject it, so it
--- reaches its target.
+-- An item of a relaxed run can be written with the deletions of the run, if `IsSo` holds for it and
+-- for the index of its shape, and the section has its instructions: `pack_run` doesn't reject it,
+-- so it reaches its target.
 abbrev pub AreWritable : Machine → (Item → ℕ → Type 0) → Type 0
 AreWritable machine IsSo = (start base : ℕ) (items : List Item) (shapes kept freed bytes : List ℕ)
     → AreItems start items → IsRelaxation start items shapes kept freed

@@ -11,7 +11,6 @@ use Rattle.linker_runs.specs.Moved.{AreMoved}
 use Rattle.linker_runs.specs.Origins.{HasItsInstructions}
 use Rattle.linker_runs.specs.Packing.{Section, section_of, packed_offset, IsPackedRun}
 use Rattle.linker_runs.specs.Packing.{IsFirstRejected}
-pub use Rattle.linker_utils_c.specs.RiscV32.{packing_machine}
 use Rattle.linker_utils_c.specs.Status.{code, IsOneOf}
 
 -- the status of why an item isn't written

@@ -9,6 +9,8 @@ use Rattle.linker_runs.specs.declared.packing.Machine.TheVariants as machines
 use Rattle.linker_section.specs.RiscV32.{AreCopied, AreWrapped}
 use Rattle.linker_utils_c.specs.Status.{code}
 
+-- ---- the machine of code
+
 -- the machine of an architecture whose sections are packed
 abbrev pub packed_as : Option Architecture → Option Machine
 packed_as None = None
@@ -18,12 +20,14 @@ packed_as (Some architecture) = machine_of architecture
 abbrev pub riscv32 : ℕ
 riscv32 = 0xf3 + 0x8000
 
--- the same by e_machine, with a number of its own for RV32
+-- the machine by e_machine, where RV32 has a number of its own
 abbrev pub packing_machine : ℕ → Option Machine
 packing_machine machine =
     if machine == riscv32 then Some (machines.RiscV Rv32) else packed_as (architecture_of machine)
 
--- those whose files of ELFCLASS32 have these relocations
+-- ---- relocations
+
+-- whether files of ELFCLASS32 of an architecture have RV32's relocations
 abbrev pub has_class32 : Option Architecture → Bool
 has_class32 (Some RiscV) = true
 has_class32 other = false

@@ -5,7 +5,8 @@ ghost use Rattle.linker_base.specs.Deletions.{rank};
 ghost use Rattle.linker_base.specs.Deltas.{deletions_of};
 ghost use Rattle.linker_base.specs.Listed.{AreValidDeltas};
 ghost use Rattle.linker_runs.specs.Relaxing.{item_of, items_in};
-ghost use Rattle.linker_utils_c.specs.PackRuns.{packing_machine, item_status, IsRunReturned};
+ghost use Rattle.linker_utils_c.specs.PackRuns.{item_status, IsRunReturned};
+ghost use Rattle.linker_utils_c.specs.RiscV32.{packing_machine};
 ghost use Rattle.linker_utils_c.specs.PackRuns.{SaysOfInstructions};
 ghost use Rattle.linker_utils_c.specs.Status.{code, IfFound};
 

@@ -3,7 +3,7 @@
 ghost use Rattle.std.specs.Prelude.{◌≡◌, ◌≢◌, ◌+◌, ◌↔◌, IsTrue, MatchOption, length};
 ghost use Rattle.std.specs.Prelude.{take, drop};
 ghost use Rattle.linker_utils_c.specs.Deltas.{pairs_in};
-ghost use Rattle.linker_utils_c.specs.PackRuns.{packing_machine};
+ghost use Rattle.linker_utils_c.specs.RiscV32.{packing_machine};
 ghost use Rattle.linker_utils_c.specs.SectionItems.{relocations_in, AreListedBy};
 ghost use Rattle.linker_utils_c.specs.SectionItems.{AreItemsOrMalformed, AreRewrittenOrFaulty};
 ghost use Rattle.linker_utils_c.specs.Status.{code};

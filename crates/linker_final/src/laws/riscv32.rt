@@ -17,8 +17,8 @@ pub fn values()
 /// file's modulo 2^32, as each of `wrap_addends` is (`values`). It is the target with the file's
 /// addend, modulo 2^32, as RV32's registers and addresses are. These are `lui`, `c.lui` or `auipc`
 /// with a low part, also through the GOT and for each model of TLS, calls, jumps, branches, and
-/// words of 4 bytes. The premises of a pair hold of `lui` and `addi` of 0x8000_1000, which RV64's
-/// can't have.
+/// words of 4 bytes. The premises of a pair hold of `lui` and `addi` that make 0x8000_1000,
+/// which RV64's can't make.
 pub fn instructions()
     ensures absolute { riscv_laws.AbsoluteAddresses riscv32.Law32 }
     ensures relative { riscv32.RelativeAddresses }
@@ -35,7 +35,8 @@ pub fn instructions()
 /// of its relocation, whose addend is the file's modulo 2^32. Both go to their targets, by `jalr`
 /// without bit 0, and leave in ra the address after their bytes: pc + 8 and pc + 2. All else stays,
 /// but for the register of the `auipc`. The same holds of the `c.jal` that `pack_run` leaves of a
-/// call which links ra. The premises hold of calls from 0 to 0xffff_ff00.
+/// call which links ra. The premises of all but the last hold of a call at 0 to the target
+/// 0xffff_ff00.
 pub fn calls()
     ensures calls { riscv32.Calls }
     ensures premises { riscv32.CallsAreMade }

@@ -1,4 +1,4 @@
--- What an unchanged site of LoongArch becomes, by its kind.
+-- What a site of LoongArch becomes that keeps its instructions, by its kind.
 use Rattle.linker_runs.specs.Imports.{Address, Call, Kind, List, drop, sum_64, take, ℕ}
 use Rattle.linker_runs.specs.Sites.{IsRelocated}
 use Rattle.linker_runs.specs.LoongArchSites.{call_template, high_template, low_template}
