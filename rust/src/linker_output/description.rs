@@ -79,8 +79,8 @@ pub struct Target {
     pub prefixed_jump_stub: Option<Stub>,
 }
 
-/// A description with the types of dynamic relocations and the stub `Load`. Of all else it has what
-/// most architectures have, and none of the optional stubs.
+/// A description with the types of dynamic relocations and the stub `Load`, and with none of the
+/// optional stubs. An architecture sets what differs, and always its paths.
 macro_rules! plain {
     ($instructions:ident, $dynamic:expr, $load_stub:expr) => {
         $crate::linker_output::description::Target {

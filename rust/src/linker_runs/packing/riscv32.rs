@@ -14,7 +14,8 @@ pub enum Isa {
 }
 
 impl Machine {
-    /// Whether a jump of two bytes links a register: `c.j` none, and RV32's `c.jal` x1.
+    /// Whether a jump of two bytes links a register: `c.j` none, and RV32's `c.jal` x1. It is
+    /// asked of RISC-V alone.
     #[inline(always)]
     pub(crate) fn links_short(self, link: u32) -> bool {
         match self {
