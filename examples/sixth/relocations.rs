@@ -1,6 +1,8 @@
 //! The sixth architecture: what its relocations mean. Its instructions are those of AArch64.
 
+use crate::linker_elf::aarch64::forms::form_of;
 use crate::linker_elf::elf::choice_table::RelocationName;
+use crate::linker_elf::elf::engine::form;
 use crate::linker_elf::elf::rows::{TableRow, listed, row_in, text_at};
 use crate::linker_elf::elf::Row;
 use core::fmt;
