@@ -300,10 +300,9 @@ fn arms(source: &str, of_enum: &str) -> Numbers {
 /// The forms of an architecture in the proved library's list, by their places.
 fn forms_of(architecture: &str) -> Numbers {
     let source = repository(&format!("crates/linker_elf/src/{architecture}/forms.rt"));
-    let (_, list) = source.split_once("=> { forms! {").expect("the list");
-    let (list, _) = list.split_once("} };").expect("its end");
-    let names = list.lines().filter_map(|line| line.strip_prefix("        (")?.split(' ').next());
-    let numbered = names.zip(0..).map(|(name, at)| (name.to_string(), at));
+    let (_, list) = source.split_once("@ [$($part)+]").expect("the list");
+    let (list, _) = list.split_once(')').expect("its end");
+    let numbered = list.split_whitespace().zip(0..).map(|(name, at)| (name.to_string(), at));
     numbered.collect()
 }
 
