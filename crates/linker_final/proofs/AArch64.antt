@@ -638,8 +638,8 @@ module _ (l : Linked) (linked : IsLinked l) (aarch64 : l.context.architecture �
   in_descriptor : (i j n : ℕ) → (n ≤ i) × (IsLocal (i - n) ⊎ IsInitial (i - n)) → (n ≤ i → j ≡ i) → n < 4
       → (IsLocal (i - n) → offset_of l j ≡ offset_of l (i - n) + 4 * n)
       → (IsInitial (i - n) → offset_of l j ≡ offset_of l (i - n) + 4 * n) → IsPart i
-  in_descriptor i j n (le, inl w) same less at_local at_initial = in_at i j n (same le) (to_local (i - n) w) less (at_local w)
-  in_descriptor i j n (le, inr w) same less at_local at_initial = in_at i j n (same le) (to_initial (i - n) w) less (at_initial w)
+  in_descriptor i j n (le, inl w) same less as_local as_initial = in_at i j n (same le) (to_local (i - n) w) less (as_local w)
+  in_descriptor i j n (le, inr w) same less as_local as_initial = in_at i j n (same le) (to_initial (i - n) w) less (as_initial w)
 
   -- by the phase and the name
   early_in : (i : ℕ) → i < count l → decision_at l.decisions i ≢ Kept → l.context.phase ≡ phases.PreLayout
